@@ -1,0 +1,140 @@
+-- No name stands twice in the capability table: computed name by name, and lifted to every position.
+use Rattle.std.proofs.Common.{◌≡◌, ◌∙◌, ℕ, zero, suc, ◌+◌, ◌-◌, ◌≤◌, Bool, true, false, ◌&&◌, List, [], ◌∷◌, Option, Some, None, option_map, slice_get, cond, eqb, leb, refl, sym, ap, arith, add-zero, ◌⊎◌, inl, inr}
+use Rattle.std.specs.Str.{bytes_eq}
+use Rattle.std.proofs.lemmas.Slice.Eq.{bytes_eq-Decides}
+use Rattle.std.proofs.lemmas.Bool.Decides.{nat_tests}
+use Rattle.ti_caps.specs.declared.table.Kind.{Kind}
+use Rattle.ti_caps.specs.declared.table.Kind.TheVariants.{Flag, Number, Text}
+use Rattle.ti_caps.specs.Table.{Names, runs, same_kind, or_else, name_in, name_among, name_at, place_from, place_in, found_among, capability_of}
+
+abbrev is_capability : Kind → ℕ → Option (Kind × ℕ) → Bool
+is_capability kind i None = false
+is_capability kind i (Some p) = same_kind p.0 kind && eqb p.1 i
+
+abbrev is_name : List ℕ → Option (List ℕ) → Bool
+is_name name None = false
+is_name name (Some n) = bytes_eq n name
+
+-- these names, the first at position i, are found there and read there
+abbrev all_once : Kind → ℕ → List (List ℕ) → Bool
+all_once kind i [] = true
+all_once kind i (n ∷ ns) = is_capability kind i (capability_of n) && (is_name n (name_at kind i) && all_once kind (suc i) ns)
+
+abbrev runs_once : List Names → Bool
+runs_once [] = true
+runs_once (r ∷ rs) = all_once r.kind r.first r.names && runs_once rs
+
+computed : runs_once runs ≡ true
+unfolding runs capability_of name_at
+computed = refl
+
+both : (a b : Bool) → (a && b) ≡ true → (a ≡ true) × (b ≡ true)
+both true b e = (refl, e)
+both false b e = cc
+
+chosen : {A : Type 0} → (b : Bool) (x y z : A) → cond b x y ≡ z → ((b ≡ true) × (x ≡ z)) ⊎ ((b ≡ false) × (y ≡ z))
+chosen true x y z e = inl (refl, e)
+chosen false x y z e = inr (refl, e)
+
+guarded : {A : Type 0} → (b : Bool) (o : Option A) (x : A) → cond b o None ≡ Some x → (b ≡ true) × (o ≡ Some x)
+guarded true o x e = (refl, e)
+guarded false o x e = cc
+
+first_there : {A : Type 0} → (o p : Option A) (x : A) → or_else o p ≡ Some x → (o ≡ Some x) ⊎ ((o ≡ None) × (p ≡ Some x))
+first_there None p x e = inr (refl, e)
+first_there (Some y) p x e = inl e
+
+mapped : {A B : Type 0} → (f : A → B) (o : Option A) (y : B) → option_map f o ≡ Some y → (x : A) × (o ≡ Some x) × (f x ≡ y)
+mapped f None y e = cc
+mapped f (Some x) y e = let same : f x ≡ y = cc in (x, refl, same)
+
+same_kind-true : (a b : Kind) → same_kind a b ≡ true → a ≡ b
+same_kind-true Flag Flag e = refl
+same_kind-true Number Number e = refl
+same_kind-true Text Text e = refl
+same_kind-true Flag Number e = cc
+same_kind-true Flag Text e = cc
+same_kind-true Number Flag e = cc
+same_kind-true Number Text e = cc
+same_kind-true Text Flag e = cc
+same_kind-true Text Number e = cc
+
+is_capability-true : (kind : Kind) (i : ℕ) (o : Option (Kind × ℕ)) → is_capability kind i o ≡ true → o ≡ Some (kind, i)
+is_capability-true kind i None e = cc
+is_capability-true kind i (Some (k, j)) e =
+    let parts = both (same_kind k kind) (eqb j i) e in
+    let kinds = same_kind-true k kind parts.0 in
+    let places : j ≡ i = grind (arith, nat_tests) in
+    rw (kinds, places) refl
+
+is_name-true : (name : List ℕ) (o : Option (List ℕ)) → is_name name o ≡ true → o ≡ Some name
+is_name-true name None e = cc
+is_name-true name (Some n) e = ap Some ((bytes_eq-Decides n name).0 e)
+
+-- what the computation says of the first name and of the rest
+record HeadOnce (kind : Kind) (i : ℕ) (n : List ℕ) (ns : List (List ℕ)) : Type 0 where
+  found : capability_of n ≡ Some (kind, i)
+  named : name_at kind i ≡ Some n
+  rest : all_once kind (suc i) ns ≡ true
+
+head_once : (kind : Kind) (i : ℕ) (n : List ℕ) (ns : List (List ℕ)) → all_once kind i (n ∷ ns) ≡ true → HeadOnce kind i n ns
+head_once kind i n ns e =
+    let one = both (is_capability kind i (capability_of n)) (is_name n (name_at kind i) && all_once kind (suc i) ns) e in
+    let two = both (is_name n (name_at kind i)) (all_once kind (suc i) ns) one.1 in
+    record { found = is_capability-true kind i (capability_of n) one.0; named = is_name-true n (name_at kind i) two.0; rest = two.1 }
+
+once_found : (kind : Kind) (i j : ℕ) (ns : List (List ℕ)) (n : List ℕ) → all_once kind i ns ≡ true → slice_get ns j ≡ Some n → capability_of n ≡ Some (kind, i + j)
+once_found kind i j [] n e at = cc
+once_found kind i zero (m ∷ ns) n e at =
+    let same : n ≡ m = cc in rw (add-zero, same) (head_once kind i m ns e).found
+once_found kind i (suc j) (m ∷ ns) n e at =
+    let steps : i + suc j ≡ suc i + j = omega arith in
+    rw steps (once_found kind (suc i) j ns n (head_once kind i m ns e).rest at)
+
+once_named : (kind : Kind) (i p : ℕ) (ns : List (List ℕ)) (name : List ℕ) → all_once kind i ns ≡ true → place_from i name ns ≡ Some p → name_at kind p ≡ Some name
+once_named kind i p [] name e at = cc
+once_named kind i p (m ∷ ns) name e at =
+    elim (chosen (bytes_eq m name) (Some i) (place_from (suc i) name ns) (Some p) at) [
+      | inl h ↦
+          let same : name ≡ m = sym ((bytes_eq-Decides m name).0 h.0) in
+          let here : p ≡ i = cc in
+          rw (here, same) (head_once kind i m ns e).named
+      | inr h ↦ once_named kind (suc i) p ns name (head_once kind i m ns e).rest h.1
+    ]
+
+named_found : (kind : Kind) (position : ℕ) (rs : List Names) (n : List ℕ) → runs_once rs ≡ true → name_among kind position rs ≡ Some n → capability_of n ≡ Some (kind, position)
+named_found kind position [] n e at = cc
+named_found kind position (r ∷ rs) n e at =
+    let parts = both (all_once r.kind r.first r.names) (runs_once rs) e in
+    elim (first_there (name_in kind position r) (name_among kind position rs) n at) [
+      | inl h ↦
+          let g = guarded (same_kind r.kind kind && leb r.first position) (slice_get r.names (position - r.first)) n h in
+          let fits = both (same_kind r.kind kind) (leb r.first position) g.0 in
+          let kinds = same_kind-true r.kind kind fits.0 in
+          let low : r.first ≤ position = grind (arith, nat_tests) in
+          let there : r.first + (position - r.first) ≡ position = omega arith in
+          let found = once_found r.kind r.first (position - r.first) r.names n parts.0 g.1 in
+          found ∙ ap (λ k. Some (k, r.first + (position - r.first))) kinds ∙ ap (λ p. Some (kind, p)) there
+      | inr h ↦ named_found kind position rs n parts.1 h.1
+    ]
+
+found_named : (name : List ℕ) (rs : List Names) (kind : Kind) (position : ℕ) → runs_once rs ≡ true → found_among name rs ≡ Some (kind, position) → name_at kind position ≡ Some name
+found_named name [] kind position e at = cc
+found_named name (r ∷ rs) kind position e at =
+    let parts = both (all_once r.kind r.first r.names) (runs_once rs) e in
+    elim (first_there (place_in name r) (found_among name rs) (kind, position) at) [
+      | inl h ↦
+          let m = mapped (λ p. (r.kind, p)) (place_from r.first name r.names) (kind, position) h in
+          let kinds : kind ≡ r.kind = ap (λ p. p.0) (sym m.2) in
+          let places : position ≡ m.0 = ap (λ p. p.1) (sym m.2) in
+          rw (kinds, places) (once_named r.kind r.first m.0 r.names name parts.0 m.1)
+      | inr h ↦ found_named name rs kind position parts.1 h.1
+    ]
+
+pub name_is_found : (kind : Kind) (position : ℕ) (name : List ℕ) → name_at kind position ≡ Some name → capability_of name ≡ Some (kind, position)
+unfolding name_at
+name_is_found kind position name at = named_found kind position runs name computed at
+
+pub found_is_named : (kind : Kind) (position : ℕ) (name : List ℕ) → capability_of name ≡ Some (kind, position) → name_at kind position ≡ Some name
+unfolding capability_of
+found_is_named kind position name at = found_named name runs kind position computed at

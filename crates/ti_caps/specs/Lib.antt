@@ -1,0 +1,4 @@
+pub mod Description
+pub mod Names
+pub mod Runs
+pub mod Table

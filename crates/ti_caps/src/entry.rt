@@ -1,0 +1,216 @@
+//! Terminal descriptions.
+
+ghost use Rattle.std.specs.Prelude.{◌≡◌, ◌≤◌, ◌<◌, ◌↔◌, None, true, false, replicate, is_none, option_map, slice_set, length, map, is_some, IfSome, IfOk, OnOk, OnErr, IsOk, IsErrOf, IsOkUnless};
+ghost use Rattle.ti_caps.specs.Names.{are_names};
+ghost use Rattle.ti_caps.specs.Table.{name_at};
+ghost use Rattle.ti_caps.specs.Description.{IsDescription, bare, text_has_nul, flag_at, has_nul, number_at, text_at, unnamed_count, unnamed_from};
+
+use crate::bytes::Bytes;
+use crate::fault::CapFault;
+use crate::names::are_names;
+use crate::table::{Kind, Slot, name_of};
+use std::alloc::{AllocError, Global};
+use std::marker::Model;
+
+/// A terminal description: names, and for each position of each kind what the terminal has there
+/// (terminfo(5)). It has room for 64 flags, 64 numbers and 512 texts.
+#[derive(Drop)]
+pub struct Entry {
+    names: Bytes,
+    flags: [bool; 64],
+    numbers: [Option<u16>; 64],
+    texts: Vec<Option<Bytes>>,
+}
+
+impl Model for Entry {
+    ghost use Rattle.ti_caps.specs.Description.{Description, IsDescription};
+
+    ghost Value = { Description };
+
+    ghost view = { λ e. record { names = e.names; flags = e.flags; numbers = e.numbers; texts = e.texts.items } };
+
+    ghost invariant = { λ e. IsDescription (record { names = e.names; flags = e.flags; numbers = e.numbers; texts = e.texts.items }) };
+}
+
+fn no_texts(alloc: Global) -> Result<Vec<Option<Bytes>>, AllocError>
+    ensures { IfOk result (λ v. v.items ≡ replicate 512 None) }
+{
+    let mut texts = Vec::with_capacity(alloc, 512)?;
+    for filled in 0..512u16 {
+        texts.push(None)?;
+    }
+    Ok(texts)
+}
+
+fn owned(alloc: Global, text: Option<&[u8]>) -> Result<Option<Bytes>, AllocError>
+    ensures ok { IfOk result (λ t. t ≡ option_map (λ s. s.now) text.entry) }
+    ensures none { text.entry ≡ None → IsOk result }
+{
+    match text {
+        Some(bytes) => Ok(Some(Bytes(Vec::from_slice(alloc, bytes)?))),
+        None => Ok(None),
+    }
+}
+
+fn has_nul(text: &[u8]) -> bool
+    ensures { result ≡ has_nul text.now }
+{
+    text.iter().any(|b| *b == 0)
+}
+
+impl Entry {
+    /// An entry with these names, in which nothing is present. BadNames where the names are not
+    /// 1 to 511 bytes from 32 to 126 without a comma, where an alternative is empty, or where the
+    /// first has a blank or begins with `#`; then NoMemory.
+    pub fn new(alloc: Global, names: &[u8]) -> Result<Entry, CapFault>
+        ensures bad { IsErrOf result CapFault.BadNames ↔ (are_names names.now ≡ false) }
+        ensures good { are_names names.now ≡ true → IsOkUnless result CapFault.NoMemory }
+        ensures ok { IfOk result (λ e. e ≡ bare names.now) }
+    {
+        if !are_names(names) {
+            return Err(CapFault::BadNames);
+        }
+        let names = Bytes(Vec::from_slice(alloc, names)?);
+        let texts = no_texts(alloc)?;
+        Ok(Entry {
+            names,
+            flags: [false; 64],
+            numbers: [None; 64],
+            texts,
+        })
+    }
+
+    /// The names, as they were given.
+    pub fn names(&self) -> &[u8]
+        ensures names { result.now ≡ self.now.names }
+        ensures described { IsDescription self.now }
+    {
+        self.names.0.as_slice()
+    }
+
+    /// Whether a flag is present; false past the limit.
+    pub fn flag(&self, slot: Slot) -> bool
+        ensures { result ≡ flag_at self.now slot.0 }
+    {
+        match self.flags.get(usize::from(slot.0)) {
+            Some(flag) => *flag,
+            None => false,
+        }
+    }
+
+    /// A number from 0 to 32,767, where it is present; None past the limit.
+    pub fn number(&self, slot: Slot) -> Option<u16>
+        ensures value { result ≡ number_at self.now slot.0 }
+        ensures small { IfSome result (λ n. n ≤ 32767) }
+    {
+        match self.numbers.get(usize::from(slot.0)) {
+            Some(number) => *number,
+            None => None,
+        }
+    }
+
+    /// A text, where it is present, without a byte 0; None past the limit.
+    pub fn text(&self, slot: Slot) -> Option<&[u8]>
+        ensures value { option_map (λ t. t.now) result ≡ text_at self.now slot.0 }
+        ensures whole { IfSome result (λ t. has_nul t.now ≡ false) }
+    {
+        match self.texts.get(usize::from(slot.0)) {
+            Some(Some(text)) => Some(text.0.as_slice()),
+            _ => None,
+        }
+    }
+
+    /// Sets one flag, present or absent. SlotTooBig from 64 on.
+    pub fn set_flag(&mut self, slot: Slot, present: bool) -> Result<(), CapFault>
+        ensures too_big { IsErrOf result CapFault.SlotTooBig ↔ (64 ≤ slot.0) }
+        ensures fits { slot.0 < 64 → IsOk result }
+        ensures ok { OnOk result (self.new ≡ record self.old { flags = slice_set self.old.flags slot.0 present }) }
+        ensures err { OnErr result (self.new ≡ self.old) }
+    {
+        if slot.0 >= 64 {
+            return Err(CapFault::SlotTooBig);
+        }
+        self.flags[usize::from(slot.0)] = present;
+        Ok(())
+    }
+
+    /// Sets one number, which is at most 32,767, or makes it absent. SlotTooBig from 64 on.
+    pub fn set_number(&mut self, slot: Slot, number: Option<u16>) -> Result<(), CapFault>
+        requires { IfSome number (λ n. n ≤ 32767) }
+        ensures too_big { IsErrOf result CapFault.SlotTooBig ↔ (64 ≤ slot.0) }
+        ensures fits { slot.0 < 64 → IsOk result }
+        ensures ok { OnOk result (self.new ≡ record self.old { numbers = slice_set self.old.numbers slot.0 number }) }
+        ensures err { OnErr result (self.new ≡ self.old) }
+    {
+        if slot.0 >= 64 {
+            return Err(CapFault::SlotTooBig);
+        }
+        self.numbers[usize::from(slot.0)] = number;
+        Ok(())
+    }
+
+    /// Sets one text, or makes it absent. SlotTooBig from 512 on; then NulInText where the text
+    /// has a byte 0; then NoMemory, never for an absent text.
+    pub fn set_text(&mut self, slot: Slot, text: Option<&[u8]>) -> Result<(), CapFault>
+        ensures too_big { IsErrOf result CapFault.SlotTooBig ↔ (512 ≤ slot.0) }
+        ensures nul { IsErrOf result CapFault.NulInText ↔ ((slot.0 < 512) × (text_has_nul (option_map (λ t. t.now) text.entry) ≡ true)) }
+        ensures good { slot.0 < 512 → text_has_nul (option_map (λ t. t.now) text.entry) ≡ false → IsOkUnless result CapFault.NoMemory }
+        ensures absent { slot.0 < 512 → text.entry ≡ None → IsOk result }
+        ensures ok { OnOk result (self.new ≡ record self.old { texts = slice_set self.old.texts slot.0 (option_map (λ t. t.now) text.entry) }) }
+        ensures err { OnErr result (self.new ≡ self.old) }
+    {
+        if slot.0 >= 512 {
+            return Err(CapFault::SlotTooBig);
+        }
+        if text.is_some_and(has_nul) {
+            return Err(CapFault::NulInText);
+        }
+        let owned = owned(*self.texts.allocator(), text)?;
+        self.texts[usize::from(slot.0)] = owned;
+        Ok(())
+    }
+
+    /// How many present capabilities have no name in the table.
+    pub fn unnamed(&self) -> usize
+        ensures { result ≡ unnamed_count self.now }
+    {
+        unnamed_flags(&self.flags)
+            + unnamed_options(Kind::Number, &self.numbers)
+            + unnamed_options(Kind::Text, &self.texts)
+    }
+}
+
+fn has_no_name(kind: Kind, position: usize) -> bool
+    requires { position < 65536 }
+    ensures { result ≡ is_none (name_at kind position) }
+{
+    name_of(kind, Slot(position as u16)).is_none()
+}
+
+fn unnamed_flags(flags: &[bool]) -> usize
+    requires { length flags.now ≤ 512 }
+    ensures count { result ≡ unnamed_from Kind.Flag 0 flags.now }
+    ensures few { result ≤ length flags.now }
+{
+    let mut count = 0;
+    for (position, present) in flags.iter().enumerate() {
+        if *present && has_no_name(Kind::Flag, position) {
+            count += 1;
+        }
+    }
+    count
+}
+
+fn unnamed_options<T>(kind: Kind, options: &[Option<T>]) -> usize
+    requires { length options.now ≤ 512 }
+    ensures count { result ≡ unnamed_from kind 0 (map is_some options.now) }
+    ensures few { result ≤ length options.now }
+{
+    let mut count = 0;
+    for (position, option) in options.iter().enumerate() {
+        if option.is_some() && has_no_name(kind, position) {
+            count += 1;
+        }
+    }
+    count
+}

@@ -1,0 +1,43 @@
+//! Why an entry refuses something.
+
+use std::alloc::{AllocError, AllocFailed};
+use thiserror::Error;
+
+/// Why a call on an entry was refused, in the order in which refusals come.
+#[derive(Clone, Copy, Debug, PartialEq, Eq, Error)]
+pub enum CapFault {
+    /// The names break the rule of `Entry::new`.
+    #[error("bad names")]
+    BadNames,
+    /// A position past the limits: 64 for flags and numbers, 512 for texts.
+    #[error("slot too big")]
+    SlotTooBig,
+    /// A text with a byte 0.
+    #[error("NUL in a text")]
+    NulInText,
+    /// Memory ran out.
+    #[error("out of memory")]
+    NoMemory,
+}
+
+impl From<AllocError> for CapFault {
+    ghost use Rattle.std.specs.Prelude.{◌≡◌};
+    ghost use Rattle.ti_caps.specs.declared.fault.CapFault.TheVariants.{NoMemory};
+
+    ghost from_gives = { λ _ e. e ≡ NoMemory };
+
+    fn from(_e: AllocError) -> CapFault {
+        CapFault::NoMemory
+    }
+}
+
+impl<T: Drop> From<AllocFailed<T>> for CapFault {
+    ghost use Rattle.std.specs.Prelude.{◌≡◌};
+    ghost use Rattle.ti_caps.specs.declared.fault.CapFault.TheVariants.{NoMemory};
+
+    ghost from_gives = { λ _ e. e ≡ NoMemory };
+
+    fn from(_e: AllocFailed<T>) -> CapFault {
+        CapFault::NoMemory
+    }
+}

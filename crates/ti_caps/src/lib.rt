@@ -1,0 +1,17 @@
+//! The capabilities of terminfo(5), and the entries that say which of them a terminal has.
+#![tactic(auto)]
+
+mod bytes;
+mod entry;
+mod fault;
+mod names;
+mod table;
+
+pub use bytes::Bytes;
+pub use entry::Entry;
+pub use fault::CapFault;
+pub use names::are_names;
+pub use table::{Kind, Slot, find_name, name_of, names_stand_once};
+
+#[cfg(test)]
+mod tests;

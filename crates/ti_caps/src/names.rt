@@ -1,0 +1,54 @@
+//! The names of an entry.
+
+ghost use Rattle.std.specs.Prelude.{◌≡◌};
+ghost use Rattle.std.specs.List.{list_all};
+ghost use Rattle.ti_caps.specs.Names.{alternatives, are_names, begins_with_hash, first_name, has_bytes, has_no_blank, is_name_byte};
+
+fn are_name_bytes(names: &[u8]) -> bool
+    ensures { result ≡ list_all is_name_byte names.now }
+{
+    names.iter().all(|b| (32..=126).contains(b) && *b != b',')
+}
+
+fn are_alternatives_there(names: &[u8]) -> bool
+    ensures { result ≡ list_all has_bytes (alternatives names.now) }
+{
+    names.split(|b| *b == b'|').all(|name| !name.is_empty())
+}
+
+fn first_alternative(names: &[u8]) -> &[u8]
+    ensures { result.now ≡ first_name names.now }
+{
+    let end = names.iter().position(|b| *b == b'|').unwrap_or(names.len());
+    &names[..end]
+}
+
+fn has_no_blank(name: &[u8]) -> bool
+    ensures { result ≡ has_no_blank name.now }
+{
+    name.iter().all(|b| *b != b' ')
+}
+
+fn begins_with_hash(name: &[u8]) -> bool
+    ensures { result ≡ begins_with_hash name.now }
+{
+    match name {
+        [first, ..] => *first == b'#',
+        [] => false,
+    }
+}
+
+/// Whether a text is good for the names of an entry: 1 to 511 bytes from 32 to 126 without a
+/// comma, cut into alternatives at `|`; no alternative is empty, and the first has no blank and
+/// doesn't begin with `#` (terminfo(5)).
+pub fn are_names(names: &[u8]) -> bool
+    ensures { result ≡ are_names names.now }
+{
+    let first = first_alternative(names);
+    1 <= names.len()
+        && names.len() <= 511
+        && are_name_bytes(names)
+        && are_alternatives_there(names)
+        && has_no_blank(first)
+        && !begins_with_hash(first)
+}
