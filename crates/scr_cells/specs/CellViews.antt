@@ -1,0 +1,17 @@
+-- What a cell of a window holds. X/Open Curses Issue 7, 'Characters'.
+use Rattle.std.specs.Prelude.{ℕ, ◌<◌, ◌≤◌}
+
+-- a byte with a set of attributes
+pub record CellView : Type 0 where
+  pub byte : ℕ
+  pub attrs : ℕ
+
+-- the byte is a blank or a graphic character of ASCII
+pub record IsCell (cell : CellView) : Type 0 where
+  pub from_blank : 32 ≤ cell.byte
+  pub to_tilde : cell.byte ≤ 126
+  pub attributes : cell.attrs < 256
+
+-- a blank without attributes
+abbrev pub blank_cell : CellView
+blank_cell = record { byte = 32; attrs = 0 }

@@ -1,0 +1,4 @@
+pub mod Attributes
+pub mod CellViews
+pub mod LookViews
+pub mod PictureViews

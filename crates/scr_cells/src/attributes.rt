@@ -1,0 +1,46 @@
+ghost use Rattle.std.specs.Prelude.{⊤, ◌≡◌, [], ◌∷◌, codes};
+ghost use Rattle.scr_cells.specs.Attributes.{negative_set};
+
+use bitflags::{Flag, Flags, bitflag_items};
+
+/// A set of video attributes (X/Open Curses Issue 7, 'Attributes'), as bits.
+///
+/// The union of two sets is `union`, their difference `difference`, membership `contains`, all by
+/// `bitflags::Flags`. Bit 128 names no attribute: a set keeps it, and no terminal shows it.
+#[derive(Clone, Copy, PartialEq, Eq, Debug)]
+pub struct Attrs(pub u8);
+
+bitflag_items! {
+    impl Attrs: u8 {
+        const STANDOUT = 1;
+        const UNDERLINE = 2;
+        const REVERSE = 4;
+        const BLINK = 8;
+        const DIM = 16;
+        const BOLD = 32;
+        const INVIS = 64;
+    }
+}
+
+impl Flags for Attrs {
+    type Bits = u8;
+
+    ghost exact = { ⊤ };
+
+    ghost table = { (codes "STANDOUT", 1) ∷ (codes "UNDERLINE", 2) ∷ (codes "REVERSE", 4)
+        ∷ (codes "BLINK", 8) ∷ (codes "DIM", 16) ∷ (codes "BOLD", 32) ∷ (codes "INVIS", 64) ∷ [] };
+
+    ghost set_of = { λ attrs. attrs.0 };
+
+    fn flags<'a>() -> &'a [Flag<Attrs>] {
+        Attrs::FLAGS
+    }
+
+    fn bits(&self) -> u8 {
+        self.0
+    }
+
+    fn from_bits_retain(bits: u8) -> Attrs {
+        Attrs(bits)
+    }
+}

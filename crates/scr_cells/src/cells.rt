@@ -1,0 +1,65 @@
+ghost use Rattle.std.specs.Prelude.{◌≡◌, ◌≤◌, ◌↔◌, IsSome, IfSome};
+ghost use Rattle.scr_cells.specs.CellViews.{IsCell, blank_cell};
+
+use crate::Attrs;
+use std::marker::Model;
+
+/// What a window holds in one place: a byte 32 to 126 and a set of attributes (X/Open Curses Issue 7,
+/// 'Characters').
+///
+/// One `u32`: the byte in bits 0 to 7, the attributes in bits 8 to 15.
+#[derive(Clone, Copy)]
+pub struct Cell {
+    packed: u32,
+}
+
+impl Model for Cell {
+    ghost use Rattle.std.specs.Prelude.{◌+◌, ◌*◌, ◌/◌, ◌%◌};
+    ghost use Rattle.scr_cells.specs.CellViews.{CellView, IsCell};
+
+    ghost Value = { CellView };
+
+    ghost view = { λ a. record { byte = a.packed % 256; attrs = a.packed / 256 } };
+
+    ghost invariant = { λ a. IsCell (record { byte = a.packed % 256; attrs = a.packed / 256 }) };
+
+    ghost inverse = { λ v. record { packed = v.attrs * 256 + v.byte } };
+}
+
+impl Cell {
+    /// The cell of a byte and attributes; `None` where the byte is not 32 to 126.
+    pub fn new(byte: u8, attrs: Attrs) -> Option<Cell>
+        ensures graphic { IsSome result ↔ ((32 ≤ byte) × (byte ≤ 126)) }
+        ensures holds { IfSome result (λ cell. cell ≡ record { byte = byte; attrs = attrs.0 }) }
+    {
+        if !(32..=126).contains(&byte) {
+            return None;
+        }
+        Some(Cell {
+            packed: u32::from(attrs.0) * 256 + u32::from(byte),
+        })
+    }
+
+    /// A blank without attributes.
+    pub fn blank() -> Cell
+        ensures { result ≡ blank_cell }
+    {
+        Cell { packed: 32 }
+    }
+
+    /// The byte, 32 to 126.
+    pub fn byte(self) -> u8
+        ensures value { result ≡ self.byte }
+        ensures cell { IsCell self }
+    {
+        (self.packed % 256) as u8
+    }
+
+    /// The attributes.
+    pub fn attrs(self) -> Attrs
+        ensures value { result.0 ≡ self.attrs }
+        ensures cell { IsCell self }
+    {
+        Attrs((self.packed / 256) as u8)
+    }
+}

@@ -1,0 +1,5 @@
+use Rattle.scr_plan.proofs.ScratchLaws as laws
+use Rattle.scr_plan.proofs.painting.scratch_shows.Goals as goal
+
+pub returns : goal.returns
+returns c = laws.scratch_shows

@@ -1,0 +1,63 @@
+-- Painting a whole picture from scratch. curs_refresh(3X), 'doupdate' of a screen that nothing is known of.
+use Rattle.std.specs.Prelude.{ℕ, ◌≡◌, ◌+◌, List, [], ◌∷◌, ◌++◌, map, Option, Some, None, bit_and}
+use Rattle.std.specs.List.{flat_map, range_with_len}
+use Rattle.scr_cells.specs.Attributes.{attributes_of}
+use Rattle.scr_cells.specs.CellViews.{CellView}
+use Rattle.scr_cells.specs.PictureViews.{PictureView, IsPicture, grid_row}
+use Rattle.scr_term.specs.Profiles.{ProfileView, IsProfile}
+use Rattle.scr_term.specs.States.{State, IsState}
+use Rattle.scr_term.specs.Steps.{runs}
+use Rattle.scr_term.specs.Painted.{Shows}
+use Rattle.scr_term.specs.declared.operations.Op.{Op}
+use Rattle.scr_term.specs.declared.operations.Op.TheVariants.{Move, Clear, Reset, Enter, Put}
+
+-- turns on one attribute
+abbrev pub enter : ℕ → Op
+enter attribute = Enter (record { 0 = attribute })
+
+-- one cell in its place: the cursor there, no attribute, each attribute that is shown, and the byte
+abbrev pub paints_cell : ProfileView → ℕ → ℕ → CellView → List Op
+paints_cell profile r c cell =
+    Move r c ∷ Reset ∷ map enter (attributes_of (bit_and profile.shown cell.attrs)) ++ Put cell.byte ∷ []
+
+-- cells next to one another in a row, the first of them in column c
+abbrev pub paints_cells : ProfileView → ℕ → ℕ → List CellView → List Op
+paints_cells profile r c [] = []
+paints_cells profile r c (cell ∷ cells) = paints_cell profile r c cell ++ paints_cells profile r (c + 1) cells
+
+-- a whole row of a picture
+abbrev pub paints_row : ProfileView → PictureView → ℕ → List Op
+paints_row profile picture r = paints_cells profile r 0 (grid_row picture.columns r picture.cells)
+
+-- every row, from the top
+abbrev pub paints_rows : ProfileView → PictureView → List Op
+paints_rows profile picture = flat_map (paints_row profile picture) (range_with_len 0 picture.rows)
+
+-- the cursor to where it is wished, if anywhere
+abbrev pub places_cursor : Option (ℕ × ℕ) → List Op
+places_cursor None = []
+places_cursor (Some place) = Move place.0 place.1 ∷ []
+
+-- no attribute, a blank screen, every place in rows, no attribute, the cursor
+abbrev pub scratch_of : ProfileView → PictureView → List Op
+scratch_of profile picture = Reset ∷ Clear ∷ paints_rows profile picture ++ Reset ∷ places_cursor picture.wish
+
+-- a picture that fits a profile's screen
+pub record Fits (profile : ProfileView) (picture : PictureView) : Type 0 where
+  pub rows : picture.rows ≡ profile.rows
+  pub columns : picture.columns ≡ profile.columns
+
+-- from this state the operations are all defined, and show the picture
+pub record RunsToShow (profile : ProfileView) (old : State) (ops : List Op) (picture : PictureView) : Type 0 where
+  pub new : State
+  pub run : runs profile old ops ≡ Some new
+  pub shows : Shows profile new picture
+  pub state : IsState profile.rows profile.columns profile.shown new
+
+-- From every state of the profile, scratch shows the picture.
+abbrev pub ScratchShows : Type 0
+ScratchShows =
+    (profile : ProfileView) → IsProfile profile
+    → (picture : PictureView) → IsPicture picture → Fits profile picture
+    → (old : State) → IsState profile.rows profile.columns profile.shown old
+    → RunsToShow profile old (scratch_of profile picture) picture

@@ -1,0 +1,6 @@
+//! Which operations bring a terminal to a picture.
+#![tactic(auto)]
+
+mod painting;
+
+pub use painting::{scratch, scratch_shows};

@@ -1,0 +1,4 @@
+pub mod Attributes
+pub mod Parameters
+pub mod OperationLaws
+pub mod StepLaws

@@ -1,0 +1,13 @@
+pub use Rattle.scr_cells.specs.Attributes
+pub use Rattle.scr_cells.specs.CellViews
+pub use Rattle.scr_cells.specs.LookViews
+pub use Rattle.scr_cells.specs.PictureViews
+pub mod Profiles
+pub mod States
+pub mod Steps
+pub mod Texts
+pub mod Painted
+pub mod EcmaUnits
+pub mod EcmaMeanings
+pub mod EcmaScreens
+pub mod Laws

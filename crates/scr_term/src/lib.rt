@@ -1,0 +1,14 @@
+//! The terminal: its operations, what they do, the bytes that are sent for them, and a screen that
+//! is fed those bytes.
+#![tactic(auto)]
+
+mod operation_laws;
+mod operations;
+mod profiles;
+mod rendering;
+
+pub use operation_laws::{
+    bytes_act_as_their_operation, bytes_act_as_their_operations, steps_keep_states,
+};
+pub use operations::{Op, Ops, Spot};
+pub use profiles::Profile;

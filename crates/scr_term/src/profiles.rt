@@ -1,0 +1,83 @@
+ghost use Rattle.std.specs.Prelude.{◌≡◌, ◌==◌, IfOk};
+ghost use Rattle.std.specs.List.{list_any};
+ghost use Rattle.scr_cells.specs.Attributes.{all_attributes};
+ghost use Rattle.scr_term.specs.Profiles.{IsEcma48, IsProfile};
+ghost use Rattle.scr_term.specs.Steps.{has};
+
+use crate::Op;
+use bitflags::Flags;
+use scr_cells::{Attrs, NoMemory, Size};
+use std::alloc::Global;
+use std::marker::Model;
+
+/// What is known of a terminal: its size, the attributes that it shows, and the text of each
+/// operation.
+#[derive(Drop)]
+pub struct Profile {
+    size: Size,
+    shown: Attrs,
+}
+
+impl Model for Profile {
+    ghost use Rattle.scr_term.specs.Profiles.{ProfileView, IsProfile};
+
+    ghost Value = { ProfileView };
+
+    ghost view = { λ a. record { rows = a.size.rows; columns = a.size.columns; shown = a.shown.0 } };
+
+    ghost invariant = { λ a. IsProfile (record { rows = a.size.rows; columns = a.size.columns; shown = a.shown.0 }) };
+}
+
+// The seven attributes.
+const ALL_SEVEN: u8 = 127;
+
+// Whether the set has one attribute alone.
+fn is_attribute(set: Attrs) -> bool
+    ensures { result ≡ list_any (λ a. a == set.0) all_attributes }
+{
+    matches!(set.0, 1 | 2 | 4 | 8 | 16 | 32 | 64)
+}
+
+impl Profile {
+    /// The profile of the bundled ECMA-48 entry on a screen of this size. Refused for want of memory
+    /// alone.
+    pub fn ecma48(_alloc: Global, size: Size) -> Result<Profile, NoMemory>
+        ensures entry { IfOk result IsEcma48 }
+        ensures rows { IfOk result (λ profile. profile.rows ≡ size.rows) }
+        ensures columns { IfOk result (λ profile. profile.columns ≡ size.columns) }
+    {
+        Ok(Profile {
+            size,
+            shown: Attrs(ALL_SEVEN),
+        })
+    }
+
+    /// How many rows and columns the screen has.
+    pub fn size(&self) -> Size
+        ensures rows { result.rows ≡ self.now.rows }
+        ensures columns { result.columns ≡ self.now.columns }
+        ensures profile { IsProfile self.now }
+    {
+        self.size
+    }
+
+    /// The attributes that the terminal shows; others are dropped.
+    pub fn shows(&self) -> Attrs
+        ensures { result.0 ≡ self.now.shown }
+    {
+        self.shown
+    }
+
+    /// Whether the terminal has an operation: the place is on the screen, the attribute is a single
+    /// one that is shown, the byte is 32 to 126.
+    pub fn has(&self, op: Op) -> bool
+        ensures { result ≡ has self.now op }
+    {
+        match op {
+            Op::Move(row, column) => row < self.size.rows && column < self.size.columns,
+            Op::Clear | Op::Reset => true,
+            Op::Enter(attribute) => is_attribute(attribute) && self.shown.contains(attribute),
+            Op::Put(byte) => (32..=126).contains(&byte),
+        }
+    }
+}
