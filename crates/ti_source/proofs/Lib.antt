@@ -1,0 +1,4 @@
+pub mod EscapeLaws
+pub mod FieldLaws
+pub mod NumberLaws
+pub mod ReadingLaws

@@ -1,0 +1,21 @@
+use Rattle.std.proofs.Common.{◌∙◌, ap, ◌∷◌, option_map}
+use Rattle.std.proofs.lemmas.Result.{err_from_is_err_and}
+use Rattle.ti_source.specs.Field.{fields_behind}
+use Rattle.ti_source.specs.Seen.{seen_form}
+use Rattle.ti_source.proofs.ReadingLaws.{fields-fail, fields-go, fields-end}
+use Rattle.ti_source.proofs.filling.Filling.with_fields.Goals as goal
+
+pub returns-in_err-filling : goal.returns-in_err-filling
+returns-in_err-filling c =
+    let p = err_from_is_err_and c.from_residual.result c.from_residual.ensures.1 in
+    rw (p.1, p.2) (fields-fail c.args.line _ _ _ (seen_form c.form_of.result) c.loop-filling.filling c.in_err-filling.field-0.0 _ c.split_field.ensures.cut c.form_of.ensures c.loop-filling.invariant c.in_err-filling.ensures)
+
+pub loop-filling-preserved : goal.loop-filling-preserved
+loop-filling-preserved c =
+    let more = c.split_field.ensures.cut ∙ ap (λ o. c.split_field.result.0.now ∷ fields_behind (option_map (λ s. s.now) o)) c.in-Some.is in
+    fields-go c.args.line _ _ _ (seen_form c.form_of.result) c.loop-filling.filling c.in_ok-filling.filling _ more c.form_of.ensures c.loop-filling.invariant c.in_ok-filling.ensures
+
+pub returns-in-None : goal.returns-in-None
+returns-in-None c =
+    let more = c.split_field.ensures.cut ∙ ap (λ o. c.split_field.result.0.now ∷ fields_behind (option_map (λ s. s.now) o)) c.in-None.is in
+    fields-end c.args.line _ _ (seen_form c.form_of.result) c.loop-filling.filling c.in_ok-filling.filling _ more c.form_of.ensures c.loop-filling.invariant c.in_ok-filling.ensures

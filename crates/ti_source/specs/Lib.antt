@@ -1,0 +1,10 @@
+pub mod Described
+pub mod Escape
+pub mod Field
+pub mod Line
+pub mod Number
+pub mod Print
+pub mod Reading
+pub mod Resolving
+pub mod Result
+pub mod Seen

@@ -1,0 +1,19 @@
+-- Results of reading: the next step, and what a call that takes memory answers.
+use Rattle.std.specs.Prelude.{◌≡◌, ◌⊎◌, Result, Ok, Err}
+use Rattle.ti_source.specs.declared.fault.SourceFault.{SourceFault}
+use Rattle.ti_source.specs.declared.fault.SourceFault.TheVariants.{NoMemory}
+
+-- what comes after a step that may be a fault
+infixl 10 ◌>>=◌
+abbrev pub ◌>>=◌ : {A B : Type 0} → Result A SourceFault → (A → Result B SourceFault) → Result B SourceFault
+(Ok x) >>= f = f x
+(Err e) >>= f = Err e
+
+-- memory ran out, or this is the fault
+abbrev pub Fails : {A : Type 0} → SourceFault → Result A SourceFault → Type 0
+Fails e wanted = (e ≡ NoMemory) ⊎ (wanted ≡ Err e)
+
+-- an answer is the one that is wanted, memory aside
+abbrev pub Gives : {A : Type 0} → Result A SourceFault → Result A SourceFault → Type 0
+Gives (Ok x) wanted = wanted ≡ Ok x
+Gives (Err e) wanted = Fails e wanted

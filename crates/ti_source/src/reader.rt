@@ -1,0 +1,150 @@
+//! Reading a source line by line.
+
+ghost use Rattle.std.specs.Prelude.{◌≡◌, None, Ok, [], option_map};
+ghost use Rattle.std.specs.List.{list_any};
+ghost use Rattle.ti_source.specs.Reading.{begun, continued, has_name, is_taken, source_of, whole, with_line};
+ghost use Rattle.ti_source.specs.Field.{fields};
+ghost use Rattle.ti_source.specs.Line.{line_of};
+ghost use Rattle.ti_source.specs.Result.{Gives};
+ghost use Rattle.ti_source.specs.Seen.{seen_line};
+
+use crate::fault::SourceFault;
+use crate::filling::Filling;
+use crate::line::{Line, line_of};
+use crate::note::Note;
+use crate::source::Source;
+use crate::statement::SourceEntry;
+use bstr::ByteSlice;
+use std::alloc::Global;
+use std::marker::Model;
+use ti_caps::{Bytes, are_names};
+
+/// The entries before, the entry that the last line belongs to, and the notes.
+#[derive(Drop)]
+struct State {
+    done: Vec<SourceEntry>,
+    current: Option<SourceEntry>,
+    notes: Vec<Note>,
+}
+
+impl Model for State {
+    ghost use Rattle.ti_source.specs.Reading.{State};
+
+    ghost Value = { State };
+
+    ghost view = { λ s. record { done = s.done.items; current = s.current; notes = s.notes.items } };
+}
+
+fn has_name(entries: &[SourceEntry], name: &[u8]) -> bool
+    ensures { result ≡ list_any (has_name name.now) entries.now }
+{
+    for entry in entries {
+        if entry.has_name(name) {
+            return true;
+        }
+    }
+    false
+}
+
+fn is_taken(names: &[u8], entries: &[SourceEntry]) -> bool
+    ensures { result ≡ is_taken names.now entries.now }
+{
+    names
+        .split(|b| *b == b'|')
+        .any(|name| has_name(entries, name))
+}
+
+impl State {
+    /// The entries with the last one among them, and the notes.
+    fn close(self) -> Result<Source, SourceFault>
+        ensures { Gives result (whole self) }
+    {
+        let State {
+            mut done,
+            current,
+            notes,
+        } = self;
+        if let Some(entry) = current {
+            done.push(entry)?;
+        }
+        Ok(Source::new(done, notes))
+    }
+
+    fn continued(self, alloc: Global, line: u32, text: &[u8]) -> Result<State, SourceFault>
+        ensures { Gives result (continued line (fields text.now) self self.current) }
+    {
+        let State {
+            done,
+            current,
+            notes,
+        } = self;
+        let Some(entry) = current else {
+            return Err(SourceFault::FieldBeforeEntry(line));
+        };
+        let filling = Filling { entry, notes };
+        let Filling { entry, notes } = filling.with_fields(alloc, line, text)?;
+        Ok(State {
+            done,
+            current: Some(entry),
+            notes,
+        })
+    }
+
+    fn begun(
+        self,
+        alloc: Global,
+        line: u32,
+        names: &[u8],
+        text: &[u8],
+    ) -> Result<State, SourceFault>
+        ensures { Gives result (begun line names.now (fields text.now) self) }
+    {
+        if !are_names(names) {
+            return Err(SourceFault::BadNames(line));
+        }
+        let (done, notes) = self.close()?.into_parts();
+        if is_taken(names, &done) {
+            return Err(SourceFault::DuplicateName(line));
+        }
+        let entry = SourceEntry::new(alloc, Bytes(Vec::from_slice(alloc, names)?));
+        let filling = Filling { entry, notes };
+        let Filling { entry, notes } = filling.with_fields(alloc, line, text)?;
+        Ok(State {
+            done,
+            current: Some(entry),
+            notes,
+        })
+    }
+
+    #[tactic(auto, unfolding(crate::specs::Reading::with_line))]
+    fn with_line(self, alloc: Global, number: u32, line: Line<'_>) -> Result<State, SourceFault>
+        ensures { Gives result (with_line number (seen_line line.entry) self) }
+    {
+        match line {
+            Line::Skipped => Ok(self),
+            Line::Foreign => Err(SourceFault::NotAscii(number)),
+            Line::Continues(text) => self.continued(alloc, number, text),
+            Line::Begins(names, text) => self.begun(alloc, number, names, text),
+        }
+    }
+}
+
+/// Reads a source: its entries, and a note for each doubtful field, in their order
+/// (terminfo(5)). A line ends at LF, CR LF or the end of the bytes, and lines count from 1. The
+/// fault is that of the first faulty line: NotAscii before any other of that line, else the
+/// leftmost; BadNames before DuplicateName.
+pub fn read(alloc: Global, bytes: &[u8]) -> Result<Source, SourceFault>
+    ensures { Gives result (source_of bytes.now) }
+{
+    let mut state = State {
+        done: Vec::new(alloc),
+        current: None,
+        notes: Vec::new(alloc),
+    };
+    let mut number = 1u32;
+    for line in bytes.lines() {
+        state = state.with_line(alloc, number, line_of(line))?;
+        number = number.saturating_add(1);
+    }
+    state.close()
+}

@@ -1,0 +1,67 @@
+//! A source that was read.
+
+ghost use Rattle.std.specs.Prelude.{◌≡◌, ◌<◌, ◌↔◌, IsTrue, length};
+ghost use Rattle.std.specs.Prelude.{slice_get, Some, None, option_map};
+ghost use Rattle.ti_caps.specs.Names.{first_name};
+
+use crate::note::Note;
+use crate::statement::SourceEntry;
+use std::marker::Model;
+
+/// The entries of a source, in their order, and the notes on its doubtful fields.
+#[derive(Debug, Drop)]
+pub struct Source {
+    entries: Vec<SourceEntry>,
+    notes: Vec<Note>,
+}
+
+impl Model for Source {
+    ghost use Rattle.ti_source.specs.Reading.{Whole};
+
+    ghost Value = { Whole };
+
+    ghost view = { λ s. record { entries = s.entries.items; notes = s.notes.items } };
+}
+
+impl Source {
+    pub(crate) fn new(entries: Vec<SourceEntry>, notes: Vec<Note>) -> Source
+        ensures { result ≡ record { entries = entries.items; notes = notes.items } }
+    {
+        Source { entries, notes }
+    }
+
+    pub(crate) fn into_parts(self) -> (Vec<SourceEntry>, Vec<Note>)
+        ensures entries { result.0.items ≡ self.entries }
+        ensures notes { result.1.items ≡ self.notes }
+    {
+        let Source { entries, notes } = self;
+        (entries, notes)
+    }
+
+    /// The notes, in the order of the fields that they are on.
+    pub fn notes(&self) -> &[Note]
+        ensures { result.now ≡ self.now.notes }
+    {
+        self.notes.as_slice()
+    }
+
+    /// How many entries there are.
+    pub fn len(&self) -> usize
+        ensures { result ≡ length self.now.entries }
+    {
+        self.entries.len()
+    }
+
+    /// Whether there is no entry.
+    pub fn is_empty(&self) -> bool
+        ensures { IsTrue result ↔ (length self.now.entries ≡ 0) }
+    {
+        self.entries.is_empty()
+    }
+
+    pub(crate) fn entries(&self) -> &[SourceEntry]
+        ensures { result.now ≡ self.now.entries }
+    {
+        self.entries.as_slice()
+    }
+}

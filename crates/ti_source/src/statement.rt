@@ -1,0 +1,153 @@
+//! What the fields of an entry say.
+
+ghost use Rattle.std.specs.Prelude.{◌≡◌, ◌∷◌, [], ◌++◌, Ok, Err, length, option_map};
+ghost use Rattle.std.specs.List.{list_any};
+ghost use Rattle.ti_source.specs.Reading.{has_name, speaks_of};
+ghost use Rattle.ti_source.specs.Result.{Gives};
+ghost use Rattle.ti_caps.specs.Table.{same_kind};
+ghost use Rattle.ti_caps.specs.Names.{alternatives, has_no_blank};
+ghost use Rattle.std.specs.Str.{bytes_eq};
+
+use crate::fault::SourceFault;
+use std::alloc::Global;
+use std::marker::Model;
+use ti_caps::{Bytes, Kind, Slot};
+
+/// What a field says of its capability.
+#[derive(Debug, Drop)]
+pub(crate) enum Said {
+    Present,
+    Number(u16),
+    Text(Bytes),
+    Cancelled,
+}
+
+/// A field that counts: the first of its entry that speaks of the capability.
+#[derive(Debug, Drop)]
+pub(crate) struct Statement {
+    pub(crate) kind: Kind,
+    pub(crate) slot: Slot,
+    pub(crate) said: Said,
+}
+
+/// An entry as it stands in a source.
+#[derive(Debug, Drop)]
+pub(crate) struct SourceEntry {
+    names: Bytes,
+    statements: Vec<Statement>,
+    uses: Vec<Bytes>,
+}
+
+impl Model for SourceEntry {
+    ghost use Rattle.ti_source.specs.Described.{Described};
+
+    ghost Value = { Described };
+
+    ghost view = { λ e. record { names = e.names; statements = e.statements.items; uses = e.uses.items } };
+}
+
+fn has_no_blank(name: &[u8]) -> bool
+    ensures { result ≡ has_no_blank name.now }
+{
+    name.iter().all(|b| *b != b' ')
+}
+
+fn same_kind(a: Kind, b: Kind) -> bool
+    ensures { result ≡ same_kind a b }
+{
+    match (a, b) {
+        (Kind::Flag, Kind::Flag) => true,
+        (Kind::Number, Kind::Number) => true,
+        (Kind::Text, Kind::Text) => true,
+        _ => false,
+    }
+}
+
+impl Statement {
+    pub(crate) fn speaks_of(&self, kind: Kind, slot: Slot) -> bool
+        ensures { result ≡ speaks_of kind slot.0 self.now }
+    {
+        same_kind(self.kind, kind) && self.slot.0 == slot.0
+    }
+}
+
+impl SourceEntry {
+    pub(crate) fn new(alloc: Global, names: Bytes) -> SourceEntry
+        ensures { result ≡ record { names = names; statements = []; uses = [] } }
+    {
+        SourceEntry {
+            names,
+            statements: Vec::new(alloc),
+            uses: Vec::new(alloc),
+        }
+    }
+
+    pub(crate) fn names(&self) -> &[u8]
+        ensures { result.now ≡ self.now.names }
+    {
+        self.names.0.as_slice()
+    }
+
+    pub(crate) fn statements(&self) -> &[Statement]
+        ensures { result.now ≡ self.now.statements }
+    {
+        self.statements.as_slice()
+    }
+
+    pub(crate) fn uses(&self) -> &[Bytes]
+        ensures { result.now ≡ self.now.uses }
+    {
+        self.uses.as_slice()
+    }
+
+    /// Whether an alternative of the entry is this name, which has no blank.
+    pub(crate) fn has_name(&self, name: &[u8]) -> bool
+        ensures { result ≡ has_name name.now self.now }
+    {
+        has_no_blank(name) && has_alternative(self.names.0.as_slice(), name)
+    }
+
+    pub(crate) fn is_stated(&self, kind: Kind, slot: Slot) -> bool
+        ensures { result ≡ list_any (speaks_of kind slot.0) self.now.statements }
+    {
+        is_stated(self.statements.as_slice(), kind, slot)
+    }
+
+    pub(crate) fn with_statement(
+        mut self,
+        kind: Kind,
+        slot: Slot,
+        said: Said,
+    ) -> Result<SourceEntry, SourceFault>
+        ensures { Gives result (Ok (record self { statements = self.statements ++ (record { kind = kind; slot = slot; said = said }) ∷ [] })) }
+    {
+        self.statements.push(Statement { kind, slot, said })?;
+        Ok(self)
+    }
+
+    pub(crate) fn with_use(mut self, other: Bytes) -> Result<SourceEntry, SourceFault>
+        ensures { Gives result (Ok (record self { uses = self.uses ++ other ∷ [] })) }
+    {
+        self.uses.push(other)?;
+        Ok(self)
+    }
+}
+
+fn is_stated(statements: &[Statement], kind: Kind, slot: Slot) -> bool
+    ensures { result ≡ list_any (speaks_of kind slot.0) statements.now }
+{
+    for statement in statements {
+        if statement.speaks_of(kind, slot) {
+            return true;
+        }
+    }
+    false
+}
+
+fn has_alternative(names: &[u8], name: &[u8]) -> bool
+    ensures { result ≡ list_any (bytes_eq name.now) (alternatives names.now) }
+{
+    names
+        .split(|b| *b == b'|')
+        .any(|alternative| name == alternative)
+}
