@@ -1,0 +1,16 @@
+pub mod State
+pub mod Numbers
+pub mod Tree
+pub mod Steps
+pub mod Tokens
+pub mod Grammar
+pub mod Marks
+pub mod Fits
+pub mod Faults
+pub mod Scans
+pub mod Effects
+pub mod Output
+pub mod Padding
+pub mod Machine
+pub mod Measures
+pub mod Runs

@@ -1,0 +1,23 @@
+//! Parameter strings of terminfo(5): texts of capabilities that take parameters, read as programs
+//! whose output, and the most that it can be, is known before they run.
+#![tactic(auto)]
+
+mod builder;
+mod directives;
+mod faults;
+mod layouts;
+mod machine;
+mod marks;
+mod measures;
+mod padding;
+mod programs;
+mod reader;
+mod stack;
+mod steps;
+mod tokens;
+mod variables;
+
+pub use faults::{NoMemory, ParamFault, RunFault};
+pub use padding::strip_padding;
+pub use programs::Program;
+pub use variables::Vars;

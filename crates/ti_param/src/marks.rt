@@ -1,0 +1,123 @@
+// The marks of conditionals, `%? %t %e %;`, as they follow one another: terminfo(5), 'Parameterized Strings'.
+
+ghost use Rattle.std.specs.Prelude.{◌≡◌, [], length, MatchResult, Ok, Err};
+ghost use Rattle.ti_param.specs.Marks.{entered};
+ghost use Rattle.ti_param.specs.Fits.{Enters};
+
+use crate::tokens::Token;
+use std::marker::Model;
+
+/// How many conditionals may be open at once.
+pub const NESTING: usize = 32;
+
+/// A part of a conditional.
+#[derive(Clone, Copy, PartialEq, Eq, Debug)]
+pub enum Part {
+    Test,
+    First,
+    Second,
+}
+
+/// Why a mark does not fit.
+#[derive(Clone, Copy, PartialEq, Eq, Debug)]
+pub enum Misfit {
+    /// It has no place there.
+    Misplaced,
+    /// It opens a 33rd conditional.
+    Deep,
+}
+
+/// The parts of the conditionals that are open, at the end of the array, the innermost first.
+#[derive(Drop)]
+pub struct Marks {
+    parts: [Part; NESTING],
+    first: usize,
+}
+
+impl Model for Marks {
+    ghost use Rattle.std.specs.Prelude.{◌≡◌, List, ◌≤◌, drop, length};
+    ghost use Rattle.ti_param.specs.declared.marks.Part.{Part};
+
+    ghost Value = { List Part };
+
+    ghost view = { λ m. drop m.first m.parts };
+
+    ghost invariant = { λ m. (m.first ≤ 32) × (length m.parts ≡ 32) };
+}
+
+impl Marks {
+    /// No conditional is open.
+    pub fn new() -> Self
+        ensures { result ≡ [] }
+    {
+        Marks {
+            parts: [Part::Test; NESTING],
+            first: NESTING,
+        }
+    }
+
+    /// How many conditionals are open.
+    pub fn open(&self) -> usize
+        ensures { result ≡ length self.now }
+    {
+        NESTING - self.first
+    }
+
+    /// Goes past a directive or mark. Nothing changes where it does not fit.
+    pub fn enter(&mut self, token: Token) -> Result<(), Misfit>
+        ensures { Enters result self.new (entered token self.old) }
+    {
+        match token {
+            Token::Do(_) => Ok(()),
+            Token::If => self.open_one(),
+            Token::Then => self.begin_first(),
+            Token::Else => self.begin_second(),
+            Token::EndIf => self.close(),
+        }
+    }
+
+    // A conditional is opened.
+    fn open_one(&mut self) -> Result<(), Misfit>
+        ensures { Enters result self.new (entered Token.If self.old) }
+    {
+        if self.first == 0 {
+            return Err(Misfit::Deep);
+        }
+        self.first -= 1;
+        self.parts[self.first] = Part::Test;
+        Ok(())
+    }
+
+    // A then part begins, behind a test or, as an else-if, behind an else part.
+    fn begin_first(&mut self) -> Result<(), Misfit>
+        ensures { Enters result self.new (entered Token.Then self.old) }
+    {
+        if self.first == NESTING || self.parts[self.first] == Part::First {
+            return Err(Misfit::Misplaced);
+        }
+        self.parts[self.first] = Part::First;
+        Ok(())
+    }
+
+    // An else part begins, behind a then part.
+    fn begin_second(&mut self) -> Result<(), Misfit>
+        ensures { Enters result self.new (entered Token.Else self.old) }
+    {
+        if self.first == NESTING || self.parts[self.first] != Part::First {
+            return Err(Misfit::Misplaced);
+        }
+        self.parts[self.first] = Part::Second;
+        Ok(())
+    }
+
+    // A conditional ends.
+    fn close(&mut self) -> Result<(), Misfit>
+        ensures { Enters result self.new (entered Token.EndIf self.old) }
+    {
+        if self.first == NESTING {
+            return Err(Misfit::Misplaced);
+        }
+        self.first += 1;
+        Ok(())
+    }
+}

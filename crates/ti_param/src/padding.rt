@@ -1,0 +1,94 @@
+// Padding in capability texts: terminfo(5), 'Delays and Padding'.
+
+ghost use Rattle.std.specs.Prelude.{◌≡◌, ◌+◌, ◌≤◌, ℕ, length, IfOk, slice_index, IsTrue, ◌↔◌};
+ghost use Rattle.ti_param.specs.Padding.{is_digit, digits_at, point_at, marks_at, padding_length, stripped};
+
+use crate::faults::NoMemory;
+use std::alloc::Global;
+
+/// A capability's text without its padding, which is removed in one pass from the left: `$<`, at least one digit,
+/// a point and one digit or nothing, `*` and `/` in either order, either of them or nothing, and `>`.
+/// Its only refusal is want of memory. terminfo(5), 'Delays and Padding'.
+pub fn strip_padding(alloc: Global, bytes: &[u8]) -> Result<Vec<u8>, NoMemory>
+    ensures { IfOk result (λ text. text.items ≡ stripped bytes.now) }
+{
+    let mut text = Vec::new(alloc);
+    let mut place = 0;
+    while place < bytes.len() {
+        let passed = padding_length(&bytes[place..]);
+        if passed == 0 {
+            text.push(bytes[place]).map_err(|_| NoMemory)?;
+            place += 1;
+        } else {
+            place += passed;
+        }
+    }
+    Ok(text)
+}
+
+// How long the padding is with which a text begins, or 0.
+fn padding_length(text: &[u8]) -> usize
+    ensures value { result ≡ padding_length text.now }
+    ensures bound { result ≤ length text.now }
+{
+    if byte_at(text, 0) != b'$' || byte_at(text, 1) != b'<' {
+        return 0;
+    }
+    let digits = digits_at(text, 2);
+    let point = 2 + digits + point_at(text, 2 + digits);
+    let end = point + marks_at(text, point);
+    if digits > 0 && byte_at(text, end) == b'>' {
+        end + 1
+    } else {
+        0
+    }
+}
+
+// The byte at a place, or 0 past the end.
+fn byte_at(text: &[u8], place: usize) -> u8
+    ensures { result ≡ slice_index text.now place }
+{
+    if place < text.len() { text[place] } else { 0 }
+}
+
+// How many digits a text has from a place on.
+fn digits_at(text: &[u8], place: usize) -> usize
+    ensures value { result ≡ digits_at text.now place }
+    ensures bound { result ≤ length text.now }
+{
+    let mut end = place;
+    while end < text.len() && text[end].is_ascii_digit() {
+        end += 1;
+    }
+    end - place
+}
+
+// How long the point and its digit are that a text has at a place.
+fn point_at(text: &[u8], place: usize) -> usize
+    requires { place ≤ length text.now + 2 }
+    ensures value { result ≡ point_at text.now place }
+    ensures bound { result ≤ 2 }
+{
+    if byte_at(text, place) == b'.' && byte_at(text, place + 1).is_ascii_digit() {
+        2
+    } else {
+        0
+    }
+}
+
+// How many of `*` and `/` a text has at a place.
+fn marks_at(text: &[u8], place: usize) -> usize
+    requires { place ≤ length text.now + 4 }
+    ensures value { result ≡ marks_at text.now place }
+    ensures bound { result ≤ 2 }
+{
+    let first = byte_at(text, place);
+    let second = byte_at(text, place + 1);
+    if (first == b'*' && second == b'/') || (first == b'/' && second == b'*') {
+        2
+    } else if first == b'*' || first == b'/' {
+        1
+    } else {
+        0
+    }
+}
