@@ -2,3 +2,10 @@ pub mod Attributes
 pub mod Parameters
 pub mod OperationLaws
 pub mod StepLaws
+mod EcmaUnitLaws
+mod EcmaDivisionLaws
+mod EcmaPieceLaws
+mod EcmaReadingLaws
+mod EcmaParameterLaws
+mod EcmaStateLaws
+mod EcmaFedLaws

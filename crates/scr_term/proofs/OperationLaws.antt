@@ -105,7 +105,7 @@ put_leads rows columns byte old new (At r c) e low high h =
     } in
     subst (λ s. Leads rows columns (negative_state old) (byte ∷ []) (negative_state s)) (same_some written new h) leads
 
-map-replicate : {A B : Type 0} (f : A → B) (n : ℕ) (x : A) → map f (replicate n x) ≡ replicate n (f x)
+pub map-replicate : {A B : Type 0} (f : A → B) (n : ℕ) (x : A) → map f (replicate n x) ≡ replicate n (f x)
 map-replicate f zero x = refl
 map-replicate f (suc n) x = ap (λ xs. f x ∷ xs) (map-replicate f n x)
 

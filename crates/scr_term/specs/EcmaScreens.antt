@@ -1,9 +1,11 @@
 -- A screen that is fed an ECMA-48 text in pieces.
-use Rattle.std.specs.Prelude.{ℕ, ◌≡◌, ◌++◌, Bool, true, false, List, [], Some, None, ◌⊎◌}
+use Rattle.std.specs.Prelude.{ℕ, ◌≡◌, ◌*◌, ◌++◌, Bool, true, false, List, [], Some, None, ◌⊎◌, replicate}
+use Rattle.scr_cells.specs.LookViews.{blank}
 use Rattle.scr_cells.specs.PictureViews.{IsSize}
 use Rattle.scr_term.specs.States.{State, IsState}
 use Rattle.scr_term.specs.EcmaUnits.{EcmaUnit, IsUnit, IsDivision, IsWaiting, BeginsNoUnit, spelling}
 use Rattle.scr_term.specs.EcmaMeanings.{meaning, meanings}
+use Rattle.scr_term.specs.declared.operations.Spot.TheVariants.{At}
 
 -- its size, its state after the last whole unit, the part of a unit that came after that, and whether
 -- something undefined came
@@ -20,6 +22,16 @@ pub record IsScreen (screen : ScreenView) : Type 0 where
   pub state : IsState screen.rows screen.columns 127 screen.state
   pub waiting : (screen.waiting ≡ []) ⊎ IsWaiting screen.waiting
   pub undefined : screen.undefined ≡ true → screen.waiting ≡ []
+
+-- blanks everywhere, the cursor at the first place, no attribute on, and nothing came yet
+abbrev pub blank_screen : ℕ → ℕ → ScreenView
+blank_screen rows columns = record {
+  rows = rows;
+  columns = columns;
+  state = record { grid = replicate (rows * columns) blank; spot = At 0 0; attrs = 0 };
+  waiting = [];
+  undefined = false;
+}
 
 -- The text is whole units that are all defined, and then nothing or a part of one.
 pub record GoesOn (old : ScreenView) (text : List ℕ) (new : ScreenView) : Type 0 where

@@ -10,4 +10,5 @@ pub mod Painted
 pub mod EcmaUnits
 pub mod EcmaMeanings
 pub mod EcmaScreens
+pub mod EcmaReadings
 pub mod Laws

@@ -2,11 +2,20 @@
 //! is fed those bytes.
 #![tactic(auto)]
 
+mod ecma_controls;
+mod ecma_parameters;
+mod ecma_readings;
+mod ecma_screens;
+#[cfg(test)]
+mod ecma_tests;
+mod laws;
 mod operation_laws;
 mod operations;
 mod profiles;
 mod rendering;
 
+pub use ecma_screens::{EcmaScreen, Undefined};
+pub use laws::{one_division, pieces_do_not_matter};
 pub use operation_laws::{
     bytes_act_as_their_operation, bytes_act_as_their_operations, steps_keep_states,
 };

@@ -1,0 +1,230 @@
+ghost use Rattle.std.specs.Prelude.{◌≡◌, ◌≤◌, ◌*◌, ◌+◌, ◌<◌, ◌↔◌, false, length, [], ◌∷◌, bit_and, option_map, replicate, slice_get, IfOk, IsOk, IsTrue, Some};
+ghost use Rattle.std.specs.Option.{ForSome};
+ghost use Rattle.scr_cells.specs.LookViews.{blank, IsLook};
+ghost use Rattle.scr_cells.specs.PictureViews.{IsPlace, grid_row};
+ghost use Rattle.scr_term.specs.States.{IsSpot, written};
+ghost use Rattle.scr_term.specs.EcmaUnits.{IsWaiting, Sequence};
+ghost use Rattle.scr_term.specs.EcmaMeanings.{meaning};
+ghost use Rattle.scr_term.specs.EcmaScreens.{IsScreen, IsFed, blank_screen};
+ghost use Rattle.scr_term.specs.EcmaReadings.{IsChange, IsReading, acted, changed};
+
+use crate::Spot;
+use crate::ecma_controls::{Change, control_sequence};
+use crate::ecma_readings::{Reading, read_byte};
+use arrayvec::ArrayVec;
+use bitflags::Flags;
+use scr_cells::{Attrs, Look, NoMemory, Size};
+use std::alloc::Global;
+use std::marker::Model;
+use thiserror::Error;
+
+/// The text has something that is undefined (ECMA-48): a control function that this screen does not
+/// know, one that leads off the screen, or a byte that belongs to no unit.
+#[derive(Clone, Copy, Debug, PartialEq, Eq, Error)]
+#[error("undefined")]
+pub struct Undefined;
+
+/// A screen that is fed an ECMA-48 text in pieces, and shows what the text does.
+///
+/// Graphic characters, CUP, ED 2 and SGR have a meaning; every other unit is undefined. After the
+/// first undefined one the screen stays as it is.
+#[derive(Drop)]
+pub struct EcmaScreen {
+    size: Size,
+    // The rows one after another, from the top.
+    grid: Vec<Look>,
+    spot: Spot,
+    attrs: Attrs,
+    // The part of a control sequence that came after the last whole unit.
+    waiting: ArrayVec<u8, 64>,
+    undefined: bool,
+}
+
+impl Model for EcmaScreen {
+    ghost use Rattle.scr_term.specs.EcmaScreens.{ScreenView, IsScreen};
+
+    ghost Value = { ScreenView };
+
+    ghost view = { λ a. record {
+      rows = a.size.rows;
+      columns = a.size.columns;
+      state = record { grid = a.grid.items; spot = a.spot; attrs = a.attrs.0 };
+      waiting = a.waiting.items;
+      undefined = a.undefined;
+    } };
+
+    ghost invariant = { λ a. IsScreen (record {
+      rows = a.size.rows;
+      columns = a.size.columns;
+      state = record { grid = a.grid.items; spot = a.spot; attrs = a.attrs.0 };
+      waiting = a.waiting.items;
+      undefined = a.undefined;
+    }) };
+}
+
+impl EcmaScreen {
+    /// A blank screen with the cursor at 0 0 and no attribute on. Refused for want of memory alone.
+    pub fn new(alloc: Global, size: Size) -> Result<EcmaScreen, NoMemory>
+        ensures { IfOk result (λ screen. screen ≡ blank_screen size.rows size.columns) }
+    {
+        let count = size.rows as usize * size.columns as usize;
+        let mut grid = Vec::with_capacity(alloc, count)?;
+        grid.resize(count, Look::blank())?;
+        Ok(EcmaScreen {
+            size,
+            grid,
+            spot: Spot::At(0, 0),
+            attrs: Attrs::empty(),
+            waiting: ArrayVec::new(),
+            undefined: false,
+        })
+    }
+
+    /// Feeds the next piece of the text, which may end anywhere. `Undefined` where something in the
+    /// text so far is undefined: the screen then stays as after the last unit before that, and every
+    /// later piece is answered so too (ECMA-48, 5.4 'Control sequences').
+    pub fn feed(&mut self, piece: &[u8]) -> Result<(), Undefined>
+        ensures fed { IsFed self.old piece.now self.new }
+        ensures answer { IsOk result ↔ (self.new.undefined ≡ false) }
+        ensures screen { IsScreen self.new }
+    {
+        if self.undefined {
+            return Err(Undefined);
+        }
+        for byte in piece {
+            self.take(*byte);
+        }
+        if self.undefined {
+            Err(Undefined)
+        } else {
+            Ok(())
+        }
+    }
+
+    /// How many rows and columns there are.
+    pub fn size(&self) -> Size
+        ensures rows { result.rows ≡ self.now.rows }
+        ensures columns { result.columns ≡ self.now.columns }
+        ensures screen { IsScreen self.now }
+    {
+        self.size
+    }
+
+    /// What is shown at a row and a column, which count from 0 at the top left.
+    pub fn cell(&self, row: u32, column: u32) -> Look
+        requires { IsPlace self.now.rows self.now.columns (row, column) }
+        ensures value { slice_get self.now.state.grid (row * self.now.columns + column) ≡ Some result }
+        ensures look { IsLook result }
+    {
+        let look = self.grid[row as usize * self.size.columns as usize + column as usize];
+        let _byte = look.byte();
+        look
+    }
+
+    /// What is shown in a row, counted from 0 at the top.
+    pub fn row(&self, row: u32) -> &[Look]
+        requires { row < self.now.rows }
+        ensures cells { result.now ≡ grid_row self.now.columns row self.now.state.grid }
+        ensures width { length result.now ≡ self.now.columns }
+    {
+        let columns = self.size.columns as usize;
+        let start = row as usize * columns;
+        &self.grid[start..start + columns]
+    }
+
+    /// Where the cursor is (ECMA-48, 'active presentation position').
+    pub fn spot(&self) -> Spot
+        ensures value { result ≡ self.now.state.spot }
+        ensures inside { IsSpot self.now.rows self.now.columns result }
+    {
+        self.spot
+    }
+
+    /// The attributes that are on (ECMA-48, 8.3.117 SGR).
+    pub fn rendition(&self) -> Attrs
+        ensures value { result.0 ≡ self.now.state.attrs }
+        ensures shown { bit_and 127 result.0 ≡ result.0 }
+    {
+        self.attrs
+    }
+
+    /// Whether the text so far ends inside a control sequence (ECMA-48, 5.4 'Control sequences').
+    pub fn waiting(&self) -> bool
+        ensures { IsTrue result ↔ IsWaiting self.now.waiting }
+    {
+        !self.waiting.as_slice().is_empty()
+    }
+
+    /// Takes the next byte.
+    fn take(&mut self, byte: u8)
+        ensures { IsFed self.old (byte ∷ []) self.new }
+    {
+        if self.undefined {
+            return;
+        }
+        let part = self.waiting.as_slice();
+        match read_byte(part, byte) {
+            Reading::Graphic => self.write(byte),
+            Reading::Held => self.waiting.push(byte),
+            Reading::Last => {
+                let change = control_sequence(self.size, self.attrs, part, byte);
+                self.apply(change);
+            }
+            Reading::Other => self.apply(None),
+        }
+    }
+
+    /// Writes a graphic character at the cursor, which goes right; undefined at the margin.
+    fn write(&mut self, byte: u8)
+        requires from_blank { 32 ≤ byte }
+        requires to_tilde { byte ≤ 126 }
+        ensures { self.new ≡ acted self.old (written self.old.columns self.old.state byte) }
+    {
+        self.waiting.clear();
+        match (self.spot, Look::new(byte, self.attrs)) {
+            (Spot::At(row, column), Some(look)) => {
+                let place = row as usize * self.size.columns as usize + column as usize;
+                self.grid[place] = look;
+                self.spot = if column + 1 < self.size.columns {
+                    Spot::At(row, column + 1)
+                } else {
+                    Spot::Margin(row)
+                };
+            }
+            _ => self.undefined = true,
+        }
+    }
+
+    /// Makes a change, or becomes undefined where there is none.
+    fn apply(&mut self, change: Option<Change>)
+        requires { ForSome change (IsChange self.old.rows self.old.columns) }
+        ensures { self.new ≡ acted self.old (option_map (changed self.old.rows self.old.columns self.old.state) change) }
+    {
+        self.waiting.clear();
+        match change {
+            Some(change) => self.make(change),
+            None => self.undefined = true,
+        }
+    }
+
+    /// Makes a change.
+    fn make(&mut self, change: Change)
+        requires { IsChange self.old.rows self.old.columns change }
+        ensures { self.new ≡ record self.old { state = changed self.old.rows self.old.columns self.old.state change } }
+    {
+        match change {
+            Change::Moved(spot) => self.spot = spot,
+            Change::Erased => erase(&mut self.grid),
+            Change::Rendered(attrs) => self.attrs = attrs,
+        }
+    }
+}
+
+/// Makes every place blank.
+fn erase(places: &mut [Look])
+    ensures { places.new ≡ replicate (length places.old) blank }
+{
+    for place in places.iter_mut() {
+        *place = Look::blank();
+    }
+}

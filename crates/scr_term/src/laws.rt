@@ -1,0 +1,13 @@
+ghost use Rattle.scr_term.specs.Laws.{HasOneDivision, PiecesDoNotMatter};
+
+/// A text has at most one division into units and a rest that is nothing or a part of one unit
+/// (ECMA-48, 5.4 'Control sequences').
+pub fn one_division()
+    ensures { HasOneDivision }
+{}
+
+/// What a screen is after a piece is determined by the piece, and it does not matter how a text was
+/// cut into pieces.
+pub fn pieces_do_not_matter()
+    ensures { PiecesDoNotMatter }
+{}

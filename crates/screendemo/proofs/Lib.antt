@@ -1,0 +1,5 @@
+pub mod CutLaws
+pub mod NumberLaws
+pub mod CommandLaws
+pub mod ShowLaws
+pub mod RunLaws

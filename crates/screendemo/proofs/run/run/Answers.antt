@@ -1,0 +1,14 @@
+use Rattle.std.proofs.Common.{ap, subst, sym, ◌∙◌}
+use Rattle.std.specs.Io.KnownBytes.{Appends}
+use Rattle.screendemo.proofs.RunLaws.{SoFar, so_far_more}
+use Rattle.screendemo.proofs.run.run.Goals as goal
+
+pub loop-rest-preserved : goal.loop-rest-preserved
+loop-rest-preserved g c =
+    let old = g.W.Write.contents c.args.out.now in
+    let now = g.W.Write.contents c.loop-rest.out in
+    let next = g.W.Write.contents c.write_text.new.out in
+    let written = subst (λ text. Appends now next text) c.deref.ensures.value c.in_ok-write_text-in-Ok.ensures.written in
+    subst (λ number. SoFar c.args.raw c.args.script.now old next number c.line_text.new.surface c.line_text.new.terminal c.cut_line.result.1.now) (sym c.saturating_add-number.ensures)
+    (so_far_more c.args.raw c.args.script.now old now next c.loop-rest.number c.loop-rest.surface c.line_text.new.surface c.loop-rest.terminal c.line_text.new.terminal
+    c.loop-rest.rest.now c.cut_line.result.0.now c.cut_line.result.1.now c.in-Ok.text.items c.loop-rest.invariant c.cut_line.ensures.lines c.in-Ok.ensures.text c.in-Ok.ensures.ready written)

@@ -1,0 +1,8 @@
+pub mod Lines
+pub mod Commands
+pub mod CommandViews
+pub mod Surfaces
+pub mod Stories
+pub mod StageViews
+pub mod Printing
+pub mod Showing
