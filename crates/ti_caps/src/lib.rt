@@ -10,7 +10,7 @@ mod table;
 pub use bytes::Bytes;
 pub use entry::Entry;
 pub use fault::CapFault;
-pub use names::are_names;
+pub use names::{are_names, first_name};
 pub use table::{Kind, Slot, find_name, name_of, names_stand_once};
 
 #[cfg(test)]

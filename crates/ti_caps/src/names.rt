@@ -16,7 +16,8 @@ fn are_alternatives_there(names: &[u8]) -> bool
     names.split(|b| *b == b'|').all(|name| !name.is_empty())
 }
 
-fn first_alternative(names: &[u8]) -> &[u8]
+/// The first alternative of some names, by which their entry is listed: all up to the first `|`.
+pub fn first_name(names: &[u8]) -> &[u8]
     ensures { result.now ≡ first_name names.now }
 {
     let end = names.iter().position(|b| *b == b'|').unwrap_or(names.len());
@@ -44,7 +45,7 @@ fn begins_with_hash(name: &[u8]) -> bool
 pub fn are_names(names: &[u8]) -> bool
     ensures { result ≡ are_names names.now }
 {
-    let first = first_alternative(names);
+    let first = first_name(names);
     1 <= names.len()
         && names.len() <= 511
         && are_name_bytes(names)

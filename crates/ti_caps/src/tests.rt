@@ -49,6 +49,8 @@ fn names_follow_their_rule(rt: HostRuntime) -> Result<(), Fail> {
     ] {
         assert!(rt; !are_names(bad.as_bytes()), "{bad}");
     }
+    assert_eq!(rt; first_name(b"t1|tiny test"), b"t1".as_slice());
+    assert_eq!(rt; first_name(b"t1"), b"t1".as_slice());
     assert!(rt; are_names(&[b'a'; 511]));
     assert!(rt; !are_names(&[b'a'; 512]));
     Ok(())

@@ -1,5 +1,5 @@
 -- The entry of a name with its uses taken in (terminfo(5), "Similar Terminals").
-use Rattle.std.specs.Prelude.{ℕ, suc, Bool, true, false, List, [], ◌∷◌, Option, Some, None, map, if◌then◌else◌}
+use Rattle.std.specs.Prelude.{ℕ, zero, suc, Bool, true, false, List, [], ◌∷◌, ◌++◌, Option, Some, None, Result, Ok, Err, length, map, ◌==◌, if◌then◌else◌}
 use Rattle.std.specs.List.{list_any, range_with_len}
 use Rattle.ti_caps.specs.declared.table.Kind.{Kind}
 use Rattle.ti_caps.specs.declared.table.Kind.TheVariants.{Flag, Number, Text}
@@ -10,6 +10,9 @@ use Rattle.ti_source.specs.declared.statement.Said.TheVariants as said
 use Rattle.ti_source.specs.declared.statement.Statement.{Statement}
 use Rattle.ti_source.specs.Described.{Described}
 use Rattle.ti_source.specs.Reading.{has_name, speaks_of}
+use Rattle.ti_source.specs.Result.{◌>>=◌}
+use Rattle.ti_source.specs.declared.fault.SourceFault.{SourceFault}
+use Rattle.ti_source.specs.declared.fault.SourceFault.TheVariants.{UnknownName, UseCycle}
 
 -- what an entry says of a capability
 abbrev pub said_of : Kind → ℕ → List Statement → Option Said
@@ -41,16 +44,53 @@ text_by (Some (said.Text t)) used = Some t
 text_by None used = used
 text_by _ used = None
 
+-- what a capability is with these fields of the entry's own and these resolved uses
+abbrev pub flag_in : List Statement → List Description → ℕ → Bool
+flag_in own uses slot = flag_by (said_of Flag slot own) (list_any (λ u. flag_at u slot) uses)
+
+abbrev pub number_in : List Statement → List Description → ℕ → Option ℕ
+number_in own uses slot = number_by (said_of Number slot own) (first_number slot uses)
+
+abbrev pub text_in : List Statement → List Description → ℕ → Option (List ℕ)
+text_in own uses slot = text_by (said_of Text slot own) (first_text slot uses)
+
 -- an entry over the resolved entries that it uses, in their order
 unfoldable pub merged : Described → List Description → Description
 merged d uses = record {
   names = d.names;
-  flags = map (λ slot. flag_by (said_of Flag slot d.statements) (list_any (λ u. flag_at u slot) uses)) (range_with_len 0 64);
-  numbers = map (λ slot. number_by (said_of Number slot d.statements) (first_number slot uses)) (range_with_len 0 64);
-  texts = map (λ slot. text_by (said_of Text slot d.statements) (first_text slot uses)) (range_with_len 0 512);
+  flags = map (flag_in d.statements uses) (range_with_len 0 64);
+  numbers = map (number_in d.statements uses) (range_with_len 0 64);
+  texts = map (text_in d.statements uses) (range_with_len 0 512);
 }
 
--- where the entry of a reference name stands among entries whose first has the number i
-abbrev pub place_from : ℕ → List ℕ → List Described → Option ℕ
-place_from i name [] = None
-place_from i name (d ∷ ds) = if has_name name d then Some i else place_from (suc i) name ds
+-- where the first entry with a name stands, and the entry; the first of these has the number i
+abbrev pub found_from : ℕ → List ℕ → List Described → Option (ℕ × Described)
+found_from i name [] = None
+found_from i name (d ∷ ds) = if has_name name d then Some (i, d) else found_from (suc i) name ds
+
+-- what each of these names gives, or the first fault
+abbrev pub each : (List ℕ → Result Description SourceFault) → List (List ℕ) → Result (List Description) SourceFault
+each f [] = Ok []
+each f (name ∷ names) = f name >>= λ d. each f names >>= λ ds. Ok (d ∷ ds)
+
+-- an entry that was found: it must not stand on its own chain of uses; each of its uses is resolved whole before the next
+abbrev pub entered : (ℕ → List ℕ → Result Description SourceFault) → List ℕ → Option (ℕ × Described) → Result Description SourceFault
+entered below chain None = Err UnknownName
+entered below chain (Some found) =
+    if list_any (λ j. j == found.0) chain then Err UseCycle
+    else each (below found.0) found.1.uses >>= λ uses. Ok (merged found.1 uses)
+
+-- where as many entries stand on the chain as there are, one that is found stands on it
+abbrev pub barred : Option (ℕ × Described) → Result Description SourceFault
+barred None = Err UnknownName
+barred (Some found) = Err UseCycle
+
+-- the entry of a name, reached over the entries of a chain, to which `depth` more may come
+unfoldable pub resolved_over : ℕ → List ℕ → List Described → List ℕ → Result Description SourceFault
+resolved_over zero chain entries name = barred (found_from 0 name entries)
+resolved_over (suc depth) chain entries name =
+    entered (λ i. resolved_over depth (chain ++ i ∷ []) entries) chain (found_from 0 name entries)
+
+-- the resolved entry of a name, or the first fault
+unfoldable pub resolved : List Described → List ℕ → Result Description SourceFault
+resolved entries name = resolved_over (length entries) [] entries name

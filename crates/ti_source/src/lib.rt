@@ -8,11 +8,15 @@ mod filling;
 mod line;
 mod note;
 mod number;
+mod printer;
 mod reader;
+mod resolver;
 mod source;
 mod statement;
 
 pub use fault::SourceFault;
 pub use note::{Cause, Note};
+pub use printer::{Printed, print};
 pub use reader::read;
+pub use resolver::resolve;
 pub use source::Source;

@@ -1,12 +1,13 @@
 //! A source that was read.
 
 ghost use Rattle.std.specs.Prelude.{◌≡◌, ◌<◌, ◌↔◌, IsTrue, length};
-ghost use Rattle.std.specs.Prelude.{slice_get, Some, None, option_map};
+ghost use Rattle.std.specs.Prelude.{slice_get, map, Some};
 ghost use Rattle.ti_caps.specs.Names.{first_name};
 
 use crate::note::Note;
 use crate::statement::SourceEntry;
 use std::marker::Model;
+use ti_caps::first_name;
 
 /// The entries of a source, in their order, and the notes on its doubtful fields.
 #[derive(Debug, Drop)]
@@ -45,6 +46,13 @@ impl Source {
         self.notes.as_slice()
     }
 
+    /// The notes alone, in the same order.
+    pub fn into_notes(self) -> Vec<Note>
+        ensures { result.items ≡ self.notes }
+    {
+        self.into_parts().1
+    }
+
     /// How many entries there are.
     pub fn len(&self) -> usize
         ensures { result ≡ length self.now.entries }
@@ -57,6 +65,16 @@ impl Source {
         ensures { IsTrue result ↔ (length self.now.entries ≡ 0) }
     {
         self.entries.is_empty()
+    }
+
+    /// The first reference name of an entry, by which it is listed. The caller knows that there
+    /// are more than i entries.
+    pub fn name(&self, i: usize) -> &[u8]
+        requires { i < length self.now.entries }
+        ensures { slice_get (map (λ e. first_name e.names) self.now.entries) i ≡ Some result.now }
+    {
+        let entry = &self.entries[i];
+        first_name(entry.names())
     }
 
     pub(crate) fn entries(&self) -> &[SourceEntry]

@@ -4,6 +4,7 @@ ghost use Rattle.std.specs.Prelude.{◌≡◌, ◌∷◌, [], ◌++◌, Ok, Err,
 ghost use Rattle.std.specs.List.{list_any};
 ghost use Rattle.ti_source.specs.Reading.{has_name, speaks_of};
 ghost use Rattle.ti_source.specs.Result.{Gives};
+ghost use Rattle.ti_source.specs.Described.{AreSmall, IsSmall};
 ghost use Rattle.ti_caps.specs.Table.{same_kind};
 ghost use Rattle.ti_caps.specs.Names.{alternatives, has_no_blank};
 ghost use Rattle.std.specs.Str.{bytes_eq};
@@ -44,6 +45,10 @@ impl Model for SourceEntry {
     ghost Value = { Described };
 
     ghost view = { λ e. record { names = e.names; statements = e.statements.items; uses = e.uses.items } };
+
+    ghost use Rattle.ti_source.specs.Described.{AreSmall};
+
+    ghost invariant = { λ e. AreSmall e.statements.items };
 }
 
 fn has_no_blank(name: &[u8]) -> bool
@@ -89,7 +94,8 @@ impl SourceEntry {
     }
 
     pub(crate) fn statements(&self) -> &[Statement]
-        ensures { result.now ≡ self.now.statements }
+        ensures value { result.now ≡ self.now.statements }
+        ensures small { AreSmall self.now.statements }
     {
         self.statements.as_slice()
     }
@@ -119,6 +125,7 @@ impl SourceEntry {
         slot: Slot,
         said: Said,
     ) -> Result<SourceEntry, SourceFault>
+        requires { IsSmall said }
         ensures { Gives result (Ok (record self { statements = self.statements ++ (record { kind = kind; slot = slot; said = said }) ∷ [] })) }
     {
         self.statements.push(Statement { kind, slot, said })?;

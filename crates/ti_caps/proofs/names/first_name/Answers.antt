@@ -5,7 +5,7 @@ use Rattle.std.proofs.lemmas.Iterator.Search.{position_from_yields_List}
 use Rattle.std.proofs.lemmas.Iterator.{YieldsList-from_slice}
 use Rattle.std.proofs.lemmas.Bool.Decides.{nat_tests}
 use Rattle.ti_caps.specs.Names.{is_bar}
-use Rattle.ti_caps.proofs.names.first_alternative.Goals as goal
+use Rattle.ti_caps.proofs.names.first_name.Goals as goal
 
 -- no place is past the end
 position_or_len-le : (p : ℕ → Bool) (xs : List ℕ) → position_or_len p xs ≤ length xs
