@@ -5,3 +5,5 @@ pub mod MeasureLaws
 pub mod BuilderLaws
 pub mod ReaderLaws
 pub mod GrammarLaws
+pub mod ValueLaws
+pub mod OneTree

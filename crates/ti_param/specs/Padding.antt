@@ -1,6 +1,6 @@
 -- Padding in a capability text: terminfo(5), 'Delays and Padding'. It is `$<`, digits, a point and one digit or
 -- nothing, `*` and `/` in either order, either of them or nothing, and `>`.
-use Rattle.std.specs.Prelude.{ℕ, zero, suc, ◌+◌, Bool, ◌&&◌, ◌||◌, ◌==◌, nat_le, nat_lt, List, [], ◌∷◌, length, drop, slice_index, if◌then◌else◌}
+use Rattle.std.specs.Prelude.{ℕ, zero, suc, ◌+◌, Bool, ◌&&◌, ◌||◌, ◌==◌, nat_le, nat_lt, List, [], ◌∷◌, drop, slice_index, if◌then◌else◌}
 
 abbrev pub is_digit : ℕ → Bool
 is_digit b = nat_le 48 b && nat_le b 57

@@ -5,6 +5,7 @@
 mod builder;
 mod directives;
 mod faults;
+mod laws;
 mod layouts;
 mod machine;
 mod marks;
@@ -14,10 +15,13 @@ mod programs;
 mod reader;
 mod stack;
 mod steps;
+#[cfg(test)]
+mod tests;
 mod tokens;
 mod variables;
 
 pub use faults::{NoMemory, ParamFault, RunFault};
+pub use laws::{stack_is_enough, text_has_one_tree, text_is_bounded};
 pub use padding::strip_padding;
 pub use programs::Program;
 pub use variables::Vars;
