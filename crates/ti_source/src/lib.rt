@@ -20,3 +20,6 @@ pub use printer::{Printed, print};
 pub use reader::read;
 pub use resolver::resolve;
 pub use source::Source;
+
+#[cfg(test)]
+mod tests;
