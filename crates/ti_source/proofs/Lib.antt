@@ -1,4 +1,5 @@
 pub mod EscapeLaws
+pub mod EscapesBack
 pub mod FieldLaws
 pub mod NumberLaws
 pub mod PrintLaws

@@ -1,5 +1,5 @@
 -- The text of a string capability: its escapes, and how it is printed (terminfo(5), "Types of Capabilities").
-use Rattle.std.specs.Prelude.{ℕ, zero, suc, ◌+◌, ◌-◌, ◌*◌, ◌/◌, ◌%◌, Bool, false, List, [], ◌∷◌, ◌==◌, ◌&&◌, ◌||◌, nat_le, nat_lt, if◌then◌else◌}
+use Rattle.std.specs.Prelude.{◌<◌, ℕ, zero, suc, ◌+◌, ◌-◌, ◌*◌, ◌/◌, ◌%◌, Bool, false, List, [], ◌∷◌, ◌==◌, ◌&&◌, ◌||◌, nat_le, nat_lt, if◌then◌else◌}
 use Rattle.std.specs.List.{flat_map}
 
 abbrev pub is_octal : ℕ → Bool
@@ -75,3 +75,8 @@ printed_byte b =
 -- a text as it is printed
 abbrev pub printed_text : List ℕ → List ℕ
 printed_text bytes = flat_map printed_byte bytes
+
+-- bytes, none of which is 0
+abbrev pub IsText : List ℕ → Type 0
+IsText [] = Unit {0}
+IsText (b ∷ bs) = (0 < b) × (b < 256) × IsText bs

@@ -1,9 +1,9 @@
 //! The source text of an entry.
 
-ghost use Rattle.std.specs.Prelude.{◌≡◌, ◌++◌, IfOk, OnOk, IsOkUnless, length, option_map};
+ghost use Rattle.std.specs.Prelude.{List, ℕ, ◌≡◌, ◌++◌, IfOk, OnOk, IsOkUnless, length, option_map};
 ghost use Rattle.ti_caps.specs.Description.{IsDescription, unnamed_count};
 ghost use Rattle.ti_caps.specs.Table.{name_at};
-ghost use Rattle.ti_source.specs.Escape.{printed_byte, printed_text};
+ghost use Rattle.ti_source.specs.Escape.{IsText, decoded, printed_byte, printed_text};
 ghost use Rattle.ti_source.specs.Print.{flag_line, lines_from, number_line, printed, text_line};
 
 use crate::fault::SourceFault;
@@ -150,3 +150,9 @@ pub fn print(alloc: Global, entry: &Entry) -> Result<Printed, SourceFault>
     let unnamed = entry.unnamed();
     Ok(Printed { text, unnamed })
 }
+
+/// A printed text stands for the text that it was printed from, as a law: what a string field says
+/// is what `print` wrote.
+pub fn texts_read_back()
+    ensures { (text : List ℕ) → IsText text → decoded (printed_text text) ≡ text }
+{}

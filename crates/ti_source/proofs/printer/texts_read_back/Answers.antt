@@ -1,0 +1,5 @@
+use Rattle.ti_source.proofs.EscapesBack.{decoded-printed_text}
+use Rattle.ti_source.proofs.printer.texts_read_back.Goals as goal
+
+pub returns : goal.returns
+returns c = decoded-printed_text
