@@ -9,6 +9,8 @@ mod check;
 mod fault;
 mod input;
 mod report;
+#[cfg(test)]
+mod tests;
 mod words;
 
 use check::{Checked, check};
