@@ -2,5 +2,7 @@
 #![tactic(auto)]
 
 mod painting;
+#[cfg(test)]
+mod tests;
 
 pub use painting::{scratch, scratch_shows};

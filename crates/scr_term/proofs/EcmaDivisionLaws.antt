@@ -1,14 +1,13 @@
 -- A text has one division, what it does is determined, and it does not matter how it was cut.
-use Rattle.std.proofs.Common.{◌≡◌, ◌≢◌, ℕ, Bool, true, false, List, [], ◌∷◌, ◌++◌, Option, Some, None, ◌⊎◌, inl, inr, refl, sym, ap, ◌∙◌, subst, append_assoc}
+use Rattle.std.proofs.Common.{◌≡◌, ℕ, Bool, true, false, List, [], ◌∷◌, ◌++◌, Option, Some, None, ◌⊎◌, inl, inr, refl, sym, ap, ◌∙◌, subst, append_assoc}
 use Rattle.std.specs.Prelude.{option_and_then}
 use Rattle.std.specs.List.{AllByRecursion, flat_map}
 use Rattle.std.proofs.lemmas.List.{append-nil}
-use Rattle.std.proofs.lemmas.List.Concat.{flat_map-append}
 use Rattle.scr_term.specs.States.{State}
-use Rattle.scr_term.specs.EcmaUnits.{EcmaUnit, Graphic, Control, Sequence, spelling, IsUnit, IsDivision, IsWaiting, BeginsNoUnit}
+use Rattle.scr_term.specs.EcmaUnits.{EcmaUnit, Graphic, Control, Sequence, spelling, IsUnit, IsWaiting}
 use Rattle.scr_term.specs.EcmaMeanings.{meaning, meanings}
-use Rattle.scr_term.specs.EcmaScreens.{ScreenView, IsScreen, GoesOn, Stops, IsUndefinedAt, IsFed}
-use Rattle.scr_term.specs.Laws.{HasOneDivision, PiecesDoNotMatter}
+use Rattle.scr_term.specs.EcmaScreens.{ScreenView, GoesOn, Stops, IsUndefinedAt, IsFed}
+use Rattle.scr_term.specs.Laws.{HasOneDivision}
 use Rattle.scr_term.proofs.EcmaUnitLaws.{one_unit, waiting_has_no_unit, waiting_begins_unit}
 
 -- how a text ends where it is defined

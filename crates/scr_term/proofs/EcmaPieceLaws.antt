@@ -1,13 +1,12 @@
 -- It does not matter how a text was cut into pieces.
-use Rattle.std.proofs.Common.{◌≡◌, ◌≢◌, ℕ, Bool, true, false, List, [], ◌∷◌, ◌++◌, Option, Some, None, ◌⊎◌, inl, inr, refl, sym, ap, ◌∙◌, subst, append_assoc}
+use Rattle.std.proofs.Common.{◌≡◌, ℕ, true, List, [], ◌∷◌, ◌++◌, Some, ◌⊎◌, inl, inr, refl, sym, ap, ◌∙◌, subst, append_assoc}
 use Rattle.std.specs.Prelude.{option_and_then}
 use Rattle.std.specs.List.{AllByRecursion, flat_map}
-use Rattle.std.proofs.lemmas.List.{append-nil}
 use Rattle.std.proofs.lemmas.List.Concat.{flat_map-append}
 use Rattle.scr_term.specs.States.{State}
-use Rattle.scr_term.specs.EcmaUnits.{EcmaUnit, spelling, IsUnit, IsDivision, IsWaiting, BeginsNoUnit}
-use Rattle.scr_term.specs.EcmaMeanings.{meaning, meanings}
-use Rattle.scr_term.specs.EcmaScreens.{ScreenView, IsScreen, GoesOn, Stops, IsUndefinedAt, IsFed}
+use Rattle.scr_term.specs.EcmaUnits.{EcmaUnit, spelling, IsUnit, IsDivision, BeginsNoUnit}
+use Rattle.scr_term.specs.EcmaMeanings.{meanings}
+use Rattle.scr_term.specs.EcmaScreens.{ScreenView, GoesOn, Stops, IsUndefinedAt, IsFed}
 use Rattle.scr_term.specs.Laws.{PiecesDoNotMatter}
 use Rattle.scr_term.proofs.EcmaDivisionLaws.{meanings_first, fed_once}
 

@@ -1,6 +1,6 @@
 -- What a defined unit leads to is a state of the screen.
-use Rattle.std.proofs.Common.{◌≡◌, ℕ, ◌+◌, ◌*◌, ◌%◌, ◌^◌, ◌<◌, ◌≤◌, Bool, true, false, cond, eqb, List, [], ◌∷◌, Option, Some, None, bit_and, bit_or, refl, sym, ap, ◌∙◌, subst, arith}
-use Rattle.std.specs.Prelude.{option_and_then, option_map, unwrap_or}
+use Rattle.std.proofs.Common.{◌≡◌, ℕ, ◌%◌, ◌<◌, Bool, true, false, cond, eqb, List, [], ◌∷◌, Option, Some, None, bit_and, bit_or, refl, sym, ◌∙◌, subst, arith}
+use Rattle.std.specs.Prelude.{option_and_then, unwrap_or}
 use Rattle.std.proofs.lemmas.Nat.{and_le_l, and_comm, and_mask, or_lt}
 use Rattle.std.specs.Option.{ForSome}
 use Rattle.scr_term.specs.EcmaMeanings.{rendition, renditions}

@@ -1,10 +1,10 @@
 -- At most one unit stands at the beginning of a text, and a part of a unit is no unit.
-use Rattle.std.proofs.Common.{◌≡◌, ◌≢◌, ℕ, ◌+◌, ◌<◌, ◌≤◌, Bool, true, false, List, [], ◌∷◌, ◌++◌, length, ◌⊎◌, inl, inr, refl, sym, ap, ◌∙◌, append_assoc, arith}
+use Rattle.std.proofs.Common.{◌≡◌, ℕ, ◌<◌, ◌≤◌, List, [], ◌∷◌, ◌++◌, inl, inr, refl, sym, ap, ◌∙◌, append_assoc, arith}
 use Rattle.std.specs.Prelude.{IsTrue}
 use Rattle.std.specs.List.{AllByRecursion}
 use Rattle.std.proofs.lemmas.List.{append-nil}
 use Rattle.std.proofs.lemmas.Bool.Decides.{nat_tests}
-use Rattle.scr_term.specs.EcmaUnits.{EcmaUnit, Graphic, Control, Sequence, spelling, is_parameter_byte, IsSequence, IsUnit, IsWaiting, BeginsNoUnit}
+use Rattle.scr_term.specs.EcmaUnits.{EcmaUnit, Graphic, Control, Sequence, spelling, is_parameter_byte, IsUnit, IsWaiting, BeginsNoUnit}
 
 abbrev pub AreParameterBytes : List ℕ → Type 0
 AreParameterBytes bytes = AllByRecursion (λ byte. IsTrue (is_parameter_byte byte)) bytes

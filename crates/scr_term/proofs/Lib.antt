@@ -9,3 +9,4 @@ mod EcmaReadingLaws
 mod EcmaParameterLaws
 mod EcmaStateLaws
 mod EcmaFedLaws
+mod EcmaLedLaws

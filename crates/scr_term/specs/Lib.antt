@@ -11,4 +11,5 @@ pub mod EcmaUnits
 pub mod EcmaMeanings
 pub mod EcmaScreens
 pub mod EcmaReadings
+pub mod EcmaLaws
 pub mod Laws

@@ -1,6 +1,6 @@
-ghost use Rattle.std.specs.Prelude.{◌≡◌, ◌<◌, ℕ, List, ◌∷◌, option_map, bit_and, IfSome};
+ghost use Rattle.std.specs.Prelude.{◌≡◌, ℕ, List, ◌∷◌, option_map, bit_and, IfSome};
 ghost use Rattle.scr_term.specs.States.{State};
-ghost use Rattle.scr_term.specs.EcmaUnits.{IsSequence, Sequence};
+ghost use Rattle.scr_term.specs.EcmaUnits.{Sequence};
 ghost use Rattle.scr_term.specs.EcmaMeanings.{meaning, control_function, cursor_at, cursor_position, erase_in_page, rendition, renditions};
 ghost use Rattle.scr_term.specs.EcmaReadings.{IsChange, IsReading, changed};
 

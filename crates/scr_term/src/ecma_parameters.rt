@@ -1,4 +1,4 @@
-ghost use Rattle.std.specs.Prelude.{◌≡◌, ◌≤◌, ◌==◌, length, option_map, IsTrue};
+ghost use Rattle.std.specs.Prelude.{◌≡◌, ◌≤◌, length, option_map, IsTrue};
 ghost use Rattle.std.specs.Char.{is_ascii_digit};
 ghost use Rattle.std.specs.List.{AllByRecursion};
 ghost use Rattle.scr_term.specs.EcmaUnits.{is_parameter_byte};
@@ -16,7 +16,7 @@ const MOST: usize = 62;
 pub(crate) type Parameters = ArrayVec<Option<u16>, MOST>;
 
 /// A parameter: `Some(None)` where it is absent, `None` where its number is above 9,999 (ECMA-48,
-/// 5.4.2 'Parameter string format').
+/// 5.4 'Control sequences').
 fn parameter(digits: &[u8]) -> Option<Option<u16>>
     requires { AllByRecursion (λ byte. IsTrue (is_ascii_digit byte)) digits.now }
     ensures { result ≡ parameter digits.now }
@@ -36,7 +36,7 @@ fn parameter(digits: &[u8]) -> Option<Option<u16>>
 }
 
 /// The parameters of a control sequence, which semicolons divide; `None` where one is above 9,999
-/// (ECMA-48, 5.4.2 'Parameter string format').
+/// (ECMA-48, 5.4 'Control sequences').
 pub(crate) fn parameters(bytes: &[u8]) -> Option<Parameters>
     requires digits { AllByRecursion (λ byte. IsTrue (is_parameter_byte byte)) bytes.now }
     requires short { length bytes.now ≤ 61 }

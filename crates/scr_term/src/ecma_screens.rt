@@ -3,10 +3,9 @@ ghost use Rattle.std.specs.Option.{ForSome};
 ghost use Rattle.scr_cells.specs.LookViews.{blank, IsLook};
 ghost use Rattle.scr_cells.specs.PictureViews.{IsPlace, grid_row};
 ghost use Rattle.scr_term.specs.States.{IsSpot, written};
-ghost use Rattle.scr_term.specs.EcmaUnits.{IsWaiting, Sequence};
-ghost use Rattle.scr_term.specs.EcmaMeanings.{meaning};
+ghost use Rattle.scr_term.specs.EcmaUnits.{IsWaiting};
 ghost use Rattle.scr_term.specs.EcmaScreens.{IsScreen, IsFed, blank_screen};
-ghost use Rattle.scr_term.specs.EcmaReadings.{IsChange, IsReading, acted, changed};
+ghost use Rattle.scr_term.specs.EcmaReadings.{IsChange, acted, changed};
 
 use crate::Spot;
 use crate::ecma_controls::{Change, control_sequence};
@@ -92,7 +91,7 @@ impl EcmaScreen {
             return Err(Undefined);
         }
         for byte in piece {
-            self.take(*byte);
+            self.feed_byte(*byte);
         }
         if self.undefined {
             Err(Undefined)
@@ -156,7 +155,7 @@ impl EcmaScreen {
     }
 
     /// Takes the next byte.
-    fn take(&mut self, byte: u8)
+    fn feed_byte(&mut self, byte: u8)
         ensures { IsFed self.old (byte ∷ []) self.new }
     {
         if self.undefined {
@@ -178,9 +177,9 @@ impl EcmaScreen {
     fn write(&mut self, byte: u8)
         requires from_blank { 32 ≤ byte }
         requires to_tilde { byte ≤ 126 }
+        requires whole { self.old.waiting ≡ [] }
         ensures { self.new ≡ acted self.old (written self.old.columns self.old.state byte) }
     {
-        self.waiting.clear();
         match (self.spot, Look::new(byte, self.attrs)) {
             (Spot::At(row, column), Some(look)) => {
                 let place = row as usize * self.size.columns as usize + column as usize;

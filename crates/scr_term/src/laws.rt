@@ -1,3 +1,4 @@
+ghost use Rattle.scr_term.specs.EcmaLaws.{ScreensFollowTexts};
 ghost use Rattle.scr_term.specs.Laws.{HasOneDivision, PiecesDoNotMatter};
 
 /// A text has at most one division into units and a rest that is nothing or a part of one unit
@@ -10,4 +11,10 @@ pub fn one_division()
 /// cut into pieces.
 pub fn pieces_do_not_matter()
     ensures { PiecesDoNotMatter }
+{}
+
+/// A screen that is fed whole units, all defined, that lead from its state to another, is then in
+/// that state.
+pub fn screens_follow_texts()
+    ensures { ScreensFollowTexts }
 {}

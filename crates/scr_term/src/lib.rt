@@ -13,9 +13,11 @@ mod operation_laws;
 mod operations;
 mod profiles;
 mod rendering;
+#[cfg(test)]
+mod tests;
 
 pub use ecma_screens::{EcmaScreen, Undefined};
-pub use laws::{one_division, pieces_do_not_matter};
+pub use laws::{one_division, pieces_do_not_matter, screens_follow_texts};
 pub use operation_laws::{
     bytes_act_as_their_operation, bytes_act_as_their_operations, steps_keep_states,
 };

@@ -3,3 +3,4 @@ pub mod NumberLaws
 pub mod CommandLaws
 pub mod ShowLaws
 pub mod RunLaws
+pub mod InputLaws

@@ -1,16 +1,100 @@
-//! Runs a script that draws on a screen, and prints what a terminal shows of it.
+//! Runs a script that draws on a screen, and prints what a terminal shows of it; with `-r` it sends the
+//! terminal's bytes instead.
 #![tactic(auto)]
 
 mod commands;
 mod cuts;
+mod input;
 mod printing;
 mod run;
 mod showing;
 mod stage;
 mod surfaces;
+#[cfg(test)]
+mod tests;
 
+use clap::error::ErrorKind;
+use clap::{Arg, ArgAction, Command};
+use input::{InputFault, read_input};
+use run::{DemoFault, refusals, run};
+use std::alloc::Global;
+use std::env::Env;
 use std::io;
+use std::process::ExitCode;
+use thiserror::Error;
 
-fn main(rt: HostRuntime) -> io::Result<()> {
-    println!(rt; "nothing yet")
+// Why the program ends with another status than 0.
+#[derive(Debug, Drop, Error)]
+enum Failure {
+    #[error("{0}")]
+    Words(clap::Error),
+    #[error("the words are not all text")]
+    NotText,
+    #[error("read failed")]
+    Read,
+    #[error("{0}")]
+    Demo(DemoFault),
+    #[error("out of memory")]
+    NoMemory,
+}
+
+impl Failure {
+    // 2 for wrong words, else 1.
+    fn status(&self) -> u8 {
+        match self {
+            Failure::Words(_) | Failure::NotText => 2,
+            Failure::Read | Failure::Demo(_) | Failure::NoMemory => 1,
+        }
+    }
+}
+
+// Whether the words of the command line ask for the terminal's bytes.
+fn is_raw(alloc: Global, words: &[String]) -> Result<bool, clap::Error> {
+    let raw = Arg::new(alloc, "raw")
+        .short('r')
+        .action(ArgAction::SetTrue)
+        .help("Sends the terminal's bytes, and writes refusals to the standard error");
+    let command = Command::new(alloc, "screendemo")
+        .about("Draws what a script on the standard input says, and prints the screen")
+        .arg(raw)?;
+    Ok(command.try_get_matches_from(words)?.get_flag("raw"))
+}
+
+fn words(rt: &(impl Env + AllocGlobal)) -> Result<Vec<String>, Failure> {
+    match std::env::args(rt) {
+        Ok(words) => words.collect(rt.alloc()).map_err(|_| Failure::NoMemory),
+        Err(error) if error.kind() == io::ErrorKind::OutOfMemory => Err(Failure::NoMemory),
+        Err(_) => Err(Failure::NotText),
+    }
+}
+
+fn demonstrate(rt: &HostRuntime) -> Result<(), Failure> {
+    let alloc = rt.alloc();
+    let words = words(rt)?;
+    let raw = match is_raw(alloc, words.as_slice()) {
+        Ok(raw) => raw,
+        Err(error) if error.kind() == ErrorKind::OutOfMemory => return Err(Failure::NoMemory),
+        Err(error) => return Err(Failure::Words(error)),
+    };
+    let script = match read_input(alloc, &mut rt.reader()) {
+        Ok(script) => script,
+        Err(InputFault::Failed) => return Err(Failure::Read),
+        Err(InputFault::NoMemory) => return Err(Failure::NoMemory),
+    };
+    let ended = run(alloc, &script, raw, &mut io::writer(rt));
+    if raw {
+        let refused = refusals(alloc, &script).map_err(|_| Failure::NoMemory)?;
+        if let Ok(text) = str::from_utf8(&refused) {
+            let _ = eprint!(rt; "{text}");
+        }
+    }
+    ended.map_err(Failure::Demo)
+}
+
+fn main(rt: HostRuntime) -> ExitCode {
+    let Err(failure) = demonstrate(&rt) else {
+        return ExitCode::SUCCESS;
+    };
+    let _ = eprintln!(rt; "{failure}");
+    ExitCode::from(failure.status())
 }

@@ -1,4 +1,4 @@
-use Rattle.std.proofs.Common.{◌≡◌, sym, ap, ◌∙◌}
+use Rattle.std.proofs.Common.{sym, ap, ◌∙◌}
 use Rattle.std.specs.Prelude.{option_map}
 use Rattle.scr_term.proofs.EcmaStateLaws.{renditions_shown}
 use Rattle.scr_term.proofs.ecma_controls.control_function.Goals as goal

@@ -1,5 +1,4 @@
-use Rattle.std.proofs.Common.{arith, get_or}
-use Rattle.scr_term.proofs.EcmaParameterLaws.{number_more, parameter_number, parameter_too_great}
+use Rattle.scr_term.proofs.EcmaParameterLaws.{number_more}
 use Rattle.scr_term.proofs.ecma_parameters.parameter.Goals as goal
 
 pub loop-digit-preserved : goal.loop-digit-preserved

@@ -1,10 +1,10 @@
-use Rattle.std.proofs.Common.{◌≡◌, ℕ, ◌+◌, ◌<◌, eqb, length, rules, tests, arith, sym, ap, ◌∙◌, get_or, take, Some}
+use Rattle.std.proofs.Common.{eqb, length, rules, tests, arith, sym, ap, ◌∙◌, take, Some}
 use Rattle.std.specs.Prelude.{option_map}
 use Rattle.std.proofs.lemmas.Iterator.Splits.{YieldsList-from_slice_split}
 use Rattle.std.proofs.lemmas.Iterator.Consumers.{YieldsList-turn, YieldsList-end}
 use Rattle.std.proofs.lemmas.List.{length_push}
 use Rattle.scr_term.specs.EcmaMeanings.{each_parameter}
-use Rattle.scr_term.proofs.EcmaParameterLaws.{parts_of, part_is_digits, few_parts, each_more, each_stops, each_all}
+use Rattle.scr_term.proofs.EcmaParameterLaws.{parts_of, part_is_digits, each_more, each_stops, each_all}
 use Rattle.scr_term.proofs.ecma_parameters.parameters.Goals as goal
 
 pub parameter-requires : goal.parameter-requires

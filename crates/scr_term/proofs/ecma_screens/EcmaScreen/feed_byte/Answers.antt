@@ -1,7 +1,7 @@
-use Rattle.std.proofs.Common.{◌≡◌, sym, ap, ◌∙◌, List, ◌++◌, ◌∷◌, []}
+use Rattle.std.proofs.Common.{sym, ap, ◌∙◌}
 use Rattle.scr_term.specs.EcmaScreens.{ScreenView}
 use Rattle.scr_term.proofs.EcmaFedLaws.{took_graphic, took_held, held_view, took_last, took_other}
-use Rattle.scr_term.proofs.ecma_screens.EcmaScreen.take.Goals as goal
+use Rattle.scr_term.proofs.ecma_screens.EcmaScreen.feed_byte.Goals as goal
 
 pub returns-in-Graphic : goal.returns-in-Graphic
 returns-in-Graphic c =

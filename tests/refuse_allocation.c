@@ -1,0 +1,23 @@
+// Loaded before the C library, makes one allocation of a program fail: the one whose number, from 1 on, is in
+// the environment variable REFUSED_ALLOCATION.
+extern void *__libc_malloc(unsigned long size);
+extern void *__libc_realloc(void *memory, unsigned long size);
+extern char *getenv(const char *name);
+
+static long count;
+
+static long refused(void) {
+    const char *text = getenv("REFUSED_ALLOCATION");
+    long number = 0;
+    while (text && *text >= '0' && *text <= '9')
+        number = 10 * number + (*text++ - '0');
+    return number;
+}
+
+void *malloc(unsigned long size) {
+    return ++count == refused() ? 0 : __libc_malloc(size);
+}
+
+void *realloc(void *memory, unsigned long size) {
+    return ++count == refused() ? 0 : __libc_realloc(memory, size);
+}
