@@ -4,6 +4,8 @@
 
 mod builder;
 mod directives;
+#[cfg(test)]
+mod fault_tests;
 mod faults;
 mod laws;
 mod layouts;
