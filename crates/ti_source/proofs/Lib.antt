@@ -2,6 +2,7 @@ pub mod EscapeLaws
 pub mod EscapesBack
 pub mod FieldLaws
 pub mod NumberLaws
+pub mod NumbersBack
 pub mod PrintLaws
 pub mod ReadingLaws
 pub mod ResolvingLaws

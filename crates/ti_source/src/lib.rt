@@ -16,7 +16,7 @@ mod statement;
 
 pub use fault::SourceFault;
 pub use note::{Cause, Note};
-pub use printer::{Printed, print, texts_read_back};
+pub use printer::{Printed, numbers_read_back, print, texts_read_back};
 pub use reader::read;
 pub use resolver::resolve;
 pub use source::Source;

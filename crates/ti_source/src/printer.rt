@@ -1,9 +1,11 @@
 //! The source text of an entry.
 
-ghost use Rattle.std.specs.Prelude.{List, ℕ, ◌≡◌, ◌++◌, IfOk, OnOk, IsOkUnless, length, option_map};
+ghost use Rattle.std.specs.Fmt.{decimal};
+ghost use Rattle.std.specs.Prelude.{◌<◌, ◌^◌, Some, List, ℕ, ◌≡◌, ◌++◌, IfOk, OnOk, IsOkUnless, length, option_map};
 ghost use Rattle.ti_caps.specs.Description.{IsDescription, unnamed_count};
 ghost use Rattle.ti_caps.specs.Table.{name_at};
 ghost use Rattle.ti_source.specs.Escape.{IsText, decoded, printed_byte, printed_text};
+ghost use Rattle.ti_source.specs.Number.{number};
 ghost use Rattle.ti_source.specs.Print.{flag_line, lines_from, number_line, printed, text_line};
 
 use crate::fault::SourceFault;
@@ -155,4 +157,9 @@ pub fn print(alloc: Global, entry: &Entry) -> Result<Printed, SourceFault>
 /// is what `print` wrote.
 pub fn texts_read_back()
     ensures { (text : List ℕ) → IsText text → decoded (printed_text text) ≡ text }
+{}
+
+/// A printed number stands for the number that it was printed from, as a law.
+pub fn numbers_read_back()
+    ensures { (n : ℕ) → n < 2 ^ 16 → number (decimal n) ≡ Some n }
 {}
