@@ -1,6 +1,6 @@
 -- Scratch shows the picture from every state.
-use Rattle.std.proofs.Common.{◌≡◌, ℕ, ◌+◌, ◌-◌, ◌*◌, ◌<◌, ◌≤◌, ◌==◌, ◌&&◌, Bool, true, false, cond, refl, sym, ◌∙◌, ap, subst, arith, eq-eqb, List, [], ◌∷◌, ◌++◌, append_assoc, length, length-append, take, drop, Option, Some, None, IfSome, option_and_then, bit_and, bit_or, nat_lt, nat_le, map, filter, replicate, set, zero, suc, min}
-use Rattle.std.specs.List.{flat_map, range_with_len, AllByRecursion, All, list_any}
+use Rattle.std.proofs.Common.{◌≡◌, ℕ, ◌+◌, ◌-◌, ◌*◌, ◌<◌, ◌≤◌, ◌==◌, ◌&&◌, Bool, true, false, cond, refl, sym, ◌∙◌, ap, subst, arith, eq-eqb, List, [], ◌∷◌, ◌++◌, append_assoc, length, length-append, take, drop, Option, Some, None, IfSome, option_and_then, bit_and, bit_or, nat_lt, nat_le, map, filter, replicate, set, zero, suc}
+use Rattle.std.specs.List.{flat_map, range_with_len, AllByRecursion, list_any}
 use Rattle.std.proofs.Math.ListN.{length-replicate}
 use Rattle.std.proofs.lemmas.List.{append-nil, set-append_right, take-append-drop, drop_at, length-take-le, length-drop, length-map, map-append}
 use Rattle.std.proofs.lemmas.List.Elements.{recursion_from_All}
@@ -12,17 +12,17 @@ use Rattle.std.proofs.lemmas.Bool.Decides.{nat_tests}
 use Rattle.scr_cells.specs.Attributes.{all_attributes, attributes_of}
 use Rattle.scr_cells.specs.CellViews.{CellView, IsCell}
 use Rattle.scr_cells.specs.LookViews.{LookView, seen, blank}
-use Rattle.scr_cells.specs.PictureViews.{PictureView, IsPicture, IsPlace, grid_row, grid_with}
+use Rattle.scr_cells.specs.PictureViews.{PictureView, IsPlace, grid_row, grid_with}
 use Rattle.scr_term.specs.declared.operations.Op.{Op}
-use Rattle.scr_term.specs.declared.operations.Op.TheVariants.{Move, Clear, Reset, Enter, Put}
+use Rattle.scr_term.specs.declared.operations.Op.TheVariants.{Move, Reset, Put}
 use Rattle.scr_term.specs.declared.operations.Spot.TheVariants.{At}
 use Rattle.scr_term.specs.Profiles.{ProfileView, IsProfile}
-use Rattle.scr_term.specs.States.{State, IsState, spot_after}
+use Rattle.scr_term.specs.States.{State, spot_after}
 use Rattle.scr_term.specs.Steps.{step, runs}
-use Rattle.scr_term.specs.Painted.{painted, Shows}
+use Rattle.scr_term.specs.Painted.{painted}
 use Rattle.scr_term.proofs.Attributes.{same_below}
 use Rattle.scr_term.proofs.StepLaws.{runs-append, runs_keep}
-use Rattle.scr_plan.specs.Scratch.{enter, paints_cell, paints_cells, paints_row, paints_rows, places_cursor, scratch_of, Fits, RunsToShow, ScratchShows}
+use Rattle.scr_plan.specs.Scratch.{enter, paints_cell, paints_cells, paints_row, paints_rows, places_cursor, scratch_of, Fits, ScratchShows}
 
 -- a set and these attributes
 abbrev with_each : ℕ → List ℕ → ℕ

@@ -1,6 +1,6 @@
 -- What follows a blank is at least one field.
-use Rattle.std.proofs.Common.{◌≡◌, ℕ, ◌<◌, ◌==◌, refl, sym, ◌∙◌, ap, arith, List, [], ◌∷◌, length, Option, Some, None, option_and_then, option_map}
-use Rattle.std.specs.List.{slice_split, join_with_byte}
+use Rattle.std.proofs.Common.{◌≡◌, ℕ, ◌<◌, ◌==◌, refl, ◌∙◌, ap, arith, List, [], ◌∷◌, length, Option, Some, None, option_and_then, option_map}
+use Rattle.std.specs.List.{join_with_byte}
 use Rattle.std.proofs.lemmas.List.Splits.{length-slice_split, join_with_byte-slice_split}
 use Rattle.screendemo.specs.Lines.{fields_of, parts_behind}
 use Rattle.screendemo.specs.Commands.{Command, AddCommand, number, size_command, add_command, show_command}

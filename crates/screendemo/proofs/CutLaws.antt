@@ -1,5 +1,5 @@
 -- A text is cut where a byte stands first.
-use Rattle.std.proofs.Common.{◌≡◌, ◌≢◌, ℕ, ◌+◌, ◌-◌, ◌<◌, ◌≤◌, ◌==◌, Bool, false, true, refl, sym, ◌∙◌, ap, arith, eq-eqb, List, [], ◌∷◌, ◌++◌, length, take, drop, get_or, drop-cons, add-one, min, rules}
+use Rattle.std.proofs.Common.{◌≡◌, ◌≢◌, ℕ, ◌+◌, ◌-◌, ◌<◌, ◌==◌, false, refl, sym, ◌∙◌, ap, arith, eq-eqb, List, [], ◌∷◌, ◌++◌, length, take, drop, get_or, drop-cons, add-one}
 use Rattle.std.specs.List.{slice_split, All}
 use Rattle.std.proofs.lemmas.List.{take-append-drop, length-take-le, get_or_default, get_or-take, take_rest}
 use Rattle.std.proofs.lemmas.List.Splits.{slice_split_at, slice_split_none}

@@ -1,6 +1,6 @@
 -- How a script's story goes on from line to line.
-use Rattle.std.proofs.Common.{◌≡◌, ◌≢◌, ℕ, ◌+◌, ◌<◌, ◌==◌, ◌&&◌, nat_lt, nat_le, Bool, true, false, cond, refl, sym, ◌∙◌, ap, subst, arith, List, [], ◌∷◌, ◌++◌, append_assoc, length, Option, Some, None, IfSome, IsSome, unwrap_or, codes}
-use Rattle.std.specs.List.{slice_split, flat_map, list_all}
+use Rattle.std.proofs.Common.{◌≡◌, ◌≢◌, ℕ, ◌<◌, ◌==◌, ◌&&◌, nat_lt, nat_le, Bool, true, false, cond, refl, sym, ◌∙◌, ap, subst, arith, List, [], ◌∷◌, ◌++◌, append_assoc, length, Option, Some, None, IfSome, IsSome, unwrap_or, codes}
+use Rattle.std.specs.List.{slice_split, list_all}
 use Rattle.std.specs.Io.KnownBytes.{Appends, Keeps}
 use Rattle.std.proofs.lemmas.List.{append-nil}
 use Rattle.std.proofs.lemmas.List.Splits.{length-slice_split}
@@ -8,7 +8,7 @@ use Rattle.std.proofs.lemmas.List.Concat.{flat_map-append}
 use Rattle.scr_cells.specs.PictureViews.{PictureView}
 use Rattle.scr_term.specs.EcmaScreens.{ScreenView}
 use Rattle.screendemo.specs.Lines.{lines_of, parts_behind, without_empty_end}
-use Rattle.screendemo.specs.Stories.{Outcome, Story, Event, line_outcome, story_from, story_on, story_of, next_number, Refused, Shown, added, continued, opened, acted}
+use Rattle.screendemo.specs.Stories.{Outcome, Story, line_outcome, story_from, story_on, story_of, next_number, Refused, Shown, added, continued, opened, acted}
 use Rattle.screendemo.specs.Surfaces.{with_byte, with_text, moved, is_printed, blank_surface}
 use Rattle.screendemo.specs.Printing.{written_event, output_of, refused_event, refusals_of}
 use Rattle.screendemo.specs.declared.stage.Said.{Said}

@@ -1,17 +1,16 @@
 -- The bytes that paint a surface bring a terminal to show it.
-use Rattle.std.proofs.Common.{◌≡◌, ℕ, ◌+◌, ◌*◌, ◌<◌, ◌≤◌, Bool, true, false, refl, sym, ◌∙◌, ap, subst, arith, List, [], ◌∷◌, ◌++◌, length, Option, Some, None, IfSome, IsSome, inl, inr, map, replicate, cond}
+use Rattle.std.proofs.Common.{◌≡◌, ℕ, ◌*◌, true, refl, sym, ◌∙◌, ap, subst, arith, List, [], ◌∷◌, ◌++◌, Some, IfSome, inl, replicate}
 use Rattle.std.specs.List.{All, AllByRecursion, flat_map}
 use Rattle.std.proofs.Math.ListN.{length-replicate}
 use Rattle.std.proofs.lemmas.Bool.{false≢true}
 use Rattle.std.proofs.lemmas.List.Elements.{All-replicate, All-from_recursion}
-use Rattle.scr_cells.specs.LookViews.{LookView, IsLook, blank, negative, negative_grid}
+use Rattle.scr_cells.specs.LookViews.{IsLook, blank, negative, negative_grid}
 use Rattle.scr_cells.specs.PictureViews.{PictureView, IsPicture, IsSize}
 use Rattle.scr_term.specs.declared.operations.Op.{Op}
 use Rattle.scr_term.specs.declared.operations.Spot.TheVariants.{At}
-use Rattle.scr_term.specs.Profiles.{ProfileView, IsProfile, IsEcma48}
+use Rattle.scr_term.specs.Profiles.{ProfileView, IsEcma48}
 use Rattle.scr_term.specs.States.{State, IsState, negative_state}
 use Rattle.scr_term.specs.Steps.{has, act, step, runs}
-use Rattle.scr_term.specs.Texts.{all_bytes}
 use Rattle.scr_term.specs.EcmaUnits.{spelling}
 use Rattle.scr_term.specs.EcmaMeanings.{meanings}
 use Rattle.scr_term.specs.EcmaScreens.{ScreenView, IsScreen, IsFed, blank_screen}

@@ -1,9 +1,7 @@
 -- The surface that a script draws on: a picture whose wish is the cursor.
 -- X/Open Curses Issue 7, waddch() and waddstr(), of characters that are printed as they are.
-use Rattle.std.specs.Prelude.{ℕ, ◌+◌, ◌<◌, ◌≤◌, ◌&&◌, nat_lt, nat_le, Bool, List, [], ◌∷◌, Option, Some, None, unwrap_or, if◌then◌else◌, All}
-use Rattle.std.specs.List.{list_all}
-use Rattle.scr_cells.specs.CellViews.{CellView}
-use Rattle.scr_cells.specs.PictureViews.{PictureView, IsPicture, blank_picture, grid_with}
+use Rattle.std.specs.Prelude.{ℕ, ◌+◌, ◌&&◌, nat_lt, nat_le, Bool, List, [], ◌∷◌, Some, unwrap_or, if◌then◌else◌}
+use Rattle.scr_cells.specs.PictureViews.{PictureView, blank_picture, grid_with}
 
 -- blanks, with the cursor in the first place
 abbrev pub blank_surface : ℕ → ℕ → PictureView

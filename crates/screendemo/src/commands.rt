@@ -69,7 +69,7 @@ fn add_command(fields: &[u8]) -> Option<Command<'_>>
     Some(Command::Add(number(row)?, number(column)?, text))
 }
 
-// A number in decimal digits, where it is below 2^32.
+/// A number in decimal digits, where it is below 2^32.
 pub fn number(digits: &[u8]) -> Option<u32>
     ensures { result ≡ number_of digits.now }
 {

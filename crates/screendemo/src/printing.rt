@@ -7,7 +7,7 @@ ghost use Rattle.screendemo.specs.Printing.{attribute_line, character_line, curs
 use scr_cells::{Look, NoMemory};
 use scr_term::{EcmaScreen, Spot};
 
-// Adds the lines of a screen: each row, and the cursor.
+/// Adds the lines of a screen: each row, and the cursor.
 pub fn print_screen(screen: &EcmaScreen, text: &mut Vec<u8>) -> Result<(), NoMemory>
     ensures { OnOk result (text.new.items ≡ text.old.items
         ++ screen_lines screen.now.rows screen.now.columns screen.now.state.grid screen.now.state.spot) }
@@ -18,7 +18,7 @@ pub fn print_screen(screen: &EcmaScreen, text: &mut Vec<u8>) -> Result<(), NoMem
     print_cursor(screen.spot(), text)
 }
 
-// Adds the line of a refusal.
+/// Adds the line of a refusal.
 pub fn print_refusal(name: &str, text: &mut Vec<u8>) -> Result<(), NoMemory>
     ensures { OnOk result (text.new.items ≡ text.old.items ++ refusal_line name.now) }
 {

@@ -13,8 +13,8 @@ use scr_plan::{scratch, scratch_shows};
 use scr_term::{EcmaScreen, Op, Profile, bytes_act_as_their_operations, pieces_do_not_matter};
 use std::alloc::Global;
 
-// What is written of a surface that is shown: raw, the bytes that paint it, else the lines that the
-// terminal then shows. There is a terminal after the first lines.
+/// What is written of a surface that is shown: raw, the bytes that paint it, else the lines that the
+/// terminal then shows. There is a terminal after the first lines.
 pub fn show(
     alloc: Global,
     raw: bool,

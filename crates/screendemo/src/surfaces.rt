@@ -7,7 +7,7 @@ ghost use Rattle.screendemo.specs.Surfaces.{is_printed as is_printed_byte, next_
 use scr_cells::{Attrs, Cell, NoMemory, Picture, Size};
 use std::alloc::Global;
 
-// A blank surface with the cursor in the first place.
+/// A blank surface with the cursor in the first place.
 pub fn blank_surface(alloc: Global, size: Size) -> Result<Picture, NoMemory>
     ensures { IfOk result (λ surface. surface ≡ blank_surface_of size.rows size.columns) }
 {
@@ -16,14 +16,14 @@ pub fn blank_surface(alloc: Global, size: Size) -> Result<Picture, NoMemory>
     Ok(surface)
 }
 
-// Whether each byte of a text is 32 to 126.
+/// Whether each byte of a text is 32 to 126.
 pub fn is_printed(text: &[u8]) -> bool
     ensures { result ≡ list_all is_printed_byte text.now }
 {
     text.iter().all(|byte| (32..=126).contains(byte))
 }
 
-// Adds the characters of a text at the cursor, which goes on (X/Open Curses Issue 7, waddnstr()).
+/// Adds the characters of a text at the cursor, which goes on (X/Open Curses Issue 7, waddnstr()).
 pub fn add_text(surface: &mut Picture, text: &[u8])
     requires { list_all is_printed_byte text.now ≡ true }
     ensures { surface.new ≡ with_text surface.old text.now }

@@ -1,4 +1,4 @@
-use Rattle.std.proofs.Common.{◌^◌, arith, rules, ◌∙◌, sym}
+use Rattle.std.proofs.Common.{◌^◌, arith}
 use Rattle.screendemo.proofs.NumberLaws.{value_more}
 use Rattle.screendemo.proofs.commands.value_up_to_limit.Goals as goal
 

@@ -1,6 +1,5 @@
-use Rattle.std.proofs.Common.{◌≡◌, ℕ, ◌==◌, ◌-◌, ◌+◌, ◌∷◌, length, take, drop, ap, ◌∙◌, arith}
+use Rattle.std.proofs.Common.{◌==◌, ◌+◌, ◌∷◌, take, ap, ◌∙◌, arith}
 use Rattle.std.specs.List.{slice_split}
-use Rattle.std.proofs.lemmas.List.{take_rest, length-drop}
 use Rattle.screendemo.proofs.CutLaws.{split_none, split_at, rest_of}
 use Rattle.screendemo.proofs.cuts.cut_at.Goals as goal
 

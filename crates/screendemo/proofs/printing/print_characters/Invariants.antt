@@ -1,4 +1,4 @@
-use Rattle.std.proofs.Common.{◌≡◌, ◌++◌, ◌∷◌, [], take, map}
+use Rattle.std.proofs.Common.{◌≡◌, ◌++◌, ◌∷◌, take, map}
 use Rattle.screendemo.proofs.printing.print_characters.Given as goal
 
 abbrev pub invariant-loop-look : goal.invariant-loop-look

@@ -1,4 +1,4 @@
-use Rattle.std.proofs.Common.{◌≡◌, ◌++◌, ◌+◌, ap, sym, ◌∙◌, refl, List, ℕ, append_assoc}
+use Rattle.std.proofs.Common.{◌≡◌, ◌++◌, ap, sym, ◌∙◌, List, ℕ, append_assoc}
 use Rattle.std.specs.List.{flat_map, range_with_len}
 use Rattle.scr_cells.specs.PictureViews.{grid_row}
 use Rattle.scr_plan.proofs.Rows.{flat_map-rows_more}

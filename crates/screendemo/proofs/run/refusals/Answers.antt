@@ -1,4 +1,4 @@
-use Rattle.std.proofs.Common.{ap, ◌++◌, refl}
+use Rattle.std.proofs.Common.{ap, ◌++◌}
 use Rattle.screendemo.specs.Stories.{next_number, story_of}
 use Rattle.screendemo.specs.Printing.{refusals_of}
 use Rattle.screendemo.proofs.RunLaws.{refusals_more}

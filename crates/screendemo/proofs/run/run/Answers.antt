@@ -1,4 +1,4 @@
-use Rattle.std.proofs.Common.{ap, subst, sym, ◌∙◌}
+use Rattle.std.proofs.Common.{subst, sym}
 use Rattle.std.specs.Io.KnownBytes.{Appends}
 use Rattle.screendemo.proofs.RunLaws.{SoFar, so_far_more}
 use Rattle.screendemo.proofs.run.run.Goals as goal

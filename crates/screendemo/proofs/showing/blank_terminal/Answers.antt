@@ -1,5 +1,5 @@
 use Rattle.std.proofs.Common.{◌≡◌, subst, sym, ◌∙◌}
-use Rattle.scr_term.specs.EcmaScreens.{ScreenView, blank_screen}
+use Rattle.scr_term.specs.EcmaScreens.{blank_screen}
 use Rattle.screendemo.specs.Showing.{IsTerminalFor}
 use Rattle.screendemo.proofs.ShowLaws.{blank_is_terminal}
 use Rattle.screendemo.proofs.showing.blank_terminal.Goals as goal
