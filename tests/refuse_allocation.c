@@ -2,6 +2,8 @@
 // the environment variable REFUSED_ALLOCATION.
 extern void *__libc_malloc(unsigned long size);
 extern void *__libc_realloc(void *memory, unsigned long size);
+extern void *__libc_calloc(unsigned long count, unsigned long size);
+extern void *__libc_memalign(unsigned long alignment, unsigned long size);
 extern char *getenv(const char *name);
 
 static long count;
@@ -20,4 +22,20 @@ void *malloc(unsigned long size) {
 
 void *realloc(void *memory, unsigned long size) {
     return ++count == refused() ? 0 : __libc_realloc(memory, size);
+}
+
+void *calloc(unsigned long members, unsigned long size) {
+    return ++count == refused() ? 0 : __libc_calloc(members, size);
+}
+
+void *aligned_alloc(unsigned long alignment, unsigned long size) {
+    return ++count == refused() ? 0 : __libc_memalign(alignment, size);
+}
+
+int posix_memalign(void **memory, unsigned long alignment, unsigned long size) {
+    void *made = aligned_alloc(alignment, size);
+    if (!made)
+        return 12;
+    *memory = made;
+    return 0;
 }
