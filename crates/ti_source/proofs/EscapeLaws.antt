@@ -1,6 +1,7 @@
 -- Facts on the escapes of a text.
-use Rattle.std.proofs.Common.{◌≡◌, ◌∙◌, ℕ, zero, suc, ◌-◌, ◌<◌, Bool, true, false, ◌&&◌, ◌||◌, eqb, cond, List, [], ◌∷◌, ◌++◌, take, drop, length, refl, ap, sym, append_assoc, arith, lit<}
+use Rattle.std.proofs.Common.{◌≡◌, ◌∙◌, ℕ, zero, suc, ◌-◌, ◌<◌, Bool, true, false, ◌&&◌, ◌||◌, eqb, cond, List, [], ◌∷◌, ◌++◌, take, drop, length, refl, ap, sym, append_assoc, append-nil, arith, lit<}
 use Rattle.std.proofs.lemmas.List.{take_rest}
+use Rattle.ti_caps.specs.Description.{has_nul}
 use Rattle.ti_source.specs.Escape.{begins_octal, decoded, decoded_after, meant, not_nul, written_length}
 
 -- bytes that belong to a character before are passed over
@@ -36,3 +37,20 @@ decoded-step (b ∷ bs) h =
 pub decoded-more : (text out more rest : List ℕ) (n v : ℕ) → 0 < length rest → n ≡ written_length rest → v ≡ not_nul (meant rest) → more ≡ out ++ v ∷ [] → out ++ decoded rest ≡ text → more ++ decoded (take (length rest - n) (drop n rest)) ≡ text
 decoded-more text out more rest n v some length-is value-is more-is whole =
     rw (take_rest rest n, more-is, append_assoc, length-is, value-is, ← decoded-step rest some) whole
+
+not_nul-some : (v : ℕ) → eqb (not_nul v) 0 ≡ false
+not_nul-some v = by (eqb v 0) refl
+  where
+    by : (t : Bool) → eqb v 0 ≡ t → eqb (cond t 128 v) 0 ≡ false
+    by true e = refl
+    by false e = e
+
+-- no byte 0 comes from a text
+pub decoded_after-whole : (k : ℕ) (bs : List ℕ) → has_nul (decoded_after k bs) ≡ false
+decoded_after-whole k [] = refl
+decoded_after-whole zero (b ∷ bs) = rw (not_nul-some (meant (b ∷ bs))) (decoded_after-whole (written_length (b ∷ bs) - 1) bs)
+decoded_after-whole (suc k) (b ∷ bs) = decoded_after-whole k bs
+
+pub decoded-end : (out text rest : List ℕ) → length rest ≡ 0 → out ++ decoded rest ≡ text → out ≡ text
+decoded-end out text [] none all = sym (append-nil out) ∙ all
+decoded-end out text (b ∷ bs) none all = absurd (omega arith)

@@ -1,10 +1,11 @@
 pub mod EscapeLaws
 pub mod EscapesBack
 pub mod FieldLaws
+pub mod GoodLaws
+pub mod NamedLaws
 pub mod NumberLaws
 pub mod NumbersBack
 pub mod PrintLaws
 pub mod ReadingLaws
 pub mod ResolvingLaws
-pub mod SmallLaws
 pub mod UseLaws

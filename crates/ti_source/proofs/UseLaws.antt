@@ -6,7 +6,8 @@ use Rattle.ti_caps.specs.Description.{Description}
 use Rattle.ti_source.specs.declared.fault.SourceFault.{SourceFault}
 use Rattle.ti_source.specs.declared.fault.SourceFault.TheVariants.{UnknownName, UseCycle}
 use Rattle.ti_source.specs.Described.{Described}
-use Rattle.ti_source.specs.Resolving.{each, merged, found_from, resolved_over}
+use Rattle.ti_source.specs.Resolving.{each, merged, resolved_over}
+use Rattle.ti_source.specs.Named.{found_from}
 use Rattle.ti_source.specs.Result.{◌>>=◌, Fails}
 
 -- resolved uses in front of those that follow

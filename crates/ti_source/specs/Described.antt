@@ -1,5 +1,7 @@
 -- An entry as it stands in a source.
-use Rattle.std.specs.Prelude.{ℕ, ◌≤◌, List, [], ◌∷◌}
+use Rattle.std.specs.Prelude.{◌≡◌, ℕ, ◌≤◌, true, false, List, [], ◌∷◌, length}
+use Rattle.ti_caps.specs.Names.{are_names}
+use Rattle.ti_caps.specs.Description.{has_nul}
 use Rattle.ti_source.specs.declared.statement.Said.{Said}
 use Rattle.ti_source.specs.declared.statement.Said.TheVariants as said
 use Rattle.ti_source.specs.declared.statement.Statement.{Statement}
@@ -10,11 +12,18 @@ pub record Described : Type 0 where
   pub statements : List Statement
   pub uses : List (List ℕ)
 
--- a number that a capability may have
-abbrev pub IsSmall : Said → Type 0
-IsSmall (said.Number n) = n ≤ 32767
-IsSmall _ = Unit {0}
+-- what a capability may have: a number up to 32,767, a text without a byte 0
+abbrev pub IsGood : Said → Type 0
+IsGood (said.Number n) = n ≤ 32767
+IsGood (said.Text text) = has_nul text ≡ false
+IsGood _ = Unit {0}
 
-abbrev pub AreSmall : List Statement → Type 0
-AreSmall [] = Unit {0}
-AreSmall (s ∷ more) = IsSmall s.said × AreSmall more
+abbrev pub AreGood : List Statement → Type 0
+AreGood [] = Unit {0}
+AreGood (s ∷ more) = IsGood s.said × AreGood more
+
+-- what holds of every entry of a source
+pub record IsDescribed (d : Described) : Type 0 where
+  pub named : are_names d.names ≡ true
+  pub good : AreGood d.statements
+  pub few : length d.uses ≤ 32

@@ -2,6 +2,7 @@ pub mod Described
 pub mod Escape
 pub mod Field
 pub mod Line
+pub mod Named
 pub mod Number
 pub mod Print
 pub mod Reading

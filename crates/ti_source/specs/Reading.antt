@@ -2,11 +2,10 @@
 use Rattle.std.specs.Prelude.{ℕ, ◌+◌, Bool, List, [], ◌∷◌, ◌++◌, Option, Some, None, Result, Ok, Err, length, min, ◌==◌, ◌&&◌, nat_le, nat_lt, if◌then◌else◌}
 use Rattle.std.specs.List.{list_any}
 use Rattle.std.specs.Option.{option_to_list}
-use Rattle.std.specs.Str.{bytes_eq}
 use Rattle.ti_caps.specs.declared.table.Kind.{Kind}
 use Rattle.ti_caps.specs.declared.table.Kind.TheVariants.{Flag, Number, Text}
 use Rattle.ti_caps.specs.Table.{same_kind, capability_of}
-use Rattle.ti_caps.specs.Names.{alternatives, are_names, has_no_blank}
+use Rattle.ti_caps.specs.Names.{alternatives, are_names}
 use Rattle.ti_source.specs.declared.fault.SourceFault.{SourceFault}
 use Rattle.ti_source.specs.declared.fault.SourceFault.TheVariants.{NotAscii, FieldBeforeEntry, BadNames, BadNumber, DuplicateName, TooManyUses}
 use Rattle.ti_source.specs.declared.note.Cause.{Cause}
@@ -16,6 +15,7 @@ use Rattle.ti_source.specs.declared.statement.Said.{Said}
 use Rattle.ti_source.specs.declared.statement.Said.TheVariants as said
 use Rattle.ti_source.specs.declared.statement.Statement.{Statement}
 use Rattle.ti_source.specs.Described.{Described}
+use Rattle.ti_source.specs.Named.{has_name}
 use Rattle.ti_source.specs.Escape.{decoded}
 use Rattle.ti_source.specs.Number as number
 use Rattle.ti_source.specs.Field.{Form, Nothing, Plain, Numeric, Textual, Cancelled, Refers, Odd, form_of}
@@ -112,10 +112,6 @@ pub record State : Type 0 where
 
 abbrev pub all_entries : State → List Described
 all_entries s = s.done ++ option_to_list s.current
-
--- a reference name of an entry: an alternative without a blank
-abbrev pub has_name : List ℕ → Described → Bool
-has_name name d = has_no_blank name && list_any (bytes_eq name) (alternatives d.names)
 
 -- one of these names is a reference name of an entry
 abbrev pub is_taken : List ℕ → List Described → Bool

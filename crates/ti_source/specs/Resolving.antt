@@ -9,7 +9,8 @@ use Rattle.ti_source.specs.declared.statement.Said.{Said}
 use Rattle.ti_source.specs.declared.statement.Said.TheVariants as said
 use Rattle.ti_source.specs.declared.statement.Statement.{Statement}
 use Rattle.ti_source.specs.Described.{Described}
-use Rattle.ti_source.specs.Reading.{has_name, speaks_of}
+use Rattle.ti_source.specs.Named.{found_from}
+use Rattle.ti_source.specs.Reading.{speaks_of}
 use Rattle.ti_source.specs.Result.{◌>>=◌}
 use Rattle.ti_source.specs.declared.fault.SourceFault.{SourceFault}
 use Rattle.ti_source.specs.declared.fault.SourceFault.TheVariants.{UnknownName, UseCycle}
@@ -62,11 +63,6 @@ merged d uses = record {
   numbers = map (number_in d.statements uses) (range_with_len 0 64);
   texts = map (text_in d.statements uses) (range_with_len 0 512);
 }
-
--- where the first entry with a name stands, and the entry; the first of these has the number i
-abbrev pub found_from : ℕ → List ℕ → List Described → Option (ℕ × Described)
-found_from i name [] = None
-found_from i name (d ∷ ds) = if has_name name d then Some (i, d) else found_from (suc i) name ds
 
 -- what each of these names gives, or the first fault
 abbrev pub each : (List ℕ → Result Description SourceFault) → List (List ℕ) → Result (List Description) SourceFault

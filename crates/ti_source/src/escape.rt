@@ -1,6 +1,7 @@
 //! The escapes of a string's text.
 
-ghost use Rattle.std.specs.Prelude.{◌≡◌, ◌≤◌, ◌<◌, length, IfOk, IsTrue};
+ghost use Rattle.std.specs.Prelude.{◌≡◌, ◌≤◌, ◌<◌, false, length, IfOk, IsTrue};
+ghost use Rattle.ti_caps.specs.Description.{has_nul};
 ghost use Rattle.ti_source.specs.Escape.{begins_octal, control, decoded, is_octal, letter, meant, not_nul, octal, written_length};
 
 use std::alloc::{AllocError, Global};
@@ -105,7 +106,8 @@ fn not_nul(v: u8) -> u8
 
 /// The text that a string field stands for.
 pub(crate) fn decode(alloc: Global, text: &[u8]) -> Result<Bytes, AllocError>
-    ensures { IfOk result (λ bytes. bytes ≡ decoded text.now) }
+    ensures value { IfOk result (λ bytes. bytes ≡ decoded text.now) }
+    ensures whole { IfOk result (λ bytes. has_nul bytes ≡ false) }
 {
     let mut decoded = Vec::new(alloc);
     let mut rest = text;

@@ -6,7 +6,7 @@ ghost use Rattle.ti_source.specs.Number as value;
 ghost use Rattle.ti_source.specs.Reading.{cancelled, noted, numeric, plain, referring, stated, textual, valued, with_fields, with_form, with_number, with_statement};
 ghost use Rattle.ti_source.specs.Field.{fields};
 ghost use Rattle.ti_source.specs.Result.{Gives};
-ghost use Rattle.ti_source.specs.Described.{IsSmall};
+ghost use Rattle.ti_source.specs.Described.{IsGood};
 ghost use Rattle.ti_source.specs.Seen.{seen_form};
 
 use crate::escape::decode;
@@ -53,7 +53,7 @@ impl Filling {
     }
 
     fn with_statement(self, kind: Kind, slot: Slot, said: Said) -> Result<Filling, SourceFault>
-        requires { IsSmall said }
+        requires { IsGood said }
         ensures { Gives result (Ok (with_statement kind slot.0 said self)) }
     {
         let Filling { entry, notes } = self;
@@ -70,7 +70,7 @@ impl Filling {
         slot: Slot,
         said: Said,
     ) -> Result<Filling, SourceFault>
-        requires { IsSmall said }
+        requires { IsGood said }
         ensures { Gives result (Ok (stated line name.now kind slot.0 said self)) }
     {
         if self.entry.is_stated(kind, slot) {
@@ -129,8 +129,11 @@ impl Filling {
         match find_name(name) {
             None => self.noted(alloc, line, Cause::Unknown, name),
             Some((Kind::Text, slot)) => {
+                if self.entry.is_stated(Kind::Text, slot) {
+                    return self.noted(alloc, line, Cause::Repeated, name);
+                }
                 let text = decode(alloc, text)?;
-                self.stated(alloc, line, name, Kind::Text, slot, Said::Text(text))
+                self.with_statement(Kind::Text, slot, Said::Text(text))
             }
             Some(_) => self.noted(alloc, line, Cause::WrongKind, name),
         }

@@ -1,6 +1,7 @@
 //! Terminfo source as terminfo(5) has it: read, resolved and printed.
 #![tactic(auto)]
 
+mod entries;
 mod escape;
 mod fault;
 mod field;

@@ -1,13 +1,13 @@
 //! Reading a source line by line.
 
 ghost use Rattle.std.specs.Prelude.{◌≡◌, None, Ok, [], option_map};
-ghost use Rattle.std.specs.List.{list_any};
-ghost use Rattle.ti_source.specs.Reading.{begun, continued, has_name, is_taken, source_of, whole, with_line};
+ghost use Rattle.ti_source.specs.Reading.{begun, continued, is_taken, source_of, whole, with_line};
 ghost use Rattle.ti_source.specs.Field.{fields};
 ghost use Rattle.ti_source.specs.Line.{line_of};
 ghost use Rattle.ti_source.specs.Result.{Gives};
 ghost use Rattle.ti_source.specs.Seen.{seen_line};
 
+use crate::entries::Entries;
 use crate::fault::SourceFault;
 use crate::filling::Filling;
 use crate::line::{Line, line_of};
@@ -22,7 +22,7 @@ use ti_caps::{Bytes, are_names};
 /// The entries before, the entry that the last line belongs to, and the notes.
 #[derive(Drop)]
 struct State {
-    done: Vec<SourceEntry>,
+    done: Entries,
     current: Option<SourceEntry>,
     notes: Vec<Note>,
 }
@@ -32,42 +32,31 @@ impl Model for State {
 
     ghost Value = { State };
 
-    ghost view = { λ s. record { done = s.done.items; current = s.current; notes = s.notes.items } };
+    ghost view = { λ s. record { done = s.done; current = s.current; notes = s.notes.items } };
 }
 
-fn has_name(entries: &[SourceEntry], name: &[u8]) -> bool
-    ensures { result ≡ list_any (has_name name.now) entries.now }
-{
-    for entry in entries {
-        if entry.has_name(name) {
-            return true;
-        }
-    }
-    false
-}
-
-fn is_taken(names: &[u8], entries: &[SourceEntry]) -> bool
+fn is_taken(names: &[u8], entries: &Entries) -> bool
     ensures { result ≡ is_taken names.now entries.now }
 {
     names
         .split(|b| *b == b'|')
-        .any(|name| has_name(entries, name))
+        .any(|name| entries.has_name(name))
 }
 
 impl State {
     /// The entries with the last one among them, and the notes.
-    fn close(self) -> Result<Source, SourceFault>
+    fn close(self, alloc: Global) -> Result<Source, SourceFault>
         ensures { Gives result (whole self) }
     {
         let State {
-            mut done,
+            done,
             current,
             notes,
         } = self;
-        if let Some(entry) = current {
-            done.push(entry)?;
-        }
-        Ok(Source::new(done, notes))
+        let Some(entry) = current else {
+            return Ok(Source::new(done, notes));
+        };
+        Ok(Source::new(done.with_entry(alloc, entry)?, notes))
     }
 
     fn continued(self, alloc: Global, line: u32, text: &[u8]) -> Result<State, SourceFault>
@@ -102,7 +91,7 @@ impl State {
         if !are_names(names) {
             return Err(SourceFault::BadNames(line));
         }
-        let (done, notes) = self.close()?.into_parts();
+        let (done, notes) = self.close(alloc)?.into_parts();
         if is_taken(names, &done) {
             return Err(SourceFault::DuplicateName(line));
         }
@@ -137,7 +126,7 @@ pub fn read(alloc: Global, bytes: &[u8]) -> Result<Source, SourceFault>
     ensures { Gives result (source_of bytes.now) }
 {
     let mut state = State {
-        done: Vec::new(alloc),
+        done: Entries::new(alloc),
         current: None,
         notes: Vec::new(alloc),
     };
@@ -146,5 +135,5 @@ pub fn read(alloc: Global, bytes: &[u8]) -> Result<Source, SourceFault>
         state = state.with_line(alloc, number, line_of(line))?;
         number = number.saturating_add(1);
     }
-    state.close()
+    state.close(alloc)
 }

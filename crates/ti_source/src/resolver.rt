@@ -4,10 +4,11 @@ ghost use Rattle.std.specs.Prelude.{◌≡◌, ◌≤◌, ◌==◌, ◌∷◌, [
 ghost use Rattle.std.specs.List.{list_any, range_with_len};
 ghost use Rattle.ti_caps.specs.declared.table.Kind.TheVariants.{Flag, Number, Text};
 ghost use Rattle.ti_caps.specs.Description.{flag_at};
-ghost use Rattle.ti_source.specs.Described.{AreSmall, IsSmall};
-ghost use Rattle.ti_source.specs.Resolving.{entered, first_number, first_text, flag_in, found_from, merged, number_by, number_in, resolved, resolved_over, said_of, text_in};
+ghost use Rattle.ti_source.specs.Described.{AreGood, IsGood};
+ghost use Rattle.ti_source.specs.Resolving.{entered, first_number, first_text, flag_in, merged, number_by, number_in, resolved, resolved_over, said_of, text_in};
 ghost use Rattle.ti_source.specs.Result.{Gives};
 
+use crate::entries::Entries;
 use crate::fault::SourceFault;
 use crate::source::Source;
 use crate::statement::{Said, SourceEntry, Statement};
@@ -71,7 +72,7 @@ fn flag_for(statements: &[Statement], used: &[Entry], slot: Slot) -> bool
 }
 
 fn own_number(said: &Said) -> Option<u16>
-    requires { IsSmall said.now }
+    requires { IsGood said.now }
     ensures value { result ≡ number_by (Some said.now) None }
     ensures small { IfSome result (λ n. n ≤ 32767) }
 {
@@ -82,7 +83,7 @@ fn own_number(said: &Said) -> Option<u16>
 }
 
 fn number_for(statements: &[Statement], used: &[Entry], slot: Slot) -> Option<u16>
-    requires { AreSmall statements.now }
+    requires { AreGood statements.now }
     ensures value { result ≡ number_in statements.now used.now slot.0 }
     ensures small { IfSome result (λ n. n ≤ 32767) }
 {
@@ -117,7 +118,7 @@ fn with_flags(entry: Entry, statements: &[Statement], used: &[Entry]) -> Entry
 
 fn with_numbers(entry: Entry, statements: &[Statement], used: &[Entry]) -> Entry
     requires room { length entry.numbers ≡ 64 }
-    requires small { AreSmall statements.now }
+    requires good { AreGood statements.now }
     ensures { result ≡ record entry { numbers = map (number_in statements.now used.now) (range_with_len 0 64) } }
 {
     let mut merged = entry;
@@ -155,17 +156,6 @@ fn merge(alloc: Global, entry: &SourceEntry, used: &[Entry]) -> Result<Entry, So
     with_texts(merged, statements, used)
 }
 
-fn find<'a>(entries: &'a [SourceEntry], name: &[u8]) -> Option<(usize, &'a SourceEntry)>
-    ensures { option_map (λ r. (r.0, r.1.now)) result ≡ found_from 0 name.now entries.entry.now }
-{
-    for (i, entry) in entries.iter().enumerate() {
-        if entry.has_name(name) {
-            return Some((i, entry));
-        }
-    }
-    None
-}
-
 fn is_on(chain: &[usize], index: usize) -> bool
     ensures { result ≡ list_any (λ j. j == index) chain.now }
 {
@@ -179,7 +169,7 @@ fn is_on(chain: &[usize], index: usize) -> bool
 
 fn resolve_over(
     alloc: Global,
-    entries: &[SourceEntry],
+    entries: &Entries,
     chain: &mut Vec<usize>,
     depth: usize,
     name: &[u8],
@@ -187,7 +177,7 @@ fn resolve_over(
     ensures gives { Gives result (resolved_over depth chain.old.items entries.now name.now) }
     ensures chain { OnOk result (chain.new.items ≡ chain.old.items) }
 {
-    let Some((index, entry)) = find(entries, name) else {
+    let Some((index, entry)) = entries.find(name) else {
         return Err(SourceFault::UnknownName);
     };
     if depth == 0 || is_on(chain, index) {
@@ -214,5 +204,5 @@ pub fn resolve(alloc: Global, source: &Source, name: &[u8]) -> Result<Entry, Sou
 {
     let entries = source.entries();
     let mut chain = Vec::new(alloc);
-    resolve_over(alloc, entries, &mut chain, entries.len(), name)
+    resolve_over(alloc, entries, &mut chain, entries.as_slice().len(), name)
 }

@@ -4,15 +4,15 @@ ghost use Rattle.std.specs.Prelude.{◌≡◌, ◌<◌, ◌↔◌, IsTrue, lengt
 ghost use Rattle.std.specs.Prelude.{slice_get, map, Some};
 ghost use Rattle.ti_caps.specs.Names.{first_name};
 
+use crate::entries::Entries;
 use crate::note::Note;
-use crate::statement::SourceEntry;
 use std::marker::Model;
 use ti_caps::first_name;
 
 /// The entries of a source, in their order, and the notes on its doubtful fields.
 #[derive(Debug, Drop)]
 pub struct Source {
-    entries: Vec<SourceEntry>,
+    entries: Entries,
     notes: Vec<Note>,
 }
 
@@ -21,18 +21,18 @@ impl Model for Source {
 
     ghost Value = { Whole };
 
-    ghost view = { λ s. record { entries = s.entries.items; notes = s.notes.items } };
+    ghost view = { λ s. record { entries = s.entries; notes = s.notes.items } };
 }
 
 impl Source {
-    pub(crate) fn new(entries: Vec<SourceEntry>, notes: Vec<Note>) -> Source
-        ensures { result ≡ record { entries = entries.items; notes = notes.items } }
+    pub(crate) fn new(entries: Entries, notes: Vec<Note>) -> Source
+        ensures { result ≡ record { entries = entries; notes = notes.items } }
     {
         Source { entries, notes }
     }
 
-    pub(crate) fn into_parts(self) -> (Vec<SourceEntry>, Vec<Note>)
-        ensures entries { result.0.items ≡ self.entries }
+    pub(crate) fn into_parts(self) -> (Entries, Vec<Note>)
+        ensures entries { result.0 ≡ self.entries }
         ensures notes { result.1.items ≡ self.notes }
     {
         let Source { entries, notes } = self;
@@ -57,14 +57,14 @@ impl Source {
     pub fn len(&self) -> usize
         ensures { result ≡ length self.now.entries }
     {
-        self.entries.len()
+        self.entries.as_slice().len()
     }
 
     /// Whether there is no entry.
     pub fn is_empty(&self) -> bool
         ensures { IsTrue result ↔ (length self.now.entries ≡ 0) }
     {
-        self.entries.is_empty()
+        self.entries.as_slice().is_empty()
     }
 
     /// The first reference name of an entry, by which it is listed. The caller knows that there
@@ -73,13 +73,13 @@ impl Source {
         requires { i < length self.now.entries }
         ensures { slice_get (map (λ e. first_name e.names) self.now.entries) i ≡ Some result.now }
     {
-        let entry = &self.entries[i];
+        let entry = &self.entries.as_slice()[i];
         first_name(entry.names())
     }
 
-    pub(crate) fn entries(&self) -> &[SourceEntry]
+    pub(crate) fn entries(&self) -> &Entries
         ensures { result.now ≡ self.now.entries }
     {
-        self.entries.as_slice()
+        &self.entries
     }
 }

@@ -1,13 +1,12 @@
 //! What the fields of an entry say.
 
-ghost use Rattle.std.specs.Prelude.{◌≡◌, ◌∷◌, [], ◌++◌, Ok, Err, length, option_map};
+ghost use Rattle.std.specs.Prelude.{◌≡◌, ◌≤◌, ◌<◌, ◌∷◌, [], ◌++◌, Ok, true, length};
 ghost use Rattle.std.specs.List.{list_any};
-ghost use Rattle.ti_source.specs.Reading.{has_name, speaks_of};
+ghost use Rattle.ti_source.specs.Reading.{speaks_of};
 ghost use Rattle.ti_source.specs.Result.{Gives};
-ghost use Rattle.ti_source.specs.Described.{AreSmall, IsSmall};
+ghost use Rattle.ti_source.specs.Described.{AreGood, IsGood};
 ghost use Rattle.ti_caps.specs.Table.{same_kind};
-ghost use Rattle.ti_caps.specs.Names.{alternatives, has_no_blank};
-ghost use Rattle.std.specs.Str.{bytes_eq};
+ghost use Rattle.ti_caps.specs.Names.{are_names, has_no_blank};
 
 use crate::fault::SourceFault;
 use std::alloc::Global;
@@ -46,12 +45,12 @@ impl Model for SourceEntry {
 
     ghost view = { λ e. record { names = e.names; statements = e.statements.items; uses = e.uses.items } };
 
-    ghost use Rattle.ti_source.specs.Described.{AreSmall};
+    ghost use Rattle.ti_source.specs.Described.{IsDescribed};
 
-    ghost invariant = { λ e. AreSmall e.statements.items };
+    ghost invariant = { λ e. IsDescribed (record { names = e.names; statements = e.statements.items; uses = e.uses.items }) };
 }
 
-fn has_no_blank(name: &[u8]) -> bool
+pub(crate) fn has_no_blank(name: &[u8]) -> bool
     ensures { result ≡ has_no_blank name.now }
 {
     name.iter().all(|b| *b != b' ')
@@ -78,6 +77,7 @@ impl Statement {
 
 impl SourceEntry {
     pub(crate) fn new(alloc: Global, names: Bytes) -> SourceEntry
+        requires { are_names names ≡ true }
         ensures { result ≡ record { names = names; statements = []; uses = [] } }
     {
         SourceEntry {
@@ -88,29 +88,24 @@ impl SourceEntry {
     }
 
     pub(crate) fn names(&self) -> &[u8]
-        ensures { result.now ≡ self.now.names }
+        ensures value { result.now ≡ self.now.names }
+        ensures good { are_names self.now.names ≡ true }
     {
         self.names.0.as_slice()
     }
 
     pub(crate) fn statements(&self) -> &[Statement]
         ensures value { result.now ≡ self.now.statements }
-        ensures small { AreSmall self.now.statements }
+        ensures good { AreGood self.now.statements }
     {
         self.statements.as_slice()
     }
 
     pub(crate) fn uses(&self) -> &[Bytes]
-        ensures { result.now ≡ self.now.uses }
+        ensures value { result.now ≡ self.now.uses }
+        ensures few { length self.now.uses ≤ 32 }
     {
         self.uses.as_slice()
-    }
-
-    /// Whether an alternative of the entry is this name, which has no blank.
-    pub(crate) fn has_name(&self, name: &[u8]) -> bool
-        ensures { result ≡ has_name name.now self.now }
-    {
-        has_no_blank(name) && has_alternative(self.names.0.as_slice(), name)
     }
 
     pub(crate) fn is_stated(&self, kind: Kind, slot: Slot) -> bool
@@ -125,7 +120,7 @@ impl SourceEntry {
         slot: Slot,
         said: Said,
     ) -> Result<SourceEntry, SourceFault>
-        requires { IsSmall said }
+        requires { IsGood said }
         ensures { Gives result (Ok (record self { statements = self.statements ++ (record { kind = kind; slot = slot; said = said }) ∷ [] })) }
     {
         self.statements.push(Statement { kind, slot, said })?;
@@ -133,6 +128,7 @@ impl SourceEntry {
     }
 
     pub(crate) fn with_use(mut self, other: Bytes) -> Result<SourceEntry, SourceFault>
+        requires { length self.uses < 32 }
         ensures { Gives result (Ok (record self { uses = self.uses ++ other ∷ [] })) }
     {
         self.uses.push(other)?;
@@ -149,12 +145,4 @@ fn is_stated(statements: &[Statement], kind: Kind, slot: Slot) -> bool
         }
     }
     false
-}
-
-fn has_alternative(names: &[u8], name: &[u8]) -> bool
-    ensures { result ≡ list_any (bytes_eq name.now) (alternatives names.now) }
-{
-    names
-        .split(|b| *b == b'|')
-        .any(|alternative| name == alternative)
 }

@@ -3,7 +3,7 @@ use Rattle.std.specs.List.{list_any}
 use Rattle.std.proofs.lemmas.Iterator.Search.{any_from_yields_List}
 use Rattle.std.proofs.lemmas.Iterator.Splits.{YieldsList-from_slice_split}
 use Rattle.ti_caps.specs.Names.{is_bar}
-use Rattle.ti_source.specs.Reading.{has_name}
+use Rattle.ti_source.specs.Named.{has_name}
 use Rattle.ti_source.proofs.reader.is_taken.Goals as goal
 
 pub returns : goal.returns

@@ -34,7 +34,7 @@ returns-in_err-one-clause-gives t c =
     let fails = rw c.loop-other.invariant.0 at c.in_err-one.ensures.gives in
     let within : c.loop-other.other-index < length c.uses-other-items.result.now = omega arith in
     rw (p.1, p.2, goes) (Fails-bind c.in_err-one.field-0.0 (uses_over c.args.depth chain c.args.entries.now found) (λ ds. Ok (merged c.in-Some.entry.now ds))
-    (use-fail f c.loop-other.used.items c.uses-other-items.result.now c.in-Some.entry.now.uses c.loop-other.other-index c.as_slice.result.now c.other-item.result c.in_err-one.field-0.0 within c.other-item.is (c.as_slice.ensures.value ∙ c.other.view_is) c.loop-other.invariant.1 c.uses-other-items.ensures fails))
+    (use-fail f c.loop-other.used.items c.uses-other-items.result.now c.in-Some.entry.now.uses c.loop-other.other-index c.as_slice.result.now c.other-item.result c.in_err-one.field-0.0 within c.other-item.is (c.as_slice.ensures.value ∙ c.other.view_is) c.loop-other.invariant.1 c.uses-other-items.ensures.value fails))
 
 pub loop-other-preserved : goal.loop-other-preserved
 loop-other-preserved t c =
@@ -54,5 +54,5 @@ returns-clause-gives t c =
     let goes = over-goes c.args.depth chain c.args.entries.now c.args.name.now found some c.in-Some.ensures off in
     let f = resolved_over (c.args.depth - 1) (chain ++ c.in-Some.index ∷ []) c.args.entries.now in
     let past : length c.uses-other-items.result.now ≤ c.loop-other.other-index = omega arith in
-    let all = use-end f c.loop-other.used.items c.uses-other-items.result.now c.in-Some.entry.now.uses c.loop-other.other-index past c.loop-other.invariant.1 c.uses-other-items.ensures in
+    let all = use-end f c.loop-other.used.items c.uses-other-items.result.now c.in-Some.entry.now.uses c.loop-other.other-index past c.loop-other.invariant.1 c.uses-other-items.ensures.value in
     rw (goes, all, ← c.deref-2.ensures.value) c.merge.ensures

@@ -1,5 +1,9 @@
-use Rattle.ti_source.proofs.SmallLaws.{AreSmall-push}
+use Rattle.ti_source.proofs.GoodLaws.{AreGood-push}
 use Rattle.ti_source.proofs.statement.SourceEntry.with_statement.Goals as goal
 
 pub invariant_of-self : goal.invariant_of-self
-invariant_of-self c = rw c.in_ok-push.ensures.items (AreSmall-push _ _ c.self.invariant c.requires)
+invariant_of-self c = record {
+  named = c.self.invariant.named;
+  good = rw c.in_ok-push.ensures.items (AreGood-push _ _ c.self.invariant.good c.requires);
+  few = c.self.invariant.few;
+}
