@@ -3,7 +3,13 @@ pub mod Flat
 pub mod PaddingLaws
 pub mod MeasureLaws
 pub mod BuilderLaws
-pub mod ReaderLaws
+pub mod ScanLaws
 pub mod GrammarLaws
 pub mod ValueLaws
 pub mod OneTree
+pub mod DigitLaws
+pub mod FlagLaws
+pub mod SoundLaws
+pub mod NumeralLaws
+pub mod CompleteLaws
+pub mod FaultLaws

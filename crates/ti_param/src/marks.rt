@@ -1,8 +1,8 @@
 // The marks of conditionals, `%? %t %e %;`, as they follow one another: terminfo(5), 'Parameterized Strings'.
 
 ghost use Rattle.std.specs.Prelude.{◌≡◌, [], length, MatchResult, Ok, Err};
-ghost use Rattle.ti_param.specs.Marks.{entered};
-ghost use Rattle.ti_param.specs.Fits.{Enters};
+ghost use Rattle.ti_param.specs.Code.Marks.{entered};
+ghost use Rattle.ti_param.specs.Code.Fits.{Enters};
 
 use crate::tokens::Token;
 use std::marker::Model;

@@ -1,5 +1,5 @@
 use Rattle.std.proofs.Common.{◌≡◌, ℕ, ◌-◌, ◌^◌, ◌≤◌, min, length, drop}
-use Rattle.ti_param.specs.Tokens.{digits}
+use Rattle.ti_param.specs.Code.Tokens.{digits}
 use Rattle.ti_param.proofs.tokens.digits.Given as goal
 
 abbrev pub invariant-loop-place : goal.invariant-loop-place

@@ -1,5 +1,5 @@
 use Rattle.std.proofs.Common.{◌≡◌, ◌-◌, ◌≤◌, length, drop}
-use Rattle.ti_param.specs.Tokens.{flags, plain}
+use Rattle.ti_param.specs.Code.Tokens.{flags, plain}
 use Rattle.ti_param.proofs.tokens.flags.Given as goal
 
 abbrev pub invariant-loop-place : goal.invariant-loop-place
