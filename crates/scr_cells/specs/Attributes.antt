@@ -26,6 +26,10 @@ invis = 64
 abbrev pub all_attributes : List ℕ
 all_attributes = standout ∷ underline ∷ reverse ∷ blink ∷ dim ∷ bold ∷ invis ∷ []
 
+-- the set of all seven
+abbrev pub every_attribute : ℕ
+every_attribute = 127
+
 -- the attributes of a set, one by one, in that order
 abbrev pub attributes_of : ℕ → List ℕ
 attributes_of set = filter (λ a. bit_and set a == a) all_attributes

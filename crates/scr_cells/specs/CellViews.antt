@@ -1,12 +1,19 @@
 -- What a cell of a window holds. X/Open Curses Issue 7, 'Characters'.
-use Rattle.std.specs.Prelude.{ℕ, ◌<◌, ◌≤◌}
+use Rattle.std.specs.Prelude.{ℕ, ◌<◌, ◌≤◌, ◌&&◌, Bool, nat_le}
+
+-- a character: the blank, or a graphic character of ASCII
+abbrev pub IsCharacter : ℕ → Type 0
+IsCharacter byte = (32 ≤ byte) × (byte ≤ 126)
+
+abbrev pub is_character : ℕ → Bool
+is_character byte = nat_le 32 byte && nat_le byte 126
 
 -- a byte with a set of attributes
 pub record CellView : Type 0 where
   pub byte : ℕ
   pub attrs : ℕ
 
--- the byte is a blank or a graphic character of ASCII
+-- the byte is a character
 pub record IsCell (cell : CellView) : Type 0 where
   pub from_blank : 32 ≤ cell.byte
   pub to_tilde : cell.byte ≤ 126

@@ -1,5 +1,5 @@
 -- What a terminal shows in one place. ECMA-48, 'graphic rendition'.
-use Rattle.std.specs.Prelude.{ℕ, ◌<◌, ◌≤◌, bit_and, List, map}
+use Rattle.std.specs.Prelude.{ℕ, ◌*◌, ◌<◌, ◌≤◌, bit_and, List, map, replicate}
 use Rattle.scr_cells.specs.Attributes.{negative_set}
 use Rattle.scr_cells.specs.CellViews.{CellView}
 
@@ -8,7 +8,7 @@ pub record LookView : Type 0 where
   pub byte : ℕ
   pub attrs : ℕ
 
--- the byte is a blank or a graphic character of ASCII
+-- the byte is a character
 pub record IsLook (look : LookView) : Type 0 where
   pub from_blank : 32 ≤ look.byte
   pub to_tilde : look.byte ≤ 126
@@ -17,6 +17,10 @@ pub record IsLook (look : LookView) : Type 0 where
 -- byte 32 without attributes
 abbrev pub blank : LookView
 blank = record { byte = 32; attrs = 0 }
+
+-- blanks everywhere
+abbrev pub blank_grid : ℕ → ℕ → List LookView
+blank_grid rows columns = replicate (rows * columns) blank
 
 -- what is seen of a cell on a terminal that shows these attributes: its byte, and those of its attributes that are shown
 abbrev pub seen : ℕ → CellView → LookView

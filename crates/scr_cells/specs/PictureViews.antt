@@ -1,6 +1,6 @@
 -- A picture: the cells that a screen is to show, and where its cursor is wished.
 -- X/Open Curses Issue 7, 'Screens, Windows and Terminals'; curs_refresh(3X), 'virtual screen'.
-use Rattle.std.specs.Prelude.{ℕ, ◌≡◌, ◌+◌, ◌*◌, ◌<◌, ◌≤◌, List, length, take, drop, All, Option, None, IfSome, replicate, slice_set}
+use Rattle.std.specs.Prelude.{ℕ, ◌≡◌, ◌+◌, ◌*◌, ◌<◌, ◌≤◌, List, length, take, drop, All, Option, None, IfSome, replicate, slice_get, slice_set}
 use Rattle.scr_cells.specs.CellViews.{CellView, IsCell, blank_cell}
 
 -- 1 to 500 rows of 1 to 500 columns
@@ -31,6 +31,10 @@ pub record IsPicture (picture : PictureView) : Type 0 where
 -- one row of a grid of that many columns
 abbrev pub grid_row : {A : Type 0} → ℕ → ℕ → List A → List A
 grid_row columns r grid = take columns (drop (r * columns) grid)
+
+-- what stands in one place of a grid of that many columns
+abbrev pub grid_at : {A : Type 0} → ℕ → ℕ → ℕ → List A → Option A
+grid_at columns r c grid = slice_get grid (r * columns + c)
 
 -- the grid with one place changed
 abbrev pub grid_with : {A : Type 0} → ℕ → ℕ → ℕ → A → List A → List A

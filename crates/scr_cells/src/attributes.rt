@@ -1,5 +1,4 @@
 ghost use Rattle.std.specs.Prelude.{⊤, ◌≡◌, [], ◌∷◌, codes};
-ghost use Rattle.scr_cells.specs.Attributes.{negative_set};
 
 use bitflags::{Flag, Flags, bitflag_items};
 
@@ -9,6 +8,22 @@ use bitflags::{Flag, Flags, bitflag_items};
 /// `bitflags::Flags`. Bit 128 names no attribute: a set keeps it, and no terminal shows it.
 #[derive(Clone, Copy, PartialEq, Eq, Debug)]
 pub struct Attrs(pub u8);
+
+impl Attrs {
+    /// The seven attributes, in the order in which a terminal is told them.
+    pub const EACH: [Attrs; 7] = [
+        Attrs::STANDOUT,
+        Attrs::UNDERLINE,
+        Attrs::REVERSE,
+        Attrs::BLINK,
+        Attrs::DIM,
+        Attrs::BOLD,
+        Attrs::INVIS,
+    ];
+
+    /// The set of all seven.
+    pub const EVERY: Attrs = Attrs(127);
+}
 
 bitflag_items! {
     impl Attrs: u8 {

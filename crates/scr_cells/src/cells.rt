@@ -1,5 +1,8 @@
-ghost use Rattle.std.specs.Prelude.{◌≡◌, ◌≤◌, ◌↔◌, IsSome, IfSome};
-ghost use Rattle.scr_cells.specs.CellViews.{IsCell, blank_cell};
+ghost use Rattle.std.specs.Prelude.{◌≡◌, ◌↔◌, ◌==◌, IsSome, IfSome};
+ghost use Rattle.std.proofs.Common.{rules};
+ghost use Rattle.std.specs.Ordering.{eq_of_both, on};
+ghost use Rattle.std.specs.Cmp.Rules.{comparing};
+ghost use Rattle.scr_cells.specs.CellViews.{IsCell, IsCharacter, blank_cell};
 
 use crate::Attrs;
 use std::marker::Model;
@@ -8,7 +11,7 @@ use std::marker::Model;
 /// 'Characters').
 ///
 /// One `u32`: the byte in bits 0 to 7, the attributes in bits 8 to 15.
-#[derive(Clone, Copy)]
+#[derive(Clone, Copy, Debug)]
 pub struct Cell {
     packed: u32,
 }
@@ -29,7 +32,7 @@ impl Model for Cell {
 impl Cell {
     /// The cell of a byte and attributes; `None` where the byte is not 32 to 126.
     pub fn new(byte: u8, attrs: Attrs) -> Option<Cell>
-        ensures graphic { IsSome result ↔ ((32 ≤ byte) × (byte ≤ 126)) }
+        ensures character { IsSome result ↔ IsCharacter byte }
         ensures holds { IfSome result (λ cell. cell ≡ record { byte = byte; attrs = attrs.0 }) }
     {
         if !(32..=126).contains(&byte) {
@@ -61,5 +64,15 @@ impl Cell {
         ensures cell { IsCell self }
     {
         Attrs((self.packed / 256) as u8)
+    }
+}
+
+impl PartialEq for Cell {
+    ghost eq = { eq_of_both (on (λ cell. cell.byte) ◌==◌) (on (λ cell. cell.attrs) ◌==◌) };
+
+    ghost laws = { Prim.search (comparing, rules) };
+
+    fn eq(&self, other: &Cell) -> bool {
+        self.packed == other.packed
     }
 }

@@ -1,7 +1,8 @@
-ghost use Rattle.std.specs.Prelude.{◌≡◌, ◌≤◌, ◌↔◌, ◌==◌, IsSome, IfSome};
+ghost use Rattle.std.specs.Prelude.{◌≡◌, ◌↔◌, ◌==◌, IsSome, IfSome};
 ghost use Rattle.std.proofs.Common.{rules};
 ghost use Rattle.std.specs.Ordering.{eq_of_both, on};
 ghost use Rattle.std.specs.Cmp.Rules.{comparing};
+ghost use Rattle.scr_cells.specs.CellViews.{IsCharacter};
 ghost use Rattle.scr_cells.specs.LookViews.{IsLook, blank};
 
 use crate::Attrs;
@@ -32,7 +33,7 @@ impl Model for Look {
 impl Look {
     /// The look of a byte with attributes; `None` where the byte is not 32 to 126.
     pub fn new(byte: u8, attrs: Attrs) -> Option<Look>
-        ensures graphic { IsSome result ↔ ((32 ≤ byte) × (byte ≤ 126)) }
+        ensures character { IsSome result ↔ IsCharacter byte }
         ensures holds { IfSome result (λ look. look ≡ record { byte = byte; attrs = attrs.0 }) }
     {
         if !(32..=126).contains(&byte) {

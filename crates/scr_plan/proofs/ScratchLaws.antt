@@ -11,7 +11,7 @@ use Rattle.std.proofs.lemmas.Bool.{eqb-true}
 use Rattle.std.proofs.lemmas.Bool.Decides.{nat_tests}
 use Rattle.scr_cells.specs.Attributes.{all_attributes, attributes_of}
 use Rattle.scr_cells.specs.CellViews.{CellView, IsCell}
-use Rattle.scr_cells.specs.LookViews.{LookView, seen, blank}
+use Rattle.scr_cells.specs.LookViews.{LookView, seen, blank, negative_grid}
 use Rattle.scr_cells.specs.PictureViews.{PictureView, IsPlace, grid_row, grid_with}
 use Rattle.scr_term.specs.declared.operations.Op.{Op}
 use Rattle.scr_term.specs.declared.operations.Op.TheVariants.{Move, Reset, Put}
@@ -21,8 +21,9 @@ use Rattle.scr_term.specs.States.{State, spot_after}
 use Rattle.scr_term.specs.Steps.{step, runs}
 use Rattle.scr_term.specs.Painted.{painted}
 use Rattle.scr_term.proofs.Attributes.{same_below}
-use Rattle.scr_term.proofs.StepLaws.{runs-append, runs_keep}
-use Rattle.scr_plan.specs.Scratch.{enter, paints_cell, paints_cells, paints_row, paints_rows, places_cursor, scratch_of, Fits, ScratchShows}
+use Rattle.scr_term.specs.OperationLaws.{BytesActAsTheirOperations}
+use Rattle.scr_term.proofs.StepLaws.{runs-append, runs_keep, is_profile}
+use Rattle.scr_plan.specs.Scratch.{enter, paints_cell, paints_cells, paints_row, paints_rows, places_cursor, scratch_of, Fits, ScratchShows, ScratchBytesShow}
 
 -- a set and these attributes
 abbrev with_each : ℕ → List ℕ → ℕ
@@ -219,4 +220,15 @@ scratch_shows profile p picture k fits old s =
       run = run;
       shows = record { grid = last.2 ∙ rows_first.grid_is; spot = last.3 };
       state = runs_keep profile p old last.0 s (scratch_of profile picture) run;
+    }
+
+-- the bytes of scratch, by the law of the operations and that of their bytes
+pub scratch_bytes_show : ScratchShows → BytesActAsTheirOperations → ScratchBytesShow
+scratch_bytes_show law bytes_law profile e picture p fits old s =
+    let shows = law profile (is_profile profile e) picture p fits old s in
+    record {
+      new = shows.new;
+      leads = bytes_law profile e old shows.new s (scratch_of profile picture) shows.run;
+      shows = record { grid = ap negative_grid shows.shows.grid; spot = shows.shows.spot };
+      state = shows.state;
     }

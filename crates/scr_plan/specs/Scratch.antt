@@ -4,10 +4,12 @@ use Rattle.std.specs.List.{flat_map, range_with_len}
 use Rattle.scr_cells.specs.Attributes.{attributes_of}
 use Rattle.scr_cells.specs.CellViews.{CellView}
 use Rattle.scr_cells.specs.PictureViews.{PictureView, IsPicture, grid_row}
-use Rattle.scr_term.specs.Profiles.{ProfileView, IsProfile}
-use Rattle.scr_term.specs.States.{State, IsState}
+use Rattle.scr_term.specs.Profiles.{ProfileView, IsProfile, IsEcma48}
+use Rattle.scr_term.specs.States.{State, IsState, negative_state}
 use Rattle.scr_term.specs.Steps.{runs}
-use Rattle.scr_term.specs.Painted.{Shows}
+use Rattle.scr_term.specs.Texts.{all_bytes}
+use Rattle.scr_term.specs.Painted.{Shows, ShowsNegative}
+use Rattle.scr_term.specs.EcmaMeanings.{Leads}
 use Rattle.scr_term.specs.declared.operations.Op.{Op}
 use Rattle.scr_term.specs.declared.operations.Op.TheVariants.{Move, Clear, Reset, Enter, Put}
 
@@ -61,3 +63,19 @@ ScratchShows =
     → (picture : PictureView) → IsPicture picture → Fits profile picture
     → (old : State) → IsState profile.rows profile.columns profile.shown old
     → RunsToShow profile old (scratch_of profile picture) picture
+
+-- as an ECMA-48 text, from the negative of this state, the bytes are all defined, and lead to the negative of a state
+-- of the profile that shows the picture
+pub record LeadsToShow (profile : ProfileView) (old : State) (text : List ℕ) (picture : PictureView) : Type 0 where
+  pub new : State
+  pub leads : Leads profile.rows profile.columns (negative_state old) text (negative_state new)
+  pub shows : ShowsNegative profile (negative_state new) picture
+  pub state : IsState profile.rows profile.columns profile.shown new
+
+-- From the negative of every state of the bundled entry's profile, the bytes of scratch show the negative of the picture.
+abbrev pub ScratchBytesShow : Type 0
+ScratchBytesShow =
+    (profile : ProfileView) → IsEcma48 profile
+    → (picture : PictureView) → IsPicture picture → Fits profile picture
+    → (old : State) → IsState profile.rows profile.columns profile.shown old
+    → LeadsToShow profile old (all_bytes profile (scratch_of profile picture)) picture

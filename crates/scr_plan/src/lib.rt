@@ -2,7 +2,9 @@
 #![tactic(auto)]
 
 mod painting;
+mod scratch_laws;
 #[cfg(test)]
 mod tests;
 
-pub use painting::{scratch, scratch_shows};
+pub use painting::scratch;
+pub use scratch_laws::{scratch_bytes_show, scratch_shows};

@@ -1,6 +1,6 @@
 ghost use Rattle.std.specs.Prelude.{◌≡◌, ◌≤◌, ◌++◌, ◌==◌, length, IfOk, OnOk, map, filter, bit_and};
-ghost use Rattle.scr_cells.specs.Attributes.{attributes_of};
-ghost use Rattle.scr_plan.specs.Scratch.{scratch_of, paints_cell, paints_cells, Fits, ScratchShows, enter};
+ghost use Rattle.scr_term.specs.declared.operations.Op.TheVariants.{Enter};
+ghost use Rattle.scr_plan.specs.Scratch.{scratch_of, paints_cell, paints_cells, Fits};
 
 use scr_cells::{Attrs, Cell, NoMemory, Picture};
 use scr_term::{Op, Ops, Profile};
@@ -60,35 +60,22 @@ fn paint_cell(
     ops.push(Op::Move(row, column))?;
     ops.push(Op::Reset)?;
     let shown = profile.shows().0 & cell.attrs().0;
-    enter_attributes(shown, ops)?;
+    if shown != 0 {
+        enter_each(shown, &Attrs::EACH, ops)?;
+    }
     ops.push(Op::Put(cell.byte()))?;
     Ok(())
 }
 
-// Adds an operation for each attribute of a set.
-fn enter_attributes(set: u8, ops: &mut Vec<Op>) -> Result<(), NoMemory>
-    ensures { OnOk result (ops.new.items ≡ ops.old.items ++ map enter (attributes_of set)) }
-{
-    if set == 0 {
-        return Ok(());
-    }
-    enter_each(set, &[1, 2, 4, 8, 16, 32, 64], ops)
-}
-
 // Adds an operation for each of these attributes that the set has.
-fn enter_each(set: u8, attributes: &[u8], ops: &mut Vec<Op>) -> Result<(), NoMemory>
+fn enter_each(set: u8, attributes: &[Attrs], ops: &mut Vec<Op>) -> Result<(), NoMemory>
     ensures { OnOk result (ops.new.items
-        ≡ ops.old.items ++ map enter (filter (λ a. bit_and set a == a) attributes.now)) }
+        ≡ ops.old.items ++ map Enter (filter (λ a. bit_and set a.0 == a.0) attributes.now)) }
 {
     for attribute in attributes {
-        if set & *attribute == *attribute {
-            ops.push(Op::Enter(Attrs(*attribute)))?;
+        if set & attribute.0 == attribute.0 {
+            ops.push(Op::Enter(*attribute))?;
         }
     }
     Ok(())
 }
-
-/// From every state of a profile, `scratch` shows the picture.
-pub fn scratch_shows()
-    ensures { ScratchShows }
-{}

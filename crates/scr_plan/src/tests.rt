@@ -40,21 +40,19 @@ fn plain(byte: u8) -> Result<Cell, Fail> {
     Ok(Cell::new(byte, Attrs(0)).ok_or("no cell")?)
 }
 
-// 4 for the reset and 7 for the clear, 11 for each of ten places, 4 for the reset and 6 for the cursor.
+// 4 for the reset and 7 for the clear, for each of ten places 6 for the cursor, 4 for the reset and 1 for the
+// character, 4 for the last reset and 6 for the cursor.
 #[test]
 fn paints_hi_in_131_bytes(rt: HostRuntime) -> Result<(), Fail> {
     let picture = picture(rt.alloc(), 2, 5, &[plain(b'h')?, plain(b'i')?])?;
     let (bytes, lengths) = painted(rt.alloc(), &picture)?;
     assert_eq!(rt; bytes.len(), 131);
-    assert_eq!(rt; lengths.len(), 34);
-    let first: [usize; 5] = [4, 7, 6, 4, 1];
-    for (length, want) in lengths.iter().zip(&first) {
-        assert_eq!(rt; *length, *want);
+    let mut want = Vec::from_slice(rt.alloc(), &[4usize, 7])?;
+    for _ in 0..10 {
+        want.extend_from_slice(&[6, 4, 1])?;
     }
-    let last = [6usize, 4];
-    for (length, want) in lengths.iter().rev().zip(&last) {
-        assert_eq!(rt; *length, *want);
-    }
+    want.extend_from_slice(&[4, 6])?;
+    assert_eq!(rt; lengths.as_slice(), want.as_slice());
     Ok(())
 }
 

@@ -7,7 +7,7 @@ use Rattle.scr_term.specs.States.{State}
 use Rattle.scr_term.specs.EcmaUnits.{EcmaUnit, Graphic, Control, Sequence, spelling, IsUnit, IsWaiting}
 use Rattle.scr_term.specs.EcmaMeanings.{meaning, meanings}
 use Rattle.scr_term.specs.EcmaScreens.{ScreenView, GoesOn, Stops, IsUndefinedAt, IsFed}
-use Rattle.scr_term.specs.Laws.{HasOneDivision}
+use Rattle.scr_term.specs.EcmaLaws.{HasOneDivision}
 use Rattle.scr_term.proofs.EcmaUnitLaws.{one_unit, waiting_has_no_unit, waiting_begins_unit}
 
 -- how a text ends where it is defined

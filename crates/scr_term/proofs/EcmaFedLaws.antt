@@ -128,7 +128,7 @@ fed_more old between new piece i b lt is a e =
 pub took_graphic : (s new : ScreenView) (b : ℕ) (part : List ℕ) → s.undefined ≡ false → part ≡ s.waiting → IsReading part b reading.Graphic
     → new ≡ acted s (written s.columns s.state b) → IsFed s (b ∷ []) new
 took_graphic s new b part is same read e =
-    subst (λ (n : ScreenView). IsFed s (b ∷ []) n) (sym e) (fed_graphic s b is (sym same ∙ read.0) read.1 read.2)
+    subst (λ (n : ScreenView). IsFed s (b ∷ []) n) (sym e) (fed_graphic s b is (sym same ∙ read.0) read.1.0 read.1.1)
 
 pub took_held : (s new : ScreenView) (b : ℕ) (part : List ℕ) → s.undefined ≡ false → part ≡ s.waiting → IsReading part b reading.Held
     → new ≡ record s { waiting = s.waiting ++ b ∷ [] } → IsFed s (b ∷ []) new

@@ -4,7 +4,7 @@ use Rattle.std.specs.List.{flat_map}
 use Rattle.scr_term.specs.States.{State}
 use Rattle.scr_term.specs.EcmaUnits.{spelling}
 use Rattle.scr_term.specs.EcmaScreens.{ScreenView, IsFed}
-use Rattle.scr_term.specs.Laws.{Leads}
+use Rattle.scr_term.specs.EcmaMeanings.{Leads}
 use Rattle.scr_term.specs.EcmaLaws.{ScreensFollowTexts}
 use Rattle.scr_term.proofs.EcmaDivisionLaws.{fed_once}
 

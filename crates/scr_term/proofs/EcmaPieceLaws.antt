@@ -7,7 +7,7 @@ use Rattle.scr_term.specs.States.{State}
 use Rattle.scr_term.specs.EcmaUnits.{EcmaUnit, spelling, IsUnit, IsDivision, BeginsNoUnit}
 use Rattle.scr_term.specs.EcmaMeanings.{meanings}
 use Rattle.scr_term.specs.EcmaScreens.{ScreenView, GoesOn, Stops, IsUndefinedAt, IsFed}
-use Rattle.scr_term.specs.Laws.{PiecesDoNotMatter}
+use Rattle.scr_term.specs.EcmaLaws.{PiecesDoNotMatter}
 use Rattle.scr_term.proofs.EcmaDivisionLaws.{meanings_first, fed_once}
 
 each_append : (us vs : List EcmaUnit) → AllByRecursion IsUnit us → AllByRecursion IsUnit vs → AllByRecursion IsUnit (us ++ vs)

@@ -20,7 +20,8 @@ use Rattle.scr_term.specs.Steps.{has, act, step}
 use Rattle.scr_term.specs.Texts.{control_sequence, rendition_of, bytes_of}
 use Rattle.scr_term.specs.EcmaUnits.{EcmaUnit, Graphic, Sequence, spelling, is_parameter_byte, IsSequence, IsUnit, IsDivision}
 use Rattle.scr_term.specs.EcmaMeanings.{cursor_at, control_function, parameters_of, meanings}
-use Rattle.scr_term.specs.Laws.{Leads, BytesActAsTheirOperation}
+use Rattle.scr_term.specs.EcmaMeanings.{Leads}
+use Rattle.scr_term.specs.OperationLaws.{BytesActAsTheirOperation}
 use Rattle.scr_term.proofs.Attributes.{each_attribute, negative-or_standout, negative-or_underline, negative-or_reverse, negative-or_blink, negative-or_dim, negative-or_bold, negative-or_invis}
 use Rattle.scr_term.proofs.Parameters.{parameter_bytes, parameter_bytes_of_two, parameters_of_two}
 

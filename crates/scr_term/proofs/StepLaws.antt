@@ -22,7 +22,8 @@ use Rattle.scr_term.specs.Steps.{has, act, step, runs}
 use Rattle.scr_term.specs.Texts.{bytes_of, all_bytes}
 use Rattle.scr_term.specs.EcmaUnits.{EcmaUnit, spelling, IsUnit, IsDivision}
 use Rattle.scr_term.specs.EcmaMeanings.{meaning, meanings}
-use Rattle.scr_term.specs.Laws.{Leads, StepsKeepStates, BytesActAsTheirOperations}
+use Rattle.scr_term.specs.EcmaMeanings.{Leads}
+use Rattle.scr_term.specs.OperationLaws.{StepsKeepStates, BytesActAsTheirOperations}
 use Rattle.scr_term.proofs.OperationLaws.{chosen, same_some, both_true, bytes_act_as_their_operation}
 
 -- a set and one more member within a set

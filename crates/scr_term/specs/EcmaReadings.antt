@@ -1,6 +1,8 @@
 -- How the next byte of an ECMA-48 text is taken, and what then changes. ECMA-48, 5.4.
-use Rattle.std.specs.Prelude.{ℕ, ◌≡◌, ◌*◌, ◌≤◌, ◌++◌, true, List, [], ◌∷◌, Option, Some, None, bit_and, replicate, ◌⊎◌}
-use Rattle.scr_cells.specs.LookViews.{blank}
+use Rattle.std.specs.Prelude.{ℕ, ◌≡◌, ◌++◌, true, List, [], ◌∷◌, Option, Some, None, bit_and, ◌⊎◌}
+use Rattle.scr_cells.specs.Attributes.{every_attribute}
+use Rattle.scr_cells.specs.CellViews.{IsCharacter}
+use Rattle.scr_cells.specs.LookViews.{blank_grid}
 use Rattle.scr_term.specs.States.{State, IsSpot}
 use Rattle.scr_term.specs.EcmaUnits.{IsSequence, IsWaiting, BeginsNoUnit}
 use Rattle.scr_term.specs.EcmaScreens.{ScreenView}
@@ -12,7 +14,7 @@ use Rattle.scr_term.specs.declared.ecma_controls.Change.TheVariants.{Moved, Eras
 -- what a byte is after a part of a unit: a graphic character, a further part of a unit, the last byte of a
 -- control sequence, or something undefined
 abbrev pub IsReading : List ℕ → ℕ → Reading → Type 0
-IsReading part byte Graphic = (part ≡ []) × (32 ≤ byte) × (byte ≤ 126)
+IsReading part byte Graphic = (part ≡ []) × IsCharacter byte
 IsReading part byte Held = IsWaiting (part ++ byte ∷ [])
 IsReading part byte Last = (parameters : List ℕ) × (part ≡ 27 ∷ 91 ∷ parameters) × IsSequence parameters byte
 IsReading part byte Other = ((part ≡ []) × ((byte ≡ 8) ⊎ (byte ≡ 13))) ⊎ BeginsNoUnit (part ++ byte ∷ [])
@@ -21,13 +23,13 @@ IsReading part byte Other = ((part ≡ []) × ((byte ≡ 8) ⊎ (byte ≡ 13))) 
 abbrev pub IsChange : ℕ → ℕ → Change → Type 0
 IsChange rows columns (Moved spot) = IsSpot rows columns spot
 IsChange rows columns Erased = Unit {0}
-IsChange rows columns (Rendered attrs) = bit_and 127 attrs.0 ≡ attrs.0
+IsChange rows columns (Rendered attrs) = bit_and every_attribute attrs.0 ≡ attrs.0
 
 -- the state with the spot, every place or the attributes changed
 abbrev pub changed : ℕ → ℕ → State → Change → State
-changed rows columns state (Moved spot) = record { grid = state.grid; spot = spot; attrs = state.attrs }
-changed rows columns state Erased = record { grid = replicate (rows * columns) blank; spot = state.spot; attrs = state.attrs }
-changed rows columns state (Rendered attrs) = record { grid = state.grid; spot = state.spot; attrs = attrs.0 }
+changed rows columns state (Moved spot) = record state { spot = spot }
+changed rows columns state Erased = record state { grid = blank_grid rows columns }
+changed rows columns state (Rendered attrs) = record state { attrs = attrs.0 }
 
 -- the screen after a unit that leads to this state, or that is undefined
 abbrev pub acted : ScreenView → Option State → ScreenView

@@ -1,11 +1,10 @@
 -- A screen that is fed an ECMA-48 text in pieces.
-use Rattle.std.specs.Prelude.{ℕ, ◌≡◌, ◌*◌, ◌++◌, Bool, true, false, List, [], Some, None, ◌⊎◌, replicate}
-use Rattle.scr_cells.specs.LookViews.{blank}
+use Rattle.std.specs.Prelude.{ℕ, ◌≡◌, ◌++◌, Bool, true, false, List, [], Some, None, ◌⊎◌}
+use Rattle.scr_cells.specs.Attributes.{every_attribute}
 use Rattle.scr_cells.specs.PictureViews.{IsSize}
-use Rattle.scr_term.specs.States.{State, IsState}
+use Rattle.scr_term.specs.States.{State, IsState, blank_state}
 use Rattle.scr_term.specs.EcmaUnits.{EcmaUnit, IsUnit, IsDivision, IsWaiting, BeginsNoUnit, spelling}
 use Rattle.scr_term.specs.EcmaMeanings.{meaning, meanings}
-use Rattle.scr_term.specs.declared.operations.Spot.TheVariants.{At}
 
 -- its size, its state after the last whole unit, the part of a unit that came after that, and whether
 -- something undefined came
@@ -19,7 +18,7 @@ pub record ScreenView : Type 0 where
 -- a screen as it may be: an undefined one is not waiting
 pub record IsScreen (screen : ScreenView) : Type 0 where
   pub size : IsSize screen.rows screen.columns
-  pub state : IsState screen.rows screen.columns 127 screen.state
+  pub state : IsState screen.rows screen.columns every_attribute screen.state
   pub waiting : (screen.waiting ≡ []) ⊎ IsWaiting screen.waiting
   pub undefined : screen.undefined ≡ true → screen.waiting ≡ []
 
@@ -28,7 +27,7 @@ abbrev pub blank_screen : ℕ → ℕ → ScreenView
 blank_screen rows columns = record {
   rows = rows;
   columns = columns;
-  state = record { grid = replicate (rows * columns) blank; spot = At 0 0; attrs = 0 };
+  state = blank_state rows columns;
   waiting = [];
   undefined = false;
 }

@@ -1,8 +1,9 @@
 -- An ECMA-48 text and its units: characters, control functions of one byte, and control sequences.
--- ECMA-48, 5.4 'Control sequences'; ISO 646 for the characters.
+-- ECMA-48, 5.4 'Control sequences', 8.3.5 BS, 8.3.15 CR; ISO 646 for the characters.
 use Rattle.std.specs.Prelude.{ℕ, ◌≡◌, ◌≢◌, ◌≤◌, ◌==◌, ◌||◌, Bool, IsTrue, List, [], ◌∷◌, ◌++◌, length, ◌⊎◌}
 use Rattle.std.specs.List.{AllByRecursion, flat_map}
 use Rattle.std.specs.Char.{is_ascii_digit}
+use Rattle.scr_cells.specs.CellViews.{IsCharacter}
 
 pub data EcmaUnit : Type 0 where
   Graphic : (byte : ℕ) → EcmaUnit
@@ -26,9 +27,9 @@ pub record IsSequence (parameters : List ℕ) (final : ℕ) : Type 0 where
   pub from_at_sign : 64 ≤ final
   pub to_tilde : final ≤ 126
 
--- a graphic character or a blank; backspace or carriage return; a control sequence
+-- a character; backspace or carriage return; a control sequence
 abbrev pub IsUnit : EcmaUnit → Type 0
-IsUnit (Graphic byte) = (32 ≤ byte) × (byte ≤ 126)
+IsUnit (Graphic byte) = IsCharacter byte
 IsUnit (Control byte) = (byte ≡ 8) ⊎ (byte ≡ 13)
 IsUnit (Sequence parameters final) = IsSequence parameters final
 

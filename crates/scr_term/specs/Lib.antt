@@ -12,4 +12,4 @@ pub mod EcmaMeanings
 pub mod EcmaScreens
 pub mod EcmaReadings
 pub mod EcmaLaws
-pub mod Laws
+pub mod OperationLaws

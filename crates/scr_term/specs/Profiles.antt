@@ -1,5 +1,6 @@
 -- What is known of a terminal from its terminfo entry and its size. terminfo(5), 'Capabilities'.
 use Rattle.std.specs.Prelude.{ℕ, ◌≡◌, bit_and}
+use Rattle.scr_cells.specs.Attributes.{every_attribute}
 use Rattle.scr_cells.specs.PictureViews.{IsSize}
 
 -- the size of its screen, and the attributes that it can show
@@ -11,9 +12,9 @@ pub record ProfileView : Type 0 where
 -- of a size that a screen may have, and with no attributes but the seven
 pub record IsProfile (profile : ProfileView) : Type 0 where
   pub size : IsSize profile.rows profile.columns
-  pub shown : bit_and 127 profile.shown ≡ profile.shown
+  pub shown : bit_and every_attribute profile.shown ≡ profile.shown
 
 -- the bundled ECMA-48 entry on a screen of some size: it shows all seven attributes
 pub record IsEcma48 (profile : ProfileView) : Type 0 where
   pub size : IsSize profile.rows profile.columns
-  pub shown : profile.shown ≡ 127
+  pub shown : profile.shown ≡ every_attribute

@@ -2,7 +2,7 @@
 -- terminfo(5), 'Cursor Motions' and 'Highlighting'; ECMA-48, 'active presentation position'.
 use Rattle.std.specs.Prelude.{ℕ, ◌≡◌, ◌*◌, ◌+◌, ◌<◌, List, length, All, bit_and, nat_lt, if◌then◌else◌, Option, Some, None}
 use Rattle.scr_cells.specs.Attributes.{negative_set}
-use Rattle.scr_cells.specs.LookViews.{LookView, IsLook, negative_grid}
+use Rattle.scr_cells.specs.LookViews.{LookView, IsLook, blank_grid, negative_grid}
 use Rattle.scr_cells.specs.PictureViews.{grid_with}
 use Rattle.scr_term.specs.declared.operations.Spot.{Spot}
 use Rattle.scr_term.specs.declared.operations.Spot.TheVariants.{At, Margin}
@@ -25,9 +25,13 @@ pub record IsState (rows columns shown : ℕ) (state : State) : Type 0 where
   pub spot : IsSpot rows columns state.spot
   pub attrs : bit_and shown state.attrs ≡ state.attrs
 
+-- blanks everywhere, the cursor at the first place, no attribute on
+abbrev pub blank_state : ℕ → ℕ → State
+blank_state rows columns = record { grid = blank_grid rows columns; spot = At 0 0; attrs = 0 }
+
 -- the state with reverse in place of standout, everywhere
 abbrev pub negative_state : State → State
-negative_state state = record { grid = negative_grid state.grid; spot = state.spot; attrs = negative_set state.attrs }
+negative_state state = record state { grid = negative_grid state.grid; attrs = negative_set state.attrs }
 
 -- where the cursor is after a character in a column of a row: right of it, or at the margin after the last column
 abbrev pub spot_after : ℕ → ℕ → ℕ → Spot
@@ -35,10 +39,9 @@ spot_after columns r c = if nat_lt (c + 1) columns then At r (c + 1) else Margin
 
 -- a character is written with the attributes that are on, and the cursor goes right; nothing can be written at the margin
 abbrev pub written_at : ℕ → State → ℕ → Spot → Option State
-written_at columns state byte (At r c) = Some (record {
+written_at columns state byte (At r c) = Some (record state {
   grid = grid_with columns r c (record { byte = byte; attrs = state.attrs }) state.grid;
   spot = spot_after columns r c;
-  attrs = state.attrs;
 })
 written_at columns state byte (Margin r) = None
 

@@ -1,9 +1,10 @@
 -- What each operation does to the state of a terminal. terminfo(5), 'Basic Capabilities',
 -- 'Cursor Motions', 'Area Clears' and 'Highlighting'.
-use Rattle.std.specs.Prelude.{ℕ, ◌*◌, ◌==◌, ◌&&◌, Bool, true, nat_lt, nat_le, List, [], ◌∷◌, Option, Some, None, option_and_then, bit_and, bit_or, replicate, if◌then◌else◌}
+use Rattle.std.specs.Prelude.{ℕ, ◌==◌, ◌&&◌, Bool, true, nat_lt, List, [], ◌∷◌, Option, Some, None, option_and_then, bit_and, bit_or, if◌then◌else◌}
 use Rattle.std.specs.List.{list_any}
 use Rattle.scr_cells.specs.Attributes.{all_attributes}
-use Rattle.scr_cells.specs.LookViews.{blank}
+use Rattle.scr_cells.specs.CellViews.{is_character}
+use Rattle.scr_cells.specs.LookViews.{blank_grid}
 use Rattle.scr_term.specs.Profiles.{ProfileView}
 use Rattle.scr_term.specs.States.{State, written}
 use Rattle.scr_term.specs.declared.operations.Op.{Op}
@@ -20,19 +21,19 @@ has profile (Move r c) = nat_lt r profile.rows && nat_lt c profile.columns
 has profile Clear = true
 has profile Reset = true
 has profile (Enter a) = is_shown_attribute profile.shown a.0
-has profile (Put byte) = nat_le 32 byte && nat_le byte 126
+has profile (Put byte) = is_character byte
 
 -- blanks everywhere and the cursor at the first place; undefined while an attribute is on
 abbrev pub cleared : ProfileView → State → Option State
 cleared profile state =
-    if state.attrs == 0 then Some (record { grid = replicate (profile.rows * profile.columns) blank; spot = At 0 0; attrs = 0 }) else None
+    if state.attrs == 0 then Some (record state { grid = blank_grid profile.rows profile.columns; spot = At 0 0; attrs = 0 }) else None
 
 -- what an operation that the terminal has does
 abbrev pub act : ProfileView → State → Op → Option State
-act profile state (Move r c) = Some (record { grid = state.grid; spot = At r c; attrs = state.attrs })
+act profile state (Move r c) = Some (record state { spot = At r c })
 act profile state Clear = cleared profile state
-act profile state Reset = Some (record { grid = state.grid; spot = state.spot; attrs = 0 })
-act profile state (Enter a) = Some (record { grid = state.grid; spot = state.spot; attrs = bit_or state.attrs a.0 })
+act profile state Reset = Some (record state { attrs = 0 })
+act profile state (Enter a) = Some (record state { attrs = bit_or state.attrs a.0 })
 act profile state (Put byte) = written profile.columns state byte
 
 -- the state after an operation, or none where it is undefined

@@ -2,6 +2,7 @@
 use Rattle.std.specs.Prelude.{ℕ, ◌+◌, ◌==◌, List, [], ◌∷◌, ◌++◌, if◌then◌else◌, codes}
 use Rattle.std.specs.List.{flat_map}
 use Rattle.std.specs.Fmt.{decimal}
+use Rattle.scr_cells.specs.Attributes.{standout, underline, reverse, blink, dim, bold, invis}
 use Rattle.scr_term.specs.Profiles.{ProfileView}
 use Rattle.scr_term.specs.declared.operations.Op.{Op}
 use Rattle.scr_term.specs.declared.operations.Op.TheVariants.{Move, Clear, Reset, Enter, Put}
@@ -12,12 +13,13 @@ control_sequence parameters final = 27 ∷ 91 ∷ parameters ++ final ∷ []
 
 -- the SGR parameter that turns an attribute on; standout is shown as reverse
 abbrev pub rendition_of : ℕ → List ℕ
-rendition_of a = if a == 1 then codes "7" else
-    (if a == 2 then codes "4" else
-    (if a == 4 then codes "7" else
-    (if a == 8 then codes "5" else
-    (if a == 16 then codes "2" else
-    (if a == 32 then codes "1" else codes "8")))))
+rendition_of a = if a == standout then codes "7" else
+    (if a == underline then codes "4" else
+    (if a == reverse then codes "7" else
+    (if a == blink then codes "5" else
+    (if a == dim then codes "2" else
+    (if a == bold then codes "1" else
+    (if a == invis then codes "8" else []))))))
 
 -- cup, clear, sgr0, the strings that enter an attribute, and a character
 abbrev pub bytes_of : ProfileView → Op → List ℕ

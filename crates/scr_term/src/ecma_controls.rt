@@ -1,4 +1,5 @@
 ghost use Rattle.std.specs.Prelude.{◌≡◌, ℕ, List, ◌∷◌, option_map, bit_and, IfSome};
+ghost use Rattle.scr_cells.specs.Attributes.{every_attribute};
 ghost use Rattle.scr_term.specs.States.{State};
 ghost use Rattle.scr_term.specs.EcmaUnits.{Sequence};
 ghost use Rattle.scr_term.specs.EcmaMeanings.{meaning, control_function, cursor_at, cursor_position, erase_in_page, rendition, renditions};
@@ -90,7 +91,7 @@ fn control_function(
     parameters: &[Option<u16>],
     last: u8,
 ) -> Option<Change>
-    requires { bit_and 127 attrs.0 ≡ attrs.0 }
+    requires { bit_and every_attribute attrs.0 ≡ attrs.0 }
     ensures value { (state : State) → state.attrs ≡ attrs.0 → option_map (changed size.rows size.columns state) result ≡ control_function size.rows size.columns state parameters.now last }
     ensures change { IfSome result (IsChange size.rows size.columns) }
 {
@@ -105,7 +106,7 @@ fn control_function(
 /// What a control sequence changes, by the part of it before its last byte; `None` where it is
 /// undefined (ECMA-48, 5.4 'Control sequences').
 pub(crate) fn control_sequence(size: Size, attrs: Attrs, part: &[u8], last: u8) -> Option<Change>
-    requires shown { bit_and 127 attrs.0 ≡ attrs.0 }
+    requires shown { bit_and every_attribute attrs.0 ≡ attrs.0 }
     requires sequence { IsReading part.now last Reading.Last }
     ensures value { (ps : List ℕ) (state : State) → part.now ≡ 27 ∷ 91 ∷ ps → state.attrs ≡ attrs.0 → option_map (changed size.rows size.columns state) result ≡ meaning size.rows size.columns state (Sequence ps last) }
     ensures change { IfSome result (IsChange size.rows size.columns) }

@@ -1,7 +1,8 @@
 ghost use Rattle.std.specs.Prelude.{◌≡◌, ◌≤◌, ◌*◌, ◌+◌, ◌<◌, ◌↔◌, false, length, [], ◌∷◌, bit_and, option_map, replicate, slice_get, IfOk, IsOk, IsTrue, Some};
 ghost use Rattle.std.specs.Option.{ForSome};
+ghost use Rattle.scr_cells.specs.Attributes.{every_attribute};
 ghost use Rattle.scr_cells.specs.LookViews.{blank, IsLook};
-ghost use Rattle.scr_cells.specs.PictureViews.{IsPlace, grid_row};
+ghost use Rattle.scr_cells.specs.PictureViews.{IsPlace, grid_at, grid_row};
 ghost use Rattle.scr_term.specs.States.{IsSpot, written};
 ghost use Rattle.scr_term.specs.EcmaUnits.{IsWaiting};
 ghost use Rattle.scr_term.specs.EcmaScreens.{IsScreen, IsFed, blank_screen};
@@ -112,7 +113,7 @@ impl EcmaScreen {
     /// What is shown at a row and a column, which count from 0 at the top left.
     pub fn cell(&self, row: u32, column: u32) -> Look
         requires { IsPlace self.now.rows self.now.columns (row, column) }
-        ensures value { slice_get self.now.state.grid (row * self.now.columns + column) ≡ Some result }
+        ensures value { grid_at self.now.columns row column self.now.state.grid ≡ Some result }
         ensures look { IsLook result }
     {
         let look = self.grid[row as usize * self.size.columns as usize + column as usize];
@@ -142,7 +143,7 @@ impl EcmaScreen {
     /// The attributes that are on (ECMA-48, 8.3.117 SGR).
     pub fn rendition(&self) -> Attrs
         ensures value { result.0 ≡ self.now.state.attrs }
-        ensures shown { bit_and 127 result.0 ≡ result.0 }
+        ensures shown { bit_and every_attribute result.0 ≡ result.0 }
     {
         self.attrs
     }

@@ -3,12 +3,12 @@
 #![tactic(auto)]
 
 mod ecma_controls;
+mod ecma_laws;
 mod ecma_parameters;
 mod ecma_readings;
 mod ecma_screens;
 #[cfg(test)]
 mod ecma_tests;
-mod laws;
 mod operation_laws;
 mod operations;
 mod profiles;
@@ -16,8 +16,8 @@ mod rendering;
 #[cfg(test)]
 mod tests;
 
+pub use ecma_laws::{one_division, pieces_do_not_matter, screens_follow_texts};
 pub use ecma_screens::{EcmaScreen, Undefined};
-pub use laws::{one_division, pieces_do_not_matter, screens_follow_texts};
 pub use operation_laws::{
     bytes_act_as_their_operation, bytes_act_as_their_operations, steps_keep_states,
 };

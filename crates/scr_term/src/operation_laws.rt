@@ -1,4 +1,4 @@
-ghost use Rattle.scr_term.specs.Laws.{StepsKeepStates, BytesActAsTheirOperation, BytesActAsTheirOperations};
+ghost use Rattle.scr_term.specs.OperationLaws.{StepsKeepStates, BytesActAsTheirOperation, BytesActAsTheirOperations};
 
 /// A step leads from a state of a profile to a state of that profile.
 pub fn steps_keep_states()

@@ -10,8 +10,8 @@ use scr_cells::{Attrs, NoMemory, Size};
 use std::alloc::Global;
 use std::marker::Model;
 
-/// What is known of a terminal: its size, the attributes that it shows, and the text of each
-/// operation.
+/// What is known of a terminal: its size and the attributes that it shows (terminfo(5)). The texts of its
+/// operations are those of the bundled ECMA-48 entry.
 #[derive(Drop)]
 pub struct Profile {
     size: Size,
@@ -28,14 +28,11 @@ impl Model for Profile {
     ghost invariant = { λ a. IsProfile (record { rows = a.size.rows; columns = a.size.columns; shown = a.shown.0 }) };
 }
 
-// The seven attributes.
-const ALL_SEVEN: u8 = 127;
-
 // Whether the set has one attribute alone.
 fn is_attribute(set: Attrs) -> bool
     ensures { result ≡ list_any (λ a. a == set.0) all_attributes }
 {
-    matches!(set.0, 1 | 2 | 4 | 8 | 16 | 32 | 64)
+    Attrs::EACH.contains(&set)
 }
 
 impl Profile {
@@ -48,7 +45,7 @@ impl Profile {
     {
         Ok(Profile {
             size,
-            shown: Attrs(ALL_SEVEN),
+            shown: Attrs::EVERY,
         })
     }
 

@@ -21,23 +21,24 @@ impl Profile {
             Op::Move(row, column) => cursor_position(row, column, out),
             Op::Clear => append(b"\x1b[H\x1b[2J", out),
             Op::Reset => append(b"\x1b[0m", out),
-            Op::Enter(attribute) => append(&[0x1b, b'[', rendition(attribute), b'm'], out),
+            Op::Enter(attribute) => append(entering(attribute), out),
             Op::Put(byte) => append(&[byte], out),
         }
     }
 }
 
-// The SGR parameter that turns an attribute on.
-fn rendition(attribute: Attrs) -> u8
-    ensures { result ∷ [] ≡ rendition_of attribute.0 }
+// SGR of the parameter that turns an attribute on; standout is shown as reverse.
+fn entering(attribute: Attrs) -> &'static [u8]
+    ensures { result.now ≡ control_sequence (rendition_of attribute.0) 109 }
 {
-    match attribute.0 {
-        1 | 4 => b'7',
-        2 => b'4',
-        8 => b'5',
-        16 => b'2',
-        32 => b'1',
-        _ => b'8',
+    match attribute {
+        Attrs::STANDOUT | Attrs::REVERSE => b"\x1b[7m",
+        Attrs::UNDERLINE => b"\x1b[4m",
+        Attrs::BLINK => b"\x1b[5m",
+        Attrs::DIM => b"\x1b[2m",
+        Attrs::BOLD => b"\x1b[1m",
+        Attrs::INVIS => b"\x1b[8m",
+        _ => b"\x1b[m",
     }
 }
 

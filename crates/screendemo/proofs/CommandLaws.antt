@@ -3,7 +3,7 @@ use Rattle.std.proofs.Common.{◌≡◌, ℕ, ◌<◌, ◌==◌, refl, ◌∙◌
 use Rattle.std.specs.List.{join_with_byte}
 use Rattle.std.proofs.lemmas.List.Splits.{length-slice_split, join_with_byte-slice_split}
 use Rattle.screendemo.specs.Lines.{fields_of, parts_behind}
-use Rattle.screendemo.specs.Commands.{Command, AddCommand, number, size_command, add_command, show_command}
+use Rattle.screendemo.specs.Commands.{CommandView, AddCommand, number, size_command, add_command, show_command}
 
 some_field : (line : List ℕ) → 0 < length (fields_of line)
 some_field line = omega (arith, length-slice_split (λ b. b == 32) line)
@@ -23,7 +23,7 @@ pub show_too_long : (rest : List ℕ) → show_command (fields_of rest) ≡ None
 show_too_long rest = show_parts (fields_of rest) (some_field rest)
 
 -- a place and a text
-abbrev pub addition : List ℕ → List ℕ → List ℕ → Option Command
+abbrev pub addition : List ℕ → List ℕ → List ℕ → Option CommandView
 addition row column text = option_and_then (λ r. option_map (λ c. AddCommand r c text) (number column)) (number row)
 
 add_parts : (row column : List ℕ) (parts : List (List ℕ)) → 0 < length parts → add_command (row ∷ column ∷ parts) ≡ addition row column (join_with_byte 32 parts)

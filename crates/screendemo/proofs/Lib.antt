@@ -3,4 +3,4 @@ pub mod NumberLaws
 pub mod CommandLaws
 pub mod ShowLaws
 pub mod RunLaws
-pub mod InputLaws
+pub mod WriteLaws

@@ -5,15 +5,16 @@ use Rattle.std.specs.Io.KnownBytes.{Appends, Keeps}
 use Rattle.std.proofs.lemmas.List.{append-nil}
 use Rattle.std.proofs.lemmas.List.Splits.{length-slice_split}
 use Rattle.std.proofs.lemmas.List.Concat.{flat_map-append}
+use Rattle.scr_cells.specs.CellViews.{is_character}
 use Rattle.scr_cells.specs.PictureViews.{PictureView}
 use Rattle.scr_term.specs.EcmaScreens.{ScreenView}
 use Rattle.screendemo.specs.Lines.{lines_of, parts_behind, without_empty_end}
-use Rattle.screendemo.specs.Stories.{Outcome, Story, line_outcome, story_from, story_on, story_of, next_number, Refused, Shown, added, continued, opened, acted}
-use Rattle.screendemo.specs.Surfaces.{with_byte, with_text, moved, is_printed, blank_surface}
+use Rattle.screendemo.specs.Stories.{Outcome, Story, line_outcome, story_from, story_on, story_of, next_number, Refused, Shown, added, continued, opened, outcome_of}
+use Rattle.screendemo.specs.Surfaces.{with_byte, with_text, moved, blank_surface}
 use Rattle.screendemo.specs.Printing.{written_event, output_of, refused_event, refusals_of}
-use Rattle.screendemo.specs.declared.stage.Said.{Said}
+use Rattle.screendemo.specs.declared.stage.Effect.{Effect}
 use Rattle.screendemo.specs.StageViews.{ActsOn, events_of}
-use Rattle.screendemo.specs.Commands.{Command, SizeCommand, AddCommand, ShowCommand, command_of}
+use Rattle.screendemo.specs.Commands.{CommandView, SizeCommand, AddCommand, ShowCommand, command_of}
 use Rattle.screendemo.specs.Showing.{IsReady, IsTerminalFor, Writes, AddsRefusals}
 use Rattle.scr_term.specs.States.{IsState}
 use Rattle.scr_term.proofs.OperationLaws.{chosen, same_some}
@@ -104,14 +105,14 @@ surface_of_cond false printed a b c = refl
 added_is : (surface : PictureView) (row column : ℕ) (text : List ℕ) → IsSome surface.wish → Follows surface (added surface row column text).surface
 added_is surface row column text h =
     let inside : Bool = nat_lt row surface.rows && nat_lt column surface.columns in
-    let printed : Bool = list_all is_printed text in
+    let printed : Bool = list_all is_character text in
     subst (λ s. Follows surface s) (sym (surface_of_cond inside printed
     (record { surface = with_text (moved surface row column) text; events = [] })
     (record { surface = moved surface row column; events = Refused (codes "NotAscii") ∷ [] })
     (record { surface = surface; events = Refused (codes "OutOfWindow") ∷ [] })))
     (added_follows surface row column text h inside printed)
 
-continued_follows : (surface : PictureView) (command : Command) (outcome : Outcome) → continued surface command ≡ Some outcome → IsSome surface.wish → Follows surface outcome.surface
+continued_follows : (surface : PictureView) (command : CommandView) (outcome : Outcome) → continued surface command ≡ Some outcome → IsSome surface.wish → Follows surface outcome.surface
 continued_follows surface (SizeCommand rows columns) outcome h some = absurd (no_outcome h)
   where
     no_outcome : None ≡ Some outcome → ⊥
@@ -122,7 +123,7 @@ continued_follows surface ShowCommand outcome h some =
     let shown : Outcome = record { surface = surface; events = Shown surface ∷ [] } in
     subst (λ o. Follows surface o.surface) (same_some shown outcome h) (record { rows = refl; columns = refl; cursor = some })
 
-opened_has_cursor : (command : Command) (outcome : Outcome) → opened command ≡ Some outcome → IsSome outcome.surface.wish
+opened_has_cursor : (command : CommandView) (outcome : Outcome) → opened command ≡ Some outcome → IsSome outcome.surface.wish
 opened_has_cursor (SizeCommand rows columns) outcome h =
     let blank : Outcome = record { surface = blank_surface rows columns; events = [] } in
     let made = chosen (nat_le 1 rows && nat_le rows 500 && nat_le 1 columns && nat_le columns 500) (Some blank) outcome h in
@@ -157,17 +158,17 @@ ready_behind old new (Some screen) f t = record { cursor = f.cursor; terminal = 
 
 ready_from : (old : Option PictureView) (line : List ℕ) (outcome : Outcome) (screen : Option ScreenView) → line_outcome old line ≡ Some outcome → IsReady old screen → IsReady (Some outcome.surface) screen
 ready_from None line outcome screen h ready =
-    let command = then_some (command_of line) (acted None) outcome h in
+    let command = then_some (command_of line) (outcome_of None) outcome h in
     subst (λ s. IsReady (Some outcome.surface) s) (sym (ready.closed refl))
     (record { cursor = opened_has_cursor command.0 outcome command.2; terminal = tt; closed = λ e. refl })
 ready_from (Some old) line outcome screen h ready =
-    let command = then_some (command_of line) (acted (Some old)) outcome h in
+    let command = then_some (command_of line) (outcome_of (Some old)) outcome h in
     ready_behind old outcome.surface screen (continued_follows old command.0 outcome command.2 ready.cursor) ready.terminal
 
-pub ready_on : (old new : Option PictureView) (line : List ℕ) (said : Said) (screen : Option ScreenView) → ActsOn old line said new → IsReady old screen → IsReady new screen
-ready_on old new line said screen acts ready =
+pub ready_on : (old new : Option PictureView) (line : List ℕ) (effect : Effect) (screen : Option ScreenView) → ActsOn old line effect new → IsReady old screen → IsReady new screen
+ready_on old new line effect screen acts ready =
     subst (λ s. IsReady s screen) (sym acts.left)
-    (ready_from old line (record { surface = acts.surface; events = events_of said acts.surface }) screen acts.outcome ready)
+    (ready_from old line (record { surface = acts.surface; events = events_of effect acts.surface }) screen acts.outcome ready)
 
 -- ---- a run, line by line
 
@@ -186,6 +187,20 @@ so_far_events raw number surface rest line after outcome new e f left =
     ap (story_on number surface) e ∙ story_step number surface line (lines_of after) outcome f
     ∙ ap (λ s. story_from number (Some outcome) (λ o. story_on (next_number number) s (lines_of after))) (sym left)
 
+-- what is written so far, what one line more writes, and what follows it, are what the script writes
+pub so_far_text : (raw : Bool) (script : List ℕ) (old now : Option (List ℕ)) (number : ℕ) (surface new : Option PictureView) (screen : Option ScreenView) (rest line after text : List ℕ)
+    → (so : SoFar raw script old now number surface screen rest) → lines_of rest ≡ line ∷ lines_of after
+    → Writes raw surface line text new
+    → so.text ++ (text ++ output_of raw (story_on (next_number number) new (lines_of after)).events) ≡ output_of raw (story_of script).events
+so_far_text raw script old now number surface new screen rest line after text so e writes =
+    let left : Story = story_on (next_number number) new (lines_of after) in
+    let story : story_on number surface (lines_of rest) ≡ record { events = writes.outcome.events ++ left.events; bad_line = left.bad_line } =
+    so_far_events raw number surface rest line after writes.outcome new e writes.is writes.left in
+    ap (λ t. so.text ++ (t ++ output_of raw left.events)) writes.written
+    ∙ ap (λ t. so.text ++ t) (sym (flat_map-append (written_event raw) writes.outcome.events left.events))
+    ∙ ap (λ s. so.text ++ output_of raw s.events) (sym story)
+    ∙ so.events
+
 -- one line more
 pub so_far_more : (raw : Bool) (script : List ℕ) (old now next : Option (List ℕ)) (number : ℕ) (surface new : Option PictureView) (screen after_screen : Option ScreenView) (rest line after text : List ℕ)
     → SoFar raw script old now number surface screen rest → lines_of rest ≡ line ∷ lines_of after
@@ -201,10 +216,7 @@ so_far_more raw script old now next number surface new screen after_screen rest 
       written = appends_more old now next so.text text so.written appends;
       events =
           append_assoc so.text text (output_of raw left.events)
-          ∙ ap (λ t. so.text ++ (t ++ output_of raw left.events)) writes.written
-          ∙ ap (λ t. so.text ++ t) (sym (flat_map-append (written_event raw) writes.outcome.events left.events))
-          ∙ ap (λ s. so.text ++ output_of raw s.events) (sym story)
-          ∙ so.events;
+          ∙ so_far_text raw script old now number surface new screen rest line after text so e writes;
       bad_line = sym (ap (λ s. s.bad_line) story) ∙ so.bad_line;
     }
 

@@ -4,29 +4,26 @@ use Rattle.std.specs.List.{All, AllByRecursion, flat_map}
 use Rattle.std.proofs.Math.ListN.{length-replicate}
 use Rattle.std.proofs.lemmas.Bool.{false≢true}
 use Rattle.std.proofs.lemmas.List.Elements.{All-replicate, All-from_recursion}
+use Rattle.scr_cells.specs.Attributes.{every_attribute}
 use Rattle.scr_cells.specs.LookViews.{IsLook, blank, negative, negative_grid}
 use Rattle.scr_cells.specs.PictureViews.{PictureView, IsPicture, IsSize}
 use Rattle.scr_term.specs.declared.operations.Op.{Op}
 use Rattle.scr_term.specs.declared.operations.Spot.TheVariants.{At}
 use Rattle.scr_term.specs.Profiles.{ProfileView, IsEcma48}
-use Rattle.scr_term.specs.States.{State, IsState, negative_state}
+use Rattle.scr_term.specs.States.{State, IsState, blank_state, negative_state}
 use Rattle.scr_term.specs.Steps.{has, act, step, runs}
-use Rattle.scr_term.specs.EcmaUnits.{spelling}
-use Rattle.scr_term.specs.EcmaMeanings.{meanings}
+use Rattle.scr_term.specs.EcmaMeanings.{Leads}
+use Rattle.scr_term.specs.Painted.{ShowsNegative}
 use Rattle.scr_term.specs.EcmaScreens.{ScreenView, IsScreen, IsFed, blank_screen}
-use Rattle.scr_term.specs.Laws.{BytesActAsTheirOperations, PiecesDoNotMatter}
+use Rattle.scr_term.specs.EcmaLaws.{ScreensFollowTexts}
 use Rattle.scr_term.proofs.OperationLaws.{map-replicate, chosen}
 use Rattle.scr_term.proofs.StepLaws.{then_some, is_profile}
-use Rattle.scr_plan.specs.Scratch.{scratch_of, Fits, ScratchShows}
+use Rattle.scr_plan.specs.Scratch.{scratch_of, Fits, ScratchShows, ScratchBytesShow}
 use Rattle.screendemo.specs.Stories.{Shown}
 use Rattle.screendemo.specs.Printing.{profile_for, sent_event}
-use Rattle.screendemo.specs.Showing.{IsTerminalFor, IsPainted}
+use Rattle.screendemo.specs.Showing.{IsTerminalFor}
 
--- blanks, the first place, no attribute
-abbrev pub blank_state_of : ℕ → ℕ → State
-blank_state_of rows columns = record { grid = replicate (rows * columns) blank; spot = At 0 0; attrs = 0 }
-
-is_blank_state : (rows columns : ℕ) → IsSize rows columns → IsState rows columns 127 (blank_state_of rows columns)
+is_blank_state : (rows columns : ℕ) → IsSize rows columns → IsState rows columns every_attribute (blank_state rows columns)
 is_blank_state rows columns size = record {
   whole = length-replicate (rows * columns) blank;
   looks = All-replicate IsLook (rows * columns) blank (record { from_blank = omega arith; to_tilde = omega arith; attributes = omega arith });
@@ -41,7 +38,7 @@ blank_is_terminal picture p =
       rows = refl;
       columns = refl;
       valid = record { size = p.size; state = is_blank_state picture.rows picture.columns p.size; waiting = inl refl; undefined = λ _. refl };
-      state = blank_state_of picture.rows picture.columns;
+      state = blank_state picture.rows picture.columns;
       is_state = is_blank_state picture.rows picture.columns p.size;
       negative = ap (λ g. record { grid = g; spot = At 0 0; attrs = 0 }) (sym blanks);
       nothing_waits = refl;
@@ -58,10 +55,10 @@ each_had profile old new (op ∷ ops) h =
 pub scratch_had : ScratchShows → (profile : ProfileView) → IsEcma48 profile → (picture : PictureView) → IsPicture picture → Fits profile picture
     → All (λ op. has profile op ≡ true) (scratch_of profile picture)
 scratch_had law profile e picture p fits =
-    let state : IsState profile.rows profile.columns profile.shown (blank_state_of profile.rows profile.columns) =
-    subst (λ shown. IsState profile.rows profile.columns shown (blank_state_of profile.rows profile.columns)) (sym e.shown) (is_blank_state profile.rows profile.columns e.size) in
-    let shows = law profile (is_profile profile e) picture p fits (blank_state_of profile.rows profile.columns) state in
-    All-from_recursion (λ op. has profile op ≡ true) (scratch_of profile picture) (each_had profile (blank_state_of profile.rows profile.columns) shows.new (scratch_of profile picture) shows.run)
+    let state : IsState profile.rows profile.columns profile.shown (blank_state profile.rows profile.columns) =
+    subst (λ shown. IsState profile.rows profile.columns shown (blank_state profile.rows profile.columns)) (sym e.shown) (is_blank_state profile.rows profile.columns e.size) in
+    let shows = law profile (is_profile profile e) picture p fits (blank_state profile.rows profile.columns) state in
+    All-from_recursion (λ op. has profile op ≡ true) (scratch_of profile picture) (each_had profile (blank_state profile.rows profile.columns) shows.new (scratch_of profile picture) shows.run)
 
 pub is_profile_for : (profile : ProfileView) (picture : PictureView) → IsEcma48 profile → profile.rows ≡ picture.rows → profile.columns ≡ picture.columns → profile ≡ profile_for picture
 is_profile_for profile picture e r c = λ i. record { rows = r i; columns = c i; shown = e.shown i }
@@ -71,40 +68,23 @@ ecma48_for picture p = record { size = p.size; shown = refl }
 
 -- what the terminal is after the bytes that paint a picture
 pub record IsAfter (picture : PictureView) (new : ScreenView) : Type 0 where
-  pub painted : IsPainted picture new
+  pub painted : ShowsNegative (profile_for picture) new.state picture
   pub ready : IsTerminalFor picture new
 
-pub after_painting : ScratchShows → BytesActAsTheirOperations → PiecesDoNotMatter
+pub after_painting : ScratchBytesShow → ScreensFollowTexts
     → (picture : PictureView) → IsPicture picture → (old new : ScreenView) (bytes : List ℕ) → IsTerminalFor picture old → bytes ≡ sent_event (Shown picture)
     → IsFed old bytes new → IsScreen new → IsAfter picture new
-after_painting scratch_law bytes_law pieces picture p old new bytes terminal sent fed valid =
-    let profile : ProfileView = profile_for picture in
-    let e : IsEcma48 profile = ecma48_for picture p in
-    let shows = scratch_law profile (is_profile profile e) picture p (record { rows = refl; columns = refl }) terminal.state terminal.is_state in
-    let leads = bytes_law profile e terminal.state shows.new terminal.is_state (scratch_of profile picture) shows.run in
-    let after : ScreenView = record { rows = old.rows; columns = old.columns; state = negative_state shows.new; waiting = old.waiting; undefined = old.undefined } in
-    let whole : old.waiting ++ bytes ≡ flat_map spelling leads.units ++ old.waiting =
-    ap (λ w. w ++ bytes) terminal.nothing_waits ∙ sent ∙ leads.division.whole ∙ ap (λ w. flat_map spelling leads.units ++ w) (sym terminal.nothing_waits) in
-    let acts : meanings old.rows old.columns old.state leads.units ≡ Some (negative_state shows.new) =
-    (λ i. meanings (terminal.rows i) (terminal.columns i) (terminal.negative i) leads.units) ∙ leads.meaning in
-    let fed_after : IsFed old bytes after = record {
-      rows = refl;
-      columns = refl;
-      stays = λ u. absurd (false≢true (sym terminal.defined ∙ u));
-      acts = λ _. inl (record {
-        units = leads.units;
-        division = record { whole = whole; each = leads.division.each };
-        meaning = acts;
-        waiting = inl terminal.nothing_waits;
-        defined = terminal.defined;
-      });
-    } in
-    let same : new ≡ after = pieces.one old new after bytes terminal.valid fed fed_after in
+after_painting scratch_law follow picture p old new bytes terminal sent fed valid =
+    let shows = scratch_law (profile_for picture) (ecma48_for picture p) picture p (record { rows = refl; columns = refl }) terminal.state terminal.is_state in
+    let leads : Leads old.rows old.columns old.state bytes (negative_state shows.new) =
+    subst (λ r. Leads r old.columns old.state bytes (negative_state shows.new)) (sym terminal.rows)
+    (subst (λ c. Leads picture.rows c old.state bytes (negative_state shows.new)) (sym terminal.columns)
+    (subst (λ s. Leads picture.rows picture.columns s bytes (negative_state shows.new)) (sym terminal.negative)
+    (subst (λ b. Leads picture.rows picture.columns (negative_state terminal.state) b (negative_state shows.new)) (sym sent) shows.leads))) in
+    let same : new ≡ record old { state = negative_state shows.new } =
+    follow old new bytes (negative_state shows.new) terminal.valid terminal.defined terminal.nothing_waits leads fed in
     record {
-      painted = record {
-        grid = ap (λ s. s.state.grid) same ∙ ap negative_grid shows.shows.grid;
-        spot = subst (λ s. IfSome picture.wish (λ wish. s.state.spot ≡ At wish.0 wish.1)) (sym same) shows.shows.spot;
-      };
+      painted = subst (λ s. ShowsNegative (profile_for picture) s picture) (sym (ap (λ s. s.state) same)) shows.shows;
       ready = record {
         rows = ap (λ s. s.rows) same ∙ terminal.rows;
         columns = ap (λ s. s.columns) same ∙ terminal.columns;

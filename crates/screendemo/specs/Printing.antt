@@ -2,6 +2,7 @@
 use Rattle.std.specs.Prelude.{ℕ, ◌+◌, ◌/◌, ◌%◌, ◌==◌, nat_lt, Bool, List, [], ◌∷◌, ◌++◌, map, codes, if◌then◌else◌}
 use Rattle.std.specs.List.{flat_map, range_with_len, list_all}
 use Rattle.std.specs.Fmt.{decimal}
+use Rattle.scr_cells.specs.Attributes.{every_attribute}
 use Rattle.scr_cells.specs.LookViews.{LookView, negative_grid}
 use Rattle.scr_cells.specs.PictureViews.{PictureView, grid_row}
 use Rattle.scr_term.specs.declared.operations.Spot.{Spot}
@@ -48,7 +49,7 @@ refusal_line name = codes "refused " ++ name ++ 10 ∷ []
 
 -- the profile that a picture is shown on: the bundled entry on a screen of the picture's size
 abbrev pub profile_for : PictureView → ProfileView
-profile_for picture = record { rows = picture.rows; columns = picture.columns; shown = 127 }
+profile_for picture = record { rows = picture.rows; columns = picture.columns; shown = every_attribute }
 
 -- what is printed of an event: the negative of the painted picture with the cursor where it is wished, or the refusal
 abbrev pub printed_event : Event → List ℕ

@@ -1,13 +1,12 @@
 -- What the run keeps true between two lines: the emulated screen shows the negative of a state of the bundled terminal.
 use Rattle.std.specs.Prelude.{ℕ, ◌≡◌, ◌++◌, Bool, false, List, [], Option, Some, None, IsSome, IfSome}
+use Rattle.std.specs.Io.KnownBytes.{Appends}
+use Rattle.scr_cells.specs.Attributes.{every_attribute}
 use Rattle.scr_cells.specs.PictureViews.{PictureView}
-use Rattle.scr_cells.specs.LookViews.{negative_grid}
-use Rattle.scr_term.specs.Painted.{painted}
-use Rattle.scr_term.specs.declared.operations.Spot.TheVariants.{At}
 use Rattle.scr_term.specs.States.{State, IsState, negative_state}
 use Rattle.scr_term.specs.EcmaScreens.{ScreenView, IsScreen}
 use Rattle.screendemo.specs.Stories.{Outcome, line_outcome}
-use Rattle.screendemo.specs.Printing.{profile_for, output_of, refusals_of}
+use Rattle.screendemo.specs.Printing.{output_of, refusals_of}
 
 -- a screen of the picture's size that shows the negative of some state of the terminal, with nothing waiting
 pub record IsTerminalFor (picture : PictureView) (screen : ScreenView) : Type 0 where
@@ -15,7 +14,7 @@ pub record IsTerminalFor (picture : PictureView) (screen : ScreenView) : Type 0 
   pub columns : screen.columns ≡ picture.columns
   pub valid : IsScreen screen
   pub state : State
-  pub is_state : IsState picture.rows picture.columns 127 state
+  pub is_state : IsState picture.rows picture.columns every_attribute state
   pub negative : screen.state ≡ negative_state state
   pub nothing_waits : screen.waiting ≡ []
   pub defined : screen.undefined ≡ false
@@ -40,7 +39,9 @@ pub record AddsRefusals (old : Option PictureView) (line before after : List ℕ
   pub left : new ≡ Some outcome.surface
   pub added : after ≡ before ++ refusals_of outcome.events
 
--- the screen shows the negative of the painted picture, and its cursor is where it is wished
-pub record IsPainted (picture : PictureView) (screen : ScreenView) : Type 0 where
-  pub grid : screen.state.grid ≡ negative_grid (painted (profile_for picture) picture)
-  pub spot : IfSome picture.wish (λ wish. screen.state.spot ≡ At wish.0 wish.1)
+-- what a writer holds grew by a beginning of this text
+pub record GrewByBeginning (old new : Option (List ℕ)) (text : List ℕ) : Type 0 where
+  pub beginning : List ℕ
+  pub rest : List ℕ
+  pub whole : text ≡ beginning ++ rest
+  pub written : Appends old new beginning

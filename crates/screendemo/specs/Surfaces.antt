@@ -1,6 +1,6 @@
 -- The surface that a script draws on: a picture whose wish is the cursor.
 -- X/Open Curses Issue 7, waddch() and waddstr(), of characters that are printed as they are.
-use Rattle.std.specs.Prelude.{ℕ, ◌+◌, ◌&&◌, nat_lt, nat_le, Bool, List, [], ◌∷◌, Some, unwrap_or, if◌then◌else◌}
+use Rattle.std.specs.Prelude.{ℕ, ◌+◌, nat_lt, List, [], ◌∷◌, Some, unwrap_or, if◌then◌else◌}
 use Rattle.scr_cells.specs.PictureViews.{PictureView, blank_picture, grid_with}
 
 -- blanks, with the cursor in the first place
@@ -34,7 +34,3 @@ with_byte surface byte = with_byte_at surface (cursor_of surface) byte
 abbrev pub with_text : PictureView → List ℕ → PictureView
 with_text surface [] = surface
 with_text surface (byte ∷ text) = with_text (with_byte surface byte) text
-
--- a blank or a graphic character of ASCII
-abbrev pub is_printed : ℕ → Bool
-is_printed byte = nat_le 32 byte && nat_le byte 126

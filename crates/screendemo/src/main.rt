@@ -4,7 +4,6 @@
 
 mod commands;
 mod cuts;
-mod input;
 mod printing;
 mod run;
 mod showing;
@@ -15,11 +14,12 @@ mod tests;
 
 use clap::error::ErrorKind;
 use clap::{Arg, ArgAction, Command};
-use input::{InputFault, read_input};
+use program_input::{InputFault, read_input};
 use run::{DemoFault, refusals, run};
 use std::alloc::Global;
 use std::env::Env;
 use std::io;
+use std::io::Write;
 use std::process::ExitCode;
 use thiserror::Error;
 
@@ -81,14 +81,20 @@ fn demonstrate(rt: &HostRuntime) -> Result<(), Failure> {
         Err(InputFault::Failed) => return Err(Failure::Read),
         Err(InputFault::NoMemory) => return Err(Failure::NoMemory),
     };
-    let ended = run(alloc, &script, raw, &mut io::writer(rt));
+    let ended = run(alloc, &script, raw, &mut io::writer(rt)).map_err(Failure::Demo);
     if raw {
-        let refused = refusals(alloc, &script).map_err(|_| Failure::NoMemory)?;
-        if let Ok(text) = str::from_utf8(&refused) {
-            let _ = eprint!(rt; "{text}");
-        }
+        let told = tell_refusals(rt, &script);
+        return ended.and(told);
     }
-    ended.map_err(Failure::Demo)
+    ended
+}
+
+// Writes the lines of a script's refusals to the standard error.
+fn tell_refusals(rt: &HostRuntime, script: &[u8]) -> Result<(), Failure> {
+    let lines = refusals(rt.alloc(), script).map_err(|_| Failure::NoMemory)?;
+    rt.stderr()
+        .write_all(&lines)
+        .map_err(|error| Failure::Demo(DemoFault::Write(error.kind())))
 }
 
 fn main(rt: HostRuntime) -> ExitCode {

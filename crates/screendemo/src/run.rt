@@ -4,12 +4,12 @@ ghost use Rattle.std.specs.Io.KnownBytes.{Appends, Keeps};
 ghost use Rattle.screendemo.specs.Stories.{line_outcome, story_of};
 ghost use Rattle.screendemo.specs.StageViews.{events_of};
 ghost use Rattle.screendemo.specs.Printing.{output_of, refusals_of};
-ghost use Rattle.screendemo.specs.Showing.{IsReady, Writes, AddsRefusals};
+ghost use Rattle.screendemo.specs.Showing.{IsReady, Writes, AddsRefusals, GrewByBeginning};
 
 use crate::cuts::cut_line;
 use crate::printing::print_refusal;
 use crate::showing::show;
-use crate::stage::{LineFault, Said, act_on};
+use crate::stage::{Effect, LineFault, act_on};
 use scr_cells::{NoMemory, Picture};
 use scr_term::EcmaScreen;
 use std::alloc::Global;
@@ -35,13 +35,15 @@ pub enum DemoFault {
 /// bytes that are sent to the terminal.
 ///
 /// Refused at the first bad line, where what came before it is written; where a write or a flush of
-/// `out` fails; and where memory runs out.
+/// `out` fails, or a write takes nothing; and where memory runs out. Whatever it answers, what was written
+/// is a beginning of the script's output.
 pub fn run<W: Write>(alloc: Global, script: &[u8], raw: bool, out: &mut W) -> Result<(), DemoFault>
     ensures whole { OnOk result ((story_of script.now).bad_line ≡ None) }
     ensures written { OnOk result (Appends (W.contents out.old) (W.contents out.new) (output_of raw (story_of script.now).events)) }
     ensures bad { (n : ℕ) → IsErrOf result (DemoFault.BadCommand n) → (story_of script.now).bad_line ≡ Some n }
     ensures before_bad { (n : ℕ) → IsErrOf result (DemoFault.BadCommand n)
         → Appends (W.contents out.old) (W.contents out.new) (output_of raw (story_of script.now).events) }
+    ensures beginning { GrewByBeginning (W.contents out.old) (W.contents out.new) (output_of raw (story_of script.now).events) }
 {
     let mut surface = None;
     let mut terminal = None;
@@ -63,15 +65,21 @@ pub fn run<W: Write>(alloc: Global, script: &[u8], raw: bool, out: &mut W) -> Re
     flush(out)
 }
 
-// Writes a text, whole.
+// Writes a text, whole; where a write fails or takes nothing, what was taken is a beginning of it.
 fn write_text<W: Write>(text: &[u8], out: &mut W) -> Result<(), DemoFault>
     ensures written { OnOk result (Appends (W.contents out.old) (W.contents out.new) text.now) }
+    ensures beginning { GrewByBeginning (W.contents out.old) (W.contents out.new) text.now }
     ensures fault { (n : ℕ) → IsErrOf result (DemoFault.BadCommand n) → ⊥ }
 {
-    match out.write_all(text) {
-        Ok(()) => Ok(()),
-        Err(error) => Err(DemoFault::Write(error.kind())),
+    let mut taken = 0;
+    while taken < text.len() {
+        match out.write(&text[taken..]) {
+            Ok(0) => return Err(DemoFault::Write(ErrorKind::WriteZero)),
+            Ok(count) => taken += count,
+            Err(error) => return Err(DemoFault::Write(error.kind())),
+        }
     }
+    Ok(())
 }
 
 // Has what was written reach its end.
@@ -98,30 +106,30 @@ fn line_text(
     ensures ready { OnOk result (IsReady surface.new terminal.new) }
     ensures bad { IsErrOf result LineFault.Bad → line_outcome surface.old line.now ≡ None }
 {
-    let said = act_on(alloc, surface, line)?;
-    let text = said_text(alloc, raw, said, surface, terminal)?;
+    let effect = act_on(alloc, surface, line)?;
+    let text = effect_text(alloc, raw, effect, surface, terminal)?;
     Ok(text)
 }
 
 // What is written of what came of a line that left this surface.
-fn said_text(
+fn effect_text(
     alloc: Global,
     raw: bool,
-    said: Said,
+    effect: Effect,
     surface: &Option<Picture>,
     terminal: &mut Option<EcmaScreen>,
 ) -> Result<Vec<u8>, NoMemory>
     requires { IsReady surface.now terminal.old }
-    ensures text { IfOk result (λ text. IfSome surface.now (λ s. text.items ≡ output_of raw (events_of said s))) }
+    ensures text { IfOk result (λ text. IfSome surface.now (λ s. text.items ≡ output_of raw (events_of effect s))) }
     ensures ready { OnOk result (IsReady surface.now terminal.new) }
 {
-    match (said, surface) {
-        (Said::Refused(refusal), _) if !raw => {
+    match (effect, surface) {
+        (Effect::Refused(refusal), _) if !raw => {
             let mut text = Vec::new(alloc);
             print_refusal(refusal.name(), &mut text)?;
             Ok(text)
         }
-        (Said::Shown, Some(surface)) => show(alloc, raw, surface, terminal),
+        (Effect::Shown, Some(surface)) => show(alloc, raw, surface, terminal),
         _ => Ok(Vec::new(alloc)),
     }
 }
@@ -155,7 +163,7 @@ fn add_refusal(
     ensures ok { OnOk result (AddsRefusals surface.old line.now text.old.items text.new.items surface.new) }
     ensures bad { IsErrOf result LineFault.Bad → (line_outcome surface.old line.now ≡ None) × (text.new.items ≡ text.old.items) }
 {
-    if let Said::Refused(refusal) = act_on(alloc, surface, line)? {
+    if let Effect::Refused(refusal) = act_on(alloc, surface, line)? {
         print_refusal(refusal.name(), text)?;
     }
     Ok(())

@@ -4,13 +4,14 @@ ghost use Rattle.std.specs.Option.{ForSome};
 ghost use Rattle.scr_term.specs.Steps.{has};
 ghost use Rattle.scr_term.specs.Texts.{all_bytes};
 ghost use Rattle.screendemo.specs.Stories.{Shown};
-ghost use Rattle.screendemo.specs.Printing.{printed_event, sent_event, written_event};
-ghost use Rattle.screendemo.specs.Showing.{IsTerminalFor, IsPainted};
+ghost use Rattle.scr_term.specs.Painted.{ShowsNegative};
+ghost use Rattle.screendemo.specs.Printing.{printed_event, profile_for, sent_event, written_event};
+ghost use Rattle.screendemo.specs.Showing.{IsTerminalFor};
 
 use crate::printing::print_screen;
 use scr_cells::{NoMemory, Picture};
-use scr_plan::{scratch, scratch_shows};
-use scr_term::{EcmaScreen, Op, Profile, bytes_act_as_their_operations, pieces_do_not_matter};
+use scr_plan::{scratch, scratch_bytes_show, scratch_shows};
+use scr_term::{EcmaScreen, Op, Profile, screens_follow_texts};
 use std::alloc::Global;
 
 /// What is written of a surface that is shown: raw, the bytes that paint it, else the lines that the
@@ -68,13 +69,12 @@ fn shown_lines(
 fn paint(surface: &Picture, bytes: &[u8], screen: &mut EcmaScreen)
     requires terminal { IsTerminalFor surface.now screen.old }
     requires bytes { bytes.now ≡ sent_event (Shown surface.now) }
-    ensures painted { IsPainted surface.now screen.new }
+    ensures painted { ShowsNegative (profile_for surface.now) screen.new.state surface.now }
     ensures ready { IsTerminalFor surface.now screen.new }
 {
     let _size = surface.size();
-    scratch_shows();
-    bytes_act_as_their_operations();
-    pieces_do_not_matter();
+    scratch_bytes_show();
+    screens_follow_texts();
     // The bytes are all defined, by these laws.
     let _ = screen.feed(bytes);
 }

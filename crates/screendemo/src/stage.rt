@@ -31,7 +31,7 @@ impl Refusal {
 
 /// What came of a line.
 #[derive(Clone, Copy, Debug, PartialEq, Eq)]
-pub enum Said {
+pub enum Effect {
     /// Nothing that is printed.
     Nothing,
     /// A refusal.
@@ -60,8 +60,12 @@ impl From<NoMemory> for LineFault {
 }
 
 /// Does what a line says to the surface, which is there once a size was given.
-pub fn act_on(alloc: Global, surface: &mut Option<Picture>, line: &[u8]) -> Result<Said, LineFault>
-    ensures ok { IfOk result (λ said. ActsOn surface.old line.now said surface.new) }
+pub fn act_on(
+    alloc: Global,
+    surface: &mut Option<Picture>,
+    line: &[u8],
+) -> Result<Effect, LineFault>
+    ensures ok { IfOk result (λ effect. ActsOn surface.old line.now effect surface.new) }
     ensures bad { IsErrOf result LineFault.Bad → line_outcome surface.old line.now ≡ None }
     ensures err { OnErr result (surface.new ≡ surface.old) }
 {
@@ -70,26 +74,26 @@ pub fn act_on(alloc: Global, surface: &mut Option<Picture>, line: &[u8]) -> Resu
         (None, Command::Size(rows, columns)) => {
             let size = Size::new(rows, columns).ok_or(LineFault::Bad)?;
             *surface = Some(blank_surface(alloc, size)?);
-            Ok(Said::Nothing)
+            Ok(Effect::Nothing)
         }
         (Some(picture), Command::Add(row, column, text)) => Ok(add(picture, row, column, text)),
-        (Some(_), Command::Show) => Ok(Said::Shown),
+        (Some(_), Command::Show) => Ok(Effect::Shown),
         _ => Err(LineFault::Bad),
     }
 }
 
 // Moves the cursor and adds a text there, or says what is refused.
-fn add(surface: &mut Picture, row: u32, column: u32, text: &[u8]) -> Said
+fn add(surface: &mut Picture, row: u32, column: u32, text: &[u8]) -> Effect
     ensures { added surface.old row column text.now ≡ record { surface = surface.new; events = events_of result surface.new } }
 {
     let size = surface.size();
     if row >= size.rows || column >= size.columns {
-        return Said::Refused(Refusal::OutOfWindow);
+        return Effect::Refused(Refusal::OutOfWindow);
     }
     surface.set_wish(Some((row, column)));
     if !is_printed(text) {
-        return Said::Refused(Refusal::NotAscii);
+        return Effect::Refused(Refusal::NotAscii);
     }
     add_text(surface, text);
-    Said::Nothing
+    Effect::Nothing
 }

@@ -2,7 +2,8 @@
 ghost use Rattle.std.specs.Prelude.{◌≡◌, true, IfOk};
 ghost use Rattle.std.specs.List.{list_all};
 ghost use Rattle.scr_cells.specs.PictureViews.{IsPlace};
-ghost use Rattle.screendemo.specs.Surfaces.{is_printed as is_printed_byte, next_place as next_place_of, with_byte, with_text, blank_surface as blank_surface_of};
+ghost use Rattle.scr_cells.specs.CellViews.{is_character};
+ghost use Rattle.screendemo.specs.Surfaces.{next_place as next_place_of, with_byte, with_text, blank_surface as blank_surface_of};
 
 use scr_cells::{Attrs, Cell, NoMemory, Picture, Size};
 use std::alloc::Global;
@@ -18,14 +19,14 @@ pub fn blank_surface(alloc: Global, size: Size) -> Result<Picture, NoMemory>
 
 /// Whether each byte of a text is 32 to 126.
 pub fn is_printed(text: &[u8]) -> bool
-    ensures { result ≡ list_all is_printed_byte text.now }
+    ensures { result ≡ list_all is_character text.now }
 {
     text.iter().all(|byte| (32..=126).contains(byte))
 }
 
-/// Adds the characters of a text at the cursor, which goes on (X/Open Curses Issue 7, waddnstr()).
+/// Adds the characters of a text at the cursor, which goes on (X/Open Curses Issue 7, waddstr()).
 pub fn add_text(surface: &mut Picture, text: &[u8])
-    requires { list_all is_printed_byte text.now ≡ true }
+    requires { list_all is_character text.now ≡ true }
     ensures { surface.new ≡ with_text surface.old text.now }
 {
     for byte in text {
@@ -35,7 +36,7 @@ pub fn add_text(surface: &mut Picture, text: &[u8])
 
 // Adds a character at the cursor (X/Open Curses Issue 7, waddch()).
 fn add_byte(surface: &mut Picture, byte: u8)
-    requires { is_printed_byte byte ≡ true }
+    requires { is_character byte ≡ true }
     ensures { surface.new ≡ with_byte surface.old byte }
 {
     let size = surface.size();

@@ -205,6 +205,24 @@ fn sends_what_it_prints(rt: HostRuntime) -> Result<(), Fail> {
     Ok(())
 }
 
+// Below a row with attributes stand two hexadecimal digits a place: 04 is reverse, 7e all but standout.
+#[test]
+fn prints_attributes_below_their_row(rt: HostRuntime) -> Result<(), Fail> {
+    let size = Size::new(2, 2).ok_or("no size")?;
+    let mut screen = EcmaScreen::new(rt.alloc(), size)?;
+    screen.feed(b"\x1b[7mx\x1b[0m")?;
+    let mut shown = Vec::new(rt.alloc());
+    print_screen(&screen, &mut shown)?;
+    let lines = b"|x |\n:0400:\n|  |\ncursor 0 1\n";
+    assert_eq!(rt; shown.as_slice(), lines.as_slice());
+    screen.feed(b"\x1b[2;2H\x1b[1;2;4;5;7;8m~")?;
+    shown.clear();
+    print_screen(&screen, &mut shown)?;
+    let lines = b"|x |\n:0400:\n| ~|\n:007e:\ncursor 1 margin\n";
+    assert_eq!(rt; shown.as_slice(), lines.as_slice());
+    Ok(())
+}
+
 // The largest screen, full of text.
 #[test]
 fn fills_the_largest_screen(rt: HostRuntime) -> Result<(), Fail> {

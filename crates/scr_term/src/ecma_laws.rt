@@ -1,5 +1,4 @@
-ghost use Rattle.scr_term.specs.EcmaLaws.{ScreensFollowTexts};
-ghost use Rattle.scr_term.specs.Laws.{HasOneDivision, PiecesDoNotMatter};
+ghost use Rattle.scr_term.specs.EcmaLaws.{HasOneDivision, PiecesDoNotMatter, ScreensFollowTexts};
 
 /// A text has at most one division into units and a rest that is nothing or a part of one unit
 /// (ECMA-48, 5.4 'Control sequences').

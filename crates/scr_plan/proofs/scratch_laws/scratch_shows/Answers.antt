@@ -1,5 +1,5 @@
 use Rattle.scr_plan.proofs.ScratchLaws as laws
-use Rattle.scr_plan.proofs.painting.scratch_shows.Goals as goal
+use Rattle.scr_plan.proofs.scratch_laws.scratch_shows.Goals as goal
 
 pub returns : goal.returns
 returns c = laws.scratch_shows

@@ -1,0 +1,55 @@
+ghost use Rattle.std.specs.Prelude.{◌≡◌, ◌≤◌, length, IfOk, IfSome};
+
+use std::alloc::Global;
+use std::io::{ErrorKind, Read};
+use thiserror::Error;
+
+/// Why an input was not read.
+#[derive(Clone, Copy, Debug, PartialEq, Eq, Error)]
+pub enum InputFault {
+    /// A read failed, or there were too many reads or bytes.
+    #[error("read failed")]
+    Failed,
+    /// Memory ran out.
+    #[error("out of memory")]
+    NoMemory,
+}
+
+/// How many reads are made at most.
+pub const MOST_READS: u32 = 1_000_000;
+
+/// How many bytes an input has at most.
+pub const MOST_BYTES: usize = 16_777_216;
+
+/// How many bytes one read asks for.
+const PIECE: usize = 4_096;
+
+/// All bytes that a reader has left, at most 16,777,216, in at most 1,000,000 reads.
+///
+/// `Failed` where a read fails or either bound is passed, `NoMemory` where memory runs out; what was
+/// read until then is gone. A read that was interrupted counts as one, and is tried again (POSIX,
+/// read(), EINTR).
+pub fn read_input<R: Read>(alloc: Global, reader: &mut R) -> Result<Vec<u8>, InputFault>
+    ensures whole { IfOk result (λ bytes. IfSome (R.remaining reader.old) (λ all. all ≡ bytes.items)) }
+    ensures few { IfOk result (λ bytes. length bytes.items ≤ 16777216) }
+{
+    let mut bytes = Vec::new(alloc);
+    let mut piece = [0u8; PIECE];
+    for _ in 0..MOST_READS {
+        let count = match reader.read(&mut piece) {
+            Ok(count) => count,
+            Err(error) if error.kind() == ErrorKind::Interrupted => continue,
+            Err(_) => return Err(InputFault::Failed),
+        };
+        if count == 0 {
+            return Ok(bytes);
+        }
+        if count > MOST_BYTES - bytes.len() {
+            return Err(InputFault::Failed);
+        }
+        if bytes.extend_from_slice(&piece[..count]).is_err() {
+            return Err(InputFault::NoMemory);
+        }
+    }
+    Err(InputFault::Failed)
+}

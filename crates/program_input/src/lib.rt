@@ -1,0 +1,8 @@
+//! How a program reads its input: whole, and within bounds.
+#![tactic(auto)]
+
+mod inputs;
+#[cfg(test)]
+mod tests;
+
+pub use inputs::{InputFault, MOST_BYTES, MOST_READS, read_input};
