@@ -17,7 +17,10 @@ fn expect_run(
 ) -> Result<(), Fail> {
     let mut out = Vec::new(rt.alloc());
     let result = run(rt.alloc(), script, false, &mut out);
-    if result == Err(DemoFault::NoMemory) {
+    // The output is a vector, whose growth may be refused too.
+    if result == Err(DemoFault::NoMemory)
+        || result == Err(DemoFault::Write(ErrorKind::OutOfMemory))
+    {
         return Err(Fail::from(DemoFault::NoMemory));
     }
     assert_eq!(rt; out.as_slice(), written);
