@@ -1,6 +1,6 @@
 -- The bytes of each operation do to the negative of a state what the operation does to the state.
-use Rattle.std.proofs.Common.{◌≡◌, ℕ, ◌+◌, ◌-◌, ◌*◌, ◌^◌, ◌<◌, ◌≤◌, ◌==◌, ◌&&◌, Bool, true, false, IsTrue, cond, refl, sym, ◌∙◌, ap, subst, arith, List, [], ◌∷◌, ◌++◌, length, length-append, Option, Some, None, option_and_then, option_map, bit_and, bit_or, nat_lt, nat_le, map, replicate, codes, zero, suc}
-use Rattle.std.specs.List.{flat_map, AllByRecursion, list_any}
+use Rattle.std.proofs.Common.{◌≡◌, ℕ, ◌+◌, ◌-◌, ◌*◌, ◌^◌, ◌<◌, ◌≤◌, ◌==◌, ◌&&◌, Bool, true, false, IsTrue, cond, refl, sym, ◌∙◌, ap, subst, arith, [], ◌∷◌, ◌++◌, length, length-append, Option, Some, None, option_and_then, bit_and, bit_or, nat_le, map, replicate, codes, zero, suc}
+use Rattle.std.specs.List.{list_any}
 use Rattle.std.specs.Fmt.{decimal}
 use Rattle.std.proofs.lemmas.Fmt.{length-decimal-le}
 use Rattle.std.proofs.lemmas.Nat.{and_le_l}
@@ -16,10 +16,10 @@ use Rattle.scr_term.specs.declared.operations.Spot.{Spot}
 use Rattle.scr_term.specs.declared.operations.Spot.TheVariants.{At, Margin}
 use Rattle.scr_term.specs.Profiles.{ProfileView, IsEcma48}
 use Rattle.scr_term.specs.States.{State, IsState, negative_state, written_at, spot_after}
-use Rattle.scr_term.specs.Steps.{has, act, step}
+use Rattle.scr_term.specs.Steps.{has, act}
 use Rattle.scr_term.specs.Texts.{control_sequence, rendition_of, bytes_of}
-use Rattle.scr_term.specs.EcmaUnits.{EcmaUnit, Graphic, Sequence, spelling, is_parameter_byte, IsSequence, IsUnit, IsDivision}
-use Rattle.scr_term.specs.EcmaMeanings.{cursor_at, control_function, parameters_of, meanings}
+use Rattle.scr_term.specs.EcmaUnits.{EcmaUnit, Graphic, Sequence, spelling, is_parameter_byte, IsUnit, IsDivision}
+use Rattle.scr_term.specs.EcmaMeanings.{cursor_at, meanings}
 use Rattle.scr_term.specs.EcmaMeanings.{Leads}
 use Rattle.scr_term.specs.OperationLaws.{BytesActAsTheirOperation}
 use Rattle.scr_term.proofs.Attributes.{each_attribute, negative-or_standout, negative-or_underline, negative-or_reverse, negative-or_blink, negative-or_dim, negative-or_bold, negative-or_invis}

@@ -1,6 +1,6 @@
 -- What steps and runs keep, and how the texts of operations join.
-use Rattle.std.proofs.Common.{◌≡◌, ℕ, ◌+◌, ◌*◌, ◌<◌, ◌≤◌, ◌==◌, ◌&&◌, Bool, true, false, cond, refl, sym, ◌∙◌, ap, subst, arith, List, [], ◌∷◌, ◌++◌, append_assoc, length, Option, Some, None, option_and_then, bit_and, bit_or, nat_lt, replicate, min, max}
-use Rattle.std.specs.List.{flat_map, AllByRecursion, All, list_any}
+use Rattle.std.proofs.Common.{◌≡◌, ℕ, ◌+◌, ◌*◌, ◌<◌, ◌≤◌, ◌==◌, Bool, true, false, cond, refl, sym, ◌∙◌, ap, subst, arith, List, [], ◌∷◌, ◌++◌, append_assoc, Option, Some, None, option_and_then, bit_and, bit_or, nat_lt, replicate}
+use Rattle.std.specs.List.{flat_map, AllByRecursion}
 use Rattle.std.specs.Int.{bit_at}
 use Rattle.std.proofs.Math.ListN.{length-set, length-replicate}
 use Rattle.std.proofs.lemmas.List.{append-nil}
@@ -11,7 +11,7 @@ use Rattle.std.proofs.lemmas.Nat.Bits.{same_from_bits, bit_at_and, bit_at_or}
 use Rattle.std.proofs.lemmas.Bool.{eqb-true}
 use Rattle.std.proofs.lemmas.Bool.Decides.{nat_tests}
 use Rattle.scr_cells.specs.LookViews.{LookView, IsLook, blank}
-use Rattle.scr_cells.specs.PictureViews.{IsSize, grid_with}
+use Rattle.scr_cells.specs.PictureViews.{grid_with}
 use Rattle.scr_term.specs.declared.operations.Op.{Op}
 use Rattle.scr_term.specs.declared.operations.Op.TheVariants.{Move, Clear, Reset, Enter, Put}
 use Rattle.scr_term.specs.declared.operations.Spot.{Spot}
@@ -20,7 +20,7 @@ use Rattle.scr_term.specs.Profiles.{ProfileView, IsProfile, IsEcma48}
 use Rattle.scr_term.specs.States.{State, IsSpot, IsState, negative_state, written_at, spot_after}
 use Rattle.scr_term.specs.Steps.{has, act, step, runs}
 use Rattle.scr_term.specs.Texts.{bytes_of, all_bytes}
-use Rattle.scr_term.specs.EcmaUnits.{EcmaUnit, spelling, IsUnit, IsDivision}
+use Rattle.scr_term.specs.EcmaUnits.{EcmaUnit, spelling, IsUnit}
 use Rattle.scr_term.specs.EcmaMeanings.{meaning, meanings}
 use Rattle.scr_term.specs.EcmaMeanings.{Leads}
 use Rattle.scr_term.specs.OperationLaws.{StepsKeepStates, BytesActAsTheirOperations}

@@ -1,5 +1,5 @@
 -- What a terminal shows when a picture is painted on it. curs_refresh(3X), 'doupdate'.
-use Rattle.std.specs.Prelude.{ℕ, ◌≡◌, List, map, IfSome}
+use Rattle.std.specs.Prelude.{◌≡◌, List, map, IfSome}
 use Rattle.scr_cells.specs.LookViews.{LookView, seen, negative_grid}
 use Rattle.scr_cells.specs.PictureViews.{PictureView}
 use Rattle.scr_term.specs.Profiles.{ProfileView}

@@ -1,8 +1,7 @@
 -- The bytes that paint a surface bring a terminal to show it.
-use Rattle.std.proofs.Common.{◌≡◌, ℕ, ◌*◌, true, refl, sym, ◌∙◌, ap, subst, arith, List, [], ◌∷◌, ◌++◌, Some, IfSome, inl, replicate}
-use Rattle.std.specs.List.{All, AllByRecursion, flat_map}
+use Rattle.std.proofs.Common.{◌≡◌, ℕ, ◌*◌, true, refl, sym, ◌∙◌, ap, subst, arith, List, [], ◌∷◌, Some, inl, replicate}
+use Rattle.std.specs.List.{All, AllByRecursion}
 use Rattle.std.proofs.Math.ListN.{length-replicate}
-use Rattle.std.proofs.lemmas.Bool.{false≢true}
 use Rattle.std.proofs.lemmas.List.Elements.{All-replicate, All-from_recursion}
 use Rattle.scr_cells.specs.Attributes.{every_attribute}
 use Rattle.scr_cells.specs.LookViews.{IsLook, blank, negative, negative_grid}

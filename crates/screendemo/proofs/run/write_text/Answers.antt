@@ -1,4 +1,4 @@
-use Rattle.std.proofs.Common.{◌+◌, ◌≤◌, arith, length}
+use Rattle.std.proofs.Common.{◌+◌, arith}
 use Rattle.screendemo.proofs.RunLaws.{appends_kept}
 use Rattle.screendemo.proofs.WriteLaws.{taken_more, rest_length, taken_is_beginning}
 use Rattle.screendemo.proofs.run.write_text.Goals as goal
