@@ -7,4 +7,5 @@ pub mod State
 pub mod Tree
 pub mod Programs
 pub mod Runs
+pub mod ProgramLaws
 pub mod Code

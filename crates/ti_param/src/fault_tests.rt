@@ -1,4 +1,4 @@
-// Texts that are no parameter strings, and why.
+//! Texts that are no parameter strings, and why.
 
 use crate::tests::{repeated, text_of};
 use crate::{ParamFault, Program, Vars};
@@ -58,21 +58,23 @@ fn refuses_faults(rt: HostRuntime) -> Result<(), Fail> {
             ("\x1b[%p1%d\"%p2%s\"p", ParamFault::StringOperator(11)),
         ],
     );
-    expect_read(&rt, &["%{2147483647}", "%99.99d", "% d", "%:d", "%- +"]);
-    Ok(())
+    expect_read(&rt, &["%{2147483647}", "%99.99d", "% d", "%:d", "%- +"])
 }
 
 fn expect_faults(rt: &(impl Abort + AllocGlobal), cases: &[(&str, ParamFault)]) {
     for (text, want) in cases {
         let got = fault_of(rt.alloc(), text.as_bytes());
         assert!(rt; got.as_ref() == Some(want), "{text}");
+        cut_refused(rt, text.as_bytes(), *want);
     }
 }
 
-fn expect_read(rt: &(impl Abort + AllocGlobal), texts: &[&str]) {
+fn expect_read(rt: &(impl Abort + AllocGlobal), texts: &[&str]) -> Result<(), Fail> {
     for text in texts {
         assert!(rt; fault_of(rt.alloc(), text.as_bytes()).is_none(), "{text}");
+        cut_everywhere(rt, text.as_bytes())?;
     }
+    Ok(())
 }
 
 #[test]
@@ -90,9 +92,9 @@ fn counts_nesting(rt: HostRuntime) -> Result<(), Fail> {
     Ok(())
 }
 
-#[test]
-fn cuts_anywhere(rt: HostRuntime) -> Result<(), Fail> {
-    let text = b"\x1b[%?%p1%{8}%<%t3%p1%:-2.1d%e%p1%{16}%<%t9%p1%'a'%-%d%e38;5;%Pa%ga%d%;m";
+// A text that is read, cut at every place: what is left is read and runs, or ends inside the directive whose place
+// is given, before which it is read.
+pub(crate) fn cut_everywhere(rt: &(impl Abort + AllocGlobal), text: &[u8]) -> Result<(), Fail> {
     for end in 0..text.len() {
         match Program::read(rt.alloc(), &text[..end]) {
             Ok(program) => {
@@ -101,13 +103,28 @@ fn cuts_anywhere(rt: HostRuntime) -> Result<(), Fail> {
                 program.run([3; 9], &mut vars, &mut out)?;
                 assert!(rt; out.len() <= program.bound());
             }
-            Err(fault) => {
+            Err(ParamFault::Truncated(place)) => {
+                assert!(rt; place < end && text[place] == b'%', "cut at {end}");
                 assert!(rt;
-                    matches!(&fault, ParamFault::Truncated(place) if *place < end),
-                    "{end}"
+                    fault_of(rt.alloc(), &text[..place]).is_none(),
+                    "cut at {end}"
                 );
             }
+            Err(fault) => assert!(rt; false, "cut at {end}: {fault}"),
         }
     }
     Ok(())
+}
+
+// A text that is refused, cut at every place: what is left is read, or ends inside a directive, or has the same fault.
+fn cut_refused(rt: &(impl Abort + AllocGlobal), text: &[u8], want: ParamFault) {
+    for end in 0..text.len() {
+        match fault_of(rt.alloc(), &text[..end]) {
+            None => {}
+            Some(ParamFault::Truncated(place)) => {
+                assert!(rt; place < end && text[place] == b'%', "cut at {end}");
+            }
+            Some(fault) => assert!(rt; fault == want, "cut at {end}"),
+        }
+    }
 }

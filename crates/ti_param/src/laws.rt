@@ -1,21 +1,33 @@
-// Laws on programs, each the contract of a call that does nothing.
+//! Laws on texts and programs, each the contract of a call that does nothing.
 
-ghost use Rattle.std.specs.Prelude.{◌≡◌, ◌≢◌, ◌≤◌, ℕ, ℤ, List, length, Some, None};
-ghost use Rattle.ti_param.specs.State.{State};
-ghost use Rattle.ti_param.specs.Tree.{Tree, value, start, bound, depth};
-ghost use Rattle.ti_param.specs.Grammar.{IsText};
+ghost use Rattle.ti_param.specs.ProgramLaws.{HasNotBoth, HasOneFault, HasOneTree, HasTreeOrFault, IsBounded, StackIsEnough};
+
+/// A text spells at most one tree.
+pub fn text_has_one_tree()
+    ensures { HasOneTree }
+{}
+
+/// Each text spells a tree or has a fault.
+pub fn text_has_tree_or_fault()
+    ensures { HasTreeOrFault }
+{}
+
+/// No text spells a tree and has a fault.
+pub fn text_has_not_both()
+    ensures { HasNotBoth }
+{}
+
+/// A text has at most one fault.
+pub fn text_has_one_fault()
+    ensures { HasOneFault }
+{}
 
 /// What a program writes is at most as long as its bound.
 pub fn text_is_bounded()
-    ensures { (tree : Tree) (s after : State) (bytes : List ℕ) → value tree s ≡ Some (bytes, after) → length bytes ≤ bound tree }
+    ensures { IsBounded }
 {}
 
 /// Where the depth of a program is at most 20, no run finds the stack full.
 pub fn stack_is_enough()
-    ensures { (tree : Tree) (params statics : List ℤ) → depth tree ≤ 20 → value tree (start params statics) ≢ None }
-{}
-
-/// A text spells at most one tree.
-pub fn text_has_one_tree()
-    ensures { (tree other : Tree) (text : List ℕ) → IsText tree text → IsText other text → tree ≡ other }
+    ensures { StackIsEnough }
 {}

@@ -23,7 +23,10 @@ mod tokens;
 mod variables;
 
 pub use faults::{NoMemory, ParamFault, RunFault};
-pub use laws::{stack_is_enough, text_has_one_tree, text_is_bounded};
+pub use laws::{
+    stack_is_enough, text_has_not_both, text_has_one_fault, text_has_one_tree,
+    text_has_tree_or_fault, text_is_bounded,
+};
 pub use padding::strip_padding;
 pub use programs::Program;
 pub use variables::Vars;

@@ -1,4 +1,4 @@
-// The marks of conditionals, `%? %t %e %;`, as they follow one another: terminfo(5), 'Parameterized Strings'.
+//! The marks of conditionals, `%? %t %e %;`, as they follow one another: terminfo(5), 'Parameterized Strings'.
 
 ghost use Rattle.std.specs.Prelude.{◌≡◌, [], length, MatchResult, Ok, Err};
 ghost use Rattle.ti_param.specs.Code.Marks.{entered};
@@ -111,6 +111,7 @@ impl Marks {
     }
 
     // A conditional ends.
+    #[tactic(auto, using(crate::proofs::BuilderLaws::closed))]
     fn close(&mut self) -> Result<(), Misfit>
         ensures { Enters result self.new (entered Token.EndIf self.old) }
     {

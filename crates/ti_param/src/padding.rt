@@ -1,10 +1,10 @@
-// Padding in capability texts: terminfo(5), 'Delays and Padding'.
+//! Padding in capability texts: terminfo(5), 'Delays and Padding'.
 
 ghost use Rattle.std.specs.Prelude.{◌≡◌, ◌+◌, ◌≤◌, ℕ, length, IfOk, slice_index, IsTrue, ◌↔◌};
 ghost use Rattle.ti_param.specs.Padding.{is_digit, digits_at, point_at, marks_at, padding_length, stripped};
 
 use crate::faults::NoMemory;
-use std::alloc::Global;
+use std::alloc::{AllocError, Global};
 
 /// A capability's text without its padding, which is removed in one pass from the left: `$<`, at least one digit,
 /// a point and one digit or nothing, `*` and `/` in either order, either of them or nothing, and `>`.
@@ -12,12 +12,19 @@ use std::alloc::Global;
 pub fn strip_padding(alloc: Global, bytes: &[u8]) -> Result<Vec<u8>, NoMemory>
     ensures { IfOk result (λ text. text.items ≡ stripped bytes.now) }
 {
+    one_pass(alloc, bytes).map_err(|_| NoMemory)
+}
+
+// The text without the padding that one pass from the left meets.
+fn one_pass(alloc: Global, bytes: &[u8]) -> Result<Vec<u8>, AllocError>
+    ensures { IfOk result (λ text. text.items ≡ stripped bytes.now) }
+{
     let mut text = Vec::new(alloc);
     let mut place = 0;
     while place < bytes.len() {
         let passed = padding_length(&bytes[place..]);
         if passed == 0 {
-            text.push(bytes[place]).map_err(|_| NoMemory)?;
+            text.push(bytes[place])?;
             place += 1;
         } else {
             place += passed;

@@ -1,5 +1,6 @@
-// Worked examples: what terminfo(5) and printf(3) say that texts write.
+//! Worked examples: what terminfo(5) and printf(3) say that texts write.
 
+use crate::fault_tests::cut_everywhere;
 use crate::{Program, RunFault, Vars, strip_padding};
 use std::alloc::Global;
 use std::process::Abort;
@@ -31,7 +32,7 @@ fn expect(
         got.as_slice() == want.as_bytes(),
         "{text} with {first} {second}: {got:?}"
     );
-    Ok(())
+    cut_everywhere(rt, text.as_bytes())
 }
 
 fn expect_all(
@@ -163,6 +164,9 @@ fn chooses(rt: HostRuntime) -> Result<(), Fail> {
     )
 }
 
+const PFKEY: &str =
+    "\x1bP1;1|%?%{16}%p1%>%t%{0}%e%{21}%p1%>%t%{1}%e%{25}%p1%>%t%{2}%e%{27}%p1%>%t%{3}%e%{30}%p1%>%t%{4}%e%{5}%;%p1%+%d/%p2%02x\x1b\\";
+
 #[test]
 fn writes_for_terminals(rt: HostRuntime) -> Result<(), Fail> {
     expect_all(
@@ -185,6 +189,13 @@ fn writes_for_terminals(rt: HostRuntime) -> Result<(), Fail> {
             ("\x1b[%i%p1%dG", 79, 0, "\x1b[80G"),
             ("\x1b[%p1%dX", 12, 0, "\x1b[12X"),
             ("\x1b[%i%p1%d;%p2%dr", 0, 23, "\x1b[1;24r"),
+            // wyse60: a text for a function key, with a number in place of the text
+            ("\x1bZ2%p1%{63}%+%c%p2%d\x7f", 1, 7, "\x1bZ2@7\x7f"),
+            // vt320: the same, where the key's number has gaps
+            (PFKEY, 15, 65, "\x1bP1;1|15/41\x1b\\"),
+            (PFKEY, 17, 65, "\x1bP1;1|18/41\x1b\\"),
+            (PFKEY, 26, 65, "\x1bP1;1|29/41\x1b\\"),
+            (PFKEY, 30, 10, "\x1bP1;1|35/0a\x1b\\"),
             // linux and xterm: colours
             ("\x1b[3%p1%dm", 4, 0, "\x1b[34m"),
             (
@@ -276,6 +287,7 @@ fn expect_measures(
             program.bound() == *bound && program.depth() == *depth,
             "{text}"
         );
+        cut_everywhere(rt, text.as_bytes())?;
     }
     Ok(())
 }

@@ -1,4 +1,4 @@
-// The directives of a parameter string, one after another: terminfo(5), 'Parameterized Strings'.
+//! The directives of a parameter string, one after another: terminfo(5), 'Parameterized Strings'.
 
 ghost use Rattle.std.specs.Prelude.{◌≡◌, ◌^◌, ◌-◌, ◌<◌, ◌≤◌, min, ℕ, length, IfOk, Option, option_map};
 ghost use Rattle.ti_param.specs.Spelling.{begins_with};

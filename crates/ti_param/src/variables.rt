@@ -1,4 +1,4 @@
-// The static variables, which last from one run to the next.
+//! The static variables, which last from one run to the next.
 
 ghost use Rattle.std.specs.Prelude.{◌≡◌, pos, replicate};
 
@@ -8,7 +8,7 @@ use std::marker::Model;
 pub(crate) const LETTERS: usize = 26;
 
 /// The static variables `A` to `Z` of terminfo(5), which last from one run to the next.
-#[derive(Drop)]
+#[derive(Clone, Copy, PartialEq, Eq, Debug)]
 pub struct Vars {
     values: [i32; LETTERS],
 }
@@ -45,5 +45,14 @@ impl Vars {
         ensures { self.new ≡ values }
     {
         self.values = values;
+    }
+}
+
+impl Default for Vars {
+    /// All variables at 0.
+    fn default() -> Self
+        ensures { result ≡ replicate 26 (pos 0) }
+    {
+        Vars::new()
     }
 }

@@ -2,7 +2,7 @@ use Rattle.std.proofs.Common.{◌∙◌, sym, ap, arith, length}
 use Rattle.std.proofs.lemmas.List.{length-drop, take_rest}
 use Rattle.ti_param.specs.Padding.{padding_length}
 use Rattle.ti_param.proofs.PaddingLaws.{without_passed}
-use Rattle.ti_param.proofs.padding.strip_padding.Goals as goal
+use Rattle.ti_param.proofs.padding.one_pass.Goals as goal
 
 pub loop-place-preserved : goal.loop-place-preserved
 loop-place-preserved c =
