@@ -8,4 +8,4 @@ pub mod NumbersBack
 pub mod PrintLaws
 pub mod ReadingLaws
 pub mod ResolvingLaws
-pub mod UseLaws
+pub mod WalkLaws

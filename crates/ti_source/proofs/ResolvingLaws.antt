@@ -31,6 +31,14 @@ pub texts-go : (f : ℕ → Option (List ℕ)) (d m n : Description) (i : ℕ) (
 texts-go f d m n i v lt is before after =
     after ∙ ap (λ (x : Description). record x { texts = set x.texts i v }) before ∙ ap (λ fs. record d { texts = fs }) (slots_below-set f i d.texts v lt is)
 
+pub flags-end : (f : ℕ → Bool) (d m : Description) (n i : ℕ) → length d.flags ≡ n → i ≡ n → m ≡ record d { flags = slots_below f i d.flags } → m ≡ record d { flags = map f (range_with_len 0 n) }
+flags-end f d m n i room all is =
+    is ∙ ap (λ k. record d { flags = slots_below f k d.flags }) all ∙ ap (λ ts. record d { flags = ts }) (slots_below-all f n d.flags room)
+
+pub numbers-end : (f : ℕ → Option ℕ) (d m : Description) (n i : ℕ) → length d.numbers ≡ n → i ≡ n → m ≡ record d { numbers = slots_below f i d.numbers } → m ≡ record d { numbers = map f (range_with_len 0 n) }
+numbers-end f d m n i room all is =
+    is ∙ ap (λ k. record d { numbers = slots_below f k d.numbers }) all ∙ ap (λ ts. record d { numbers = ts }) (slots_below-all f n d.numbers room)
+
 pub texts-end : (f : ℕ → Option (List ℕ)) (d m : Description) (n i : ℕ) → length d.texts ≡ n → i ≡ n → m ≡ record d { texts = slots_below f i d.texts } → m ≡ record d { texts = map f (range_with_len 0 n) }
 texts-end f d m n i room all is =
     is ∙ ap (λ k. record d { texts = slots_below f k d.texts }) all ∙ ap (λ ts. record d { texts = ts }) (slots_below-all f n d.texts room)

@@ -9,3 +9,4 @@ pub mod Reading
 pub mod Resolving
 pub mod Result
 pub mod Seen
+pub mod Walk

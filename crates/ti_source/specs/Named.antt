@@ -19,6 +19,10 @@ abbrev pub found_from : ℕ → List ℕ → List Described → Option (ℕ × D
 found_from i name [] = None
 found_from i name (d ∷ ds) = if has_name name d then Some (i, d) else found_from (suc i) name ds
 
+-- the place of the first entry with a name
+abbrev pub place_of : List Described → List ℕ → Option ℕ
+place_of entries name = option_map (λ p. p.0) (found_from 0 name entries)
+
 -- what stands behind the bar after the first alternative
 abbrev pub alternatives_behind : Option (List ℕ) → List (List ℕ)
 alternatives_behind None = []
@@ -34,4 +38,4 @@ placed bytes index name = lookup (λ k. bytes_eq name (bytes k)) index
 
 -- an index has for each name the place of the first entry with it
 abbrev pub ArePlaced : {K : Type 0} → (K → List ℕ) → List (K × ℕ) → List Described → Type 0
-ArePlaced bytes index entries = (name : List ℕ) → placed bytes index name ≡ option_map (λ p. p.0) (found_from 0 name entries)
+ArePlaced bytes index entries = (name : List ℕ) → placed bytes index name ≡ place_of entries name

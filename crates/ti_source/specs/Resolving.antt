@@ -1,5 +1,5 @@
 -- The entry of a name with its uses taken in (terminfo(5), "Similar Terminals").
-use Rattle.std.specs.Prelude.{ℕ, zero, suc, Bool, true, false, List, [], ◌∷◌, ◌++◌, Option, Some, None, Result, Ok, Err, length, map, ◌==◌, if◌then◌else◌}
+use Rattle.std.specs.Prelude.{◌≡◌, ℕ, Bool, true, false, List, [], ◌∷◌, Option, Some, None, map, ◌==◌, if◌then◌else◌}
 use Rattle.std.specs.List.{list_any, range_with_len}
 use Rattle.ti_caps.specs.declared.table.Kind.{Kind}
 use Rattle.ti_caps.specs.declared.table.Kind.TheVariants.{Flag, Number, Text}
@@ -11,7 +11,6 @@ use Rattle.ti_source.specs.declared.statement.Statement.{Statement}
 use Rattle.ti_source.specs.Described.{Described}
 use Rattle.ti_source.specs.Named.{found_from}
 use Rattle.ti_source.specs.Reading.{speaks_of}
-use Rattle.ti_source.specs.Result.{◌>>=◌}
 use Rattle.ti_source.specs.declared.fault.SourceFault.{SourceFault}
 use Rattle.ti_source.specs.declared.fault.SourceFault.TheVariants.{UnknownName, UseCycle}
 
@@ -64,29 +63,27 @@ merged d uses = record {
   texts = map (text_in d.statements uses) (range_with_len 0 512);
 }
 
--- what each of these names gives, or the first fault
-abbrev pub each : (List ℕ → Result Description SourceFault) → List (List ℕ) → Result (List Description) SourceFault
-each f [] = Ok []
-each f (name ∷ names) = f name >>= λ d. each f names >>= λ ds. Ok (d ∷ ds)
+-- the resolved entries of these names: each is the entry that its name finds, over the resolved entries of its uses
+pub data Resolve (entries : List Described) : List (List ℕ) → List Description → Type 0 where
+  nothing : Resolve entries [] []
+  more : {name : List ℕ} {names : List (List ℕ)} {found : ℕ × Described} {used ds : List Description} {d : Description} →
+      found_from 0 name entries ≡ Some found → Resolve entries found.1.uses used → d ≡ merged found.1 used → Resolve entries names ds → Resolve entries (name ∷ names) (d ∷ ds)
 
--- an entry that was found: it must not stand on its own chain of uses; each of its uses is resolved whole before the next
-abbrev pub entered : (ℕ → List ℕ → Result Description SourceFault) → List ℕ → Option (ℕ × Described) → Result Description SourceFault
-entered below chain None = Err UnknownName
-entered below chain (Some found) =
-    if list_any (λ j. j == found.0) chain then Err UseCycle
-    else each (below found.0) found.1.uses >>= λ uses. Ok (merged found.1 uses)
+-- the first fault of these names, from left to right, each of which is reached over the entries of a chain of uses:
+-- a name that no entry has, one whose entry stands on the chain, a fault of an entry's uses, or one of a later name
+pub data Fault (entries : List Described) : List ℕ → List (List ℕ) → SourceFault → Type 0 where
+  unknown : {chain : List ℕ} {name : List ℕ} {names : List (List ℕ)} →
+      found_from 0 name entries ≡ None → Fault entries chain (name ∷ names) UnknownName
+  cycle : {chain : List ℕ} {name : List ℕ} {names : List (List ℕ)} {found : ℕ × Described} →
+      found_from 0 name entries ≡ Some found → list_any (λ j. j == found.0) chain ≡ true → Fault entries chain (name ∷ names) UseCycle
+  below : {chain : List ℕ} {name : List ℕ} {names : List (List ℕ)} {found : ℕ × Described} {fault : SourceFault} →
+      found_from 0 name entries ≡ Some found → list_any (λ j. j == found.0) chain ≡ false → Fault entries (found.0 ∷ chain) found.1.uses fault → Fault entries chain (name ∷ names) fault
+  later : {chain : List ℕ} {name : List ℕ} {names : List (List ℕ)} {d : Description} {fault : SourceFault} →
+      Resolve entries (name ∷ []) (d ∷ []) → Fault entries chain names fault → Fault entries chain (name ∷ names) fault
 
--- where as many entries stand on the chain as there are, one that is found stands on it
-abbrev pub barred : Option (ℕ × Described) → Result Description SourceFault
-barred None = Err UnknownName
-barred (Some found) = Err UseCycle
+-- the resolved entry of a name, and the fault of one that has none
+abbrev pub Resolved : List Described → List ℕ → Description → Type 0
+Resolved entries name d = Resolve entries (name ∷ []) (d ∷ [])
 
--- the entry of a name, reached over the entries of a chain, to which `depth` more may come
-unfoldable pub resolved_over : ℕ → List ℕ → List Described → List ℕ → Result Description SourceFault
-resolved_over zero chain entries name = barred (found_from 0 name entries)
-resolved_over (suc depth) chain entries name =
-    entered (λ i. resolved_over depth (chain ++ i ∷ []) entries) chain (found_from 0 name entries)
-
--- the resolved entry of a name, or the first fault
-unfoldable pub resolved : List Described → List ℕ → Result Description SourceFault
-resolved entries name = resolved_over (length entries) [] entries name
+abbrev pub Unresolved : List Described → List ℕ → SourceFault → Type 0
+Unresolved entries name fault = Fault entries [] (name ∷ []) fault

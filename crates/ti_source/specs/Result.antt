@@ -17,3 +17,7 @@ Fails e wanted = (e ≡ NoMemory) ⊎ (wanted ≡ Err e)
 abbrev pub Gives : {A : Type 0} → Result A SourceFault → Result A SourceFault → Type 0
 Gives (Ok x) wanted = wanted ≡ Ok x
 Gives (Err e) wanted = Fails e wanted
+
+-- memory ran out, or the fault is one that is known of
+abbrev pub Stops : SourceFault → Type 0 → Type 0
+Stops fault Known = (fault ≡ NoMemory) ⊎ Known

@@ -4,7 +4,7 @@ ghost use Rattle.std.specs.Prelude.{◌≡◌, ◌<◌, ◌∷◌, [], ◌++◌,
 ghost use Rattle.std.specs.List.{list_any};
 ghost use Rattle.ti_caps.specs.Names.{alternatives};
 ghost use Rattle.ti_caps.specs.Table.{or_else};
-ghost use Rattle.ti_source.specs.Named.{alternatives_behind, found_from, has_name, named, placed};
+ghost use Rattle.ti_source.specs.Named.{alternatives_behind, found_from, has_name, named, place_of, placed};
 ghost use Rattle.ti_source.specs.Result.{Gives};
 
 use crate::fault::SourceFault;
@@ -124,6 +124,13 @@ impl Entries {
         let place = *self.places.get(name)?;
         let entry = self.items.get(place)?;
         Some((place, entry))
+    }
+
+    /// The place of the first entry that has this reference name.
+    pub(crate) fn place_of(&self, name: &[u8]) -> Option<usize>
+        ensures { result ≡ place_of self.now name.now }
+    {
+        self.places.get(name).copied()
     }
 
     pub(crate) fn as_slice(&self) -> &[SourceEntry]

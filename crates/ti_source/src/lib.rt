@@ -7,6 +7,7 @@ mod fault;
 mod field;
 mod filling;
 mod line;
+mod merge;
 mod note;
 mod number;
 mod printer;
@@ -14,12 +15,13 @@ mod reader;
 mod resolver;
 mod source;
 mod statement;
+mod walk;
 
 pub use fault::SourceFault;
 pub use note::{Cause, Note};
 pub use printer::{Printed, numbers_read_back, print, texts_read_back};
 pub use reader::read;
-pub use resolver::resolve;
+pub use resolver::{resolve, resolve_all};
 pub use source::Source;
 
 #[cfg(test)]

@@ -1,14 +1,14 @@
 //! Checking a source (tic(1), option -c).
 
-ghost use Rattle.std.specs.Prelude.{Err};
-ghost use Rattle.tic.specs.Answers.{Gives, Refuses};
-ghost use Rattle.tic.specs.Checked.{checked, names_in};
+ghost use Rattle.std.specs.Prelude.{◌≡◌, IfErr, IfOk};
+ghost use Rattle.tic.specs.Answers.{Refuses};
+ghost use Rattle.tic.specs.Checked.{IsChecked, IsFaulty, names_of};
 
 use crate::fault::TicFault;
-use std::alloc::Global;
+use std::alloc::{AllocError, Global};
 use std::marker::Model;
 use ti_caps::Bytes;
-use ti_source::{Note, Source, SourceFault, read, resolve};
+use ti_source::{Note, Source, SourceFault, read, resolve_all};
 
 /// Names of entries, in the order of their source.
 #[derive(Debug, Drop)]
@@ -45,7 +45,7 @@ pub struct Checked {
 }
 
 fn fault_of(fault: SourceFault) -> TicFault
-    ensures { Refuses {A = Unit {0}} result (Err fault) }
+    ensures { Refuses (λ f. f ≡ fault) result }
 {
     match fault {
         SourceFault::NoMemory => TicFault::NoMemory,
@@ -53,17 +53,13 @@ fn fault_of(fault: SourceFault) -> TicFault
     }
 }
 
-/// Resolves each entry by its first name, and gives the names.
-fn resolved_names(alloc: Global, source: &Source) -> Result<Names, TicFault>
-    ensures { Gives result (names_in source.now.entries) }
+/// The first name of each entry.
+fn names_of(alloc: Global, source: &Source) -> Result<Names, AllocError>
+    ensures { IfOk result (λ names. names ≡ names_of source.now.entries) }
 {
-    let mut names = Vec::new(alloc);
+    let mut names = Vec::with_capacity(alloc, source.len())?;
     for i in 0..source.len() {
-        let name = source.name(i);
-        match resolve(alloc, source, name) {
-            Ok(_) => names.push(Bytes(Vec::from_slice(alloc, name)?))?,
-            Err(fault) => return Err(fault_of(fault)),
-        }
+        names.push(Bytes(Vec::from_slice(alloc, source.name(i))?))?;
     }
     Ok(Names(names))
 }
@@ -71,15 +67,18 @@ fn resolved_names(alloc: Global, source: &Source) -> Result<Names, TicFault>
 /// Checks a source: its entries' first names, each entry having been resolved by it, and the notes
 /// on its fields (tic(1)). The fault is that of reading, else that of the first entry that doesn't
 /// resolve; want of memory is always NoMemory.
-#[tactic(auto, unfolding(crate::specs::Checked::checked))]
 pub fn check(alloc: Global, source: &[u8]) -> Result<Checked, TicFault>
-    ensures { Gives result (checked source.now) }
+    ensures ok { IfOk result (λ c. IsChecked source.now c) }
+    ensures err { IfErr result (λ f. Refuses (IsFaulty source.now) f) }
 {
     let source = match read(alloc, source) {
         Ok(source) => source,
         Err(fault) => return Err(fault_of(fault)),
     };
-    let names = resolved_names(alloc, &source)?;
+    if let Err(fault) = resolve_all(alloc, &source) {
+        return Err(fault_of(fault));
+    }
+    let names = names_of(alloc, &source)?;
     let notes = Notes(source.into_notes());
     Ok(Checked { names, notes })
 }

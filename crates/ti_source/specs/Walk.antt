@@ -1,0 +1,107 @@
+-- What the marks and the list of work of a way through uses stand for.
+use Rattle.std.specs.Prelude.{◌≡◌, ◌⊎◌, ◌<◌, ℕ, ◌+◌, ◌*◌, Bool, true, false, List, [], ◌∷◌, Option, Some, None, length, map, slice_get, is_some, ◌==◌}
+use Rattle.std.specs.List.{list_any}
+use Rattle.ti_caps.specs.Description.{Description}
+use Rattle.ti_source.specs.declared.fault.SourceFault.{SourceFault}
+use Rattle.ti_source.specs.declared.walk.Mark.{Mark}
+use Rattle.ti_source.specs.declared.walk.Mark.TheVariants.{New, Open, Done}
+use Rattle.ti_source.specs.declared.walk.Task.{Task}
+use Rattle.ti_source.specs.declared.walk.Task.TheVariants.{Visit, Leave}
+use Rattle.ti_source.specs.Described.{Described}
+use Rattle.ti_source.specs.Named.{place_of}
+use Rattle.ti_source.specs.Resolving.{Resolved, Fault}
+
+-- a visit of each of these names
+abbrev pub visits : List Described → List (List ℕ) → List Task
+visits entries names = map (λ name. Visit (place_of entries name)) names
+
+-- the entries that are left later: those of the chain on which the next task stands
+abbrev pub leaves : List Task → List ℕ
+leaves [] = []
+leaves (Visit p ∷ tasks) = leaves tasks
+leaves (Leave i ∷ tasks) = i ∷ leaves tasks
+
+-- the entries that tasks speak of
+abbrev pub places : List Task → List (Option ℕ)
+places [] = []
+places (Visit p ∷ tasks) = p ∷ places tasks
+places (Leave i ∷ tasks) = Some i ∷ places tasks
+
+-- what the names of a place resolve to, and their fault over a chain
+abbrev pub ResolvedAt : List Described → Option ℕ → Description → Type 0
+ResolvedAt entries p d = (name : List ℕ) → place_of entries name ≡ p → Resolved entries name d
+
+abbrev pub FaultAt : List Described → List ℕ → Option ℕ → SourceFault → Type 0
+FaultAt entries chain p fault = (name : List ℕ) → place_of entries name ≡ p → Fault entries chain (name ∷ []) fault
+
+-- the first fault of the tasks: of the next visit over the entries that are left later, or, where that resolves, of those behind
+abbrev pub FaultIn : List Described → List Task → SourceFault → Type 0
+FaultIn entries [] fault = ⊥
+FaultIn entries (Visit p ∷ tasks) fault =
+    FaultAt entries (leaves tasks) p fault ⊎ (((d : Description) × ResolvedAt entries p d) × FaultIn entries tasks fault)
+FaultIn entries (Leave i ∷ tasks) fault = FaultIn entries tasks fault
+
+abbrev pub position : Option Mark → Option ℕ
+position (Some (Done k)) = Some k
+position _ = None
+
+-- where the resolved entry of a place is kept
+abbrev pub done_at : List Mark → Option ℕ → Option ℕ
+done_at marks None = None
+done_at marks (Some i) = position (slice_get marks i)
+
+abbrev pub known : List Mark → Option ℕ → Bool
+known marks p = is_some (done_at marks p)
+
+abbrev pub AreKnown : List Mark → List (Option ℕ) → Type 0
+AreKnown marks [] = Unit {0}
+AreKnown marks (p ∷ ps) = (known marks p ≡ true) × AreKnown marks ps
+
+abbrev pub IsAmong : Option ℕ → List (Option ℕ) → Type 0
+IsAmong p [] = ⊥
+IsAmong p (q ∷ qs) = (p ≡ q) ⊎ IsAmong p qs
+
+-- done, or among those that come first
+abbrev pub Within : List Mark → List (Option ℕ) → Option ℕ → Type 0
+Within marks first p = (known marks p ≡ true) ⊎ IsAmong p first
+
+abbrev pub AllWithin : List Mark → List (Option ℕ) → List (Option ℕ) → Type 0
+AllWithin marks first [] = Unit {0}
+AllWithin marks first (p ∷ ps) = Within marks first p × AllWithin marks first ps
+
+-- each entry that is left later is there, and its uses are done by then
+abbrev pub Held : List Described → List Mark → List (Option ℕ) → List Task → Type 0
+Held entries marks first [] = Unit {0}
+Held entries marks first (Visit p ∷ tasks) = Held entries marks (p ∷ first) tasks
+Held entries marks first (Leave i ∷ tasks) =
+    ((d : Described) × (slice_get entries i ≡ Some d) × AllWithin marks first (map (place_of entries) d.uses)) × Held entries marks (Some i ∷ first) tasks
+
+-- what is kept of an entry that is done is its resolved entry
+abbrev pub Keeps : List Described → List Mark → List Description → Type 0
+Keeps entries marks kept = (i k : ℕ) → slice_get marks i ≡ Some (Done k) → (d : Description) × ResolvedAt entries (Some i) d × (slice_get kept k ≡ Some d)
+
+-- what holds between two tasks
+pub record IsWalk (entries : List Described) (keeps : Bool) (marks : List Mark) (kept : List Description) (tasks : List Task) : Type 0 where
+  pub sized : length marks ≡ length entries
+  pub opened : (i : ℕ) → slice_get marks i ≡ Some Open → list_any (λ j. j == i) (leaves tasks) ≡ true
+  pub fresh : (i : ℕ) → slice_get marks i ≡ Some New → list_any (λ j. j == i) (leaves tasks) ≡ false
+  pub done : (i k : ℕ) → slice_get marks i ≡ Some (Done k) → (d : Description) × ResolvedAt entries (Some i) d
+  pub keeping : keeps ≡ true → Keeps entries marks kept
+  pub held : Held entries marks [] tasks
+
+-- how many entries are not entered yet
+abbrev pub one_if_new : Mark → ℕ
+one_if_new New = 1
+one_if_new _ = 0
+
+abbrev pub count_new : List Mark → ℕ
+count_new [] = 0
+count_new (m ∷ ms) = one_if_new m + count_new ms
+
+-- what a task does: nothing that is known or to be done is lost, the faults of what is left are faults of what was to be done, and less is left
+pub record Stepped (entries : List Described) (keeps : Bool) (marks : List Mark) (tasks : List Task) (keeping : Bool) (after : List Mark) (kept : List Description) (left : List Task) : Type 0 where
+  pub same : keeping ≡ keeps
+  pub walk : IsWalk entries keeps after kept left
+  pub lifts : (fault : SourceFault) → FaultIn entries left fault → FaultIn entries tasks fault
+  pub carries : (p : Option ℕ) → Within marks (places tasks) p → Within after (places left) p
+  pub less : 34 * count_new after + length left < 34 * count_new marks + length tasks
