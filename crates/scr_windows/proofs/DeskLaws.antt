@@ -1,0 +1,194 @@
+-- Changes that keep a desk one.
+use Rattle.std.proofs.Common.{◌≡◌, ℕ, ◌-◌, ◌<◌, sym, subst, ◌∙◌, ap, refl, arith, List, [], ◌∷◌, zero, suc, length, map, get_or, Bool, cond, true}
+use Rattle.std.specs.Prelude.{slice_set}
+use Rattle.std.specs.List.{range_with_len}
+use Rattle.std.proofs.Math.Seq.{map-set_same}
+use Rattle.std.proofs.lemmas.List.Elements.{All-set}
+use Rattle.std.proofs.lemmas.List.{get_or-map}
+use Rattle.std.proofs.lemmas.List.FromFn.{get_or-map-range_with_len, length-map-range_with_len}
+use Rattle.scr_cells.specs.CellViews.{CellView, blank_cell}
+use Rattle.scr_windows.specs.declared.areas.Area.{Area}
+use Rattle.scr_windows.specs.declared.frames.Frame.{Frame}
+use Rattle.scr_windows.specs.declared.frames.State.{State}
+use Rattle.scr_windows.specs.SurfaceViews.{SurfaceView, IsSurface, IsPart, cell_of, grid, filled, inside_at, is_inside}
+use Rattle.scr_windows.specs.DeskViews.{WindowView, DeskView, IsState, IsWindow, IsPlaced, AreFrames, IsDesk, window_at, surface_at, no_window, no_surface, no_frame, size_of, Placed}
+use Rattle.scr_windows.specs.Calls.{fill, with_window, marked, marked_lines, write}
+use Rattle.scr_windows.specs.Reading.{row_at}
+use Rattle.scr_windows.proofs.GridLaws.{grid_same}
+
+pub length_map : {X Y : Type 0} (f : X → Y) (xs : List X) → length (map f xs) ≡ length xs
+length_map f [] = refl
+length_map f (x ∷ xs) = ap suc (length_map f xs)
+
+abbrev pub frame_of : WindowView → Frame
+frame_of w = w.frame
+
+-- a filled surface is one, of the same size
+pub cell_of_grid : (rows columns : ℕ) (f : ℕ → ℕ → CellView) (r c : ℕ) → r < rows → c < columns → cell_of (record { rows = rows; columns = columns; lines = grid rows columns f }) r c ≡ f r c
+unfolding cell_of grid
+cell_of_grid rows columns f r c h k =
+    let row : get_or (map (λ i. map (f i) (range_with_len 0 columns)) (range_with_len 0 rows)) r [] ≡ map (f r) (range_with_len 0 columns) = get_or-map-range_with_len _ 0 rows r r [] h (omega arith) in
+    ap (λ line. get_or line c blank_cell) row ∙ get_or-map-range_with_len (f r) 0 columns c c blank_cell k (omega arith)
+
+pub filled_is_surface : (s : SurfaceView) (area : Area) (f : ℕ → ℕ → CellView) → IsSurface s → IsSurface (filled s area f)
+unfolding filled
+filled_is_surface s area f h = record {
+  size = h.size;
+  whole = grid_same s.rows s.columns _ _ (λ r c b k. sym (cell_of_grid s.rows s.columns (λ r c. cond (is_inside area r c) (f (r - area.top) (c - area.left)) (cell_of s r c)) r c b k));
+}
+
+pub filled_size : (s : SurfaceView) (area : Area) (f : ℕ → ℕ → CellView) → size_of (filled s area f) ≡ size_of s
+unfolding filled
+filled_size s area f = refl
+
+pub placed : (d : DeskView) (i : ℕ) → IsDesk d → i < length d.windows → Placed d i
+placed d i h l =
+    let frame : Frame = (window_at d i).frame in
+    let frames : length (map frame_of d.windows) ≡ length d.windows = length_map frame_of d.windows in
+    let sizes : length (map size_of d.surfaces) ≡ length d.surfaces = length_map size_of d.surfaces in
+    let is : get_or (map frame_of d.windows) i no_frame ≡ frame = get_or-map frame_of d.windows i no_window no_frame l in
+    let P : Frame → Type 0 = λ f. IsPlaced d.rows d.columns (map size_of d.surfaces) f in
+    let p : IsPlaced d.rows d.columns (map size_of d.surfaces) frame = subst P is (h.frames.placed i no_frame (omega arith)) in
+    let on : frame.surface < length d.surfaces = omega (arith, p.surface) in
+    let size : get_or (map size_of d.surfaces) frame.surface (0, 0) ≡ size_of (surface_at d frame.surface) = get_or-map size_of d.surfaces frame.surface no_surface (0, 0) on in
+    record {
+      here = l;
+      window = h.windows i no_window l;
+      surface = on;
+      whole = h.surfaces frame.surface no_surface on;
+      screen = h.size;
+      origin = p.origin;
+      part = record {
+        some_rows = p.some_rows;
+        some_columns = p.some_columns;
+        below = omega (arith, p.below, ap (λ (s : ℕ × ℕ). s.0) size);
+        right = omega (arith, p.right, ap (λ (s : ℕ × ℕ). s.1) size);
+      };
+    }
+
+-- a window gets another state, in the same frame
+pub with_window_is_desk : (d : DeskView) (i : ℕ) (w : WindowView) → IsDesk d → i < length d.windows → w.frame ≡ (window_at d i).frame → IsWindow w → IsDesk (with_window d i w)
+with_window_is_desk d i w h l same is = record {
+  size = h.size;
+  made = h.made;
+  surfaces = h.surfaces;
+  windows = All-set IsWindow d.windows i w is h.windows;
+  frames = (let P : List Frame → Type 0 = λ frames. AreFrames d.rows d.columns (map size_of d.surfaces) d.made frames in subst P (sym (map-set_same frame_of d.windows i w no_window same)) h.frames);
+}
+
+-- the surface of a window is filled
+pub fill_is_desk : (d : DeskView) (i : ℕ) (f : (ℕ → ℕ → CellView) → ℕ → ℕ → CellView) → IsDesk d → i < length d.windows → IsDesk (fill d i f)
+fill_is_desk d i f h l =
+    let p = placed d i h l in
+    let k : ℕ = (window_at d i).frame.surface in
+    let s : SurfaceView = surface_at d k in
+    let a : Area = (window_at d i).frame.area in
+    let g : ℕ → ℕ → CellView = f (inside_at s a) in
+    record {
+      size = h.size;
+      made = h.made;
+      surfaces = All-set IsSurface d.surfaces k (filled s a g) (filled_is_surface s a g p.whole) h.surfaces;
+      windows = h.windows;
+      frames = (let P : List (ℕ × ℕ) → Type 0 = λ sizes. AreFrames d.rows d.columns sizes d.made (map frame_of d.windows) in subst P (sym (map-set_same size_of d.surfaces k (filled s a g) no_surface (filled_size s a g))) h.frames);
+    }
+
+pub length-marked_lines : (first end : ℕ) (mark : Bool) (marks : List Bool) → length (marked_lines first end mark marks) ≡ length marks
+unfolding marked_lines
+length-marked_lines first end mark marks = length-map-range_with_len _ 0 (length marks)
+
+pub marked_is_window : (first end : ℕ) (mark : Bool) (w : WindowView) → IsWindow w → IsWindow (marked first end mark w)
+marked_is_window first end mark w h = record { state = h.state; touched = length-marked_lines first end mark w.touched ∙ h.touched }
+
+get_or_any : {X : Type 0} (xs : List X) (i : ℕ) (d e : X) → i < length xs → get_or xs i d ≡ get_or xs i e
+get_or_any [] i d e h = absurd (omega (arith, h))
+get_or_any (x ∷ xs) zero d e h = refl
+get_or_any (x ∷ xs) (suc i) d e h = get_or_any xs i d e (omega (arith, h))
+
+-- what code knows of a window that it reads: it is the one at its place
+abbrev pub Reads : {X : Type 0} → List X → ℕ → X → Type 0
+Reads xs i x = x ≡ get_or xs i x
+
+pub reads_window : (d : DeskView) (i : ℕ) (w : WindowView) → Reads d.windows i w → i < length d.windows → w ≡ window_at d i
+reads_window d i w e h = e ∙ get_or_any d.windows i w no_window h
+
+pub here_too : (d old : DeskView) (i : ℕ) → d ≡ old → i < length old.windows → i < length d.windows
+here_too d old i is h = omega (arith, h, ap (λ (v : DeskView). length v.windows) is)
+
+pub state_set : (d old : DeskView) (is : d ≡ old) (i : ℕ) (w new : WindowView) (state : State) → IsDesk d → i < length old.windows → Reads d.windows i w → IsState (window_at old i).frame state
+    → new ≡ record w { state = state } → IsDesk (with_window d i new)
+state_set d old is i w new state h l e fits n =
+    let here : i < length d.windows = here_too d old i is l in
+    let at : w ≡ window_at d i = reads_window d i w e here in
+    let P : DeskView → Type 0 = λ v. IsState (window_at v i).frame state in
+    let same : new.frame ≡ (window_at d i).frame = ap frame_of n ∙ ap frame_of at in
+    let Q : WindowView → Type 0 = λ v. IsWindow v in
+    let changed : IsWindow (record (window_at d i) { state = state }) = record { state = subst P (sym is) fits; touched = (placed d i h here).window.touched } in
+    with_window_is_desk d i new h here same (subst Q (sym (n ∙ (λ j. record (at j) { state = state }))) changed)
+
+pub lines_marked : (d old : DeskView) (is : d ≡ old) (i : ℕ) (w new : WindowView) (first end : ℕ) (mark : Bool) → IsDesk d → i < length old.windows → Reads d.windows i w
+    → new ≡ marked first end mark w → IsDesk (with_window d i new)
+lines_marked d old is i w new first end mark h l e n =
+    let here : i < length d.windows = here_too d old i is l in
+    let at : w ≡ window_at d i = reads_window d i w e here in
+    let same : new.frame ≡ (window_at d i).frame = ap frame_of n ∙ ap frame_of at in
+    let Q : WindowView → Type 0 = λ v. IsWindow v in
+    with_window_is_desk d i new h here same (subst Q (sym (n ∙ ap (marked first end mark) at)) (marked_is_window first end mark _ (placed d i h here).window))
+
+-- what a drawing knows: the window, its frame, and the surface that it reads
+pub record Draws (d old : DeskView) (i : ℕ) (w : WindowView) (frame : Frame) : Type 0 where
+  pub is : d ≡ old
+  pub desk : IsDesk d
+  pub here : i < length old.windows
+  pub window : Reads d.windows i w
+  pub frame_is : frame ≡ w.frame
+
+frame_path : (d old : DeskView) (i : ℕ) (w : WindowView) (frame : Frame) → Draws d old i w frame → frame ≡ (window_at d i).frame
+frame_path d old i w frame h = h.frame_is ∙ ap frame_of (reads_window d i w h.window (here_too d old i h.is h.here))
+
+pub draws_on : (d old : DeskView) (i : ℕ) (w : WindowView) (frame : Frame) → Draws d old i w frame → frame.surface < length d.surfaces
+draws_on d old i w frame h =
+    let P : Frame → Type 0 = λ f. f.surface < length d.surfaces in
+    subst P (sym (frame_path d old i w frame h)) (placed d i h.desk (here_too d old i h.is h.here)).surface
+
+surface_path : (d old : DeskView) (i : ℕ) (w : WindowView) (frame : Frame) (s : SurfaceView) → Draws d old i w frame → Reads d.surfaces frame.surface s → s ≡ surface_at d (window_at d i).frame.surface
+surface_path d old i w frame s h r = r ∙ get_or_any d.surfaces frame.surface s no_surface (draws_on d old i w frame h) ∙ ap (λ (f : Frame). surface_at d f.surface) (frame_path d old i w frame h)
+
+pub draws_part : (d old : DeskView) (i : ℕ) (w : WindowView) (frame : Frame) (s : SurfaceView) → Draws d old i w frame → Reads d.surfaces frame.surface s → IsPart s frame.area
+draws_part d old i w frame s h r =
+    let P : SurfaceView → Type 0 = λ v. IsPart v frame.area in
+    let Q : Frame → Type 0 = λ f. IsPart (surface_at d (window_at d i).frame.surface) f.area in
+    subst P (sym (surface_path d old i w frame s h r)) (subst Q (sym (frame_path d old i w frame h)) (placed d i h.desk (here_too d old i h.is h.here)).part)
+
+pub draws_whole : (d old : DeskView) (i : ℕ) (w : WindowView) (frame : Frame) (s : SurfaceView) → Draws d old i w frame → Reads d.surfaces frame.surface s → IsSurface s
+draws_whole d old i w frame s h r =
+    let P : SurfaceView → Type 0 = λ v. IsSurface v in
+    subst P (sym (surface_path d old i w frame s h r)) (placed d i h.desk (here_too d old i h.is h.here)).whole
+
+pub drawn : (d old : DeskView) (i : ℕ) (w m : WindowView) (frame : Frame) (s t : SurfaceView) (first end : ℕ) (f : (ℕ → ℕ → CellView) → ℕ → ℕ → CellView)
+    → Draws d old i w frame → Reads d.surfaces frame.surface s → m ≡ marked first end true w → t ≡ filled s frame.area (f (inside_at s frame.area))
+    → IsDesk (record d { surfaces = slice_set d.surfaces frame.surface t; windows = slice_set d.windows i m })
+drawn d old i w m frame s t first end f h r marks cells =
+    let here : i < length d.windows = here_too d old i h.is h.here in
+    let at : w ≡ window_at d i = reads_window d i w h.window here in
+    let frames : frame ≡ (window_at d i).frame = frame_path d old i w frame h in
+    let surfaces : s ≡ surface_at d (window_at d i).frame.surface = surface_path d old i w frame s h r in
+    let windows_is : m ≡ marked first end true (window_at d i) = marks ∙ ap (marked first end true) at in
+    let cells_is : t ≡ filled (surface_at d (window_at d i).frame.surface) (window_at d i).frame.area (f (inside_at (surface_at d (window_at d i).frame.surface) (window_at d i).frame.area))
+    = cells ∙ (λ j. filled (surfaces j) (frames j).area (f (inside_at (surfaces j) (frames j).area))) in
+    let whole : record d { surfaces = slice_set d.surfaces frame.surface t; windows = slice_set d.windows i m } ≡ write d i first end f
+    = (λ j. record d { surfaces = slice_set d.surfaces (frames j).surface (cells_is j); windows = slice_set d.windows i (windows_is j) }) in
+    let P : DeskView → Type 0 = λ v. IsDesk v in
+    subst P (sym whole) (with_window_is_desk (fill d i f) i (marked first end true (window_at d i)) (fill_is_desk d i f h.desk here) here refl (marked_is_window first end true _ (placed d i h.desk here).window))
+
+pub draws_row : (d old : DeskView) (i : ℕ) (w : WindowView) (frame : Frame) (s : SurfaceView) → Draws d old i w frame → Reads d.surfaces frame.surface s → (row : ℕ)
+    → map (inside_at s frame.area row) (range_with_len 0 frame.area.columns) ≡ row_at old i row
+draws_row d old i w frame s h r row =
+    let frames : frame ≡ (window_at d i).frame = frame_path d old i w frame h in
+    let surfaces : s ≡ surface_at d (window_at d i).frame.surface = surface_path d old i w frame s h r in
+    let here : map (inside_at s frame.area row) (range_with_len 0 frame.area.columns) ≡ row_at d i row = (λ j. map (inside_at (surfaces j) (frames j).area row) (range_with_len 0 (frames j).area.columns)) in
+    here ∙ ap (λ v. row_at v i row) h.is
+
+pub placed_by : (d old : DeskView) (i : ℕ) → d ≡ old → IsDesk d → i < length old.windows → Placed old i
+placed_by d old i is h l =
+    let P : DeskView → Type 0 = λ v. Placed v i in
+    subst P is (placed d i h (here_too d old i is l))

@@ -1,0 +1,126 @@
+-- A desk: surfaces, and the windows on them. X/Open Curses Issue 7, 'Screens, Windows and Terminals'.
+use Rattle.std.specs.Prelude.{ℕ, Bool, true, false, ◌≡◌, ◌+◌, ◌-◌, ◌^◌, ◌<◌, ◌≤◌, List, [], ◌∷◌, length, map, replicate, None, Some, slice_index_or, MatchOption, All}
+use Rattle.scr_cells.specs.CellViews.{CellView, blank_cell}
+use Rattle.scr_cells.specs.PictureViews.{IsSize}
+use Rattle.scr_windows.specs.declared.frames.Frame.{Frame}
+use Rattle.scr_windows.specs.declared.frames.State.{State}
+use Rattle.scr_cells.specs.declared.attributes.Attrs.{Attrs}
+use Rattle.scr_windows.specs.SurfaceViews.{SurfaceView, IsSurface, IsPart, blank_surface}
+
+-- a frame, which no drawing changes; what the calls set; and a mark for each line
+pub record WindowView : Type 0 where
+  pub frame : Frame
+  pub state : State
+  pub touched : List Bool
+
+-- the screen's size, the surfaces, the windows that are there by ascending numbers, and how many were made after the
+-- first
+pub record DeskView : Type 0 where
+  pub rows : ℕ
+  pub columns : ℕ
+  pub surfaces : List SurfaceView
+  pub windows : List WindowView
+  pub made : ℕ
+
+-- a window before anything was done with it
+abbrev pub fresh_window : Frame → Attrs → CellView → WindowView
+fresh_window frame attrs background =
+    record {
+      frame = frame;
+      state = record { cursor = (0, 0); attrs = attrs; background = background; region = (0, frame.area.rows - 1); scroll_ok = false; clear_ok = false; leave_ok = false };
+      touched = replicate frame.area.rows true;
+    }
+
+-- no attributes
+abbrev pub no_attributes : Attrs
+no_attributes = record { 0 = 0 }
+
+-- what stands for a window or a surface where there is none
+abbrev pub no_frame : Frame
+no_frame = record { number = 0; surface = 0; area = record { top = 0; left = 0; rows = 0; columns = 0 }; parent = None; origin = None }
+
+abbrev pub no_window : WindowView
+no_window = fresh_window no_frame no_attributes blank_cell
+
+abbrev pub no_surface : SurfaceView
+no_surface = record { rows = 0; columns = 0; lines = [] }
+
+-- the window and the surface at a place among the desk's
+abbrev pub window_at : DeskView → ℕ → WindowView
+window_at desk i = slice_index_or desk.windows i no_window
+
+abbrev pub surface_at : DeskView → ℕ → SurfaceView
+surface_at desk k = slice_index_or desk.surfaces k no_surface
+
+-- the cursor and the region are inside
+pub record IsState (frame : Frame) (state : State) : Type 0 where
+  pub cursor_row : state.cursor.0 < frame.area.rows
+  pub cursor_column : state.cursor.1 < frame.area.columns
+  pub region_order : state.region.0 ≤ state.region.1
+  pub region_end : state.region.1 < frame.area.rows
+
+-- and there is a mark for each line
+pub record IsWindow (window : WindowView) : Type 0 where
+  pub state : IsState window.frame window.state
+  pub touched : length window.touched ≡ window.frame.area.rows
+
+-- how many rows and columns a surface has
+abbrev pub size_of : SurfaceView → ℕ × ℕ
+size_of surface = (surface.rows, surface.columns)
+
+-- the window lies wholly on its surface, and wholly on the screen where it has a place there
+pub record IsPlaced (rows columns : ℕ) (sizes : List (ℕ × ℕ)) (frame : Frame) : Type 0 where
+  pub surface : frame.surface < length sizes
+  pub some_rows : 1 ≤ frame.area.rows
+  pub some_columns : 1 ≤ frame.area.columns
+  pub below : frame.area.top + frame.area.rows ≤ (slice_index_or sizes frame.surface (0, 0)).0
+  pub right : frame.area.left + frame.area.columns ≤ (slice_index_or sizes frame.surface (0, 0)).1
+  pub origin : MatchOption frame.origin (Unit {0}) (λ place. (place.0 + frame.area.rows ≤ rows) × (place.1 + frame.area.columns ≤ columns))
+
+-- a frame lies wholly inside another on the same surface, and was made later
+pub record IsChild (frame parent : Frame) : Type 0 where
+  pub later : parent.number < frame.number
+  pub surface : frame.surface ≡ parent.surface
+  pub above : parent.area.top ≤ frame.area.top
+  pub below : frame.area.top + frame.area.rows ≤ parent.area.top + parent.area.rows
+  pub left : parent.area.left ≤ frame.area.left
+  pub right : frame.area.left + frame.area.columns ≤ parent.area.left + parent.area.columns
+
+-- windows by ascending numbers, each number one that was given; a subwindow's parent is there; a pad's parent is a pad
+pub record AreFrames (rows columns : ℕ) (sizes : List (ℕ × ℕ)) (made : ℕ) (frames : List Frame) : Type 0 where
+  pub few : length frames ≤ 1000
+  pub placed : All (IsPlaced rows columns sizes) frames
+  pub numbers : All (λ frame. frame.number ≤ made) frames
+  pub ascending : (i j : ℕ) → i < j → j < length frames → (slice_index_or frames i no_frame).number < (slice_index_or frames j no_frame).number
+  pub parents : All (λ frame. MatchOption frame.parent (Unit {0}) (λ number. (k : ℕ) × (k < length frames) × ((slice_index_or frames k no_frame).number ≡ number) × IsChild frame (slice_index_or frames k no_frame))) frames
+
+pub record IsDesk (desk : DeskView) : Type 0 where
+  pub size : IsSize desk.rows desk.columns
+  pub made : desk.made < 2 ^ 32
+  pub surfaces : All IsSurface desk.surfaces
+  pub windows : All IsWindow desk.windows
+  pub frames : AreFrames desk.rows desk.columns (map size_of desk.surfaces) desk.made (map (λ (w : WindowView). w.frame) desk.windows)
+
+-- a desk with one window over the whole screen, blank
+abbrev pub first_frame : ℕ → ℕ → Frame
+first_frame rows columns = record { number = 0; surface = 0; area = record { top = 0; left = 0; rows = rows; columns = columns }; parent = None; origin = Some (0, 0) }
+
+-- a window that is there, and what is known of it
+pub record Placed (desk : DeskView) (i : ℕ) : Type 0 where
+  pub here : i < length desk.windows
+  pub window : IsWindow (window_at desk i)
+  pub surface : (window_at desk i).frame.surface < length desk.surfaces
+  pub whole : IsSurface (surface_at desk (window_at desk i).frame.surface)
+  pub part : IsPart (surface_at desk (window_at desk i).frame.surface) (window_at desk i).frame.area
+  pub screen : IsSize desk.rows desk.columns
+  pub origin : MatchOption (window_at desk i).frame.origin (Unit {0}) (λ place. (place.0 + (window_at desk i).frame.area.rows ≤ desk.rows) × (place.1 + (window_at desk i).frame.area.columns ≤ desk.columns))
+
+abbrev pub first_desk : ℕ → ℕ → DeskView
+first_desk rows columns =
+    record {
+      rows = rows;
+      columns = columns;
+      surfaces = blank_surface rows columns ∷ [];
+      windows = fresh_window (first_frame rows columns) no_attributes blank_cell ∷ [];
+      made = 0;
+    }

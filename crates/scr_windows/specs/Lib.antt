@@ -1,0 +1,11 @@
+pub mod Adding
+pub mod Calls
+pub mod DeskViews
+pub mod Erasing
+pub mod Formulas
+pub mod Making
+pub mod Reading
+pub mod Runs
+pub mod Settings
+pub mod SurfaceViews
+pub mod Touching

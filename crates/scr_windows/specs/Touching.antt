@@ -1,0 +1,15 @@
+-- What the calls that touch lines do. X/Open Curses Issue 7, the pages named.
+use Rattle.std.specs.Prelude.{ℕ, Bool, Result, Ok, Err, ◌+◌, leb, if◌then◌else◌}
+use Rattle.scr_windows.specs.declared.faults.WinFault.{WinFault}
+use Rattle.scr_windows.specs.declared.faults.WinFault.TheVariants.{OutOfWindow}
+use Rattle.scr_windows.specs.DeskViews.{DeskView, window_at}
+use Rattle.scr_windows.specs.Calls.{place_of, on_window, with_window, marked}
+
+-- touchwin(), untouchwin(): all lines
+abbrev pub touch_all_call : DeskView → ℕ → Bool → DeskView × Result (Unit {0}) WinFault
+touch_all_call desk win changed = on_window desk (place_of desk win) (λ i. (with_window desk i (marked 0 (window_at desk i).frame.area.rows changed (window_at desk i)), Ok tt))
+
+-- wtouchln(): n lines from one on
+abbrev pub touch_lines_call : DeskView → ℕ → ℕ → ℕ → Bool → DeskView × Result (Unit {0}) WinFault
+touch_lines_call desk win first n changed = on_window desk (place_of desk win) (λ i.
+    if leb (first + n) (window_at desk i).frame.area.rows then (with_window desk i (marked first (first + n) changed (window_at desk i)), Ok tt) else (desk, Err OutOfWindow))

@@ -1,0 +1,224 @@
+ghost use Rattle.std.specs.Prelude.{◌≡◌, ◌+◌, ◌<◌, ◌≤◌, ◌⊎◌, length, leb, false};
+ghost use Rattle.std.specs.List.{list_any};
+ghost use Rattle.scr_windows.specs.DeskViews.{window_at, no_attributes};
+ghost use Rattle.scr_windows.specs.Adding.{written, gone_to, line_begun, run_added, character_added, either_stayed, shown_added, byte_added, text_added, add_byte_call, add_text_call, insert_byte_call, line_across_call};
+
+use crate::desks::Desk;
+use crate::faults::{Added, Win, WinFault};
+use crate::frames::State;
+use bitflags::Flags;
+use scr_cells::{Attrs, Cell};
+
+impl Desk {
+    /// Adds a byte at the cursor, with attributes beside those of the window and of its background.
+    ///
+    /// A byte 32 to 126 is written and the cursor goes right, from the last column to the first of the
+    /// line that follows. Byte 10 erases to the end of the line and begins the line that follows, 9
+    /// erases to the next column that is a multiple of 8, 8 goes left, 13 goes to the first column, and
+    /// another byte is shown as `^` and a character. `Stayed` says that no line followed where one was to
+    /// be begun, and the cursor stayed.
+    ///
+    /// Refused: NoWindow; NotAscii for a byte from 128 on. X/Open Curses Issue 7, addch().
+    pub fn add_byte(&mut self, win: Win, byte: u8, attrs: Attrs) -> Result<Added, WinFault>
+        ensures { (self.new, result) ≡ add_byte_call self.old win.0 byte attrs }
+    {
+        let place = self.place(win)?;
+        if byte >= 128 {
+            return Err(WinFault::NotAscii);
+        }
+        Ok(self.add_at(place, byte, attrs))
+    }
+
+    /// Adds the bytes of a text one after another, as `add_byte` without attributes; `Stayed` where any
+    /// of them answered so.
+    ///
+    /// Refused: NoWindow; NotAscii where any byte is 128 or more. X/Open Curses Issue 7, addnstr().
+    pub fn add_text(&mut self, win: Win, text: &[u8]) -> Result<Added, WinFault>
+        ensures { (self.new, result) ≡ add_text_call self.old win.0 text.now }
+    {
+        let place = self.place(win)?;
+        if is_any_above(text) {
+            return Err(WinFault::NotAscii);
+        }
+        Ok(self.add_all(place, text))
+    }
+
+    /// Inserts a byte 32 to 126 at the cursor: the rest of the line moves right by one, and its last cell
+    /// is lost. The cursor stays.
+    ///
+    /// Refused: NoWindow; NotAscii for another byte. X/Open Curses Issue 7, insch().
+    pub fn insert_byte(&mut self, win: Win, byte: u8, attrs: Attrs) -> Result<(), WinFault>
+        ensures { (self.new, result) ≡ insert_byte_call self.old win.0 byte attrs }
+    {
+        let pen = self.pen(win)?;
+        if !(32..=126).contains(&byte) {
+            return Err(WinFault::NotAscii);
+        }
+        let (row, column) = pen.state.cursor;
+        self.open_row(pen.place, row, column, written(byte, attrs, pen.state));
+        Ok(())
+    }
+
+    /// Writes a byte 32 to 126 in n places of the cursor's line from the cursor on, at most to the edge.
+    /// The cursor stays.
+    ///
+    /// Refused: NoWindow; NotAscii for another byte. X/Open Curses Issue 7, hline().
+    pub fn line_across(&mut self, win: Win, byte: u8, n: u32) -> Result<(), WinFault>
+        ensures { (self.new, result) ≡ line_across_call self.old win.0 byte n }
+    {
+        let pen = self.pen(win)?;
+        if !(32..=126).contains(&byte) {
+            return Err(WinFault::NotAscii);
+        }
+        let (row, column) = pen.state.cursor;
+        if n > 0 {
+            let end = column + n.min(pen.area.columns - column);
+            let cell = written(byte, Attrs(0), pen.state);
+            self.fill_run(pen.place, row, column, end, cell);
+        }
+        Ok(())
+    }
+
+    // Adds the bytes of a text to the window at a place.
+    fn add_all(&mut self, place: usize, text: &[u8]) -> Added
+        requires here { place < length self.old.windows }
+        requires ascii { list_any (λ byte. leb 128 byte) text.now ≡ false }
+        ensures { (self.new, result) ≡ text_added self.old place text.now }
+    {
+        let mut all = Added::Done;
+        for byte in text {
+            let one = self.add_at(place, *byte, Attrs(0));
+            all = either(all, one);
+        }
+        all
+    }
+
+    // Adds a byte below 128 to the window at a place.
+    #[tactic(auto, unfolding(crate::specs::Adding::byte_added))]
+    fn add_at(&mut self, place: usize, byte: u8, attrs: Attrs) -> Added
+        requires here { place < length self.old.windows }
+        requires ascii { byte < 128 }
+        ensures added { (self.new, result) ≡ byte_added self.old place byte attrs }
+        ensures there { place < length self.new.windows }
+    {
+        let pen = self.pen_at(place);
+        let (row, column) = pen.state.cursor;
+        match byte {
+            10 => self.add_run(place, pen.area.columns, pen.state.background),
+            9 => self.add_run(place, (column / 8 + 1) * 8, pen.state.background),
+            8 => self.go_to(place, row, column.saturating_sub(1)),
+            13 => self.go_to(place, row, 0),
+            0..32 | 127 => self.add_shown(place, byte, attrs),
+            _ => self.add_character(place, byte, attrs),
+        }
+    }
+
+    // Shows a control character as `^` and a character.
+    fn add_shown(&mut self, place: usize, byte: u8, attrs: Attrs) -> Added
+        requires here { place < length self.old.windows }
+        requires control { (byte < 32) ⊎ (byte ≡ 127) }
+        ensures added { (self.new, result) ≡ shown_added self.old place byte attrs }
+        ensures there { place < length self.new.windows }
+    {
+        let first = self.add_character(place, b'^', attrs);
+        let second = self.add_character(place, byte ^ 64, attrs);
+        either(first, second)
+    }
+
+    // Writes a byte 32 to 126 at the cursor.
+    fn add_character(&mut self, place: usize, byte: u8, attrs: Attrs) -> Added
+        requires here { place < length self.old.windows }
+        requires from { 32 ≤ byte }
+        requires to { byte ≤ 126 }
+        ensures added { (self.new, result) ≡ character_added self.old place byte attrs }
+        ensures there { place < length self.new.windows }
+    {
+        let pen = self.pen_at(place);
+        let cell = written(byte, attrs, pen.state);
+        self.add_run(place, pen.state.cursor.1 + 1, cell)
+    }
+
+    // Puts a cell in the places from the cursor up to a column, and goes there or begins the next line.
+    #[tactic(auto, unfolding(crate::specs::Adding::run_added))]
+    fn add_run(&mut self, place: usize, end: u32, cell: Cell) -> Added
+        requires here { place < length self.old.windows }
+        requires order { (window_at self.old place).state.cursor.1 ≤ end }
+        ensures added { (self.new, result) ≡ run_added self.old place end cell }
+        ensures there { place < length self.new.windows }
+    {
+        let pen = self.pen_at(place);
+        let (row, column) = pen.state.cursor;
+        self.fill_run(place, row, column, end.min(pen.area.columns), cell);
+        if end < pen.area.columns {
+            self.go_to(place, row, end)
+        } else {
+            self.begin_line(place)
+        }
+    }
+
+    // Puts the cursor to a row and a column inside.
+    fn go_to(&mut self, place: usize, row: u32, column: u32) -> Added
+        requires here { place < length self.old.windows }
+        requires row { row < (window_at self.old place).frame.area.rows }
+        requires column { column < (window_at self.old place).frame.area.columns }
+        ensures added { (self.new, result) ≡ gone_to self.old place (row, column) }
+        ensures there { place < length self.new.windows }
+    {
+        let mut state = self.pen_at(place).state;
+        state.cursor = (row, column);
+        self.set_state(place, state);
+        Added::Done
+    }
+
+    // Begins the line that follows, if one follows.
+    #[tactic(auto, unfolding(crate::specs::Adding::line_begun))]
+    fn begin_line(&mut self, place: usize) -> Added
+        requires here { place < length self.old.windows }
+        ensures added { (self.new, result) ≡ line_begun self.old place }
+        ensures there { place < length self.new.windows }
+    {
+        let pen = self.pen_at(place);
+        let row = pen.state.cursor.0;
+        let (top, bottom) = pen.state.region;
+        if row == bottom {
+            if !pen.state.scroll_ok {
+                return Added::Stayed;
+            }
+            self.move_up(place, top, bottom + 1, 1, pen.state.background);
+            self.go_to(place, row, 0)
+        } else if row + 1 == pen.area.rows {
+            Added::Stayed
+        } else {
+            self.go_to(place, row + 1, 0)
+        }
+    }
+}
+
+// Stayed where either is.
+fn either(first: Added, second: Added) -> Added
+    ensures { result ≡ either_stayed first second }
+{
+    match first {
+        Added::Done => second,
+        Added::Stayed => Added::Stayed,
+    }
+}
+
+// Whether any byte is 128 or more.
+fn is_any_above(text: &[u8]) -> bool
+    ensures { result ≡ list_any (λ byte. leb 128 byte) text.now }
+{
+    text.iter().any(|byte| *byte >= 128)
+}
+
+// The written form of a byte 32 to 126.
+fn written(byte: u8, attrs: Attrs, state: State) -> Cell
+    requires from { 32 ≤ byte }
+    requires to { byte ≤ 126 }
+    ensures { result ≡ written byte attrs state }
+{
+    let background = state.background;
+    let shown = if byte == 32 { background.byte() } else { byte };
+    let all = attrs.union(state.attrs).union(background.attrs());
+    Cell::new(shown, all).unwrap_or(Cell::blank())
+}

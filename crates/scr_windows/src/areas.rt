@@ -1,0 +1,12 @@
+/// A part of a surface: the place of its first row and column, and how many rows and columns it has.
+#[derive(Clone, Copy)]
+pub struct Area {
+    /// The surface's row that is the area's row 0.
+    pub top: u32,
+    /// The surface's column that is the area's column 0.
+    pub left: u32,
+    /// How many rows there are.
+    pub rows: u32,
+    /// How many columns there are.
+    pub columns: u32,
+}

@@ -1,0 +1,99 @@
+ghost use Rattle.std.specs.Prelude.{◌≡◌, ◌+◌, ◌<◌, ◌≤◌, true, length, IfOk, MatchResult};
+ghost use Rattle.scr_windows.specs.DeskViews.{IsDesk, IsState, Placed, window_at, surface_at};
+ghost use Rattle.scr_windows.specs.Calls.{IsPen, IsPenAt, place_of, with_window, marked};
+
+use crate::faults::{Win, WinFault};
+use crate::frames::{Pen, State};
+use crate::surfaces::Surface;
+use crate::windows::{Window, place_of_number};
+use std::marker::Model;
+
+/// The windows of a screen and the surfaces that they are on (X/Open Curses Issue 7, 'Screens, Windows
+/// and Terminals').
+#[derive(Drop)]
+pub struct Desk {
+    pub rows: u32,
+    pub columns: u32,
+    pub surfaces: Vec<Surface>,
+    // By ascending numbers.
+    pub windows: Vec<Window>,
+    // How many windows were made after the first.
+    pub made: u32,
+}
+
+impl Model for Desk {
+    ghost use Rattle.scr_windows.specs.DeskViews.{DeskView, IsDesk};
+
+    ghost Value = { DeskView };
+
+    ghost view = { λ a. record { rows = a.rows; columns = a.columns; surfaces = a.surfaces.items; windows = a.windows.items; made = a.made } };
+
+    ghost invariant = { λ a. IsDesk (record { rows = a.rows; columns = a.columns; surfaces = a.surfaces.items; windows = a.windows.items; made = a.made }) };
+}
+
+// What the calls are made of. A place is one among the windows.
+impl Desk {
+    // Where a window stands among the windows.
+    pub fn place(&self, win: Win) -> Result<usize, WinFault>
+        ensures place { result ≡ place_of self.now win.0 }
+        ensures placed { IfOk result (λ i. Placed self.now i) }
+    {
+        match place_of_number(&self.windows, win.0) {
+            Some(place) => Ok(place),
+            None => Err(WinFault::NoWindow),
+        }
+    }
+
+    // Where a window stands, its area and what the calls set in it.
+    pub fn pen(&self, win: Win) -> Result<Pen, WinFault>
+        ensures { MatchResult result (IsPen self.now win.0) (λ fault. place_of self.now win.0 ≡ Err fault) }
+    {
+        let place = self.place(win)?;
+        let window = self.window(place);
+        Ok(Pen {
+            place,
+            area: window.frame().area,
+            state: window.state(),
+        })
+    }
+
+    // The same, of the window at a place.
+    pub fn pen_at(&self, place: usize) -> Pen
+        requires { place < length self.now.windows }
+        ensures place { result.place ≡ place }
+        ensures pen { IsPenAt self.now result }
+    {
+        let window = self.window(place);
+        Pen {
+            place,
+            area: window.frame().area,
+            state: window.state(),
+        }
+    }
+
+    // The window at a place.
+    pub fn window(&self, place: usize) -> &Window
+        requires { place < length self.now.windows }
+        ensures window { result.now ≡ window_at self.now place }
+        ensures placed { Placed self.now place }
+    {
+        &self.windows[place]
+    }
+
+    // Sets what the calls set in the window at a place.
+    pub fn set_state(&mut self, place: usize, state: State)
+        requires here { place < length self.old.windows }
+        requires state { IsState (window_at self.old place).frame state }
+        ensures { self.new ≡ with_window self.old place (record (window_at self.old place) { state = state }) }
+    {
+        self.windows[place].set_state(state);
+    }
+
+    // Marks lines of the window at a place.
+    pub fn mark(&mut self, place: usize, first: u32, end: u32, mark: bool)
+        requires here { place < length self.old.windows }
+        ensures { self.new ≡ with_window self.old place (marked first end mark (window_at self.old place)) }
+    {
+        self.windows[place].mark(first, end, mark);
+    }
+}

@@ -1,0 +1,66 @@
+ghost use Rattle.std.specs.Prelude.{◌≡◌};
+ghost use Rattle.scr_windows.specs.Erasing.{clear_to_eol_call, clear_to_bottom_call, erase_call, clear_call};
+
+use crate::desks::Desk;
+use crate::faults::{Win, WinFault};
+
+impl Desk {
+    /// Erases the places from the cursor to the end of its line.
+    ///
+    /// Refused: NoWindow. X/Open Curses Issue 7, clrtoeol().
+    pub fn clear_to_eol(&mut self, win: Win) -> Result<(), WinFault>
+        ensures { (self.new, result) ≡ clear_to_eol_call self.old win.0 }
+    {
+        let pen = self.pen(win)?;
+        let (row, column) = pen.state.cursor;
+        self.fill_run(
+            pen.place,
+            row,
+            column,
+            pen.area.columns,
+            pen.state.background,
+        );
+        Ok(())
+    }
+
+    /// Erases the places from the cursor to the end of its line, and all lines below.
+    ///
+    /// Refused: NoWindow. X/Open Curses Issue 7, clrtobot().
+    pub fn clear_to_bottom(&mut self, win: Win) -> Result<(), WinFault>
+        ensures { (self.new, result) ≡ clear_to_bottom_call self.old win.0 }
+    {
+        let pen = self.pen(win)?;
+        let (row, column) = pen.state.cursor;
+        self.fill_below(pen.place, row, column, pen.state.background);
+        Ok(())
+    }
+
+    /// Erases all places, and puts the cursor to the first.
+    ///
+    /// Refused: NoWindow. X/Open Curses Issue 7, erase().
+    pub fn erase(&mut self, win: Win) -> Result<(), WinFault>
+        ensures { (self.new, result) ≡ erase_call self.old win.0 }
+    {
+        let pen = self.pen(win)?;
+        let mut state = pen.state;
+        self.fill_rows(pen.place, 0, pen.area.rows, state.background);
+        state.cursor = (0, 0);
+        self.set_state(pen.place, state);
+        Ok(())
+    }
+
+    /// Erases all places, puts the cursor to the first, and wishes that the next update paints the whole screen.
+    ///
+    /// Refused: NoWindow. X/Open Curses Issue 7, clear().
+    pub fn clear(&mut self, win: Win) -> Result<(), WinFault>
+        ensures { (self.new, result) ≡ clear_call self.old win.0 }
+    {
+        let pen = self.pen(win)?;
+        let mut state = pen.state;
+        self.fill_rows(pen.place, 0, pen.area.rows, state.background);
+        state.cursor = (0, 0);
+        state.clear_ok = true;
+        self.set_state(pen.place, state);
+        Ok(())
+    }
+}

@@ -1,0 +1,25 @@
+//! The windows of a curses screen: a desk of surfaces, windows, subwindows and pads.
+#![tactic(auto)]
+
+mod adding;
+mod areas;
+mod changes;
+mod desks;
+mod drawing;
+mod erasing;
+mod faults;
+mod frames;
+mod making;
+mod reading;
+mod rows;
+mod runs;
+mod settings;
+mod subwindows;
+mod surfaces;
+#[cfg(test)]
+mod tests;
+mod touching;
+mod windows;
+
+pub use desks::Desk;
+pub use faults::{Added, Win, WinFault};

@@ -1,0 +1,102 @@
+ghost use Rattle.std.specs.Prelude.{◌≡◌, ◌<◌, length, MatchResult};
+ghost use Rattle.scr_windows.specs.DeskViews.{window_at};
+ghost use Rattle.scr_windows.specs.Reading.{cell_at_answer, cursor_answer, size_answer, origin_answer, line_touched_answer, window_touched_answer, row_answer, row_at};
+
+use crate::desks::Desk;
+use crate::faults::{Win, WinFault};
+use scr_cells::Cell;
+
+impl Desk {
+    /// The cell in a row and a column of a window.
+    ///
+    /// Refused: NoWindow; OutOfWindow for a place outside the window. X/Open Curses Issue 7, inch().
+    pub fn cell_at(&self, win: Win, row: u32, column: u32) -> Result<Cell, WinFault>
+        ensures { result ≡ cell_at_answer self.now win.0 row column }
+    {
+        let pen = self.pen(win)?;
+        if row >= pen.area.rows || column >= pen.area.columns {
+            return Err(WinFault::OutOfWindow);
+        }
+        let cells = self.row_of(pen.place, row);
+        Ok(cells[column as usize])
+    }
+
+    /// The row and the column of the cursor of a window.
+    ///
+    /// Refused: NoWindow. X/Open Curses Issue 7, getyx().
+    pub fn cursor(&self, win: Win) -> Result<(u32, u32), WinFault>
+        ensures { result ≡ cursor_answer self.now win.0 }
+    {
+        Ok(self.pen(win)?.state.cursor)
+    }
+
+    /// How many rows and columns a window has.
+    ///
+    /// Refused: NoWindow. X/Open Curses Issue 7, getmaxyx().
+    pub fn size(&self, win: Win) -> Result<(u32, u32), WinFault>
+        ensures { result ≡ size_answer self.now win.0 }
+    {
+        let pen = self.pen(win)?;
+        Ok((pen.area.rows, pen.area.columns))
+    }
+
+    /// The place on the screen of a window's first row and column.
+    ///
+    /// Refused: NoWindow; IsPad. X/Open Curses Issue 7, getbegyx().
+    pub fn origin(&self, win: Win) -> Result<(u32, u32), WinFault>
+        ensures { result ≡ origin_answer self.now win.0 }
+    {
+        let place = self.place(win)?;
+        match self.window(place).frame().origin {
+            Some(origin) => Ok(origin),
+            None => Err(WinFault::IsPad),
+        }
+    }
+
+    /// Whether a line of a window is touched.
+    ///
+    /// Refused: NoWindow; OutOfWindow. X/Open Curses Issue 7, is_linetouched().
+    pub fn line_touched(&self, win: Win, row: u32) -> Result<bool, WinFault>
+        ensures { result ≡ line_touched_answer self.now win.0 row }
+    {
+        let pen = self.pen(win)?;
+        if row >= pen.area.rows {
+            return Err(WinFault::OutOfWindow);
+        }
+        Ok(self.window(pen.place).is_touched(row))
+    }
+
+    /// Whether some line of a window is touched.
+    ///
+    /// Refused: NoWindow. X/Open Curses Issue 7, is_wintouched().
+    pub fn window_touched(&self, win: Win) -> Result<bool, WinFault>
+        ensures { result ≡ window_touched_answer self.now win.0 }
+    {
+        let place = self.place(win)?;
+        Ok(self.window(place).is_any_touched())
+    }
+
+    /// The cells of a row of a window, lent.
+    ///
+    /// Refused: NoWindow; OutOfWindow.
+    pub fn line(&self, win: Win, row: u32) -> Result<&[Cell], WinFault>
+        ensures { MatchResult result (λ cells. row_answer self.now win.0 row ≡ Ok cells.now) (λ fault. row_answer self.now win.0 row ≡ Err fault) }
+    {
+        let pen = self.pen(win)?;
+        if row >= pen.area.rows {
+            return Err(WinFault::OutOfWindow);
+        }
+        Ok(self.row_of(pen.place, row))
+    }
+
+    // The cells of a row of the window at a place among the windows.
+    fn row_of(&self, place: usize, row: u32) -> &[Cell]
+        requires here { place < length self.now.windows }
+        requires row { row < (window_at self.now place).frame.area.rows }
+        ensures cells { result.now ≡ row_at self.now place row }
+        ensures width { length result.now ≡ (window_at self.now place).frame.area.columns }
+    {
+        let frame = self.windows[place].frame();
+        self.surfaces[frame.surface].line(frame.area, row)
+    }
+}

@@ -1,0 +1,50 @@
+ghost use Rattle.std.specs.Prelude.{◌≡◌, true, false};
+ghost use Rattle.scr_windows.specs.Touching.{touch_all_call, touch_lines_call};
+
+use crate::desks::Desk;
+use crate::faults::{Win, WinFault};
+
+impl Desk {
+    /// Touches all lines of a window.
+    ///
+    /// Refused: NoWindow. X/Open Curses Issue 7, touchwin().
+    pub fn touch_window(&mut self, win: Win) -> Result<(), WinFault>
+        ensures { (self.new, result) ≡ touch_all_call self.old win.0 true }
+    {
+        let pen = self.pen(win)?;
+        self.mark(pen.place, 0, pen.area.rows, true);
+        Ok(())
+    }
+
+    /// Makes all lines of a window untouched.
+    ///
+    /// Refused: NoWindow. X/Open Curses Issue 7, untouchwin().
+    pub fn untouch(&mut self, win: Win) -> Result<(), WinFault>
+        ensures { (self.new, result) ≡ touch_all_call self.old win.0 false }
+    {
+        let pen = self.pen(win)?;
+        self.mark(pen.place, 0, pen.area.rows, false);
+        Ok(())
+    }
+
+    /// Makes n lines of a window from one on touched, or untouched.
+    ///
+    /// Refused: NoWindow; OutOfWindow where the window has fewer than `first + n` lines. X/Open Curses Issue 7,
+    /// wtouchln().
+    pub fn touch_lines(
+        &mut self,
+        win: Win,
+        first: u32,
+        n: u32,
+        changed: bool,
+    ) -> Result<(), WinFault>
+        ensures { (self.new, result) ≡ touch_lines_call self.old win.0 first n changed }
+    {
+        let pen = self.pen(win)?;
+        if first > pen.area.rows || n > pen.area.rows - first {
+            return Err(WinFault::OutOfWindow);
+        }
+        self.mark(pen.place, first, first + n, changed);
+        Ok(())
+    }
+}

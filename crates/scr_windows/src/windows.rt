@@ -1,0 +1,127 @@
+ghost use Rattle.std.specs.Prelude.{◌≡◌, ◌<◌, ◌==◌, false, length, slice_index_or, MatchResult, ◌≤◌};
+ghost use Rattle.std.specs.List.{list_any, position};
+ghost use Rattle.scr_windows.specs.DeskViews.{WindowView, fresh_window};
+ghost use Rattle.scr_windows.specs.declared.faults.WinFault.TheVariants.{NoMemory};
+ghost use Rattle.scr_windows.specs.Calls.{marked, marked_lines};
+
+use crate::faults::WinFault;
+use crate::frames::{Frame, State};
+use scr_cells::{Attrs, Cell};
+use std::alloc::Global;
+use std::marker::Model;
+
+/// A window: a part of a surface with a cursor and settings of its own.
+#[derive(Drop)]
+pub struct Window {
+    frame: Frame,
+    state: State,
+    touched: Vec<bool>,
+}
+
+impl Model for Window {
+    ghost use Rattle.scr_windows.specs.DeskViews.{WindowView};
+
+    ghost Value = { WindowView };
+
+    ghost view = { λ a. record { frame = a.frame; state = a.state; touched = a.touched.items } };
+}
+
+impl Window {
+    /// A window before anything was done with it. Refused for want of memory alone.
+    pub fn fresh(
+        alloc: Global,
+        frame: Frame,
+        attrs: Attrs,
+        background: Cell,
+    ) -> Result<Window, WinFault>
+        requires { 1 ≤ frame.area.rows }
+        ensures { MatchResult result (λ window. window ≡ fresh_window frame attrs background) (λ fault. fault ≡ NoMemory) }
+    {
+        let rows = frame.area.rows;
+        let mut touched = Vec::with_capacity(alloc, rows as usize)?;
+        touched.resize(rows as usize, true)?;
+        let state = State {
+            cursor: (0, 0),
+            attrs,
+            background,
+            region: (0, rows - 1),
+            scroll_ok: false,
+            clear_ok: false,
+            leave_ok: false,
+        };
+        Ok(Window {
+            frame,
+            state,
+            touched,
+        })
+    }
+
+    /// The frame.
+    pub fn frame(&self) -> Frame
+        ensures { result ≡ self.now.frame }
+    {
+        self.frame
+    }
+
+    /// What the calls set.
+    pub fn state(&self) -> State
+        ensures { result ≡ self.now.state }
+    {
+        self.state
+    }
+
+    /// Sets what the calls set.
+    pub fn set_state(&mut self, state: State)
+        ensures { self.new ≡ record self.old { state = state } }
+    {
+        self.state = state;
+    }
+
+    /// Whether a line is touched.
+    pub fn is_touched(&self, row: u32) -> bool
+        requires { row < length self.now.touched }
+        ensures { result ≡ slice_index_or self.now.touched row false }
+    {
+        self.touched[row as usize]
+    }
+
+    /// Whether some line is touched.
+    pub fn is_any_touched(&self) -> bool
+        ensures { result ≡ list_any (λ mark. mark) self.now.touched }
+    {
+        is_any(&self.touched)
+    }
+
+    /// Marks the lines from one up to another as touched, or as not touched.
+    pub fn mark(&mut self, first: u32, end: u32, mark: bool)
+        ensures { self.new ≡ marked first end mark self.old }
+    {
+        mark_lines(&mut self.touched, first as usize, end as usize, mark);
+    }
+}
+
+/// Where the window of a number stands.
+pub fn place_of_number(windows: &[Window], number: u32) -> Option<usize>
+    ensures { result ≡ position (λ (w : WindowView). w.frame.number == number) windows.now }
+{
+    windows
+        .iter()
+        .position(|window| window.frame().number == number)
+}
+
+// Whether some mark is set.
+fn is_any(marks: &[bool]) -> bool
+    ensures { result ≡ list_any (λ mark. mark) marks.now }
+{
+    marks.iter().any(|mark| *mark)
+}
+
+// Marks the lines from one up to another in a way.
+fn mark_lines(touched: &mut [bool], first: usize, end: usize, mark: bool)
+    ensures { touched.new ≡ marked_lines first end mark touched.old }
+{
+    let end = end.min(touched.len());
+    for line in first.min(end)..end {
+        touched[line] = mark;
+    }
+}
