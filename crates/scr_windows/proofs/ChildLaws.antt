@@ -1,5 +1,8 @@
 -- A subwindow more keeps a desk one.
-use Rattle.std.proofs.Common.{◌≡◌, ◌⊎◌, inl, inr, ℕ, ◌+◌, ◌-◌, ◌<◌, ◌≤◌, sym, subst, ◌∙◌, ap, refl, arith, List, [], ◌∷◌, ◌++◌, length, map, get_or, Option, None, Some, Bool, true, false, cond, leb, ◌==◌, ◌&&◌}
+use Rattle.std.proofs.Common.{◌≡◌, ◌⊎◌, inl, inr, ℕ, ◌+◌, ◌-◌, ◌*◌, ◌<◌, ◌≤◌, sym, subst, ◌∙◌, ap, refl, arith, List, [], ◌∷◌, ◌++◌, length, map, get_or, Option, None, Some, Bool, true, false, cond, leb, ◌==◌, ◌&&◌}
+use Rattle.std.proofs.lemmas.Nat.{mul-le}
+use Rattle.scr_cells.specs.CellViews.{blank_cell}
+use Rattle.scr_cells.specs.PictureViews.{IsSize}
 use Rattle.std.specs.Prelude.{MatchOption}
 use Rattle.std.proofs.lemmas.List.Elements.{All-push}
 use Rattle.std.proofs.lemmas.List.{get_or-map, map-append, length-append}
@@ -9,10 +12,11 @@ use Rattle.std.proofs.lemmas.Bool.Decides.{nat_tests}
 use Rattle.scr_windows.specs.declared.areas.Area.{Area}
 use Rattle.scr_windows.specs.declared.frames.Frame.{Frame}
 use Rattle.scr_windows.specs.declared.frames.State.{State}
-use Rattle.scr_windows.specs.DeskViews.{WindowView, DeskView, IsWindow, IsPlaced, IsChild, AreFrames, IsDesk, Placed, window_at, no_window, no_frame, size_of, fresh_window}
-use Rattle.scr_windows.specs.Making.{IsChildPlace, child_frame, with_child, part_of}
+use Rattle.scr_windows.specs.SurfaceViews.{SurfaceView, IsSurface, blank_surface}
+use Rattle.scr_windows.specs.DeskViews.{no_attributes, WindowView, DeskView, IsWindow, IsPlaced, IsChild, AreFrames, IsDesk, Placed, window_at, no_window, no_frame, size_of, fresh_window}
+use Rattle.scr_windows.specs.Making.{IsRootPlace, with_root, root_frame, screen_area, IsChildPlace, child_frame, with_child, part_of}
 use Rattle.scr_windows.proofs.DeskLaws.{Reads, reads_window, here_too, placed, length_map, frame_of}
-use Rattle.scr_windows.proofs.MakingLaws.{fresh_is_window}
+use Rattle.scr_windows.proofs.MakingLaws.{fresh_is_window, blank_is_surface, screen_is_size}
 
 less_or_last : (k n : ℕ) → k < n + 1 → (k < n) ⊎ (k ≡ n)
 less_or_last k n h = grind arith
@@ -141,3 +145,95 @@ derived_place d i frame origin part rows columns row column p frame_is origin_is
       right = omega (arith, a.1, a.5);
       on_screen = (omega (arith, on.0, a.4), omega (arith, on.1, a.5));
     }
+
+-- the same of a pad
+pub divided_place : (d : DeskView) (i : ℕ) (frame : Frame) (part : Area) (rows columns row column : ℕ) → frame ≡ (window_at d i).frame
+    → part_of frame.area rows columns row column ≡ Some part → IsChildPlace d i part None
+divided_place d i frame part rows columns row column frame_is part_is =
+    let a = part_tells frame.area part rows columns row column part_is in
+    let tops : frame.area.top ≡ (window_at d i).frame.area.top = ap (λ (f : Frame). f.area.top) frame_is in
+    let lefts : frame.area.left ≡ (window_at d i).frame.area.left = ap (λ (f : Frame). f.area.left) frame_is in
+    let heights : frame.area.rows ≡ (window_at d i).frame.area.rows = ap (λ (f : Frame). f.area.rows) frame_is in
+    let widths : frame.area.columns ≡ (window_at d i).frame.area.columns = ap (λ (f : Frame). f.area.columns) frame_is in
+    record {
+      some_rows = a.2;
+      some_columns = a.3;
+      above = omega (arith, a.0);
+      below = omega (arith, a.0, a.4);
+      left = omega (arith, a.1);
+      right = omega (arith, a.1, a.5);
+      on_screen = tt;
+    }
+
+-- a surface more: each window stays on its own
+placed_still : (rows columns : ℕ) (sizes : List (ℕ × ℕ)) (size : ℕ × ℕ) (frame : Frame) → IsPlaced rows columns sizes frame → IsPlaced rows columns (sizes ++ size ∷ []) frame
+placed_still rows columns sizes size frame p =
+    let same : get_or (sizes ++ size ∷ []) frame.surface (0, 0) ≡ get_or sizes frame.surface (0, 0) = get_or-append sizes (size ∷ []) (0, 0) frame.surface p.surface in
+    record {
+      surface = omega (arith, p.surface, length-append sizes (size ∷ []));
+      some_rows = p.some_rows;
+      some_columns = p.some_columns;
+      below = omega (arith, p.below, ap (λ (s : ℕ × ℕ). s.0) same);
+      right = omega (arith, p.right, ap (λ (s : ℕ × ℕ). s.1) same);
+      origin = p.origin;
+    }
+
+pub root_is_desk : (d : DeskView) (rows columns : ℕ) (origin : Option (ℕ × ℕ)) → IsDesk d → length d.windows < 1000 → d.made < 4294967295 → IsRootPlace d rows columns origin → IsDesk (with_root d rows columns origin)
+root_is_desk d rows columns origin h few made on =
+    let frame : Frame = root_frame d rows columns origin in
+    let frames : List Frame = map frame_of d.windows in
+    let many : length frames ≡ length d.windows = length_map frame_of d.windows in
+    let sizes : List (ℕ × ℕ) = map size_of d.surfaces in
+    let all : length sizes ≡ length d.surfaces = length_map size_of d.surfaces in
+    let size : ℕ × ℕ = (rows, columns) in
+    let last : get_or (sizes ++ size ∷ []) (length d.surfaces) (0, 0) ≡ size = ap (λ k. get_or (sizes ++ size ∷ []) k (0, 0)) (sym all) ∙ get_or-append_seam sizes size [] (0, 0) in
+    let still : AreFrames d.rows d.columns (sizes ++ size ∷ []) d.made frames = record {
+      few = h.frames.few;
+      placed = λ k e l. placed_still d.rows d.columns sizes size (get_or frames k e) (h.frames.placed k e l);
+      numbers = h.frames.numbers;
+      ascending = h.frames.ascending;
+      parents = h.frames.parents;
+    } in
+    record {
+      size = h.size;
+      made = omega arith;
+      surfaces = All-push IsSurface d.surfaces (blank_surface rows columns) h.surfaces (blank_is_surface rows columns on.size);
+      windows = All-push IsWindow d.windows _ h.windows (fresh_is_window frame no_attributes blank_cell on.size.some_rows on.size.some_columns);
+      frames = (let P : List Frame → Type 0 = λ fs. AreFrames d.rows d.columns (map size_of (d.surfaces ++ blank_surface rows columns ∷ [])) (d.made + 1) fs in
+          let Q : List (ℕ × ℕ) → Type 0 = λ zs. AreFrames d.rows d.columns zs (d.made + 1) (frames ++ frame ∷ []) in
+          subst P (sym (map-append frame_of d.windows _)) (subst Q (sym (map-append size_of d.surfaces _)) (frames_more d.rows d.columns (sizes ++ size ∷ []) d.made frames frame still (omega (arith, many))
+          (record {
+            surface = omega (arith, all, length-append sizes (size ∷ []));
+            some_rows = on.size.some_rows;
+            some_columns = on.size.some_columns;
+            below = omega (arith, ap (λ (s : ℕ × ℕ). s.0) last);
+            right = omega (arith, ap (λ (s : ℕ × ℕ). s.1) last);
+            origin = on.on_screen;
+          })
+          refl tt)));
+    }
+
+pub root_added : (d old : DeskView) → d ≡ old → (rows columns : ℕ) (origin : Option (ℕ × ℕ)) (surface : SurfaceView) (new : WindowView) (ss : List SurfaceView) (ws : List WindowView) → IsDesk d → IsRootPlace old rows columns origin
+    → surface ≡ blank_surface rows columns → new ≡ fresh_window (root_frame d rows columns origin) no_attributes blank_cell
+    → ss ≡ d.surfaces ++ surface ∷ [] → ws ≡ d.windows ++ new ∷ [] → length d.windows < 1000 → d.made < 4294967295 → IsDesk (record d { surfaces = ss; windows = ws; made = d.made + 1 })
+root_added d old is rows columns origin surface new ss ws h on surface_is new_is ss_is ws_is few made =
+    let I : DeskView → Type 0 = λ v. IsRootPlace v rows columns origin in
+    let whole : record d { surfaces = ss; windows = ws; made = d.made + 1 } ≡ with_root d rows columns origin
+    = (λ j. record d { surfaces = (ss_is ∙ ap (λ v. d.surfaces ++ v ∷ []) surface_is) j; windows = (ws_is ∙ ap (λ v. d.windows ++ v ∷ []) new_is) j; made = d.made + 1 }) in
+    let P : DeskView → Type 0 = λ v. IsDesk v in
+    subst P (sym whole) (root_is_desk d rows columns origin h few made (subst I (sym is) on))
+
+-- a part of the screen
+pub screen_place : (d : DeskView) (screen part : Area) (rows columns row column : ℕ) → IsSize d.rows d.columns → screen ≡ screen_area d → part_of screen rows columns row column ≡ Some part → IsRootPlace d part.rows part.columns (Some (row, column))
+screen_place d screen part rows columns row column size screen_is part_is =
+    let a = part_tells screen part rows columns row column part_is in
+    let heights : screen.rows ≡ d.rows = ap (λ (s : Area). s.rows) screen_is in
+    let widths : screen.columns ≡ d.columns = ap (λ (s : Area). s.columns) screen_is in
+    let fits : IsSize part.rows part.columns = record { some_rows = a.2; some_columns = a.3; few_rows = omega (arith, a.4, size.few_rows); few_columns = omega (arith, a.5, size.few_columns) } in
+    record { size = screen_is_size part.rows part.columns fits; on_screen = (omega (arith, a.4), omega (arith, a.5)) }
+
+pub pad_place : (d : DeskView) (rows columns : ℕ) → 1 ≤ rows → 1 ≤ columns → rows * columns ≤ 1000000 → IsRootPlace d rows columns None
+pad_place d rows columns h k l =
+    let tall : rows * 1 ≤ rows * columns = mul-le rows 1 rows columns (omega arith) k in
+    let wide : 1 * columns ≤ rows * columns = mul-le 1 columns rows columns h (omega arith) in
+    record { size = record { some_rows = h; some_columns = k; few_rows = omega (arith, tall); few_columns = omega (arith, wide); few_places = l }; on_screen = tt }

@@ -1,11 +1,13 @@
--- What the calls that make subwindows do. X/Open Curses Issue 7, derwin(), subwin().
-use Rattle.std.specs.Prelude.{ℕ, Bool, [], ◌∷◌, ◌++◌, length, Option, None, Some, Result, Ok, Err, IsOk, ◌≡◌, ◌⊎◌, ◌+◌, ◌-◌, ◌≤◌, ◌==◌, ◌&&◌, ◌||◌, leb, MatchOption, if◌then◌else◌}
+-- What the calls that make windows do. X/Open Curses Issue 7, newwin(), derwin(), subwin(), newpad(), subpad().
+use Rattle.std.specs.Prelude.{ℕ, Bool, [], ◌∷◌, ◌++◌, length, Option, None, Some, Result, Ok, Err, IsOk, ◌≡◌, ◌⊎◌, ◌+◌, ◌-◌, ◌≤◌, ◌==◌, ◌&&◌, ◌||◌, ◌*◌, leb, ltb, MatchOption, if◌then◌else◌}
 use Rattle.scr_windows.specs.declared.areas.Area.{Area}
 use Rattle.scr_windows.specs.declared.frames.Frame.{Frame}
 use Rattle.scr_windows.specs.declared.faults.Win.{Win}
 use Rattle.scr_windows.specs.declared.faults.WinFault.{WinFault}
-use Rattle.scr_windows.specs.declared.faults.WinFault.TheVariants.{IsPad, NotInParent, TooMany, NoMemory}
-use Rattle.scr_windows.specs.DeskViews.{DeskView, fresh_window, window_at}
+use Rattle.scr_windows.specs.declared.faults.WinFault.TheVariants.{IsPad, NotPad, OutOfWindow, OffScreen, NotInParent, TooBig, TooMany, NoMemory}
+use Rattle.scr_windows.specs.DeskViews.{DeskView, fresh_window, no_attributes, window_at}
+use Rattle.scr_cells.specs.CellViews.{blank_cell}
+use Rattle.scr_windows.specs.SurfaceViews.{IsSurfaceSize, blank_surface}
 use Rattle.scr_windows.specs.Calls.{place_of, on_window}
 
 -- a call that takes memory does what it should, or memory ran out where nothing else was refused, and the desk stays
@@ -75,3 +77,51 @@ pub record IsChildPlace (desk : DeskView) (i : ℕ) (area : Area) (origin : Opti
   pub left : (window_at desk i).frame.area.left ≤ area.left
   pub right : area.left + area.columns ≤ (window_at desk i).frame.area.left + (window_at desk i).frame.area.columns
   pub on_screen : MatchOption origin (Unit {0}) (λ place. (place.0 + area.rows ≤ desk.rows) × (place.1 + area.columns ≤ desk.columns))
+
+-- derwin() of a pad
+abbrev pub pad_divided : DeskView → ℕ → Option (ℕ × ℕ) → ℕ → ℕ → ℕ → ℕ → DeskView × Result Win WinFault
+pad_divided desk i None rows columns row column = child_in desk i (part_of (window_at desk i).frame.area rows columns row column) None
+pad_divided desk i (Some origin) rows columns row column = (desk, Err NotPad)
+
+abbrev pub sub_pad_call : DeskView → ℕ → ℕ → ℕ → ℕ → ℕ → DeskView × Result Win WinFault
+sub_pad_call desk win rows columns row column = on_window desk (place_of desk win) (λ i. pad_divided desk i (window_at desk i).frame.origin rows columns row column)
+
+-- the frame of the next window that has a surface of its own
+abbrev pub root_frame : DeskView → ℕ → ℕ → Option (ℕ × ℕ) → Frame
+root_frame desk rows columns origin =
+    record { number = desk.made + 1; surface = length desk.surfaces; area = record { top = 0; left = 0; rows = rows; columns = columns }; parent = None; origin = origin }
+
+-- the desk with a blank window on a surface of its own
+abbrev pub with_root : DeskView → ℕ → ℕ → Option (ℕ × ℕ) → DeskView
+with_root desk rows columns origin =
+    record desk {
+      surfaces = desk.surfaces ++ blank_surface rows columns ∷ [];
+      windows = desk.windows ++ fresh_window (root_frame desk rows columns origin) no_attributes blank_cell ∷ [];
+      made = desk.made + 1;
+    }
+
+abbrev pub root_made : DeskView → ℕ → ℕ → Option (ℕ × ℕ) → DeskView × Result Win WinFault
+root_made desk rows columns origin = if is_full desk then (desk, Err TooMany) else (with_root desk rows columns origin, Ok (record { 0 = desk.made + 1 }))
+
+-- newwin(): a part of the screen
+abbrev pub screen_area : DeskView → Area
+screen_area desk = record { top = 0; left = 0; rows = desk.rows; columns = desk.columns }
+
+abbrev pub window_in : DeskView → Option Area → ℕ → ℕ → DeskView × Result Win WinFault
+window_in desk None row column = (desk, Err OffScreen)
+window_in desk (Some area) row column = root_made desk area.rows area.columns (Some (row, column))
+
+abbrev pub new_window_call : DeskView → ℕ → ℕ → ℕ → ℕ → DeskView × Result Win WinFault
+new_window_call desk rows columns row column = window_in desk (part_of (screen_area desk) rows columns row column) row column
+
+-- newpad()
+abbrev pub new_pad_call : DeskView → ℕ → ℕ → DeskView × Result Win WinFault
+new_pad_call desk rows columns =
+    if rows == 0 || columns == 0 then (desk, Err OutOfWindow)
+    else if ltb 1000000 (rows * columns) then (desk, Err TooBig)
+    else root_made desk rows columns None
+
+-- where a window with a surface of its own stands on the screen
+pub record IsRootPlace (desk : DeskView) (rows columns : ℕ) (origin : Option (ℕ × ℕ)) : Type 0 where
+  pub size : IsSurfaceSize rows columns
+  pub on_screen : MatchOption origin (Unit {0}) (λ place. (place.0 + rows ≤ desk.rows) × (place.1 + columns ≤ desk.columns))

@@ -1,6 +1,6 @@
 ghost use Rattle.std.specs.Prelude.{◌≡◌, ◌+◌, ◌<◌, ◌≤◌, length};
 ghost use Rattle.scr_windows.specs.DeskViews.{window_at};
-ghost use Rattle.scr_windows.specs.Making.{Allocated, IsChildPlace, part_of, child_made, derived, derive_call, sub_call};
+ghost use Rattle.scr_windows.specs.Making.{Allocated, IsChildPlace, part_of, child_made, derived, derive_call, sub_call, sub_pad_call};
 
 use crate::areas::Area;
 use crate::desks::Desk;
@@ -9,8 +9,8 @@ use crate::frames::Frame;
 use crate::windows::Window;
 use std::alloc::Global;
 
-// How many windows there may be.
-const MOST: usize = 1000;
+/// How many windows there may be.
+pub const MOST: usize = 1000;
 
 impl Desk {
     /// Makes a subwindow at a row and a column of its parent; 0 rows or columns are those to the parent's
@@ -56,6 +56,32 @@ impl Desk {
             return Err(WinFault::NotInParent);
         }
         self.derive_at(alloc, place, rows, columns, row - top, column - left)
+    }
+
+    /// Makes a subwindow of a pad as `derive` does.
+    ///
+    /// Refused: NoWindow; NotPad; NotInParent where it is not wholly in the parent, or empty; TooMany;
+    /// NoMemory. X/Open Curses Issue 7, subpad().
+    pub fn sub_pad(
+        &mut self,
+        alloc: Global,
+        win: Win,
+        rows: u32,
+        columns: u32,
+        row: u32,
+        column: u32,
+    ) -> Result<Win, WinFault>
+        ensures { Allocated self.old (sub_pad_call self.old win.0 rows columns row column) (self.new, result) }
+    {
+        let place = self.place(win)?;
+        let frame = self.window(place).frame();
+        if frame.origin.is_some() {
+            return Err(WinFault::NotPad);
+        }
+        let Some(area) = part_of(frame.area, rows, columns, row, column) else {
+            return Err(WinFault::NotInParent);
+        };
+        self.add_child(alloc, place, area, None)
     }
 
     // Makes a subwindow of the window at a place, at a row and a column of it.
@@ -116,7 +142,7 @@ impl Desk {
 
 // A part of an area, from a row and a column of it on.
 #[tactic(auto, unfolding(crate::specs::Making::part_of))]
-fn part_of(area: Area, rows: u32, columns: u32, row: u32, column: u32) -> Option<Area>
+pub fn part_of(area: Area, rows: u32, columns: u32, row: u32, column: u32) -> Option<Area>
     requires below { area.top + area.rows ≤ 1000000 }
     requires right { area.left + area.columns ≤ 1000000 }
     ensures { result ≡ part_of area rows columns row column }

@@ -20,13 +20,13 @@ fn drawn(alloc: Global, rows: u32, columns: u32, text: &str) -> Result<Desk, Fai
 
 // Whether a window holds these bytes, row after row.
 fn holds(desk: &Desk, win: Win, rows: &[&[u8]]) -> Result<bool, Fail> {
-    let mut row = 0;
+    let mut row: u32 = 0;
     for text in rows {
         let line = desk.line(win, row)?;
         if !line.iter().map(|cell| cell.byte()).eq(text.iter().copied()) {
             return Ok(false);
         }
-        row += 1;
+        row = row.saturating_add(1);
     }
     Ok(true)
 }
@@ -429,5 +429,102 @@ fn subwindows_are_refused(rt: HostRuntime) -> Result<(), Fail> {
         Err(WinFault::NotInParent)
     );
     assert_eq!(rt; desk.sub(alloc, inner, 0, 0, 0, 2), Ok(Win(2)));
+    Ok(())
+}
+
+#[test]
+fn windows_have_surfaces_of_their_own(rt: HostRuntime) -> Result<(), Fail> {
+    let mut desk = drawn(rt.alloc(), 1, 4, "")?;
+    assert_eq!(rt; desk.new_window(rt.alloc(), 1, 4, 0, 0), Ok(Win(1)));
+    assert_eq!(rt; desk.new_window(rt.alloc(), 0, 2, 0, 1), Ok(Win(2)));
+    let _ = desk.add_text(Win(1), b"aaaa")?;
+    let _ = desk.add_text(Win(2), b"bb")?;
+    assert!(rt; holds(&desk, FIRST, &[b"    "])?);
+    assert!(rt; holds(&desk, Win(1), &[b"aaaa"])?);
+    assert!(rt; holds(&desk, Win(2), &[b"bb"])?);
+    assert_eq!(rt; desk.origin(Win(2)), Ok((0, 1)));
+    assert_eq!(rt; desk.window_touched(FIRST), Ok(false));
+    Ok(())
+}
+
+#[test]
+fn windows_are_refused_off_the_screen(rt: HostRuntime) -> Result<(), Fail> {
+    let mut desk = drawn(rt.alloc(), 1, 4, "")?;
+    let alloc = rt.alloc();
+    let most = 4_294_967_295;
+    assert_eq!(rt;
+        desk.new_window(alloc, 2, 1, 0, 0),
+        Err(WinFault::OffScreen)
+    );
+    assert_eq!(rt;
+        desk.new_window(alloc, 0, 0, 0, 4),
+        Err(WinFault::OffScreen)
+    );
+    assert_eq!(rt;
+        desk.new_window(alloc, most, most, most, most),
+        Err(WinFault::OffScreen)
+    );
+    assert_eq!(rt; desk.new_window(alloc, 0, 0, 0, 3), Ok(Win(1)));
+    Ok(())
+}
+
+#[test]
+fn pads_have_a_million_cells_at_most(rt: HostRuntime) -> Result<(), Fail> {
+    let mut desk = drawn(rt.alloc(), 1, 4, "")?;
+    let alloc = rt.alloc();
+    let most = 4_294_967_295;
+    assert_eq!(rt; desk.new_pad(alloc, 1001, 1000), Err(WinFault::TooBig));
+    assert_eq!(rt; desk.new_pad(alloc, most, most), Err(WinFault::TooBig));
+    assert_eq!(rt; desk.new_pad(alloc, 0, most), Err(WinFault::OutOfWindow));
+    assert_eq!(rt; desk.new_pad(alloc, 1000, 1000), Ok(Win(1)));
+    assert_eq!(rt; desk.size(Win(1)), Ok((1000, 1000)));
+    assert_eq!(rt; desk.origin(Win(1)), Err(WinFault::IsPad));
+    Ok(())
+}
+
+#[test]
+fn pads_have_subpads(rt: HostRuntime) -> Result<(), Fail> {
+    let mut desk = drawn(rt.alloc(), 1, 4, "")?;
+    let alloc = rt.alloc();
+    let pad = desk.new_pad(alloc, 3, 2)?;
+    let _ = desk.add_text(pad, b"abcdef")?;
+    assert_eq!(rt; desk.derive(alloc, pad, 1, 1, 0, 0), Err(WinFault::IsPad));
+    assert_eq!(rt; desk.sub(alloc, pad, 9, 9, 9, 9), Err(WinFault::IsPad));
+    assert_eq!(rt;
+        desk.sub_pad(alloc, FIRST, 9, 9, 9, 9),
+        Err(WinFault::NotPad)
+    );
+    assert_eq!(rt;
+        desk.sub_pad(alloc, pad, 3, 1, 1, 1),
+        Err(WinFault::NotInParent)
+    );
+    assert_eq!(rt;
+        desk.sub_pad(alloc, GONE, 3, 1, 1, 1),
+        Err(WinFault::NoWindow)
+    );
+    let sub = desk.sub_pad(alloc, pad, 0, 0, 1, 1)?;
+    assert!(rt; holds(&desk, sub, &[b"d", b"f"])?);
+    Ok(())
+}
+
+#[test]
+fn a_thousand_windows_are_the_most(rt: HostRuntime) -> Result<(), Fail> {
+    let mut desk = drawn(rt.alloc(), 1, 1, "")?;
+    for _ in 0..999 {
+        let _ = desk.derive(rt.alloc(), FIRST, 1, 1, 0, 0)?;
+    }
+    assert_eq!(rt;
+        desk.derive(rt.alloc(), FIRST, 1, 1, 0, 0),
+        Err(WinFault::TooMany)
+    );
+    assert_eq!(rt;
+        desk.new_window(rt.alloc(), 1, 1, 0, 0),
+        Err(WinFault::TooMany)
+    );
+    assert_eq!(rt; desk.new_pad(rt.alloc(), 1, 1), Err(WinFault::TooMany));
+    assert_eq!(rt;
+        desk.derive(rt.alloc(), FIRST, 2, 1, 0, 0),
+        Err(WinFault::NotInParent)
+    );
     Ok(())
 }
