@@ -14,4 +14,6 @@ pub use names::{are_names, first_name};
 pub use table::{Kind, Slot, find_name, name_of, names_stand_once};
 
 #[cfg(test)]
+mod table_tests;
+#[cfg(test)]
 mod tests;
