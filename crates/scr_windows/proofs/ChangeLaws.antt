@@ -1,10 +1,10 @@
 -- Changes of an area, row after row.
-use Rattle.std.proofs.Common.{◌≡◌, ℕ, ◌+◌, ◌-◌, ◌<◌, ◌≤◌, sym, ◌∙◌, refl, arith, subst, cond, ltb, leb, ◌==◌, ◌&&◌, ◌||◌, if◌then◌else◌}
+use Rattle.std.proofs.Common.{ap, ◌≡◌, ℕ, ◌+◌, ◌-◌, ◌<◌, ◌≤◌, sym, ◌∙◌, refl, arith, subst, cond, ltb, leb, ◌==◌, ◌&&◌, ◌||◌, if◌then◌else◌}
 use Rattle.std.proofs.lemmas.Bool.Decides.{nat_tests}
 use Rattle.scr_cells.specs.CellViews.{CellView}
 use Rattle.scr_windows.specs.declared.areas.Area.{Area}
 use Rattle.scr_windows.specs.SurfaceViews.{SurfaceView, IsSurface, IsPart, cell_of, inside_at}
-use Rattle.scr_windows.specs.Formulas.{run_put, rows_put, below_put, row_opened, row_closed}
+use Rattle.scr_windows.specs.Formulas.{run_put, rows_put, below_put, column_put, exchanged, all_exchanged, row_opened, row_closed}
 use Rattle.scr_windows.specs.Runs.{RunIs, Changes}
 use Rattle.scr_windows.proofs.RunLaws.{then_run, unchanged}
 
@@ -173,3 +173,56 @@ below_all old new area y x cell h = record {
   where
     all_case : (at : ℕ → ℕ → CellView) (y x rows r c : ℕ) (cell : CellView) → r < rows → below_partly y x rows cell at r c ≡ below_put y x cell at r c
     all_case at y x rows r c cell b = grind (arith, nat_tests)
+
+pub column_begun : (old : SurfaceView) (area : Area) (column first : ℕ) (cell : CellView) → IsSurface old → Changes old old area (column_put column first first cell)
+column_begun old area column first cell surface = unchanged old area _ surface (λ r c b k. none (inside_at old area) column first cell r c)
+  where
+    none : (at : ℕ → ℕ → CellView) (column first : ℕ) (cell : CellView) (r c : ℕ) → at r c ≡ column_put column first first cell at r c
+    none at column first cell r c = grind (arith, nat_tests)
+
+pub column_more : (old mid new : SurfaceView) (area : Area) (column first row : ℕ) (cell : CellView) → IsPart old area → column < area.columns → first ≤ row → row < area.rows
+    → Changes old mid area (column_put column first row cell) → RunIs mid new (area.top + row) (area.left + column) (area.left + column + 1) (λ _. cell)
+    → Changes old new area (column_put column first (row + 1) cell)
+column_more old mid new area column first row cell part column_in le row_in h run =
+    let end : area.left + column + 1 ≡ area.left + (column + 1) = omega arith in
+    then_run old mid new area _ _ row column (column + 1) (λ _. cell) part h (run_at _ _ refl end run) row_in (omega arith) (λ r c b k. one (inside_at old area) column first row cell r c le)
+  where
+    one : (at : ℕ → ℕ → CellView) (column first row : ℕ) (cell : CellView) (r c : ℕ) → first ≤ row
+        → cond (r == row && leb column c && ltb c (column + 1)) cell (column_put column first row cell at r c) ≡ column_put column first (row + 1) cell at r c
+    one at column first row cell r c le = grind (arith, nat_tests)
+
+-- the rows up to one are exchanged, and the others not yet
+abbrev pub partly_exchanged : ℕ → CellView → CellView → (ℕ → ℕ → CellView) → ℕ → ℕ → CellView
+partly_exchanged row old new at r c = if ltb r row then exchanged old new (at r c) else at r c
+
+pub exchange_begun : (before : SurfaceView) (area : Area) (old new : CellView) → IsSurface before → Changes before before area (partly_exchanged 0 old new)
+exchange_begun before area old new surface = unchanged before area _ surface (λ r c b k. none (inside_at before area r c) (exchanged old new (inside_at before area r c)) r)
+  where
+    none : (cell other : CellView) (r : ℕ) → cell ≡ cond (ltb r 0) other cell
+    none cell other r = grind (arith, nat_tests)
+
+pub exchange_more : (before mid after : SurfaceView) (area : Area) (row : ℕ) (old new : CellView) → IsPart before area → row < area.rows → Changes before mid area (partly_exchanged row old new)
+    → RunIs mid after (area.top + row) area.left (area.left + area.columns) (λ c. exchanged old new (cell_of mid (area.top + row) c)) → Changes before after area (partly_exchanged (row + 1) old new)
+exchange_more before mid after area row old new part row_in h run =
+    whole_row before mid after area _ _ row _ part h run row_in (λ r c b k.
+    one (inside_at before area) row r c (exchanged old new) (exchanged old new (cell_of mid (area.top + row) (area.left + c)))
+    (ap (exchanged old new) (h.inside row c row_in k ∙ here (inside_at before area) row c (exchanged old new))))
+  where
+    here : (at : ℕ → ℕ → CellView) (row c : ℕ) (f : CellView → CellView) → cond (ltb row row) (f (at row c)) (at row c) ≡ at row c
+    here at row c f = grind (arith, nat_tests)
+
+    one : (at : ℕ → ℕ → CellView) (row r c : ℕ) (f : CellView → CellView) (value : CellView) → value ≡ f (at row c)
+        → cond (r == row) value (cond (ltb r row) (f (at r c)) (at r c)) ≡ cond (ltb r (row + 1)) (f (at r c)) (at r c)
+    one at row r c f value e = grind (arith, nat_tests)
+
+pub exchange_all : (before after : SurfaceView) (area : Area) (old new : CellView) → Changes before after area (partly_exchanged area.rows old new) → Changes before after area (all_exchanged old new)
+exchange_all before after area old new h = record {
+  same_rows = h.same_rows;
+  same_columns = h.same_columns;
+  surface = h.surface;
+  outside = h.outside;
+  inside = λ r c b k. h.inside r c b k ∙ all (inside_at before area r c) (exchanged old new (inside_at before area r c)) r area.rows b;
+}
+  where
+    all : (cell other : CellView) (r rows : ℕ) → r < rows → cond (ltb r rows) other cell ≡ other
+    all cell other r rows b = grind (arith, nat_tests)

@@ -1,4 +1,4 @@
--- What the calls that add bytes do. X/Open Curses Issue 7, addch(), addnstr(), insch(), hline().
+-- What the calls that add bytes do. X/Open Curses Issue 7, addch(), addnstr(), insch(), hline(), vline().
 use Rattle.std.specs.Prelude.{ℕ, List, [], ◌∷◌, Result, Ok, Err, ◌+◌, ◌-◌, ◌*◌, ◌/◌, ◌==◌, ◌||◌, ◌&&◌, ltb, leb, min, bit_or, bit_xor, if◌then◌else◌}
 use Rattle.std.specs.List.{list_any}
 use Rattle.scr_cells.specs.CellViews.{CellView}
@@ -9,7 +9,7 @@ use Rattle.scr_windows.specs.declared.faults.Added.{Added}
 use Rattle.scr_windows.specs.declared.faults.Added.TheVariants.{Done, Stayed}
 use Rattle.scr_windows.specs.declared.frames.State.{State}
 use Rattle.scr_windows.specs.DeskViews.{WindowView, DeskView, window_at, no_attributes}
-use Rattle.scr_windows.specs.Formulas.{run_put, row_opened, rows_up}
+use Rattle.scr_windows.specs.Formulas.{column_put, run_put, row_opened, rows_up}
 use Rattle.scr_windows.specs.Calls.{place_of, on_window, write}
 use Rattle.scr_windows.specs.Settings.{with_state, cursor_at}
 
@@ -108,4 +108,15 @@ line_across_call desk win byte n = on_window desk (place_of desk win) (λ i.
     let x : ℕ = w.state.cursor.1 in
     if leb 32 byte && leb byte 126 then
     ((if n == 0 then desk else write desk i y (y + 1) (run_put y x (min (x + n) w.frame.area.columns) (written byte no_attributes w.state))), Ok tt)
+    else (desk, Err NotAscii))
+
+-- vline(): places from the cursor down, at most to the edge
+abbrev pub line_down_call : DeskView → ℕ → ℕ → ℕ → DeskView × Result (Unit {0}) WinFault
+line_down_call desk win byte n = on_window desk (place_of desk win) (λ i.
+    let w : WindowView = window_at desk i in
+    let y : ℕ = w.state.cursor.0 in
+    let x : ℕ = w.state.cursor.1 in
+    let end : ℕ = min (y + n) w.frame.area.rows in
+    if leb 32 byte && leb byte 126 then
+    ((if n == 0 then desk else write desk i y end (column_put x y end (written byte no_attributes w.state))), Ok tt)
     else (desk, Err NotAscii))

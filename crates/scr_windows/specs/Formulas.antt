@@ -1,6 +1,6 @@
 -- What the calls put into the places of a window: for each row and column a formula over the cells of the window
 -- before. X/Open Curses Issue 7, the pages named.
-use Rattle.std.specs.Prelude.{ℕ, ◌+◌, ◌-◌, ltb, leb, ◌==◌, ◌&&◌, ◌||◌, if◌then◌else◌}
+use Rattle.std.specs.Prelude.{bit_and, bit_or, ℕ, ◌+◌, ◌-◌, ltb, leb, ◌==◌, ◌&&◌, ◌||◌, if◌then◌else◌}
 use Rattle.scr_cells.specs.CellViews.{CellView}
 
 -- in one row the places from one column up to another have this cell
@@ -30,3 +30,19 @@ rows_down first end n cell at r c = if leb first r && ltb r end then (if leb (fi
 -- the places from one place to the end of its row, and the rows below, have this cell: clrtobot()
 abbrev pub below_put : ℕ → ℕ → CellView → (ℕ → ℕ → CellView) → ℕ → ℕ → CellView
 below_put y x cell at r c = if (r == y && leb x c) || ltb y r then cell else at r c
+
+-- in one column the places from one row up to another have this cell: vline()
+abbrev pub column_put : ℕ → ℕ → ℕ → CellView → (ℕ → ℕ → CellView) → ℕ → ℕ → CellView
+column_put column first end cell at r c = if c == column && leb first r && ltb r end then cell else at r c
+
+-- a background in place of another: in each cell the byte of the old one becomes that of the new one, the attributes of the
+-- old one are taken off, and those of the new one put on: bkgd()
+abbrev pub exchanged : CellView → CellView → CellView → CellView
+exchanged old new cell =
+    record {
+      byte = if cell.byte == old.byte then new.byte else cell.byte;
+      attrs = bit_or (bit_and cell.attrs (255 - old.attrs)) new.attrs;
+    }
+
+abbrev pub all_exchanged : CellView → CellView → (ℕ → ℕ → CellView) → ℕ → ℕ → CellView
+all_exchanged old new at r c = exchanged old new (at r c)

@@ -6,7 +6,8 @@ use Rattle.scr_windows.specs.declared.faults.WinFault.{WinFault}
 use Rattle.scr_windows.specs.declared.faults.WinFault.TheVariants.{OutOfWindow, BadRegion}
 use Rattle.scr_windows.specs.declared.frames.State.{State}
 use Rattle.scr_windows.specs.DeskViews.{WindowView, DeskView, window_at}
-use Rattle.scr_windows.specs.Calls.{place_of, on_window, with_window}
+use Rattle.scr_windows.specs.Calls.{place_of, on_window, with_window, write}
+use Rattle.scr_windows.specs.Formulas.{all_exchanged}
 
 -- the desk with something set in one window
 abbrev pub with_state : DeskView → ℕ → State → DeskView
@@ -56,3 +57,9 @@ attr_set_call desk win attrs = setting desk win (λ s. record s { attrs = attrs 
 -- bkgdset()
 abbrev pub set_background_call : DeskView → ℕ → CellView → DeskView × Result (Unit {0}) WinFault
 set_background_call desk win cell = setting desk win (λ s. record s { background = cell })
+
+-- bkgd(): the background is exchanged in every place, and set
+abbrev pub change_background_call : DeskView → ℕ → CellView → DeskView × Result (Unit {0}) WinFault
+change_background_call desk win cell = on_window desk (place_of desk win) (λ i.
+    let w : WindowView = window_at desk i in
+    (with_state (write desk i 0 w.frame.area.rows (all_exchanged w.state.background cell)) i (record w.state { background = cell }), Ok tt))

@@ -1,7 +1,7 @@
 ghost use Rattle.std.specs.Prelude.{◌≡◌, ◌+◌, ◌<◌, ◌≤◌, ◌⊎◌, length, leb, false};
 ghost use Rattle.std.specs.List.{list_any};
 ghost use Rattle.scr_windows.specs.DeskViews.{window_at, no_attributes};
-ghost use Rattle.scr_windows.specs.Adding.{written, gone_to, line_begun, run_added, character_added, either_stayed, shown_added, byte_added, text_added, add_byte_call, add_text_call, insert_byte_call, line_across_call};
+ghost use Rattle.scr_windows.specs.Adding.{written, gone_to, line_begun, run_added, character_added, either_stayed, shown_added, byte_added, text_added, add_byte_call, add_text_call, insert_byte_call, line_across_call, line_down_call};
 
 use crate::desks::Desk;
 use crate::faults::{Added, Win, WinFault};
@@ -75,6 +75,26 @@ impl Desk {
             let end = column + n.min(pen.area.columns - column);
             let cell = written(byte, Attrs(0), pen.state);
             self.fill_run(pen.place, row, column, end, cell);
+        }
+        Ok(())
+    }
+
+    /// Writes a byte 32 to 126 in n places of the cursor's column from the cursor down, at most to the
+    /// edge. The cursor stays.
+    ///
+    /// Refused: NoWindow; NotAscii for another byte. X/Open Curses Issue 7, vline().
+    pub fn line_down(&mut self, win: Win, byte: u8, n: u32) -> Result<(), WinFault>
+        ensures { (self.new, result) ≡ line_down_call self.old win.0 byte n }
+    {
+        let pen = self.pen(win)?;
+        if !(32..=126).contains(&byte) {
+            return Err(WinFault::NotAscii);
+        }
+        let (row, column) = pen.state.cursor;
+        if n > 0 {
+            let end = row + n.min(pen.area.rows - row);
+            let cell = written(byte, Attrs(0), pen.state);
+            self.fill_column(pen.place, column, row, end, cell);
         }
         Ok(())
     }

@@ -1,6 +1,6 @@
 ghost use Rattle.std.specs.Prelude.{ℕ, ◌≡◌, ◌+◌, ◌-◌, ◌<◌, ◌≤◌};
 ghost use Rattle.scr_windows.specs.SurfaceViews.{IsPart, IsSurface, filled, inside_at};
-ghost use Rattle.scr_windows.specs.Formulas.{run_put, rows_put, below_put, row_opened, row_closed, rows_up, rows_down};
+ghost use Rattle.scr_windows.specs.Formulas.{run_put, rows_put, below_put, column_put, all_exchanged, row_opened, row_closed, rows_up, rows_down};
 
 use crate::areas::Area;
 use crate::surfaces::Surface;
@@ -116,6 +116,33 @@ impl Surface {
             } else {
                 self.put_row(area.top + row, left, right, cell);
             }
+        }
+    }
+
+    /// Puts a cell in the places of a column of the area from one row up to another.
+    pub fn fill_column(&mut self, area: Area, column: u32, first: u32, end: u32, cell: Cell)
+        requires part { IsPart self.old area }
+        requires column { column < area.columns }
+        requires order { first ≤ end }
+        requires end { end ≤ area.rows }
+        requires surface { IsSurface self.old }
+        ensures { self.new ≡ filled self.old area (column_put column first end cell (inside_at self.old area)) }
+    {
+        let left = area.left + column;
+        for row in first..end {
+            self.put_row(area.top + row, left, left + 1, cell);
+        }
+    }
+
+    /// Exchanges a background in all places of the area.
+    pub fn exchange(&mut self, area: Area, old: Cell, new: Cell)
+        requires part { IsPart self.old area }
+        requires surface { IsSurface self.old }
+        ensures { self.new ≡ filled self.old area (all_exchanged old new (inside_at self.old area)) }
+    {
+        let right = area.left + area.columns;
+        for row in 0..area.rows {
+            self.exchange_row(area.top + row, area.left, right, old, new);
         }
     }
 }

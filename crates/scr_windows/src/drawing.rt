@@ -1,6 +1,6 @@
 ghost use Rattle.std.specs.Prelude.{◌≡◌, ◌+◌, ◌<◌, ◌≤◌, length};
 ghost use Rattle.scr_windows.specs.DeskViews.{window_at};
-ghost use Rattle.scr_windows.specs.Formulas.{run_put, rows_put, below_put, row_opened, row_closed, rows_up, rows_down};
+ghost use Rattle.scr_windows.specs.Formulas.{run_put, rows_put, below_put, column_put, all_exchanged, row_opened, row_closed, rows_up, rows_down};
 ghost use Rattle.scr_windows.specs.Calls.{write};
 
 use crate::desks::Desk;
@@ -101,5 +101,31 @@ impl Desk {
         let frame = window.frame();
         window.mark(first, end, true);
         self.surfaces[frame.surface].move_down(frame.area, first, end, n, cell);
+    }
+
+    // Puts a cell in the places of a column of the window at a place from one row up to another, and
+    // touches these rows.
+    pub fn fill_column(&mut self, place: usize, column: u32, first: u32, end: u32, cell: Cell)
+        requires here { place < length self.old.windows }
+        requires column { column < (window_at self.old place).frame.area.columns }
+        requires order { first ≤ end }
+        requires end { end ≤ (window_at self.old place).frame.area.rows }
+        ensures { self.new ≡ write self.old place first end (column_put column first end cell) }
+    {
+        let window = &mut self.windows[place];
+        let frame = window.frame();
+        window.mark(first, end, true);
+        self.surfaces[frame.surface].fill_column(frame.area, column, first, end, cell);
+    }
+
+    // Exchanges a background everywhere in the window at a place, and touches it.
+    pub fn exchange(&mut self, place: usize, old: Cell, new: Cell)
+        requires here { place < length self.old.windows }
+        ensures { self.new ≡ write self.old place 0 (window_at self.old place).frame.area.rows (all_exchanged old new) }
+    {
+        let window = &mut self.windows[place];
+        let frame = window.frame();
+        window.mark(0, frame.area.rows, true);
+        self.surfaces[frame.surface].exchange(frame.area, old, new);
     }
 }

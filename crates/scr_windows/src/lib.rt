@@ -10,6 +10,8 @@ mod erasing;
 mod faults;
 mod frames;
 mod making;
+#[cfg(test)]
+mod making_tests;
 mod reading;
 mod rows;
 mod runs;

@@ -1,6 +1,8 @@
 ghost use Rattle.std.specs.Prelude.{ℕ, ◌≡◌, ◌+◌, ◌<◌, ◌≤◌, length, slice_index_or};
 ghost use Rattle.scr_cells.specs.CellViews.{blank_cell};
+ghost use Rattle.scr_windows.specs.Formulas.{exchanged};
 
+use bitflags::Flags;
 use scr_cells::Cell;
 
 /// Puts a cell in the places from a start up to an end.
@@ -15,4 +17,32 @@ pub fn put_run(cells: &mut [Cell], start: usize, end: usize, cell: Cell)
     for place in start..end {
         cells[place] = cell;
     }
+}
+
+/// Exchanges a background in the places from a start up to an end.
+pub fn exchange_run(cells: &mut [Cell], start: usize, end: usize, old: Cell, new: Cell)
+    requires order { start ≤ end }
+    requires end { end ≤ length cells.old }
+    ensures len { length cells.new ≡ length cells.old }
+    ensures put { (k : ℕ) → start ≤ k → k < end → slice_index_or cells.new k blank_cell ≡ exchanged old new (slice_index_or cells.old k blank_cell) }
+    ensures before { (k : ℕ) → k < start → slice_index_or cells.new k blank_cell ≡ slice_index_or cells.old k blank_cell }
+    ensures after { (k : ℕ) → end ≤ k → slice_index_or cells.new k blank_cell ≡ slice_index_or cells.old k blank_cell }
+{
+    for place in start..end {
+        let cell = exchanged_cell(cells[place], old, new);
+        cells[place] = cell;
+    }
+}
+
+// A cell with a background exchanged.
+fn exchanged_cell(cell: Cell, old: Cell, new: Cell) -> Cell
+    ensures { result ≡ exchanged old new cell }
+{
+    let byte = if cell.byte() == old.byte() {
+        new.byte()
+    } else {
+        cell.byte()
+    };
+    let attrs = cell.attrs().difference(old.attrs()).union(new.attrs());
+    Cell::new(byte, attrs).unwrap_or(Cell::blank())
 }

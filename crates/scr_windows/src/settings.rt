@@ -1,5 +1,5 @@
 ghost use Rattle.std.specs.Prelude.{◌≡◌};
-ghost use Rattle.scr_windows.specs.Settings.{move_cursor_call, set_region_call, scroll_ok_call, clear_ok_call, leave_ok_call, attr_on_call, attr_off_call, attr_set_call, set_background_call};
+ghost use Rattle.scr_windows.specs.Settings.{move_cursor_call, set_region_call, scroll_ok_call, clear_ok_call, leave_ok_call, attr_on_call, attr_off_call, attr_set_call, set_background_call, change_background_call};
 
 use crate::desks::Desk;
 use crate::faults::{Win, WinFault};
@@ -119,6 +119,21 @@ impl Desk {
         let mut pen = self.pen(win)?;
         pen.state.background = cell;
         self.set_state(pen.place, pen.state);
+        Ok(())
+    }
+
+    /// Sets the background of a window, and exchanges it in every cell: the old background's byte becomes
+    /// the new one's, the old attributes are taken off and the new ones put on.
+    ///
+    /// Refused: NoWindow. X/Open Curses Issue 7, bkgd().
+    pub fn change_background(&mut self, win: Win, cell: Cell) -> Result<(), WinFault>
+        ensures { (self.new, result) ≡ change_background_call self.old win.0 cell }
+    {
+        let pen = self.pen(win)?;
+        let mut state = pen.state;
+        self.exchange(pen.place, state.background, cell);
+        state.background = cell;
+        self.set_state(pen.place, state);
         Ok(())
     }
 }

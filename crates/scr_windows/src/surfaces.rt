@@ -3,11 +3,12 @@ ghost use Rattle.std.specs.List.{range_with_len};
 ghost use Rattle.scr_windows.specs.SurfaceViews.{IsPart, IsSurface, IsSurfaceSize, blank_surface, cell_of, inside_at};
 ghost use Rattle.scr_windows.specs.declared.faults.WinFault.TheVariants.{NoMemory};
 ghost use Rattle.scr_cells.specs.CellViews.{blank_cell};
+ghost use Rattle.scr_windows.specs.Formulas.{exchanged};
 ghost use Rattle.scr_windows.specs.Runs.{RunIs};
 
 use crate::areas::Area;
 use crate::faults::WinFault;
-use crate::runs::put_run;
+use crate::runs::{exchange_run, put_run};
 use scr_cells::Cell;
 use std::alloc::Global;
 use std::marker::Model;
@@ -79,6 +80,23 @@ impl Surface {
             start + from as usize,
             start + end as usize,
             cell,
+        );
+    }
+
+    /// Exchanges a background in the places of a row from one column up to another.
+    pub fn exchange_row(&mut self, row: u32, from: u32, end: u32, old: Cell, new: Cell)
+        requires row { row < self.old.rows }
+        requires order { from ≤ end }
+        requires end { end ≤ self.old.columns }
+        ensures { RunIs self.old self.new row from end (λ c. exchanged old new (cell_of self.old row c)) }
+    {
+        let start = row as usize * self.columns as usize;
+        exchange_run(
+            &mut self.cells,
+            start + from as usize,
+            start + end as usize,
+            old,
+            new,
         );
     }
 
