@@ -1,0 +1,78 @@
+-- The one form in which an entry is written as a compiled file. term(5), 'Legacy Storage Format'.
+use Rattle.std.specs.Prelude.{ℕ, ◌+◌, ◌%◌, ◌||◌, Bool, List, [], ◌∷◌, ◌++◌, length, map, Option, Some, None, is_some, replicate, if◌then◌else◌}
+use Rattle.std.specs.List.{flat_map, list_any}
+use Rattle.byteorder.specs.Endian.{little_bytes}
+use Rattle.ti_caps.specs.Description.{Description}
+
+-- a 16-bit number: two bytes, the lower first
+abbrev pub word : ℕ → List ℕ
+word n = little_bytes 2 n
+
+abbrev pub words : List ℕ → List ℕ
+words ns = flat_map word ns
+
+-- a list up to the last of its elements that is present
+abbrev pub up_to_last : {A : Type 0} → (A → Bool) → List A → List A
+up_to_last present [] = []
+up_to_last present (x ∷ xs) = if present x || list_any present xs then x ∷ up_to_last present xs else []
+
+-- the magic number, octal 0432
+abbrev pub magic : ℕ
+magic = 282
+
+-- what stands for something absent in a list of numbers or offsets
+abbrev pub absent : ℕ
+absent = 65535
+
+abbrev pub flag_byte : Bool → ℕ
+flag_byte present = if present then 1 else 0
+
+abbrev pub number_word : Option ℕ → ℕ
+number_word None = absent
+number_word (Some n) = n
+
+-- a text with its NUL
+abbrev pub ended : Option (List ℕ) → List ℕ
+ended None = []
+ended (Some text) = text ++ 0 ∷ []
+
+-- what stands for a text where the table holds this many bytes already: where it begins, or that it is absent
+abbrev pub offset_of : ℕ → Option (List ℕ) → ℕ
+offset_of size None = absent
+offset_of size (Some text) = size
+
+-- the same of each text in turn
+abbrev pub offsets_from : ℕ → List (Option (List ℕ)) → List ℕ
+offsets_from size [] = []
+offsets_from size (text ∷ texts) = offset_of size text ∷ offsets_from (size + length (ended text)) texts
+
+-- the string table: the texts in order, none shared
+abbrev pub table_of : List (Option (List ℕ)) → List ℕ
+table_of texts = flat_map ended texts
+
+abbrev pub kept_flags : Description → List Bool
+kept_flags entry = up_to_last (λ present. present) entry.flags
+
+abbrev pub kept_numbers : Description → List (Option ℕ)
+kept_numbers entry = up_to_last is_some entry.numbers
+
+abbrev pub kept_texts : Description → List (Option (List ℕ))
+kept_texts entry = up_to_last is_some entry.texts
+
+-- the odd byte, where names and flags have an odd length together
+abbrev pub padding : ℕ → List ℕ
+padding size = replicate (size % 2) 0
+
+-- the six numbers of the header: the magic number, the size of the names with their NUL, how many flags, numbers
+-- and offsets there are, and the size of the string table
+abbrev pub header_of : Description → List ℕ
+header_of entry =
+    magic ∷ (length entry.names + 1) ∷ length (kept_flags entry) ∷ length (kept_numbers entry) ∷ length (kept_texts entry)
+    ∷ length (table_of (kept_texts entry)) ∷ []
+
+-- header, names and NUL, flags, the odd byte, numbers, offsets, string table
+abbrev pub canonical : Description → List ℕ
+canonical entry =
+    words (header_of entry) ++ entry.names ++ 0 ∷ map flag_byte (kept_flags entry)
+    ++ padding (length entry.names + 1 + length (kept_flags entry))
+    ++ words (map number_word (kept_numbers entry)) ++ words (offsets_from 0 (kept_texts entry)) ++ table_of (kept_texts entry)

@@ -1,0 +1,3 @@
+pub use Rattle.ti_caps.specs.Description
+pub mod Canonical
+pub mod Shapes

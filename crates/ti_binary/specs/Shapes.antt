@@ -1,0 +1,17 @@
+-- What the code keeps of a file's sections: nothing that a reader has to believe.
+use Rattle.std.specs.Prelude.{◌≡◌, ◌+◌, ◌≤◌, length, take, min}
+use Rattle.ti_caps.specs.Description.{Description}
+use Rattle.ti_binary.specs.Canonical.{kept_flags, kept_numbers, kept_texts, table_of}
+use Rattle.ti_binary.specs.declared.shapes.Shape.{Shape}
+
+-- the sizes of the sections of an entry's file
+pub record IsShape (entry : Description) (shape : Shape) : Type 0 where
+  pub names : shape.names ≡ length entry.names + 1
+  pub short : shape.names ≤ 128
+  pub flags : take shape.flags entry.flags ≡ kept_flags entry
+  pub numbers : take shape.numbers entry.numbers ≡ kept_numbers entry
+  pub texts : take shape.texts entry.texts ≡ kept_texts entry
+  pub table : shape.table ≡ min (length (table_of (kept_texts entry))) 4097
+  pub few_flags : shape.flags ≤ 64
+  pub few_numbers : shape.numbers ≤ 64
+  pub few_texts : shape.texts ≤ 512

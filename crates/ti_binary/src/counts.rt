@@ -1,0 +1,65 @@
+ghost use Rattle.std.specs.Prelude.{◌≡◌, ◌≤◌, ◌<◌, ◌+◌, length, take, is_some, min};
+ghost use Rattle.ti_binary.specs.Canonical.{up_to_last, kept_flags, kept_numbers, kept_texts, table_of};
+
+use ti_caps::{Entry, Slot};
+
+/// How many flags there are up to the last that is present.
+pub(crate) fn flag_count(entry: &Entry) -> u16
+    ensures kept { take result entry.now.flags ≡ kept_flags entry.now }
+    ensures few { result ≤ 64 }
+{
+    let _names = entry.names();
+    let mut count = 0;
+    for slot in 0..64 {
+        if entry.flag(Slot(slot)) {
+            count = slot + 1;
+        }
+    }
+    count
+}
+
+/// How many numbers there are up to the last that is present.
+pub(crate) fn number_count(entry: &Entry) -> u16
+    ensures kept { take result entry.now.numbers ≡ kept_numbers entry.now }
+    ensures few { result ≤ 64 }
+{
+    let _names = entry.names();
+    let mut count = 0;
+    for slot in 0..64 {
+        if entry.number(Slot(slot)).is_some() {
+            count = slot + 1;
+        }
+    }
+    count
+}
+
+/// How many texts there are up to the last that is present.
+pub(crate) fn text_count(entry: &Entry) -> u16
+    ensures kept { take result entry.now.texts ≡ kept_texts entry.now }
+    ensures few { result ≤ 512 }
+{
+    let _names = entry.names();
+    let mut count = 0;
+    for slot in 0..512 {
+        if entry.text(Slot(slot)).is_some() {
+            count = slot + 1;
+        }
+    }
+    count
+}
+
+/// How many bytes the string table of the first texts has, or `most` where it has more.
+pub(crate) fn table_size(entry: &Entry, count: u16, most: u16) -> u16
+    requires few { count ≤ 512 }
+    ensures { result ≡ min (length (table_of (take count entry.now.texts))) most }
+{
+    let _names = entry.names();
+    let mut size = 0;
+    for slot in 0..count {
+        if let Some(text) = entry.text(Slot(slot)) {
+            let ended = text.len().saturating_add(1 + usize::from(size));
+            size = ended.min(usize::from(most)) as u16;
+        }
+    }
+    size
+}

@@ -1,0 +1,123 @@
+ghost use Rattle.std.specs.Prelude.{◌≡◌, ◌≤◌, ◌<◌, ◌+◌, ◌↔◌, ◌++◌, length, nat_lt, IfOk, OnOk, IsErrOf, IsOkUnless};
+ghost use Rattle.ti_binary.specs.Canonical.{canonical, words};
+ghost use Rattle.ti_binary.specs.Shapes.{IsShape};
+
+use crate::sections::{put_flags, put_numbers, put_offsets, put_texts, put_word};
+use crate::shapes::Shape;
+use std::alloc::{AllocError, AllocFailed, Global};
+use thiserror::Error;
+use ti_caps::{Bytes, Entry};
+
+/// Why an entry is not written.
+#[derive(Clone, Copy, Debug, PartialEq, Eq, Error)]
+pub enum EncFault {
+    /// The names have more than 127 bytes.
+    #[error("names too long")]
+    NamesTooLong,
+    /// The file would have more than 4,096 bytes.
+    #[error("too large")]
+    TooLarge,
+    /// Memory ran out.
+    #[error("out of memory")]
+    NoMemory,
+}
+
+impl From<AllocError> for EncFault {
+    ghost use Rattle.std.specs.Prelude.{◌≡◌};
+    ghost use Rattle.ti_binary.specs.declared.encoder.EncFault.TheVariants.{NoMemory};
+
+    ghost from_gives = { λ _ e. e ≡ NoMemory };
+
+    fn from(_: AllocError) -> EncFault {
+        EncFault::NoMemory
+    }
+}
+
+impl<T: Drop> From<AllocFailed<T>> for EncFault {
+    ghost use Rattle.std.specs.Prelude.{◌≡◌};
+    ghost use Rattle.ti_binary.specs.declared.encoder.EncFault.TheVariants.{NoMemory};
+
+    ghost from_gives = { λ _ e. e ≡ NoMemory };
+
+    fn from(_: AllocFailed<T>) -> EncFault {
+        EncFault::NoMemory
+    }
+}
+
+/// The magic number of a file in the legacy format, octal 0432.
+const MAGIC: u16 = 0o432;
+
+/// How many bytes the names and their NUL have at most.
+const MOST_NAME_BYTES: usize = 128;
+
+/// How many bytes a file has at most.
+const MOST_BYTES: u16 = 4_096;
+
+/// The compiled file of an entry, in its one form (term(5), 'Legacy Storage Format').
+///
+/// `NamesTooLong` where the names and their NUL have more than 128 bytes, `TooLarge` where the file
+/// would have more than 4,096, then `NoMemory`.
+pub fn encode(alloc: Global, entry: &Entry) -> Result<Bytes, EncFault>
+    ensures long { IsErrOf result EncFault.NamesTooLong ↔ (128 < length entry.now.names + 1) }
+    ensures large { IsErrOf result EncFault.TooLarge ↔ ((length entry.now.names + 1 ≤ 128) × (4096 < length (canonical entry.now))) }
+    ensures good { length entry.now.names + 1 ≤ 128 → length (canonical entry.now) ≤ 4096 → IsOkUnless result EncFault.NoMemory }
+    ensures ok { IfOk result (λ bytes. bytes ≡ canonical entry.now) }
+{
+    let names = entry.names();
+    if names.len() + 1 > MOST_NAME_BYTES {
+        return Err(EncFault::NamesTooLong);
+    }
+    let shape = Shape::of(entry);
+    if is_too_large(entry, &shape) {
+        return Err(EncFault::TooLarge);
+    }
+    let out = file(alloc, entry, &shape)?;
+    Ok(Bytes(out))
+}
+
+// Whether a file of these sizes is longer than a file may be.
+fn is_too_large(entry: &Entry, shape: &Shape) -> bool
+    requires { IsShape entry.now shape.now }
+    ensures { result ≡ nat_lt 4096 (length (canonical entry.now)) }
+{
+    let _names = entry.names();
+    shape.file_size() > MOST_BYTES
+}
+
+// The sections of a file, one after another.
+fn file(alloc: Global, entry: &Entry, shape: &Shape) -> Result<Vec<u8>, AllocError>
+    requires shape { IsShape entry.now shape.now }
+    requires small { length (canonical entry.now) ≤ 4096 }
+    ensures { IfOk result (λ out. out.items ≡ canonical entry.now) }
+{
+    let mut out = Vec::with_capacity(alloc, usize::from(shape.file_size()))?;
+    let header = [
+        MAGIC,
+        shape.names,
+        shape.flags,
+        shape.numbers,
+        shape.texts,
+        shape.table,
+    ];
+    put_words(&header, &mut out)?;
+    out.extend_from_slice(entry.names())?;
+    out.push(0)?;
+    put_flags(entry, shape.flags, &mut out)?;
+    if shape.is_odd() {
+        out.push(0)?;
+    }
+    put_numbers(entry, shape.numbers, &mut out)?;
+    put_offsets(entry, shape.texts, &mut out)?;
+    put_texts(entry, shape.texts, &mut out)?;
+    Ok(out)
+}
+
+// Appends numbers, one after another.
+fn put_words(numbers: &[u16], out: &mut Vec<u8>) -> Result<(), AllocError>
+    ensures { OnOk result (out.new.items ≡ out.old.items ++ words numbers.now) }
+{
+    for n in numbers {
+        put_word(*n, out)?;
+    }
+    Ok(())
+}

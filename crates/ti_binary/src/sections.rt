@@ -1,0 +1,96 @@
+ghost use Rattle.std.specs.Prelude.{◌≡◌, ◌≤◌, ◌++◌, length, take, map, option_map, OnOk};
+ghost use Rattle.ti_binary.specs.Canonical.{ended, flag_byte, number_word, offset_of, offsets_from, table_of, word, words};
+
+use byteorder::{ByteOrder, LittleEndian};
+use std::alloc::AllocError;
+use ti_caps::{Entry, Slot};
+
+/// What stands for something absent in a list of numbers or offsets.
+const ABSENT: u16 = 0xFFFF;
+
+/// Appends a 16-bit number, the lower byte first.
+pub(crate) fn put_word(n: u16, out: &mut Vec<u8>) -> Result<(), AllocError>
+    ensures { OnOk result (out.new.items ≡ out.old.items ++ word n) }
+{
+    let mut pair = [0u8; 2];
+    LittleEndian::write_u16(&mut pair, n);
+    out.extend_from_slice(&pair)?;
+    Ok(())
+}
+
+/// Appends the first flags of an entry, a byte each.
+pub(crate) fn put_flags(entry: &Entry, count: u16, out: &mut Vec<u8>) -> Result<(), AllocError>
+    requires { count ≤ 64 }
+    ensures { OnOk result (out.new.items ≡ out.old.items ++ map flag_byte (take count entry.now.flags)) }
+{
+    let _names = entry.names();
+    for slot in 0..count {
+        out.push(u8::from(entry.flag(Slot(slot))))?;
+    }
+    Ok(())
+}
+
+/// Appends the first numbers of an entry.
+pub(crate) fn put_numbers(entry: &Entry, count: u16, out: &mut Vec<u8>) -> Result<(), AllocError>
+    requires { count ≤ 64 }
+    ensures { OnOk result (out.new.items ≡ out.old.items ++ words (map number_word (take count entry.now.numbers))) }
+{
+    let _names = entry.names();
+    for slot in 0..count {
+        put_word(entry.number(Slot(slot)).unwrap_or(ABSENT), out)?;
+    }
+    Ok(())
+}
+
+/// Appends where each of the first texts of an entry begins in the string table, which is small.
+pub(crate) fn put_offsets(entry: &Entry, count: u16, out: &mut Vec<u8>) -> Result<(), AllocError>
+    requires few { count ≤ 512 }
+    requires small { length (table_of (take count entry.now.texts)) ≤ 4096 }
+    ensures { OnOk result (out.new.items ≡ out.old.items ++ words (offsets_from 0 (take count entry.now.texts))) }
+{
+    let _names = entry.names();
+    let mut size: usize = 0;
+    for slot in 0..count {
+        let text = entry.text(Slot(slot));
+        put_word(offset(size, text), out)?;
+        size += ended_length(text);
+    }
+    Ok(())
+}
+
+// What stands in the offsets for a text, where the table holds so many bytes already.
+fn offset(size: usize, text: Option<&[u8]>) -> u16
+    requires { size ≤ 4096 }
+    ensures { result ≡ offset_of size (option_map (λ t. t.now) text.entry) }
+{
+    match text {
+        Some(_) => size as u16,
+        None => ABSENT,
+    }
+}
+
+// How many bytes a text and its NUL take in the table.
+fn ended_length(text: Option<&[u8]>) -> usize
+    requires { length (ended (option_map (λ t. t.now) text)) ≤ 4096 }
+    ensures { result ≡ length (ended (option_map (λ t. t.now) text.entry)) }
+{
+    match text {
+        Some(bytes) => bytes.len() + 1,
+        None => 0,
+    }
+}
+
+/// Appends the first texts of an entry, each with its NUL.
+pub(crate) fn put_texts(entry: &Entry, count: u16, out: &mut Vec<u8>) -> Result<(), AllocError>
+    requires { count ≤ 512 }
+    ensures { OnOk result (out.new.items ≡ out.old.items ++ table_of (take count entry.now.texts)) }
+{
+    let _names = entry.names();
+    for slot in 0..count {
+        if let Some(text) = entry.text(Slot(slot)) {
+            out.extend_from_slice(text)?;
+            out.push(0)?;
+        }
+    }
+    Ok(())
+}

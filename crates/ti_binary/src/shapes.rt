@@ -1,0 +1,62 @@
+ghost use Rattle.std.specs.Prelude.{◌≡◌, ◌≤◌, ◌+◌, ◌*◌, ◌%◌, ◌==◌, length};
+ghost use Rattle.ti_binary.specs.Shapes.{IsShape};
+
+use crate::counts::{flag_count, number_count, table_size, text_count};
+use ti_caps::Entry;
+
+/// The sizes of a file's sections.
+#[derive(Drop)]
+pub(crate) struct Shape {
+    /// The bytes of the names and their NUL.
+    pub(crate) names: u16,
+    /// How many flags there are.
+    pub(crate) flags: u16,
+    /// How many numbers there are.
+    pub(crate) numbers: u16,
+    /// How many offsets of texts there are.
+    pub(crate) texts: u16,
+    /// The bytes of the string table, or one more than a file may have.
+    pub(crate) table: u16,
+}
+
+impl Shape {
+    /// The string tables of this size and above are not told apart.
+    const MOST_TABLE: u16 = 4_097;
+
+    /// The sizes of the sections of an entry's file.
+    pub(crate) fn of(entry: &Entry) -> Shape
+        requires { length entry.now.names ≤ 127 }
+        ensures { IsShape entry.now result }
+    {
+        let texts = text_count(entry);
+        Shape {
+            names: entry.names().len() as u16 + 1,
+            flags: flag_count(entry),
+            numbers: number_count(entry),
+            texts,
+            table: table_size(entry, texts, Self::MOST_TABLE),
+        }
+    }
+
+    /// Whether a byte stands between flags and numbers, so that numbers begin at an even place.
+    pub(crate) fn is_odd(&self) -> bool
+        requires names { self.now.names ≤ 128 }
+        requires flags { self.now.flags ≤ 64 }
+        ensures { result ≡ ((self.now.names + self.now.flags) % 2 == 1) }
+    {
+        (self.names + self.flags) % 2 == 1
+    }
+
+    /// How many bytes the file has.
+    pub(crate) fn file_size(&self) -> u16
+        requires names { self.now.names ≤ 128 }
+        requires flags { self.now.flags ≤ 64 }
+        requires numbers { self.now.numbers ≤ 64 }
+        requires texts { self.now.texts ≤ 512 }
+        requires table { self.now.table ≤ 4097 }
+        ensures { result ≡ 12 + self.now.names + self.now.flags + (self.now.names + self.now.flags) % 2 + 2 * self.now.numbers + 2 * self.now.texts + self.now.table }
+    {
+        let counted = 12 + self.names + self.flags + (self.names + self.flags) % 2;
+        counted + 2 * self.numbers + 2 * self.texts + self.table
+    }
+}
