@@ -86,7 +86,7 @@ pub record IsChild (frame parent : Frame) : Type 0 where
   pub left : parent.area.left ≤ frame.area.left
   pub right : frame.area.left + frame.area.columns ≤ parent.area.left + parent.area.columns
 
--- windows by ascending numbers, each number one that was given; a subwindow's parent is there; a pad's parent is a pad
+-- windows by ascending numbers, each number one that was given; a subwindow's parent is there
 pub record AreFrames (rows columns : ℕ) (sizes : List (ℕ × ℕ)) (made : ℕ) (frames : List Frame) : Type 0 where
   pub few : length frames ≤ 1000
   pub placed : All (IsPlaced rows columns sizes) frames
