@@ -6,10 +6,12 @@ use std::alloc::Global;
 use std::process::Abort;
 use std::test::Fail;
 
-fn fault_of(alloc: Global, text: &[u8]) -> Option<ParamFault> {
+// The fault of a text, or none; want of memory ends the test.
+fn fault_of(alloc: Global, text: &[u8]) -> Result<Option<ParamFault>, Fail> {
     match Program::read(alloc, text) {
-        Ok(_) => None,
-        Err(fault) => Some(fault),
+        Ok(_) => Ok(None),
+        Err(ParamFault::NoMemory) => Err(Fail::from(ParamFault::NoMemory)),
+        Err(fault) => Ok(Some(fault)),
     }
 }
 
@@ -57,21 +59,26 @@ fn refuses_faults(rt: HostRuntime) -> Result<(), Fail> {
             // pfkey of many terminals takes a text
             ("\x1b[%p1%d\"%p2%s\"p", ParamFault::StringOperator(11)),
         ],
-    );
+    )?;
     expect_read(&rt, &["%{2147483647}", "%99.99d", "% d", "%:d", "%- +"])
 }
 
-fn expect_faults(rt: &(impl Abort + AllocGlobal), cases: &[(&str, ParamFault)]) {
+fn expect_faults(
+    rt: &(impl Abort + AllocGlobal),
+    cases: &[(&str, ParamFault)],
+) -> Result<(), Fail> {
     for (text, want) in cases {
-        let got = fault_of(rt.alloc(), text.as_bytes());
+        let got = fault_of(rt.alloc(), text.as_bytes())?;
         assert!(rt; got.as_ref() == Some(want), "{text}");
-        cut_refused(rt, text.as_bytes(), *want);
+        cut_refused(rt, text.as_bytes(), *want)?;
     }
+    Ok(())
 }
 
 fn expect_read(rt: &(impl Abort + AllocGlobal), texts: &[&str]) -> Result<(), Fail> {
     for text in texts {
-        assert!(rt; fault_of(rt.alloc(), text.as_bytes()).is_none(), "{text}");
+        let got = fault_of(rt.alloc(), text.as_bytes())?;
+        assert!(rt; got.is_none(), "{text}");
         cut_everywhere(rt, text.as_bytes())?;
     }
     Ok(())
@@ -80,11 +87,11 @@ fn expect_read(rt: &(impl Abort + AllocGlobal), texts: &[&str]) -> Result<(), Fa
 #[test]
 fn counts_nesting(rt: HostRuntime) -> Result<(), Fail> {
     let text = repeated(rt.alloc(), b"%?", 32)?;
-    assert!(rt; fault_of(rt.alloc(), &text).is_none());
+    assert!(rt; fault_of(rt.alloc(), &text)?.is_none());
     let text = repeated(rt.alloc(), b"%?", 33)?;
-    assert!(rt; fault_of(rt.alloc(), &text) == Some(ParamFault::TooDeep));
+    assert!(rt; fault_of(rt.alloc(), &text)? == Some(ParamFault::TooDeep));
     let text = repeated(rt.alloc(), b"%?%p1%t", 33)?;
-    assert!(rt; fault_of(rt.alloc(), &text) == Some(ParamFault::TooDeep));
+    assert!(rt; fault_of(rt.alloc(), &text)? == Some(ParamFault::TooDeep));
     let mut text = repeated(rt.alloc(), b"%?%p1%tA", 1)?;
     text.extend_from_slice(repeated(rt.alloc(), b"%e%p2%tB", 100)?.as_slice())?;
     let got = text_of(rt.alloc(), &text, 0, 1)?;
@@ -105,11 +112,10 @@ pub(crate) fn cut_everywhere(rt: &(impl Abort + AllocGlobal), text: &[u8]) -> Re
             }
             Err(ParamFault::Truncated(place)) => {
                 assert!(rt; place < end && text[place] == b'%', "cut at {end}");
-                assert!(rt;
-                    fault_of(rt.alloc(), &text[..place]).is_none(),
-                    "cut at {end}"
-                );
+                let before = fault_of(rt.alloc(), &text[..place])?;
+                assert!(rt; before.is_none(), "cut at {end}");
             }
+            Err(ParamFault::NoMemory) => return Err(Fail::from(ParamFault::NoMemory)),
             Err(fault) => assert!(rt; false, "cut at {end}: {fault}"),
         }
     }
@@ -117,9 +123,9 @@ pub(crate) fn cut_everywhere(rt: &(impl Abort + AllocGlobal), text: &[u8]) -> Re
 }
 
 // A text that is refused, cut at every place: what is left is read, or ends inside a directive, or has the same fault.
-fn cut_refused(rt: &(impl Abort + AllocGlobal), text: &[u8], want: ParamFault) {
+fn cut_refused(rt: &(impl Abort + AllocGlobal), text: &[u8], want: ParamFault) -> Result<(), Fail> {
     for end in 0..text.len() {
-        match fault_of(rt.alloc(), &text[..end]) {
+        match fault_of(rt.alloc(), &text[..end])? {
             None => {}
             Some(ParamFault::Truncated(place)) => {
                 assert!(rt; place < end && text[place] == b'%', "cut at {end}");
@@ -127,4 +133,5 @@ fn cut_refused(rt: &(impl Abort + AllocGlobal), text: &[u8], want: ParamFault) {
             Some(fault) => assert!(rt; fault == want, "cut at {end}"),
         }
     }
+    Ok(())
 }
