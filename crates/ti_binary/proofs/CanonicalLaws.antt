@@ -8,11 +8,11 @@ use Rattle.ti_binary.specs.Canonical.{canonical, flag_byte, header_of, kept_flag
 use Rattle.ti_binary.specs.Shapes.{IsShape}
 use Rattle.ti_binary.specs.declared.shapes.Shape.{Shape}
 
-words_length : (ns : List ℕ) → length (words ns) ≡ 2 * length ns
+pub words_length : (ns : List ℕ) → length (words ns) ≡ 2 * length ns
 words_length [] = refl
 words_length (n ∷ ns) = omega (arith, words_length ns)
 
-offsets_length : (size : ℕ) (texts : List (Option (List ℕ))) → length (offsets_from size texts) ≡ length texts
+pub offsets_length : (size : ℕ) (texts : List (Option (List ℕ))) → length (offsets_from size texts) ≡ length texts
 offsets_length size [] = refl
 offsets_length size (text ∷ texts) = omega (arith, offsets_length (size + length (ended text)) texts)
 

@@ -1,3 +1,7 @@
 pub mod KeptLaws
 pub mod OffsetLaws
 pub mod CanonicalLaws
+pub mod WordLaws
+pub mod FilledLaws
+pub mod FileLaws
+pub mod CanonicalFileLaws

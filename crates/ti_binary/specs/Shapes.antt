@@ -1,7 +1,8 @@
 -- What the code keeps of a file's sections: nothing that a reader has to believe.
-use Rattle.std.specs.Prelude.{◌≡◌, ◌+◌, ◌≤◌, length, take, min}
+use Rattle.std.specs.Prelude.{ℕ, ◌≡◌, ◌+◌, ◌≤◌, List, length, take, min}
 use Rattle.ti_caps.specs.Description.{Description}
 use Rattle.ti_binary.specs.Canonical.{kept_flags, kept_numbers, kept_texts, table_of}
+use Rattle.ti_binary.specs.Files.{names_of, flags_of, numbers_of, offsets_of, table_of as table_size, end_place}
 use Rattle.ti_binary.specs.declared.shapes.Shape.{Shape}
 
 -- the sizes of the sections of an entry's file
@@ -15,3 +16,13 @@ pub record IsShape (entry : Description) (shape : Shape) : Type 0 where
   pub few_flags : shape.flags ≤ 64
   pub few_numbers : shape.numbers ≤ 64
   pub few_texts : shape.texts ≤ 512
+
+-- the numbers of a header are within the limits, and the sections have room
+pub record HasRoom (bytes : List ℕ) : Type 0 where
+  pub some_names : 1 ≤ names_of bytes
+  pub names : names_of bytes ≤ 32767
+  pub flags : flags_of bytes ≤ 64
+  pub numbers : numbers_of bytes ≤ 64
+  pub offsets : offsets_of bytes ≤ 512
+  pub table : table_size bytes ≤ 32767
+  pub room : end_place bytes ≤ length bytes

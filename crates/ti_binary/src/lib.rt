@@ -2,10 +2,21 @@
 #![tactic(auto)]
 
 mod counts;
+mod decoder;
+#[cfg(test)]
+mod decoder_tests;
 mod encoder;
+mod faults;
+mod filler;
+mod laws;
+mod parts;
 mod sections;
 mod shapes;
 #[cfg(test)]
 mod tests;
+mod texts;
 
+pub use decoder::decode;
 pub use encoder::{EncFault, encode};
+pub use faults::BinFault;
+pub use laws::{canonical_reads_back, files_are_not_refused, files_have_one_entry};

@@ -1,0 +1,21 @@
+-- What holds of compiled files by their definition alone.
+use Rattle.std.specs.Prelude.{◌≡◌, ◌+◌, ◌≤◌, ℕ, List, [], length, None}
+use Rattle.ti_caps.specs.Description.{Description, IsDescription}
+use Rattle.ti_binary.specs.Canonical.{canonical}
+use Rattle.ti_binary.specs.Files.{IsFile, refusal}
+
+-- bytes that are a file of an entry have no reason to be refused
+abbrev pub FilesAreNotRefused : Type 0
+FilesAreNotRefused = (bytes rest : List ℕ) (entry : Description) → IsFile bytes entry rest → refusal bytes ≡ None
+
+-- bytes are a file of one entry, and one rest follows it
+abbrev pub FilesHaveOneEntry : Type 0
+FilesHaveOneEntry =
+    (bytes rest other : List ℕ) (entry another : Description) → IsFile bytes entry rest → IsFile bytes another other → (entry ≡ another) × (rest ≡ other)
+
+-- the canonical form of an entry, where it is within the limits, is a file of that entry and of no other, and nothing
+-- follows it
+abbrev pub CanonicalReadsBack : Type 0
+CanonicalReadsBack =
+    (entry : Description) → IsDescription entry → length entry.names + 1 ≤ 128 → length (canonical entry) ≤ 4096
+    → IsFile (canonical entry) entry [] × ((other : Description) (rest : List ℕ) → IsFile (canonical entry) other rest → (other ≡ entry) × (rest ≡ []))

@@ -1,0 +1,45 @@
+use std::alloc::AllocError;
+use thiserror::Error;
+
+/// Why bytes are not read as a compiled file, in the order in which refusals come.
+#[derive(Clone, Copy, Debug, PartialEq, Eq, Error)]
+pub enum BinFault {
+    /// There are more than 32,768 bytes.
+    #[error("too large")]
+    TooLarge,
+    /// The bytes end before the file does.
+    #[error("truncated")]
+    Truncated,
+    /// The magic number is that of the format with 32-bit numbers, octal 01036.
+    #[error("32-bit numbers")]
+    WideNumbers,
+    /// The magic number is another.
+    #[error("bad magic")]
+    BadMagic,
+    /// A size or a count of the header is negative or past its limit, or the names have no bytes.
+    #[error("bad count")]
+    BadCount,
+    /// The names have no NUL, or are not such as an entry has.
+    #[error("bad names")]
+    BadNames,
+    /// A text begins past the end of the string table.
+    #[error("bad offset")]
+    BadOffset,
+    /// A text has no NUL in the string table.
+    #[error("unended string")]
+    Unended,
+    /// Memory ran out.
+    #[error("out of memory")]
+    NoMemory,
+}
+
+impl From<AllocError> for BinFault {
+    ghost use Rattle.std.specs.Prelude.{◌≡◌};
+    ghost use Rattle.ti_binary.specs.declared.faults.BinFault.TheVariants.{NoMemory};
+
+    ghost from_gives = { λ _ e. e ≡ NoMemory };
+
+    fn from(_: AllocError) -> BinFault {
+        BinFault::NoMemory
+    }
+}

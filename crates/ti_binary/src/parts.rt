@@ -1,0 +1,114 @@
+ghost use Rattle.std.specs.Prelude.{◌≡◌, ◌≤◌, ◌+◌, ◌*◌, length, drop, IfOk, IfErr, OnOk, None, Some};
+ghost use Rattle.ti_binary.specs.Files.{end_place, flags_of, flags_place, has_bad_count, header_refusal, names_of, numbers_of, numbers_place, offsets_of, offsets_place, part, room_refusal, table_of, table_place, word_at};
+ghost use Rattle.ti_binary.specs.Shapes.{HasRoom};
+
+use crate::faults::BinFault;
+use byteorder::{ByteOrder, LittleEndian};
+
+/// How many bytes are looked at at most.
+const MOST_BYTES: usize = 32_768;
+
+/// The magic number of the legacy format, octal 0432.
+const MAGIC: u16 = 0o432;
+
+/// The magic number of the format with 32-bit numbers.
+const WIDE_MAGIC: u16 = 0o1036;
+
+/// The greatest number that is not negative.
+const MOST: u16 = 32_767;
+
+/// The 16-bit number at a place, the lower byte first.
+pub(crate) fn word(bytes: &[u8], place: usize) -> u16
+    requires { place + 2 ≤ length bytes.now }
+    ensures { result ≡ word_at bytes.now place }
+{
+    LittleEndian::read_u16(&bytes[place..])
+}
+
+/// Refuses what is too large, has another magic number, or ends inside the header.
+pub(crate) fn check_header(bytes: &[u8]) -> Result<(), BinFault>
+    ensures refused { IfErr result (λ fault. header_refusal bytes.now ≡ Some fault) }
+    ensures good { OnOk result (header_refusal bytes.now ≡ None) }
+    ensures room { OnOk result (12 ≤ length bytes.now) }
+    ensures short { OnOk result (length bytes.now ≤ 32768) }
+    ensures magic { OnOk result (word_at bytes.now 0 ≡ 282) }
+{
+    if bytes.len() > MOST_BYTES {
+        return Err(BinFault::TooLarge);
+    }
+    if bytes.len() < 2 {
+        return Err(BinFault::Truncated);
+    }
+    match word(bytes, 0) {
+        WIDE_MAGIC => return Err(BinFault::WideNumbers),
+        MAGIC => {}
+        _ => return Err(BinFault::BadMagic),
+    }
+    if bytes.len() < 12 {
+        return Err(BinFault::Truncated);
+    }
+    Ok(())
+}
+
+/// The sections of a file behind its header.
+#[derive(Clone, Copy)]
+pub(crate) struct Parts<'a> {
+    /// The names, and what follows their NUL in the section.
+    pub(crate) names: &'a [u8],
+    /// A byte for each flag.
+    pub(crate) flags: &'a [u8],
+    /// How many numbers there are, and two bytes for each.
+    pub(crate) number_count: u16,
+    pub(crate) numbers: &'a [u8],
+    /// How many offsets of texts there are, and two bytes for each.
+    pub(crate) offset_count: u16,
+    pub(crate) offsets: &'a [u8],
+    /// The string table.
+    pub(crate) table: &'a [u8],
+    /// How many bytes follow.
+    pub(crate) rest: usize,
+}
+
+/// The sections by the numbers of the header; `BadCount` where one of those is negative or past its
+/// limit, `Truncated` where the bytes end before the sections do.
+pub(crate) fn cut(bytes: &[u8]) -> Result<Parts<'_>, BinFault>
+    requires room { 12 ≤ length bytes.now }
+    requires short { length bytes.now ≤ 32768 }
+    ensures refused { IfErr result (λ fault. room_refusal bytes.now ≡ Some fault) }
+    ensures good { OnOk result (room_refusal bytes.now ≡ None) }
+    ensures fits { OnOk result (HasRoom bytes.now) }
+    ensures names { IfOk result (λ parts. parts.names.now ≡ part bytes.now 12 (names_of bytes.now)) }
+    ensures flags { IfOk result (λ parts. parts.flags.now ≡ part bytes.now (flags_place bytes.now) (flags_of bytes.now)) }
+    ensures numbers { IfOk result (λ parts. parts.numbers.now ≡ part bytes.now (numbers_place bytes.now) (2 * numbers_of bytes.now)) }
+    ensures offsets { IfOk result (λ parts. parts.offsets.now ≡ part bytes.now (offsets_place bytes.now) (2 * offsets_of bytes.now)) }
+    ensures number_count { IfOk result (λ parts. (parts.number_count ≡ numbers_of bytes.now) × (length parts.numbers.now ≡ 2 * parts.number_count) × (parts.number_count ≤ 64)) }
+    ensures offset_count { IfOk result (λ parts. (parts.offset_count ≡ offsets_of bytes.now) × (length parts.offsets.now ≡ 2 * parts.offset_count) × (parts.offset_count ≤ 512)) }
+    ensures flag_count { IfOk result (λ parts. length parts.flags.now ≤ 64) }
+    ensures table { IfOk result (λ parts. parts.table.now ≡ part bytes.now (table_place bytes.now) (table_of bytes.now)) }
+    ensures rest { IfOk result (λ parts. parts.rest ≡ length (drop (end_place bytes.now) bytes.now)) }
+{
+    let (names, flags) = (word(bytes, 2), word(bytes, 4));
+    let (numbers, offsets, table) = (word(bytes, 6), word(bytes, 8), word(bytes, 10));
+    if names == 0 || names > MOST || flags > 64 || numbers > 64 || offsets > 512 || table > MOST {
+        return Err(BinFault::BadCount);
+    }
+    let (names, flags, table) = (usize::from(names), usize::from(flags), usize::from(table));
+    let flags_place = 12 + names;
+    let numbers_place = flags_place + flags + (names + flags) % 2;
+    let offsets_place = numbers_place + 2 * usize::from(numbers);
+    let table_place = offsets_place + 2 * usize::from(offsets);
+    let end = table_place + table;
+    if bytes.len() < end {
+        return Err(BinFault::Truncated);
+    }
+    Ok(Parts {
+        names: &bytes[12..flags_place],
+        flags: &bytes[flags_place..flags_place + flags],
+        number_count: numbers,
+        numbers: &bytes[numbers_place..offsets_place],
+        offset_count: offsets,
+        offsets: &bytes[offsets_place..table_place],
+        table: &bytes[table_place..end],
+        rest: bytes.len() - end,
+    })
+}

@@ -1,0 +1,28 @@
+ghost use Rattle.std.specs.Prelude.{◌≡◌, drop};
+ghost use Rattle.std.specs.List.{before_first, list_any};
+ghost use Rattle.ti_binary.specs.Files.{is_nul};
+
+/// Whether there is a NUL.
+pub(crate) fn has_nul(bytes: &[u8]) -> bool
+    ensures { result ≡ list_any is_nul bytes.now }
+{
+    bytes.iter().any(|byte| *byte == 0)
+}
+
+/// What stands before the first NUL, or all where there is none.
+pub(crate) fn before_nul(bytes: &[u8]) -> &[u8]
+    ensures { result.now ≡ before_first is_nul bytes.now }
+{
+    let end = bytes
+        .iter()
+        .position(|byte| *byte == 0)
+        .unwrap_or(bytes.len());
+    &bytes[..end]
+}
+
+/// What stands from a place on: nothing past the end.
+pub(crate) fn rest_from(table: &[u8], place: usize) -> &[u8]
+    ensures { result.now ≡ drop place table.now }
+{
+    table.get(place..).unwrap_or(&[])
+}
