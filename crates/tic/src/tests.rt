@@ -26,6 +26,7 @@ fn faults_have_texts(rt: HostRuntime) -> Result<(), Fail> {
     let text = unknown.to_string(rt.alloc())?;
     assert!(rt; text.as_str() == "unknown name");
     let twice = check(rt.alloc(), b"a,\na,\n").err().ok_or("no fault")?;
+    assert_eq!(rt; twice, TicFault::Source(SourceFault::DuplicateName(2)));
     let text = twice.to_string(rt.alloc())?;
     assert!(rt; text.as_str() == "line 2: duplicate name");
     Ok(())
