@@ -5,6 +5,7 @@ pub mod Line
 pub mod Named
 pub mod Number
 pub mod Print
+pub mod ReadBack
 pub mod Reading
 pub mod Resolving
 pub mod Result

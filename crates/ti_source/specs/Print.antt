@@ -1,9 +1,10 @@
 -- The source text of an entry (tic(1), infocmp(1)).
-use Rattle.std.specs.Prelude.{ℕ, suc, Bool, true, false, List, [], ◌∷◌, ◌++◌, Option, Some, None}
+use Rattle.std.specs.Prelude.{ℕ, suc, Bool, true, false, List, [], ◌∷◌, ◌++◌, Option, Some, None, map}
 use Rattle.std.specs.Fmt.{decimal}
+use Rattle.std.specs.List.{range_with_len}
 use Rattle.ti_caps.specs.declared.table.Kind.TheVariants.{Flag, Number, Text}
 use Rattle.ti_caps.specs.Table.{name_at}
-use Rattle.ti_caps.specs.Description.{Description}
+use Rattle.ti_caps.specs.Description.{Description, flag_at, number_at, text_at}
 use Rattle.ti_source.specs.Escape.{printed_text}
 
 -- a field on a line of its own: a tab, the name, what follows it, a comma and LF; nothing without a name
@@ -32,3 +33,17 @@ lines_from line k (x ∷ xs) = line k x ++ lines_from line (suc k) xs
 unfoldable pub printed : Description → List ℕ
 printed d =
     d.names ++ (44 ∷ 10 ∷ []) ++ lines_from flag_line 0 d.flags ++ lines_from number_line 0 d.numbers ++ lines_from text_line 0 d.texts
+
+-- what stands at a position that has a name; else it is absent
+abbrev pub if_named : {A : Type 0} → Option (List ℕ) → A → A → A
+if_named None absent x = absent
+if_named (Some name) absent x = x
+
+-- a description without its unnamed capabilities
+unfoldable pub named_only : Description → Description
+named_only d = record {
+  names = d.names;
+  flags = map (λ slot. if_named (name_at Flag slot) false (flag_at d slot)) (range_with_len 0 64);
+  numbers = map (λ slot. if_named (name_at Number slot) None (number_at d slot)) (range_with_len 0 64);
+  texts = map (λ slot. if_named (name_at Text slot) None (text_at d slot)) (range_with_len 0 512);
+}

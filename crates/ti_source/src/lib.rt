@@ -19,7 +19,7 @@ mod walk;
 
 pub use fault::SourceFault;
 pub use note::{Cause, Note};
-pub use printer::{Printed, numbers_read_back, print, texts_read_back};
+pub use printer::{Printed, numbers_read_back, print, printed_reads_back, texts_read_back};
 pub use reader::read;
 pub use resolver::{resolve, resolve_all};
 pub use source::Source;

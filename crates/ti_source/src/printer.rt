@@ -7,6 +7,7 @@ ghost use Rattle.ti_caps.specs.Table.{name_at};
 ghost use Rattle.ti_source.specs.Escape.{IsText, decoded, printed_byte, printed_text};
 ghost use Rattle.ti_source.specs.Number.{number};
 ghost use Rattle.ti_source.specs.Print.{flag_line, lines_from, number_line, printed, text_line};
+ghost use Rattle.ti_source.specs.ReadBack.{EachReadsBack};
 
 use crate::fault::SourceFault;
 use std::alloc::{AllocError, Global};
@@ -162,4 +163,10 @@ pub fn texts_read_back()
 /// A printed number stands for the number that it was printed from, as a law.
 pub fn numbers_read_back()
     ensures { (n : ℕ) → n < 2 ^ 16 → number (decimal n) ≡ Some n }
+{}
+
+/// A printed text is a source of one entry without a note, as a law, and that entry resolves by its
+/// first reference name to the description that was printed, without its unnamed capabilities.
+pub fn printed_reads_back()
+    ensures { EachReadsBack }
 {}
