@@ -1,4 +1,4 @@
-use Rattle.ti_source.proofs.PrintedBack.{reads-back}
+use Rattle.ti_source.proofs.PrintedBackLaws.{reads-back}
 use Rattle.ti_source.proofs.printer.printed_reads_back.Goals as goal
 
 pub returns : goal.returns

@@ -1,5 +1,5 @@
 -- The lines of a printed text.
-use Rattle.std.proofs.Common.{◌≡◌, ◌∙◌, ℕ, zero, suc, ◌+◌, ◌-◌, ◌<◌, Bool, true, false, not, ◌&&◌, eqb, ltb, cond, List, [], ◌∷◌, ◌++◌, take, drop, map, length, get_or, refl, ap, sym, append_assoc, length-append, arith}
+use Rattle.std.proofs.Common.{◌≡◌, ◌∙◌, ℕ, suc, ◌+◌, ◌-◌, ◌<◌, Bool, true, false, not, ◌&&◌, eqb, ltb, List, [], ◌∷◌, ◌++◌, take, drop, map, length, get_or, refl, ap, length-append, arith}
 use Rattle.std.specs.List.{list_all}
 use Rattle.std.proofs.lemmas.Bool.Decides.{nat_tests}
 use Rattle.bstr.specs.Text.{line_len, lines_of, no_cr, without_terminator}
@@ -78,7 +78,7 @@ lines-ended body rest e =
     let n = line_len-ended body rest e in
     let whole = ended body rest in
     let cut : lines_of whole ≡ ended body [] ∷ lines_of rest =
-        lines-step whole long ∙ ap (λ k. take k whole ∷ lines_of (drop k whole)) n ∙ ap (λ t. t ∷ lines_of (drop (suc (suc (length body))) whole)) (take-ended body rest) ∙ ap (λ t. ended body [] ∷ lines_of t) (drop-ended body rest) in
+    lines-step whole long ∙ ap (λ k. take k whole ∷ lines_of (drop k whole)) n ∙ ap (λ t. t ∷ lines_of (drop (suc (suc (length body))) whole)) (take-ended body rest) ∙ ap (λ t. ended body [] ∷ lines_of t) (drop-ended body rest) in
     ap (map without_terminator) cut ∙ ap (λ x. x ∷ lines rest) (without_terminator-ended body)
 
 pub no-lines : lines [] ≡ []

@@ -1,5 +1,5 @@
 -- The form of a printed field, and what it adds to an entry.
-use Rattle.std.proofs.Common.{◌≡◌, ◌∙◌, ℕ, zero, suc, ◌+◌, ◌-◌, ◌≤◌, ◌<◌, Bool, true, false, not, ◌&&◌, ◌||◌, eqb, ltb, leb, cond, List, [], ◌∷◌, ◌++◌, take, drop, reverse, length, get_or, Option, Some, None, Result, Ok, refl, ap, sym, subst, append-nil, arith, inl, inr}
+use Rattle.std.proofs.Common.{◌≡◌, ◌∙◌, ℕ, zero, suc, ◌+◌, ◌-◌, ◌≤◌, ◌<◌, Bool, true, false, not, ◌&&◌, eqb, leb, List, [], ◌∷◌, ◌++◌, take, drop, reverse, length, get_or, Some, Ok, refl, ap, sym, arith, inl, inr}
 use Rattle.std.specs.Fmt.{decimal}
 use Rattle.std.specs.List.{list_all, prefix_len}
 use Rattle.std.specs.Str.{bytes_eq}
@@ -11,17 +11,15 @@ use Rattle.ti_caps.specs.declared.table.Kind.{Kind}
 use Rattle.ti_caps.specs.declared.table.Kind.TheVariants.{Flag, Number, Text}
 use Rattle.ti_caps.specs.Table.{name_at, capability_of}
 use Rattle.ti_caps.proofs.Once.{name_is_found}
-use Rattle.ti_source.specs.declared.fault.SourceFault.{SourceFault}
 use Rattle.ti_source.specs.declared.statement.Said.{Said}
 use Rattle.ti_source.specs.declared.statement.Said.TheVariants as said
-use Rattle.ti_source.specs.Escape.{decoded, printed_text, IsText}
-use Rattle.ti_source.specs.Number.{number}
-use Rattle.ti_source.specs.Field.{Form, Plain, Numeric, Textual, form_of, form_of_trimmed, form_by, is_blank, ends_name, name_length, without_lead, without_trail}
+use Rattle.ti_source.specs.Escape.{printed_text, IsText}
+use Rattle.ti_source.specs.Field.{form_of, form_of_trimmed, form_by, is_blank, ends_name, name_length, without_lead, without_trail}
 use Rattle.ti_source.specs.Reading.{Filling, with_form, with_statement, is_stated}
 use Rattle.ti_source.proofs.EscapesBack.{decoded-printed_text}
 use Rattle.ti_source.proofs.NumbersBack.{number-decimal}
-use Rattle.ti_source.proofs.TableBytes.{both, begins_letter, is_graphic, is_letter, is_written, name-is-written}
-use Rattle.ti_source.proofs.FieldsBack.{IsValue, IsValue-append, IsValue-first, letters-are-value, decimal-is-value, printed_text-is-value}
+use Rattle.ti_source.proofs.TableBytesLaws.{both, begins_letter, is_graphic, is_letter, is_written, name-is-written}
+use Rattle.ti_source.proofs.FieldsBackLaws.{IsValue, IsValue-append, IsValue-first, letters-are-value, decimal-is-value, printed_text-is-value}
 
 graphic-no_blank : (b : ℕ) → is_graphic b ≡ true → is_blank b ≡ false
 graphic-no_blank b e = grind (arith, nat_tests)

@@ -1,5 +1,5 @@
 -- The statements of what has a name, as an entry that is resolved.
-use Rattle.std.proofs.Common.{◌≡◌, ◌∙◌, ℕ, zero, suc, ◌+◌, ◌≤◌, ◌<◌, Bool, true, false, ◌&&◌, ◌||◌, eqb, cond, List, [], ◌∷◌, ◌++◌, map, get_or, Option, Some, None, refl, ap, sym, add-zero, arith}
+use Rattle.std.proofs.Common.{◌≡◌, ◌∙◌, ℕ, zero, suc, ◌+◌, ◌<◌, Bool, true, false, ◌&&◌, ◌||◌, eqb, cond, List, [], ◌∷◌, ◌++◌, map, get_or, Option, Some, None, refl, ap, sym, add-zero, arith}
 use Rattle.std.specs.List.{range_with_len, list_any}
 use Rattle.std.proofs.lemmas.Bool.Decides.{nat_tests}
 use Rattle.ti_caps.specs.declared.table.Kind.{Kind}
@@ -9,11 +9,10 @@ use Rattle.ti_caps.specs.Description.{Description}
 use Rattle.ti_source.specs.declared.statement.Said.{Said}
 use Rattle.ti_source.specs.declared.statement.Said.TheVariants as said
 use Rattle.ti_source.specs.declared.statement.Statement.{Statement}
-use Rattle.ti_source.specs.Described.{Described}
 use Rattle.ti_source.specs.Print.{if_named, named_only}
 use Rattle.ti_source.specs.Reading.{speaks_of}
 use Rattle.ti_source.specs.Resolving.{said_of, flag_by, number_by, text_by, flag_in, number_in, text_in, merged}
-use Rattle.ti_source.proofs.StatementsBack.{named_statement, statements_from, of-other-kind}
+use Rattle.ti_source.proofs.StatementsBackLaws.{named_statement, statements_from, of-other-kind}
 
 said_of-cond : (t : Bool) (s : Said) (x y : Option Said) → cond t (Some s) (or_else x y) ≡ or_else (cond t (Some s) x) y
 said_of-cond true s x y = refl
@@ -154,8 +153,8 @@ flag-back d j =
     let ts = map text_said d.texts in
     let said = if_named (name_at Flag j) None (get_or fs j no_said) in
     let all : said_of Flag j (all_statements d) ≡ said =
-        three said None None Flag j (statements_from Flag 0 fs) (statements_from Number 0 ns) (statements_from Text 0 ts) (said-of-place Flag j fs) (none-of Number Flag j ns refl) (none-of Text Flag j ts refl)
-        ∙ or-none (or_else said None) ∙ or-none said in
+    three said None None Flag j (statements_from Flag 0 fs) (statements_from Number 0 ns) (statements_from Text 0 ts) (said-of-place Flag j fs) (none-of Number Flag j ns refl) (none-of Text Flag j ts refl)
+    ∙ or-none (or_else said None) ∙ or-none said in
     ap (λ o. flag_by o false) all ∙ ap (λ o. flag_by (if_named (name_at Flag j) None o) false) (flag-said-at d.flags j) ∙ flag-named (name_at Flag j) (get_or d.flags j false)
 
 number-back : (d : Description) (j : ℕ) → number_in (all_statements d) [] j ≡ if_named (name_at Number j) None (get_or d.numbers j None)
@@ -165,8 +164,8 @@ number-back d j =
     let ts = map text_said d.texts in
     let said = if_named (name_at Number j) None (get_or ns j no_said) in
     let all : said_of Number j (all_statements d) ≡ said =
-        three None said None Number j (statements_from Flag 0 fs) (statements_from Number 0 ns) (statements_from Text 0 ts) (none-of Flag Number j fs refl) (said-of-place Number j ns) (none-of Text Number j ts refl)
-        ∙ or-none said in
+    three None said None Number j (statements_from Flag 0 fs) (statements_from Number 0 ns) (statements_from Text 0 ts) (none-of Flag Number j fs refl) (said-of-place Number j ns) (none-of Text Number j ts refl)
+    ∙ or-none said in
     ap (λ o. number_by o None) all ∙ ap (λ o. number_by (if_named (name_at Number j) None o) None) (number-said-at d.numbers j) ∙ number-named (name_at Number j) (get_or d.numbers j None)
 
 text-back : (d : Description) (j : ℕ) → text_in (all_statements d) [] j ≡ if_named (name_at Text j) None (get_or d.texts j None)
@@ -175,7 +174,7 @@ text-back d j =
     let ns = map number_said d.numbers in
     let ts = map text_said d.texts in
     let all : said_of Text j (all_statements d) ≡ if_named (name_at Text j) None (get_or ts j no_said) =
-        three None None (if_named (name_at Text j) None (get_or ts j no_said)) Text j (statements_from Flag 0 fs) (statements_from Number 0 ns) (statements_from Text 0 ts) (none-of Flag Text j fs refl) (none-of Number Text j ns refl) (said-of-place Text j ts) in
+    three None None (if_named (name_at Text j) None (get_or ts j no_said)) Text j (statements_from Flag 0 fs) (statements_from Number 0 ns) (statements_from Text 0 ts) (none-of Flag Text j fs refl) (none-of Number Text j ns refl) (said-of-place Text j ts) in
     ap (λ o. text_by o None) all ∙ ap (λ o. text_by (if_named (name_at Text j) None o) None) (text-said-at d.texts j) ∙ text-named (name_at Text j) (get_or d.texts j None)
 
 map-same : {A B : Type 0} → (f g : A → B) (xs : List A) → ((x : A) → f x ≡ g x) → map f xs ≡ map g xs

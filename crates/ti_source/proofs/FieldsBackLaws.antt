@@ -1,15 +1,15 @@
 -- A printed line is one field, and an empty one after its comma.
-use Rattle.std.proofs.Common.{◌≡◌, ◌∙◌, ℕ, zero, suc, ◌+◌, ◌-◌, ◌/◌, ◌%◌, ◌^◌, ◌<◌, Bool, true, false, not, ◌&&◌, ◌||◌, eqb, ltb, leb, cond, List, [], ◌∷◌, ◌++◌, take, drop, reverse, length, refl, ap, sym, subst, append_assoc, append-nil, arith}
+use Rattle.std.proofs.Common.{◌≡◌, ◌∙◌, ℕ, ◌+◌, ◌-◌, ◌/◌, ◌%◌, ◌^◌, ◌<◌, Bool, true, false, not, ◌&&◌, ◌||◌, eqb, ltb, cond, List, [], ◌∷◌, ◌++◌, take, refl, ap, sym, append_assoc, append-nil, arith}
 use Rattle.std.specs.Fmt.{decimal}
-use Rattle.std.specs.List.{list_all, onto_first, prefix_len}
+use Rattle.std.specs.List.{list_all, onto_first}
 use Rattle.std.proofs.lemmas.Bool.Decides.{nat_tests}
 use Rattle.std.proofs.lemmas.Fmt.{decimal_by_steps}
 use Rattle.std.proofs.lemmas.List.Folds.{list_all-append}
 use Rattle.ti_source.specs.Escape.{printed_byte, printed_text, IsText}
 use Rattle.ti_source.specs.Field.{fields, fields_after, is_blank, takes_next, ends_name}
-use Rattle.ti_source.specs.Line.{Line, Continues, line_of, is_ascii}
+use Rattle.ti_source.specs.Line.{Continues, line_of, is_ascii}
 use Rattle.ti_source.proofs.FieldLaws.{with_front, with_front-nil}
-use Rattle.ti_source.proofs.TableBytes.{both, is_graphic, is_letter}
+use Rattle.ti_source.proofs.TableBytesLaws.{both, is_graphic, is_letter}
 
 -- bytes that no comma of theirs ends, and that take no byte after them
 abbrev pub IsClosed : List ℕ → Type 0
@@ -156,6 +156,6 @@ all-ascii (b ∷ bs) e =
 pub line-of-value : (v : List ℕ) → IsValue v → line_of (9 ∷ (v ++ 44 ∷ [])) ≡ Continues ((9 ∷ v) ∷ [] ∷ [])
 line-of-value v is =
     let cut : fields (9 ∷ (v ++ 44 ∷ [])) ≡ (9 ∷ v) ∷ [] ∷ [] =
-        ap (onto_first 9) (is.closed (44 ∷ [])) ∙ ap (λ x. (9 ∷ x) ∷ [] ∷ []) (append-nil v) in
+    ap (onto_first 9) (is.closed (44 ∷ [])) ∙ ap (λ x. (9 ∷ x) ∷ [] ∷ []) (append-nil v) in
     let kind : line_of (9 ∷ (v ++ 44 ∷ [])) ≡ Continues (fields (9 ∷ (v ++ 44 ∷ []))) = rw (not-all-blank v, all-ascii v is.graphic) refl in
     kind ∙ ap Continues cut

@@ -1,5 +1,5 @@
 -- A printed text is read again as the description without its unnamed capabilities.
-use Rattle.std.proofs.Common.{◌≡◌, ◌∙◌, ℕ, zero, suc, ◌+◌, ◌≤◌, Bool, true, false, not, ◌&&◌, ◌||◌, eqb, leb, cond, List, [], ◌∷◌, ◌++◌, take, drop, map, length, get_or, Option, Some, None, IfSome, Result, Ok, bytes_eq, refl, ap, sym, append_assoc, append-nil, arith}
+use Rattle.std.proofs.Common.{◌≡◌, ◌∙◌, ℕ, suc, ◌+◌, ◌≤◌, Bool, true, false, not, ◌&&◌, eqb, leb, cond, List, [], ◌∷◌, ◌++◌, take, drop, map, length, get_or, Option, Some, None, IfSome, Ok, bytes_eq, refl, ap, sym, append_assoc, append-nil, arith}
 use Rattle.std.specs.List.{list_all, list_any, slice_split, before_first, after_first, prefix_len}
 use Rattle.std.proofs.lemmas.Bool.Decides.{nat_tests}
 use Rattle.std.proofs.lemmas.List.Folds.{list_any-append}
@@ -8,25 +8,23 @@ use Rattle.ti_caps.specs.declared.table.Kind.{Kind}
 use Rattle.ti_caps.specs.declared.table.Kind.TheVariants.{Flag, Number, Text}
 use Rattle.ti_caps.specs.Names.{alternatives, are_names, begins_with_hash, first_name, has_bytes, has_no_blank, is_bar, is_name_byte}
 use Rattle.ti_caps.specs.Description.{Description, IsDescription}
-use Rattle.ti_source.specs.declared.fault.SourceFault.{SourceFault}
 use Rattle.ti_source.specs.declared.statement.Said.{Said}
-use Rattle.ti_source.specs.declared.statement.Statement.{Statement}
 use Rattle.ti_source.specs.Described.{Described}
 use Rattle.ti_source.specs.Escape.{IsText}
 use Rattle.ti_source.specs.Field.{fields, is_blank}
 use Rattle.ti_source.specs.Line.{Line, Skipped, Foreign, Begins, begins_blank, begins_hash, is_ascii, is_comma, line_of, lines}
-use Rattle.ti_source.specs.Named.{found_from, has_name, is_reference}
+use Rattle.ti_source.specs.Named.{found_from, has_name}
 use Rattle.ti_source.specs.Print.{flag_line, lines_from, number_line, text_line, named_only, printed}
-use Rattle.ti_source.specs.Reading.{State, Whole, source_of, speaks_of, whole, with_fields, with_form, with_line, with_lines}
+use Rattle.ti_source.specs.Reading.{State, source_of, speaks_of, whole, with_fields, with_form, with_line, with_lines}
 use Rattle.ti_source.specs.Resolving.{Resolved, more, nothing}
 use Rattle.ti_source.specs.Result.{◌>>=◌}
 use Rattle.ti_source.specs.ReadBack.{HasTexts, ReadsBack}
-use Rattle.ti_source.proofs.TableBytes.{both}
-use Rattle.ti_source.proofs.LinesBack.{ended, no-lines, no_feed}
-use Rattle.ti_source.proofs.FieldsBack.{not-all-blank}
-use Rattle.ti_source.proofs.FormsBack.{Fits, drop-one-more, one-first, one-more, take-front}
-use Rattle.ti_source.proofs.StatementsBack.{AllFit, Goes, Goes-line, goes-on, of-other-kind, reading, said_line, statements_from}
-use Rattle.ti_source.proofs.MergedBack.{all_statements, flag_said, merged-back, number_said, text_said}
+use Rattle.ti_source.proofs.TableBytesLaws.{both}
+use Rattle.ti_source.proofs.LinesBackLaws.{ended, no-lines, no_feed}
+use Rattle.ti_source.proofs.FieldsBackLaws.{not-all-blank}
+use Rattle.ti_source.proofs.FormsBackLaws.{Fits, drop-one-more, one-first, one-more, take-front}
+use Rattle.ti_source.proofs.StatementsBackLaws.{AllFit, Goes-line, goes-on, of-other-kind, reading, said_line, statements_from}
+use Rattle.ti_source.proofs.MergedBackLaws.{all_statements, flag_said, merged-back, number_said, text_said}
 
 -- how a line of names begins
 record HeadPlain (b : ℕ) : Type 0 where

@@ -1,22 +1,20 @@
 -- The lines of a printed text add the statements of what has a name, one after another.
-use Rattle.std.proofs.Common.{◌≡◌, ◌∙◌, ℕ, zero, suc, ◌+◌, ◌≤◌, ◌<◌, Bool, true, false, not, ◌&&◌, ◌||◌, eqb, cond, List, [], ◌∷◌, ◌++◌, map, Option, Some, None, IfSome, Result, Ok, refl, ap, sym, subst, append_assoc, append-nil, arith}
+use Rattle.std.proofs.Common.{◌≡◌, ◌∙◌, ℕ, suc, ◌+◌, ◌≤◌, ◌<◌, Bool, true, false, ◌&&◌, ◌||◌, eqb, List, [], ◌∷◌, ◌++◌, Option, Some, None, IfSome, Ok, refl, ap, sym, append_assoc, append-nil, arith}
 use Rattle.std.specs.List.{list_all, list_any}
 use Rattle.std.proofs.lemmas.Bool.Decides.{nat_tests}
 use Rattle.std.proofs.lemmas.List.Folds.{list_any-append}
 use Rattle.ti_caps.specs.declared.table.Kind.{Kind}
-use Rattle.ti_caps.specs.declared.table.Kind.TheVariants.{Flag, Number, Text}
 use Rattle.ti_caps.specs.Table.{name_at, same_kind}
-use Rattle.ti_source.specs.declared.fault.SourceFault.{SourceFault}
 use Rattle.ti_source.specs.declared.statement.Said.{Said}
 use Rattle.ti_source.specs.declared.statement.Statement.{Statement}
-use Rattle.ti_source.specs.Line.{Continues, line_of, lines}
+use Rattle.ti_source.specs.Line.{line_of, lines}
 use Rattle.ti_source.specs.Print.{field_line, lines_from}
 use Rattle.ti_source.specs.Reading.{Filling, State, speaks_of, with_fields, with_form, with_line, with_lines, with_statement, next_line}
 use Rattle.ti_source.specs.Field.{form_of}
-use Rattle.ti_source.proofs.TableBytes.{both, is_graphic}
-use Rattle.ti_source.proofs.LinesBack.{ended, lines-ended, no_feed}
-use Rattle.ti_source.proofs.FieldsBack.{line-of-value}
-use Rattle.ti_source.proofs.FormsBack.{Fits, IsPrinted, is-printed, value_of}
+use Rattle.ti_source.proofs.TableBytesLaws.{both, is_graphic}
+use Rattle.ti_source.proofs.LinesBackLaws.{ended, lines-ended, no_feed}
+use Rattle.ti_source.proofs.FieldsBackLaws.{line-of-value}
+use Rattle.ti_source.proofs.FormsBackLaws.{Fits, IsPrinted, is-printed, value_of}
 
 abbrev pub statement : Kind → ℕ → Said → Statement
 statement kind slot s = record { kind = kind; slot = record { 0 = slot }; said = s }
@@ -120,7 +118,7 @@ goes-on kind (o ∷ os) n k names ss rest fits fresh =
     record {
       line = others.line;
       goes = ap (λ x. with_lines n (lines x) (reading names ss)) (append_assoc (said_line kind k o) more rest) ∙ first.goes ∙ others.goes
-      ∙ ap (λ x. with_lines others.line (lines rest) (reading names x)) (append_assoc ss added (statements_from kind (suc k) os));
+          ∙ ap (λ x. with_lines others.line (lines rest) (reading names x)) (append_assoc ss added (statements_from kind (suc k) os));
     }
 
 -- the statements of one kind speak of no other
