@@ -1,5 +1,5 @@
 -- A printed text as it is read again.
-use Rattle.std.specs.Prelude.{◌≡◌, ℕ, List, [], ◌∷◌, Ok, IfSome}
+use Rattle.std.specs.Prelude.{◌≡◌, ℕ, [], ◌∷◌, Ok, IfSome}
 use Rattle.ti_caps.specs.Names.{first_name}
 use Rattle.ti_caps.specs.Description.{Description, IsDescription, text_at}
 use Rattle.ti_source.specs.Described.{Described}
