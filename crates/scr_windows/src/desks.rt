@@ -34,7 +34,7 @@ impl Model for Desk {
 // What the calls are made of. A place is one among the windows.
 impl Desk {
     // Where a window stands among the windows.
-    pub fn place(&self, win: Win) -> Result<usize, WinFault>
+    pub(crate) fn place(&self, win: Win) -> Result<usize, WinFault>
         ensures place { result ≡ place_of self.now win.0 }
         ensures placed { IfOk result (λ i. Placed self.now i) }
     {
@@ -45,7 +45,7 @@ impl Desk {
     }
 
     // Where a window stands, its area and what the calls set in it.
-    pub fn pen(&self, win: Win) -> Result<Pen, WinFault>
+    pub(crate) fn pen(&self, win: Win) -> Result<Pen, WinFault>
         ensures { MatchResult result (IsPen self.now win.0) (λ fault. place_of self.now win.0 ≡ Err fault) }
     {
         let place = self.place(win)?;
@@ -58,7 +58,7 @@ impl Desk {
     }
 
     // The same, of the window at a place.
-    pub fn pen_at(&self, place: usize) -> Pen
+    pub(crate) fn pen_at(&self, place: usize) -> Pen
         requires { place < length self.now.windows }
         ensures place { result.place ≡ place }
         ensures pen { IsPenAt self.now result }
@@ -72,7 +72,7 @@ impl Desk {
     }
 
     // The window at a place.
-    pub fn window(&self, place: usize) -> &Window
+    pub(crate) fn window(&self, place: usize) -> &Window
         requires { place < length self.now.windows }
         ensures window { result.now ≡ window_at self.now place }
         ensures placed { Placed self.now place }
@@ -81,7 +81,7 @@ impl Desk {
     }
 
     // Sets what the calls set in the window at a place.
-    pub fn set_state(&mut self, place: usize, state: State)
+    pub(crate) fn set_state(&mut self, place: usize, state: State)
         requires here { place < length self.old.windows }
         requires state { IsState (window_at self.old place).frame state }
         ensures { self.new ≡ with_window self.old place (record (window_at self.old place) { state = state }) }
@@ -90,7 +90,7 @@ impl Desk {
     }
 
     // Marks lines of the window at a place.
-    pub fn mark(&mut self, place: usize, first: u32, end: u32, mark: bool)
+    pub(crate) fn mark(&mut self, place: usize, first: u32, end: u32, mark: bool)
         requires here { place < length self.old.windows }
         ensures { self.new ≡ with_window self.old place (marked first end mark (window_at self.old place)) }
     {

@@ -10,7 +10,7 @@ use scr_cells::Cell;
 impl Desk {
     // Puts a cell in the places of a row of the window at a place from one column up to another, and
     // touches the row.
-    pub fn fill_run(&mut self, place: usize, row: u32, from: u32, end: u32, cell: Cell)
+    pub(crate) fn fill_run(&mut self, place: usize, row: u32, from: u32, end: u32, cell: Cell)
         requires here { place < length self.old.windows }
         requires row { row < (window_at self.old place).frame.area.rows }
         requires order { from ≤ end }
@@ -25,7 +25,7 @@ impl Desk {
 
     // Puts a cell everywhere in the rows of the window at a place from one up to another, and touches
     // them.
-    pub fn fill_rows(&mut self, place: usize, first: u32, end: u32, cell: Cell)
+    pub(crate) fn fill_rows(&mut self, place: usize, first: u32, end: u32, cell: Cell)
         requires here { place < length self.old.windows }
         requires order { first ≤ end }
         requires end { end ≤ (window_at self.old place).frame.area.rows }
@@ -39,7 +39,7 @@ impl Desk {
 
     // Puts a cell in the places of the window at a place from one on, in its row and below, and touches
     // these rows.
-    pub fn fill_below(&mut self, place: usize, row: u32, column: u32, cell: Cell)
+    pub(crate) fn fill_below(&mut self, place: usize, row: u32, column: u32, cell: Cell)
         requires here { place < length self.old.windows }
         requires row { row < (window_at self.old place).frame.area.rows }
         requires column { column < (window_at self.old place).frame.area.columns }
@@ -52,7 +52,7 @@ impl Desk {
     }
 
     // Opens a row of the window at a place, and touches it.
-    pub fn open_row(&mut self, place: usize, row: u32, column: u32, cell: Cell)
+    pub(crate) fn open_row(&mut self, place: usize, row: u32, column: u32, cell: Cell)
         requires here { place < length self.old.windows }
         requires row { row < (window_at self.old place).frame.area.rows }
         requires column { column < (window_at self.old place).frame.area.columns }
@@ -65,7 +65,7 @@ impl Desk {
     }
 
     // Closes a row of the window at a place, and touches it.
-    pub fn close_row(&mut self, place: usize, row: u32, column: u32, cell: Cell)
+    pub(crate) fn close_row(&mut self, place: usize, row: u32, column: u32, cell: Cell)
         requires here { place < length self.old.windows }
         requires row { row < (window_at self.old place).frame.area.rows }
         requires column { column < (window_at self.old place).frame.area.columns }
@@ -78,7 +78,7 @@ impl Desk {
     }
 
     // Moves rows of the window at a place up among themselves, and touches them.
-    pub fn move_up(&mut self, place: usize, first: u32, end: u32, n: u32, cell: Cell)
+    pub(crate) fn move_up(&mut self, place: usize, first: u32, end: u32, n: u32, cell: Cell)
         requires here { place < length self.old.windows }
         requires order { first ≤ end }
         requires end { end ≤ (window_at self.old place).frame.area.rows }
@@ -91,7 +91,7 @@ impl Desk {
     }
 
     // Moves rows of the window at a place down among themselves, and touches them.
-    pub fn move_down(&mut self, place: usize, first: u32, end: u32, n: u32, cell: Cell)
+    pub(crate) fn move_down(&mut self, place: usize, first: u32, end: u32, n: u32, cell: Cell)
         requires here { place < length self.old.windows }
         requires order { first ≤ end }
         requires end { end ≤ (window_at self.old place).frame.area.rows }
@@ -105,7 +105,14 @@ impl Desk {
 
     // Puts a cell in the places of a column of the window at a place from one row up to another, and
     // touches these rows.
-    pub fn fill_column(&mut self, place: usize, column: u32, first: u32, end: u32, cell: Cell)
+    pub(crate) fn fill_column(
+        &mut self,
+        place: usize,
+        column: u32,
+        first: u32,
+        end: u32,
+        cell: Cell,
+    )
         requires here { place < length self.old.windows }
         requires column { column < (window_at self.old place).frame.area.columns }
         requires order { first ≤ end }
@@ -119,7 +126,7 @@ impl Desk {
     }
 
     // Exchanges a background everywhere in the window at a place, and touches it.
-    pub fn exchange(&mut self, place: usize, old: Cell, new: Cell)
+    pub(crate) fn exchange(&mut self, place: usize, old: Cell, new: Cell)
         requires here { place < length self.old.windows }
         ensures { self.new ≡ write self.old place 0 (window_at self.old place).frame.area.rows (all_exchanged old new) }
     {

@@ -142,7 +142,7 @@ impl Desk {
 
 // A part of an area, from a row and a column of it on.
 #[tactic(auto, unfolding(crate::specs::Making::part_of))]
-pub fn part_of(area: Area, rows: u32, columns: u32, row: u32, column: u32) -> Option<Area>
+pub(crate) fn part_of(area: Area, rows: u32, columns: u32, row: u32, column: u32) -> Option<Area>
     requires below { area.top + area.rows ≤ 1000000 }
     requires right { area.left + area.columns ≤ 1000000 }
     ensures { result ≡ part_of area rows columns row column }
