@@ -5,6 +5,7 @@ pub mod FieldsBackLaws
 pub mod FormsBackLaws
 pub mod GoodLaws
 pub mod LinesBackLaws
+pub mod MeaningLaws
 pub mod MergedBackLaws
 pub mod NamedLaws
 pub mod NumberLaws
@@ -14,5 +15,6 @@ pub mod PrintedBackLaws
 pub mod ReadingLaws
 pub mod ResolvingLaws
 pub mod StatementsBackLaws
+pub mod StepLaws
 pub mod TableBytesLaws
 pub mod WalkLaws

@@ -15,7 +15,8 @@ use Rattle.ti_source.specs.Field.{fields, is_blank}
 use Rattle.ti_source.specs.Line.{Line, Skipped, Foreign, Begins, begins_blank, begins_hash, is_ascii, is_comma, line_of, lines}
 use Rattle.ti_source.specs.Named.{found_from, has_name}
 use Rattle.ti_source.specs.Print.{flag_line, lines_from, number_line, text_line, named_only, printed}
-use Rattle.ti_source.specs.Reading.{State, source_of, speaks_of, whole, with_fields, with_form, with_line, with_lines}
+use Rattle.ti_source.specs.Reading.{source_of, speaks_of}
+use Rattle.ti_source.specs.Steps.{State, read_through, whole, with_fields, with_form, with_line, with_lines}
 use Rattle.ti_source.specs.Resolving.{Resolved, more, nothing}
 use Rattle.ti_source.specs.Result.{◌>>=◌}
 use Rattle.ti_source.specs.ReadBack.{HasTexts, ReadsBack}
@@ -23,6 +24,7 @@ use Rattle.ti_source.proofs.TableBytesLaws.{both}
 use Rattle.ti_source.proofs.LinesBackLaws.{ended, no-lines, no_feed}
 use Rattle.ti_source.proofs.FieldsBackLaws.{not-all-blank}
 use Rattle.ti_source.proofs.FormsBackLaws.{Fits, drop-one-more, one-first, one-more, take-front}
+use Rattle.ti_source.proofs.StepLaws.{read-through}
 use Rattle.ti_source.proofs.StatementsBackLaws.{AllFit, Goes-line, goes-on, of-other-kind, reading, said_line, statements_from}
 use Rattle.ti_source.proofs.MergedBackLaws.{all_statements, flag_said, merged-back, number_said, text_said}
 
@@ -213,9 +215,9 @@ lines-read d is texts =
     let fourth = goes-on Text ts third.line 0 d.names (flags ++ numbers) [] (texts-fit d.texts texts) (λ j le. list_any-append (speaks_of Text j) flags numbers ∙ rw (of-other-kind Flag Text 0 j fs refl, of-other-kind Number Text 0 j ns refl) refl) in
     ap (λ x. with_lines 1 (lines x) start) (printed-is d) ∙ first.goes ∙ second.goes ∙ third.goes ∙ fourth.goes ∙ at-end fourth.line (reading d.names (all_statements d))
 
-source-read : (d : Description) → IsDescription d → HasTexts d → source_of (printed d) ≡ Ok (record { entries = entry_of d ∷ []; notes = [] })
-unfolding source_of
-source-read d is texts = ap (λ r. r >>= whole) (lines-read d is texts)
+lines-through : (d : Description) → IsDescription d → HasTexts d → read_through (printed d) ≡ Ok (record { entries = entry_of d ∷ []; notes = [] })
+unfolding read_through
+lines-through d is texts = ap (λ r. r >>= whole) (lines-read d is texts)
 
 first-part : (p : ℕ → Bool) (bs : List ℕ) → (behind : List (List ℕ)) × (slice_split p bs ≡ before_first p bs ∷ behind)
 first-part p [] = ([], refl)
@@ -247,4 +249,4 @@ resolves d e =
     more found nothing (sym (merged-back d)) nothing
 
 pub reads-back : (d : Description) → IsDescription d → HasTexts d → ReadsBack d
-reads-back d is texts = (entry_of d, source-read d is texts, resolves d is.named)
+reads-back d is texts = (entry_of d, sym (read-through (printed d)) ∙ lines-through d is texts, resolves d is.named)

@@ -3,7 +3,8 @@ use Rattle.std.proofs.Common.{◌≡◌, ◌∙◌, ℕ, List, [], ◌∷◌, Re
 use Rattle.ti_source.specs.declared.fault.SourceFault.{SourceFault}
 use Rattle.ti_source.specs.Field.{Form, form_of}
 use Rattle.ti_source.specs.Line.{Line, line_of}
-use Rattle.ti_source.specs.Reading.{Filling, State, with_form, with_fields, with_line, with_lines, next_line}
+use Rattle.ti_source.specs.Reading.{next_line}
+use Rattle.ti_source.specs.Steps.{Filling, State, with_form, with_fields, with_line, with_lines}
 use Rattle.ti_source.specs.Result.{◌>>=◌, Fails}
 
 -- a fault of the first step is the fault of both

@@ -9,7 +9,8 @@ use Rattle.ti_source.specs.declared.statement.Said.{Said}
 use Rattle.ti_source.specs.declared.statement.Statement.{Statement}
 use Rattle.ti_source.specs.Line.{line_of, lines}
 use Rattle.ti_source.specs.Print.{field_line, lines_from}
-use Rattle.ti_source.specs.Reading.{Filling, State, speaks_of, with_fields, with_form, with_line, with_lines, with_statement, next_line}
+use Rattle.ti_source.specs.Reading.{speaks_of, next_line}
+use Rattle.ti_source.specs.Steps.{Filling, State, with_fields, with_form, with_line, with_lines, with_statement}
 use Rattle.ti_source.specs.Field.{form_of}
 use Rattle.ti_source.proofs.TableBytesLaws.{both, is_graphic}
 use Rattle.ti_source.proofs.LinesBackLaws.{ended, lines-ended, no_feed}

@@ -10,4 +10,5 @@ pub mod Reading
 pub mod Resolving
 pub mod Result
 pub mod Seen
+pub mod Steps
 pub mod Walk

@@ -1,7 +1,6 @@
 -- A source: its entries and notes, or its first fault (terminfo(5), "Preparing Descriptions").
-use Rattle.std.specs.Prelude.{ℕ, ◌+◌, Bool, List, [], ◌∷◌, ◌++◌, Option, Some, None, Result, Ok, Err, length, min, ◌==◌, ◌&&◌, nat_le, nat_lt, if◌then◌else◌}
-use Rattle.std.specs.List.{list_any}
-use Rattle.std.specs.Option.{option_to_list}
+use Rattle.std.specs.Prelude.{ℕ, ◌+◌, Bool, true, false, List, [], ◌∷◌, ◌++◌, Option, Some, None, Result, Ok, Err, length, map, min, ◌==◌, ◌&&◌, nat_le, nat_lt, if◌then◌else◌}
+use Rattle.std.specs.List.{flat_map, list_any}
 use Rattle.ti_caps.specs.declared.table.Kind.{Kind}
 use Rattle.ti_caps.specs.declared.table.Kind.TheVariants.{Flag, Number, Text}
 use Rattle.ti_caps.specs.Table.{same_kind, capability_of}
@@ -17,147 +16,215 @@ use Rattle.ti_source.specs.declared.statement.Statement.{Statement}
 use Rattle.ti_source.specs.Described.{Described}
 use Rattle.ti_source.specs.Named.{has_name}
 use Rattle.ti_source.specs.Escape.{decoded}
-use Rattle.ti_source.specs.Number as number
+use Rattle.ti_source.specs.Number.{number}
 use Rattle.ti_source.specs.Field.{Form, Nothing, Plain, Numeric, Textual, Cancelled, Refers, Odd, form_of}
 use Rattle.ti_source.specs.Line.{Line, Skipped, Foreign, Continues, Begins, line_of, lines}
-use Rattle.ti_source.specs.Result.{◌>>=◌}
-
--- an entry that is being read, and the notes so far
-pub record Filling : Type 0 where
-  pub entry : Described
-  pub notes : List Note
-
-abbrev pub noted : ℕ → Cause → List ℕ → Filling → Filling
-noted line cause name f = record f { notes = f.notes ++ (record { line = line; cause = cause; name = name }) ∷ [] }
-
-abbrev pub speaks_of : Kind → ℕ → Statement → Bool
-speaks_of kind slot s = same_kind s.kind kind && s.slot.0 == slot
-
--- an earlier field of the entry speaks of the capability
-abbrev pub is_stated : Kind → ℕ → Filling → Bool
-is_stated kind slot f = list_any (speaks_of kind slot) f.entry.statements
-
-abbrev pub with_statement : Kind → ℕ → Said → Filling → Filling
-with_statement kind slot what f =
-    record f { entry = record f.entry { statements = f.entry.statements ++ (record { kind = kind; slot = record { 0 = slot }; said = what }) ∷ [] } }
-
--- the first field that speaks of a capability counts
-abbrev pub stated : ℕ → List ℕ → Kind → ℕ → Said → Filling → Filling
-stated line name kind slot what f =
-    if is_stated kind slot f then noted line Repeated name f else with_statement kind slot what f
-
-abbrev pub with_number : ℕ → List ℕ → ℕ → ℕ → Filling → Filling
-with_number line name slot n f =
-    if is_stated Number slot f then noted line Repeated name f
-    else (if nat_le n 32767 then with_statement Number slot (said.Number n) f
-    else noted line TooGreat name (with_statement Number slot (said.Number 32767) f))
-
--- a boolean
-abbrev pub plain : ℕ → List ℕ → Option (Kind × ℕ) → Filling → Filling
-plain line name None f = noted line Unknown name f
-plain line name (Some (Flag, slot)) f = stated line name Flag slot said.Present f
-plain line name (Some (Number, slot)) f = noted line WrongKind name f
-plain line name (Some (Text, slot)) f = noted line WrongKind name f
-
--- a string
-abbrev pub textual : ℕ → List ℕ → List ℕ → Option (Kind × ℕ) → Filling → Filling
-textual line name text None f = noted line Unknown name f
-textual line name text (Some (Flag, slot)) f = noted line WrongKind name f
-textual line name text (Some (Number, slot)) f = noted line WrongKind name f
-textual line name text (Some (Text, slot)) f = stated line name Text slot (said.Text (decoded text)) f
-
--- a cancellation, of any kind
-abbrev pub cancelled : ℕ → List ℕ → Option (Kind × ℕ) → Filling → Filling
-cancelled line name None f = noted line Unknown name f
-cancelled line name (Some (kind, slot)) f = stated line name kind slot said.Cancelled f
-
-abbrev pub valued : ℕ → List ℕ → ℕ → Option ℕ → Filling → Result Filling SourceFault
-valued line name slot None f = Err (BadNumber line)
-valued line name slot (Some n) f = Ok (with_number line name slot n f)
-
--- a number
-abbrev pub numeric : ℕ → List ℕ → List ℕ → Option (Kind × ℕ) → Filling → Result Filling SourceFault
-numeric line name value None f = Ok (noted line Unknown name f)
-numeric line name value (Some (Flag, slot)) f = Ok (noted line WrongKind name f)
-numeric line name value (Some (Number, slot)) f = valued line name slot (number.number value) f
-numeric line name value (Some (Text, slot)) f = Ok (noted line WrongKind name f)
-
--- a use of another entry; 32 are allowed
-abbrev pub referring : List ℕ → Filling → Result Filling SourceFault
-referring other f =
-    if nat_lt (length f.entry.uses) 32
-    then Ok (record f { entry = record f.entry { uses = f.entry.uses ++ other ∷ [] } })
-    else Err TooManyUses
-
--- what a field of a line adds to its entry and to the notes
-unfoldable pub with_form : ℕ → Form → Filling → Result Filling SourceFault
-with_form line Nothing f = Ok f
-with_form line (Plain name) f = Ok (plain line name (capability_of name) f)
-with_form line (Numeric name value) f = numeric line name value (capability_of name) f
-with_form line (Textual name text) f = Ok (textual line name text (capability_of name) f)
-with_form line (Cancelled name) f = Ok (cancelled line name (capability_of name) f)
-with_form line (Refers other) f = referring other f
-with_form line (Odd name) f = Ok (noted line Unknown name f)
-
--- the fields of a line, from left to right
-unfoldable pub with_fields : ℕ → List (List ℕ) → Filling → Result Filling SourceFault
-with_fields line [] f = Ok f
-with_fields line (field ∷ more) f = with_form line (form_of field) f >>= with_fields line more
-
--- the entries before, the entry that the last line belongs to, and the notes
-pub record State : Type 0 where
-  pub done : List Described
-  pub current : Option Described
-  pub notes : List Note
-
-abbrev pub all_entries : State → List Described
-all_entries s = s.done ++ option_to_list s.current
-
--- one of these names is a reference name of an entry
-abbrev pub is_taken : List ℕ → List Described → Bool
-is_taken names entries = list_any (λ name. list_any (has_name name) entries) (alternatives names)
-
-abbrev pub filled : List Described → Filling → Result State SourceFault
-filled done f = Ok (record { done = done; current = Some f.entry; notes = f.notes })
-
--- a line of fields goes on with the entry before
-abbrev pub continued : ℕ → List (List ℕ) → State → Option Described → Result State SourceFault
-continued line more s None = Err (FieldBeforeEntry line)
-continued line more s (Some entry) =
-    with_fields line more (record { entry = entry; notes = s.notes }) >>= filled s.done
-
--- a line of names begins an entry
-abbrev pub begun : ℕ → List ℕ → List (List ℕ) → State → Result State SourceFault
-begun line names more s =
-    if are_names names
-    then (if is_taken names (all_entries s) then Err (DuplicateName line)
-    else with_fields line more (record { entry = record { names = names; statements = []; uses = [] }; notes = s.notes }) >>= filled (all_entries s))
-    else Err (BadNames line)
-
--- what a line adds
-unfoldable pub with_line : ℕ → Line → State → Result State SourceFault
-with_line line Skipped s = Ok s
-with_line line Foreign s = Err (NotAscii line)
-with_line line (Continues more) s = continued line more s s.current
-with_line line (Begins names more) s = begun line names more s
-
--- the number of the line after; it stays at the greatest
-abbrev pub next_line : ℕ → ℕ
-next_line n = min (n + 1) 4294967295
-
--- these lines, the first of which has the number n
-unfoldable pub with_lines : ℕ → List (List ℕ) → State → Result State SourceFault
-with_lines n [] s = Ok s
-with_lines n (bytes ∷ more) s = with_line n (line_of bytes) s >>= with_lines (next_line n) more
 
 -- what is read: entries in their order, and notes
 pub record Whole : Type 0 where
   pub entries : List Described
   pub notes : List Note
 
-abbrev pub whole : State → Result Whole SourceFault
-whole s = Ok (record { entries = all_entries s; notes = s.notes })
+-- a field of an entry: the number of its line, and its form
+pub record PlacedField : Type 0 where
+  pub line : ℕ
+  pub form : Form
+
+-- an entry as it is written: its names, and its fields from left to right, whatever lines they stand on
+pub record Written : Type 0 where
+  pub names : List ℕ
+  pub fields : List PlacedField
+
+-- what a field says when it is looked at alone: nothing; nothing, its name being doubtful; what a capability has; a number that
+-- is none; or a use of another entry
+pub data Meaning : Type 0 where
+  Silent : Meaning
+  Doubtful : Cause → List ℕ → Meaning
+  States : List ℕ → Kind → ℕ → Said → Meaning
+  Numberless : Meaning
+  Uses : List ℕ → Meaning
+
+-- a boolean
+abbrev pub plain_means : List ℕ → Option (Kind × ℕ) → Meaning
+plain_means name None = Doubtful Unknown name
+plain_means name (Some (Flag, slot)) = States name Flag slot said.Present
+plain_means name (Some (Number, slot)) = Doubtful WrongKind name
+plain_means name (Some (Text, slot)) = Doubtful WrongKind name
+
+-- a string
+abbrev pub textual_means : List ℕ → List ℕ → Option (Kind × ℕ) → Meaning
+textual_means name text None = Doubtful Unknown name
+textual_means name text (Some (Flag, slot)) = Doubtful WrongKind name
+textual_means name text (Some (Number, slot)) = Doubtful WrongKind name
+textual_means name text (Some (Text, slot)) = States name Text slot (said.Text (decoded text))
+
+-- a cancellation, of any kind
+abbrev pub cancelled_means : List ℕ → Option (Kind × ℕ) → Meaning
+cancelled_means name None = Doubtful Unknown name
+cancelled_means name (Some (kind, slot)) = States name kind slot said.Cancelled
+
+-- a number
+abbrev pub valued_means : List ℕ → ℕ → Option ℕ → Meaning
+valued_means name slot None = Numberless
+valued_means name slot (Some n) = States name Number slot (said.Number n)
+
+abbrev pub numeric_means : List ℕ → List ℕ → Option (Kind × ℕ) → Meaning
+numeric_means name value None = Doubtful Unknown name
+numeric_means name value (Some (Flag, slot)) = Doubtful WrongKind name
+numeric_means name value (Some (Number, slot)) = valued_means name slot (number value)
+numeric_means name value (Some (Text, slot)) = Doubtful WrongKind name
+
+unfoldable pub meaning : Form → Meaning
+meaning Nothing = Silent
+meaning (Plain name) = plain_means name (capability_of name)
+meaning (Numeric name value) = numeric_means name value (capability_of name)
+meaning (Textual name text) = textual_means name text (capability_of name)
+meaning (Cancelled name) = cancelled_means name (capability_of name)
+meaning (Refers other) = Uses other
+meaning (Odd name) = Doubtful Unknown name
+
+-- what each of these gives beside those before it, one after another; the first stands behind some others
+abbrev pub each_after : {A B : Type 0} → (List A → A → List B) → List A → List A → List B
+each_after f before [] = []
+each_after f before (x ∷ xs) = f before x ++ each_after f (before ++ x ∷ []) xs
+
+abbrev pub each_beside : {A B : Type 0} → (List A → A → List B) → List A → List B
+each_beside f xs = each_after f [] xs
+
+-- a field speaks of a capability
+abbrev pub means_one : Kind → ℕ → Meaning → Bool
+means_one kind slot (States name k s what) = same_kind k kind && s == slot
+means_one kind slot _ = false
+
+abbrev pub is_spoken_of : Kind → ℕ → List PlacedField → Bool
+is_spoken_of kind slot fields = list_any (λ f. means_one kind slot (meaning f.form)) fields
+
+-- a number above 32,767 is 32,767
+abbrev pub limited : Said → Said
+limited (said.Number n) = if nat_le n 32767 then said.Number n else said.Number 32767
+limited what = what
+
+abbrev pub is_great : Said → Bool
+is_great (said.Number n) = if nat_le n 32767 then false else true
+is_great _ = false
+
+-- a field counts where none before it in its entry speaks of the same capability
+abbrev pub meant_statement : List PlacedField → Meaning → List Statement
+meant_statement before (States name kind slot what) =
+    if is_spoken_of kind slot before then [] else (record { kind = kind; slot = record { 0 = slot }; said = limited what }) ∷ []
+meant_statement before _ = []
+
+abbrev pub statement : List PlacedField → PlacedField → List Statement
+statement before f = meant_statement before (meaning f.form)
+
+abbrev pub note_on : ℕ → Cause → List ℕ → List Note
+note_on line cause name = (record { line = line; cause = cause; name = name }) ∷ []
+
+-- the note on a field
+abbrev pub meant_note : List PlacedField → ℕ → Meaning → List Note
+meant_note before line (Doubtful cause name) = note_on line cause name
+meant_note before line (States name kind slot what) =
+    if is_spoken_of kind slot before then note_on line Repeated name
+    else (if is_great what then note_on line TooGreat name else [])
+meant_note before line _ = []
+
+abbrev pub note : List PlacedField → PlacedField → List Note
+note before f = meant_note before f.line (meaning f.form)
+
+abbrev pub meant_use : Meaning → List (List ℕ)
+meant_use (Uses other) = other ∷ []
+meant_use _ = []
+
+-- the uses among fields, in their order
+abbrev pub uses : List PlacedField → List (List ℕ)
+uses fields = flat_map (λ f. meant_use (meaning f.form)) fields
+
+-- the fault of a field: a number that is none, or a 33rd use
+abbrev pub meant_fault : List PlacedField → ℕ → Meaning → List SourceFault
+meant_fault before line Numberless = BadNumber line ∷ []
+meant_fault before line (Uses other) = if nat_lt (length (uses before)) 32 then [] else TooManyUses ∷ []
+meant_fault before line _ = []
+
+abbrev pub field_fault : List PlacedField → PlacedField → List SourceFault
+field_fault before f = meant_fault before f.line (meaning f.form)
+
+-- the entry that is written, and the notes on it
+abbrev pub described : Written → Described
+described w = record { names = w.names; statements = each_beside statement w.fields; uses = uses w.fields }
+
+abbrev pub notes_on : Written → List Note
+notes_on w = each_beside note w.fields
+
+-- the fields of a line
+abbrev pub placed_fields : ℕ → List (List ℕ) → List PlacedField
+placed_fields line fields = map (λ field. record { line = line; form = form_of field }) fields
+
+-- the fields of the lines up to the next one that begins an entry
+abbrev pub continuing : List (ℕ × Line) → List PlacedField
+continuing [] = []
+continuing ((n, Skipped) ∷ more) = continuing more
+continuing ((n, Foreign) ∷ more) = continuing more
+continuing ((n, Continues fields) ∷ more) = placed_fields n fields ++ continuing more
+continuing ((n, Begins names fields) ∷ more) = []
+
+-- the entries of lines: each is a line of names, the fields behind them, and those of the lines that continue it
+abbrev pub written : List (ℕ × Line) → List Written
+written [] = []
+written ((n, Skipped) ∷ more) = written more
+written ((n, Foreign) ∷ more) = written more
+written ((n, Continues fields) ∷ more) = written more
+written ((n, Begins names fields) ∷ more) = (record { names = names; fields = placed_fields n fields ++ continuing more }) ∷ written more
+
+-- one of these names is a reference name of an entry
+abbrev pub is_taken : List ℕ → List Described → Bool
+is_taken names entries = list_any (λ name. list_any (has_name name) entries) (alternatives names)
+
+-- the faults of a line that continues the last of these entries
+abbrev pub continued_faults : ℕ → List (List ℕ) → List Written → List SourceFault
+continued_faults n fields [] = FieldBeforeEntry n ∷ []
+continued_faults n fields (w ∷ []) = each_after field_fault w.fields (placed_fields n fields)
+continued_faults n fields (w ∷ v ∷ ws) = continued_faults n fields (v ∷ ws)
+
+-- the faults of a line that begins an entry after these
+abbrev pub begun_faults : ℕ → List ℕ → List (List ℕ) → List Written → List SourceFault
+begun_faults n names fields ws =
+    if are_names names
+    then (if is_taken names (map described ws) then DuplicateName n ∷ [] else each_beside field_fault (placed_fields n fields))
+    else BadNames n ∷ []
+
+-- the faults of a line beside the lines before it, from left to right
+unfoldable pub line_faults : List (ℕ × Line) → ℕ × Line → List SourceFault
+line_faults before (n, Skipped) = []
+line_faults before (n, Foreign) = NotAscii n ∷ []
+line_faults before (n, Continues fields) = continued_faults n fields (written before)
+line_faults before (n, Begins names fields) = begun_faults n names fields (written before)
+
+-- the number of the line after; it stays at the greatest
+abbrev pub next_line : ℕ → ℕ
+next_line n = min (n + 1) 4294967295
+
+-- lines with their numbers, the first of which is n
+abbrev pub numbered : ℕ → List (List ℕ) → List (ℕ × Line)
+numbered n [] = []
+numbered n (bytes ∷ more) = (n, line_of bytes) ∷ numbered (next_line n) more
+
+-- the lines of a text, counted from 1
+abbrev pub source_lines : List ℕ → List (ℕ × Line)
+source_lines bytes = numbered 1 (lines bytes)
+
+-- where there are faults, the first of them
+abbrev pub unless_faulty : {A : Type 0} → List SourceFault → A → Result A SourceFault
+unless_faulty [] x = Ok x
+unless_faulty (fault ∷ faults) x = Err fault
+
+-- the entries that these lines are, and the notes on them, each in its order
+abbrev pub whole_of : List (ℕ × Line) → Whole
+whole_of ls = record { entries = map described (written ls); notes = flat_map notes_on (written ls) }
 
 -- the source that a text is, or its first fault
 unfoldable pub source_of : List ℕ → Result Whole SourceFault
-source_of bytes = with_lines 1 (lines bytes) (record { done = []; current = None; notes = [] }) >>= whole
+source_of bytes = unless_faulty (each_beside line_faults (source_lines bytes)) (whole_of (source_lines bytes))
+
+-- what an earlier field of an entry says of a capability
+abbrev pub speaks_of : Kind → ℕ → Statement → Bool
+speaks_of kind slot s = same_kind s.kind kind && s.slot.0 == slot

@@ -3,7 +3,7 @@
 ghost use Rattle.std.specs.Prelude.{ℕ, ◌≡◌, ◌≤◌, Ok, Some, min, option_map};
 ghost use Rattle.ti_caps.specs.Table.{capability_of};
 ghost use Rattle.ti_source.specs.Number as value;
-ghost use Rattle.ti_source.specs.Reading.{cancelled, noted, numeric, plain, referring, stated, textual, valued, with_fields, with_form, with_number, with_statement};
+ghost use Rattle.ti_source.specs.Steps.{cancelled, noted, numeric, plain, referring, stated, textual, valued, with_fields, with_form, with_number, with_statement};
 ghost use Rattle.ti_source.specs.Field.{fields};
 ghost use Rattle.ti_source.specs.Result.{Gives};
 ghost use Rattle.ti_source.specs.Described.{IsGood};
@@ -30,7 +30,7 @@ pub(crate) struct Filling {
 }
 
 impl Model for Filling {
-    ghost use Rattle.ti_source.specs.Reading.{Filling};
+    ghost use Rattle.ti_source.specs.Steps.{Filling};
 
     ghost Value = { Filling };
 
@@ -192,7 +192,7 @@ impl Filling {
         Ok(Filling { entry, notes })
     }
 
-    #[tactic(auto, unfolding(crate::specs::Reading::with_form))]
+    #[tactic(auto, unfolding(crate::specs::Steps::with_form))]
     fn with_form(self, alloc: Global, line: u32, form: Form<'_>) -> Result<Filling, SourceFault>
         ensures { Gives result (with_form line (seen_form form.entry) self) }
     {

@@ -1,7 +1,8 @@
 //! Reading a source line by line.
 
 ghost use Rattle.std.specs.Prelude.{◌≡◌, None, Ok, [], option_map};
-ghost use Rattle.ti_source.specs.Reading.{begun, continued, is_taken, source_of, whole, with_line};
+ghost use Rattle.ti_source.specs.Reading.{is_taken, source_of};
+ghost use Rattle.ti_source.specs.Steps.{begun, continued, whole, with_line};
 ghost use Rattle.ti_source.specs.Field.{fields};
 ghost use Rattle.ti_source.specs.Line.{line_of};
 ghost use Rattle.ti_source.specs.Result.{Gives};
@@ -28,7 +29,7 @@ struct State {
 }
 
 impl Model for State {
-    ghost use Rattle.ti_source.specs.Reading.{State};
+    ghost use Rattle.ti_source.specs.Steps.{State};
 
     ghost Value = { State };
 
@@ -105,7 +106,7 @@ impl State {
         })
     }
 
-    #[tactic(auto, unfolding(crate::specs::Reading::with_line))]
+    #[tactic(auto, unfolding(crate::specs::Steps::with_line))]
     fn with_line(self, alloc: Global, number: u32, line: Line<'_>) -> Result<State, SourceFault>
         ensures { Gives result (with_line number (seen_line line.entry) self) }
     {

@@ -1,6 +1,6 @@
 use Rattle.std.proofs.Common.{◌≡◌, None, []}
 use Rattle.ti_source.specs.Line.{lines}
-use Rattle.ti_source.specs.Reading.{with_lines}
+use Rattle.ti_source.specs.Steps.{with_lines}
 use Rattle.ti_source.proofs.reader.read.Given as goal
 
 -- the lines that are left give the answer

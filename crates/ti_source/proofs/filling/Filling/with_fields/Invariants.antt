@@ -1,6 +1,6 @@
 use Rattle.std.proofs.Common.{◌≡◌, length}
 use Rattle.ti_source.specs.Field.{fields}
-use Rattle.ti_source.specs.Reading.{with_fields}
+use Rattle.ti_source.specs.Steps.{with_fields}
 use Rattle.ti_source.proofs.filling.Filling.with_fields.Given as goal
 
 -- the rest of the text gives the answer
