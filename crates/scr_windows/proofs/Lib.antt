@@ -1,7 +1,10 @@
+pub mod BorderLaws
 pub mod ChangeLaws
 pub mod ChildLaws
 pub mod DeskLaws
+pub mod FrameLaws
 pub mod GridLaws
 pub mod MakingLaws
 pub mod ReadingLaws
+pub mod RemovingLaws
 pub mod RunLaws

@@ -1,10 +1,12 @@
 pub mod Adding
+pub mod Borders
 pub mod Calls
 pub mod DeskViews
 pub mod Erasing
 pub mod Formulas
 pub mod Making
 pub mod Reading
+pub mod Removing
 pub mod Runs
 pub mod Settings
 pub mod SurfaceViews

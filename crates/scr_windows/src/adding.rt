@@ -232,7 +232,7 @@ fn is_any_above(text: &[u8]) -> bool
 }
 
 // The written form of a byte 32 to 126.
-fn written(byte: u8, attrs: Attrs, state: State) -> Cell
+pub(crate) fn written(byte: u8, attrs: Attrs, state: State) -> Cell
     requires from { 32 ≤ byte }
     requires to { byte ≤ 126 }
     ensures { result ≡ written byte attrs state }

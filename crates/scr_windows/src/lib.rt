@@ -3,6 +3,9 @@
 
 mod adding;
 mod areas;
+#[cfg(test)]
+mod border_tests;
+mod borders;
 mod changes;
 mod desks;
 mod drawing;
@@ -13,6 +16,9 @@ mod making;
 #[cfg(test)]
 mod making_tests;
 mod reading;
+mod removing;
+#[cfg(test)]
+mod removing_tests;
 mod rows;
 mod runs;
 mod settings;

@@ -70,6 +70,13 @@ impl Window {
         self.state
     }
 
+    /// Sets the frame.
+    pub fn set_frame(&mut self, frame: Frame)
+        ensures { self.new ≡ record self.old { frame = frame } }
+    {
+        self.frame = frame;
+    }
+
     /// Sets what the calls set.
     pub fn set_state(&mut self, state: State)
         ensures { self.new ≡ record self.old { state = state } }
