@@ -16,8 +16,8 @@ use Rattle.ti_source.specs.declared.statement.Said.TheVariants as said
 use Rattle.ti_source.specs.Escape.{printed_text, IsText}
 use Rattle.ti_source.specs.Field.{form_of, form_of_trimmed, form_by, is_blank, ends_name, name_length, without_lead, without_trail}
 use Rattle.ti_source.specs.Steps.{Filling, with_form, with_statement, is_stated}
-use Rattle.ti_source.proofs.EscapesBack.{decoded-printed_text}
-use Rattle.ti_source.proofs.NumbersBack.{number-decimal}
+use Rattle.ti_source.proofs.EscapesBackLaws.{decoded-printed_text}
+use Rattle.ti_source.proofs.NumbersBackLaws.{number-decimal}
 use Rattle.ti_source.proofs.TableBytesLaws.{both, begins_letter, is_graphic, is_letter, is_written, name-is-written}
 use Rattle.ti_source.proofs.FieldsBackLaws.{IsValue, IsValue-append, IsValue-first, letters-are-value, decimal-is-value, printed_text-is-value}
 

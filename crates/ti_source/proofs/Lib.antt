@@ -1,5 +1,5 @@
 pub mod EscapeLaws
-pub mod EscapesBack
+pub mod EscapesBackLaws
 pub mod FieldLaws
 pub mod FieldsBackLaws
 pub mod FormsBackLaws
@@ -9,7 +9,8 @@ pub mod MeaningLaws
 pub mod MergedBackLaws
 pub mod NamedLaws
 pub mod NumberLaws
-pub mod NumbersBack
+pub mod NumbersBackLaws
+pub mod OnceLaws
 pub mod PrintLaws
 pub mod PrintedBackLaws
 pub mod ReadingLaws

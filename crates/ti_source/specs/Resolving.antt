@@ -87,3 +87,13 @@ Resolved entries name d = Resolve entries (name ∷ []) (d ∷ [])
 
 abbrev pub Unresolved : List Described → List ℕ → SourceFault → Type 0
 Unresolved entries name fault = Fault entries [] (name ∷ []) fault
+
+-- names resolve to one list of entries, have one fault, and not both
+abbrev pub ResolveOnce : Type 0
+ResolveOnce = (entries : List Described) (names : List (List ℕ)) (ds es : List Description) → Resolve entries names ds → Resolve entries names es → ds ≡ es
+
+abbrev pub FaultOnce : Type 0
+FaultOnce = (entries : List Described) (names : List (List ℕ)) (f g : SourceFault) → Fault entries [] names f → Fault entries [] names g → f ≡ g
+
+abbrev pub ResolveOrFault : Type 0
+ResolveOrFault = (entries : List Described) (names : List (List ℕ)) (ds : List Description) (fault : SourceFault) → Resolve entries names ds → Fault entries [] names fault → ⊥

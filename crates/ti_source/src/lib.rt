@@ -21,7 +21,9 @@ pub use fault::SourceFault;
 pub use note::{Cause, Note};
 pub use printer::{Printed, numbers_read_back, print, printed_reads_back, texts_read_back};
 pub use reader::read;
-pub use resolver::{resolve, resolve_all};
+pub use resolver::{
+    names_have_one_fault, names_resolve_once, resolve, resolve_all, resolved_names_have_no_fault,
+};
 pub use source::Source;
 
 #[cfg(test)]

@@ -3,7 +3,7 @@
 ghost use Rattle.std.specs.Prelude.{List, [], ◌∷◌, map, IfErr, IfOk};
 ghost use Rattle.ti_caps.specs.Description.{Description};
 ghost use Rattle.ti_caps.specs.Names.{first_name};
-ghost use Rattle.ti_source.specs.Resolving.{Fault, Resolve, Resolved, Unresolved};
+ghost use Rattle.ti_source.specs.Resolving.{Fault, FaultOnce, Resolve, ResolveOnce, ResolveOrFault, Resolved, Unresolved};
 ghost use Rattle.ti_source.specs.Result.{Stops};
 
 use crate::fault::SourceFault;
@@ -42,3 +42,18 @@ pub fn resolve_all(alloc: Global, source: &Source) -> Result<(), SourceFault>
     }
     Ok(())
 }
+
+/// Names resolve to one list of entries at most.
+pub fn names_resolve_once()
+    ensures { ResolveOnce }
+{}
+
+/// Names have one fault at most, the first from left to right.
+pub fn names_have_one_fault()
+    ensures { FaultOnce }
+{}
+
+/// Names that resolve have no fault.
+pub fn resolved_names_have_no_fault()
+    ensures { ResolveOrFault }
+{}

@@ -1,5 +1,5 @@
 use Rattle.std.proofs.Common.{arith}
-use Rattle.ti_source.proofs.NumbersBack.{number-decimal}
+use Rattle.ti_source.proofs.NumbersBackLaws.{number-decimal}
 use Rattle.ti_source.proofs.printer.numbers_read_back.Goals as goal
 
 pub returns : goal.returns

@@ -1,4 +1,4 @@
-use Rattle.ti_source.proofs.EscapesBack.{decoded-printed_text}
+use Rattle.ti_source.proofs.EscapesBackLaws.{decoded-printed_text}
 use Rattle.ti_source.proofs.printer.texts_read_back.Goals as goal
 
 pub returns : goal.returns
