@@ -1,3 +1,4 @@
+pub mod BytesLaws
 pub mod EscapeLaws
 pub mod EscapesBackLaws
 pub mod FieldLaws

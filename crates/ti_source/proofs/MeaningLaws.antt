@@ -1,6 +1,6 @@
 -- Reading field by field adds to an entry and its notes what its fields mean beside those before them.
-use Rattle.std.proofs.Common.{◌≡◌, ◌∙◌, ℕ, Bool, true, false, ◌&&◌, ◌||◌, eqb, nat_le, nat_lt, List, [], ◌∷◌, ◌++◌, if◌then◌else◌, length, map, Option, Some, None, Result, Ok, Err, refl, ap, sym, append_assoc, append-nil}
-use Rattle.std.specs.List.{flat_map, list_any}
+use Rattle.std.proofs.Common.{◌≡◌, ◌∙◌, ℕ, Bool, true, false, ◌&&◌, ◌||◌, eqb, nat_le, nat_lt, List, [], ◌∷◌, ◌++◌, if◌then◌else◌, length, Option, Some, None, Result, Ok, Err, refl, ap, sym, append_assoc, append-nil}
+use Rattle.std.specs.List.{list_any}
 use Rattle.std.proofs.lemmas.Bool.{eqb-true, and_parts}
 use Rattle.std.proofs.lemmas.Grind.{flat_map-append}
 use Rattle.std.proofs.lemmas.List.Folds.{list_any-append}
@@ -8,18 +8,16 @@ use Rattle.ti_caps.specs.declared.table.Kind.{Kind}
 use Rattle.ti_caps.specs.declared.table.Kind.TheVariants.{Flag, Number, Text}
 use Rattle.ti_caps.specs.Table.{same_kind, capability_of}
 use Rattle.ti_source.specs.declared.fault.SourceFault.{SourceFault}
-use Rattle.ti_source.specs.declared.fault.SourceFault.TheVariants.{BadNumber, TooManyUses}
-use Rattle.ti_source.specs.declared.note.Cause.{Cause}
+use Rattle.ti_source.specs.declared.fault.SourceFault.TheVariants.{BadNumber}
 use Rattle.ti_source.specs.declared.note.Cause.TheVariants.{Repeated, TooGreat}
 use Rattle.ti_source.specs.declared.note.Note.{Note}
 use Rattle.ti_source.specs.declared.statement.Said.{Said}
 use Rattle.ti_source.specs.declared.statement.Said.TheVariants as said
 use Rattle.ti_source.specs.declared.statement.Statement.{Statement}
-use Rattle.ti_source.specs.Described.{Described}
 use Rattle.ti_source.specs.Escape.{decoded}
 use Rattle.ti_source.specs.Number.{number}
 use Rattle.ti_source.specs.Field.{Form, Nothing, Plain, Numeric, Textual, Cancelled, Refers, Odd, form_of}
-use Rattle.ti_source.specs.Reading.{PlacedField, Written, Meaning, Silent, Doubtful, States, Numberless, Uses, plain_means, textual_means, cancelled_means, valued_means, numeric_means, meaning, each_after, each_beside, means_one, is_spoken_of, limited, is_great, meant_statement, statement, note_on, meant_note, note, meant_use, uses, meant_fault, field_fault, described, notes_on, placed_fields, unless_faulty, speaks_of}
+use Rattle.ti_source.specs.Reading.{PlacedField, Meaning, Silent, Doubtful, States, Numberless, Uses, plain_means, textual_means, cancelled_means, valued_means, numeric_means, meaning, each_after, each_beside, means_one, is_spoken_of, limited, is_great, meant_statement, statement, note_on, meant_note, note, meant_use, uses, meant_fault, field_fault, described, placed_fields, unless_faulty, speaks_of}
 use Rattle.ti_source.specs.Steps.{Filling, noted, stated, is_stated, with_statement, with_number, plain, textual, cancelled, numeric, valued, referring, with_form, with_fields}
 use Rattle.ti_source.specs.Result.{◌>>=◌}
 

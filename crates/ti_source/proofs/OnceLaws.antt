@@ -7,7 +7,7 @@ use Rattle.ti_source.specs.declared.fault.SourceFault.{SourceFault}
 use Rattle.ti_source.specs.declared.fault.SourceFault.TheVariants.{UnknownName, UseCycle}
 use Rattle.ti_source.specs.Described.{Described}
 use Rattle.ti_source.specs.Named.{found_from}
-use Rattle.ti_source.specs.Resolving.{merged, Resolve, nothing, more, Fault, unknown, cycle, below, later, Resolved, ResolveOnce, FaultOnce, ResolveOrFault}
+use Rattle.ti_source.specs.Resolving.{merged, Resolve, nothing, more, Fault, unknown, cycle, below, later, Resolved, FaultOnce, ResolveOrFault}
 use Rattle.ti_source.proofs.NamedLaws.{found-there}
 
 -- ---- what a resolved list of names rests on

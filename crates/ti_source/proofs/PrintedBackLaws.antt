@@ -15,7 +15,7 @@ use Rattle.ti_source.specs.Field.{fields, is_blank}
 use Rattle.ti_source.specs.Line.{Line, Skipped, Foreign, Begins, begins_blank, begins_hash, is_ascii, is_comma, line_of, lines}
 use Rattle.ti_source.specs.Named.{found_from, has_name}
 use Rattle.ti_source.specs.Print.{flag_line, lines_from, number_line, text_line, named_only, printed}
-use Rattle.ti_source.specs.Reading.{source_of, speaks_of}
+use Rattle.ti_source.specs.Reading.{speaks_of}
 use Rattle.ti_source.specs.Steps.{State, read_through, whole, with_fields, with_form, with_line, with_lines}
 use Rattle.ti_source.specs.Resolving.{Resolved, more, nothing}
 use Rattle.ti_source.specs.Result.{◌>>=◌}

@@ -1,15 +1,12 @@
 -- Reading line by line comes to the source that the lines are.
-use Rattle.std.proofs.Common.{◌≡◌, ◌∙◌, ℕ, Bool, true, false, List, [], ◌∷◌, ◌++◌, if◌then◌else◌, map, Option, Some, None, Result, Ok, Err, refl, ap, sym, subst, append_assoc, append-nil, ◌⊎◌, inl, inr}
+use Rattle.std.proofs.Common.{◌≡◌, ◌∙◌, ℕ, Bool, true, false, List, [], ◌∷◌, ◌++◌, map, Some, None, Result, Ok, Err, refl, ap, sym, subst, append_assoc, append-nil, ◌⊎◌, inl, inr}
 use Rattle.std.specs.List.{flat_map}
 use Rattle.std.proofs.lemmas.List.{map-append}
 use Rattle.std.proofs.lemmas.Grind.{flat_map-append}
 use Rattle.ti_caps.specs.Names.{are_names}
 use Rattle.ti_source.specs.declared.fault.SourceFault.{SourceFault}
-use Rattle.ti_source.specs.declared.fault.SourceFault.TheVariants.{NotAscii, FieldBeforeEntry, BadNames, DuplicateName}
-use Rattle.ti_source.specs.declared.note.Note.{Note}
-use Rattle.ti_source.specs.Described.{Described}
 use Rattle.ti_source.specs.Line.{Line, Skipped, Foreign, Continues, Begins, line_of, lines}
-use Rattle.ti_source.specs.Reading.{Whole, PlacedField, Written, each_after, each_beside, note, field_fault, described, notes_on, placed_fields, continuing, written, is_taken, continued_faults, begun_faults, line_faults, next_line, numbered, source_lines, unless_faulty, whole_of, source_of}
+use Rattle.ti_source.specs.Reading.{PlacedField, Written, each_after, each_beside, field_fault, described, notes_on, placed_fields, continuing, written, is_taken, continued_faults, begun_faults, line_faults, next_line, numbered, source_lines, unless_faulty, source_of}
 use Rattle.ti_source.specs.Steps.{State, all_entries, filled, continued, begun, with_fields, with_line, with_lines, whole, read_through}
 use Rattle.ti_source.specs.Result.{◌>>=◌}
 use Rattle.ti_source.proofs.MeaningLaws.{filling, fields-step}

@@ -3,10 +3,14 @@ use Rattle.std.specs.Prelude.{◌≡◌, ℕ, [], ◌∷◌, Ok, IfSome}
 use Rattle.ti_caps.specs.Names.{first_name}
 use Rattle.ti_caps.specs.Description.{Description, IsDescription, text_at}
 use Rattle.ti_source.specs.Described.{Described}
-use Rattle.ti_source.specs.Escape.{IsText}
+use Rattle.ti_source.specs.Escape.{AreBytes, IsText}
 use Rattle.ti_source.specs.Print.{named_only, printed}
 use Rattle.ti_source.specs.Reading.{source_of}
 use Rattle.ti_source.specs.Resolving.{Resolved}
+
+-- the texts are bytes
+abbrev pub HasBytes : Description → Type 0
+HasBytes d = (slot : ℕ) → IfSome (text_at d slot) AreBytes
 
 -- the texts are bytes, none of which is 0
 abbrev pub HasTexts : Description → Type 0

@@ -13,7 +13,6 @@ use Rattle.ti_source.specs.declared.note.Cause.TheVariants.{Unknown, WrongKind, 
 use Rattle.ti_source.specs.declared.note.Note.{Note}
 use Rattle.ti_source.specs.declared.statement.Said.{Said}
 use Rattle.ti_source.specs.declared.statement.Said.TheVariants as said
-use Rattle.ti_source.specs.declared.statement.Statement.{Statement}
 use Rattle.ti_source.specs.Described.{Described}
 use Rattle.ti_source.specs.Reading.{Whole, is_taken, next_line, speaks_of}
 use Rattle.ti_source.specs.Escape.{decoded}

@@ -1,13 +1,13 @@
 //! The source text of an entry.
 
 ghost use Rattle.std.specs.Fmt.{decimal};
-ghost use Rattle.std.specs.Prelude.{◌<◌, ◌^◌, Some, List, ℕ, ◌≡◌, ◌++◌, IfOk, OnOk, IsOkUnless, length, option_map};
+ghost use Rattle.std.specs.Prelude.{◌<◌, ◌^◌, Some, IfSome, List, ℕ, ◌≡◌, ◌++◌, IfOk, OnOk, IsOkUnless, length, option_map};
 ghost use Rattle.ti_caps.specs.Description.{IsDescription, unnamed_count};
 ghost use Rattle.ti_caps.specs.Table.{name_at};
-ghost use Rattle.ti_source.specs.Escape.{IsText, decoded, printed_byte, printed_text};
+ghost use Rattle.ti_source.specs.Escape.{AreBytes, IsText, decoded, printed_byte, printed_text};
 ghost use Rattle.ti_source.specs.Number.{number};
 ghost use Rattle.ti_source.specs.Print.{flag_line, lines_from, number_line, printed, text_line};
-ghost use Rattle.ti_source.specs.ReadBack.{EachReadsBack};
+ghost use Rattle.ti_source.specs.ReadBack.{EachReadsBack, HasBytes, ReadsBack};
 
 use crate::fault::SourceFault;
 use std::alloc::{AllocError, Global};
@@ -83,12 +83,19 @@ fn push_number(
     out.extend_from_slice(b",\n")
 }
 
+/// What a text holds are bytes.
+fn holds_bytes(text: &[u8])
+    ensures { AreBytes text.now }
+{}
+
 fn push_text(out: &mut Vec<u8>, slot: u16, text: Option<&[u8]>) -> Result<(), AllocError>
-    ensures { OnOk result (out.new.items ≡ out.old.items ++ text_line slot (option_map (λ t. t.now) text.entry)) }
+    ensures bytes { IfSome (option_map (λ t. t.now) text.entry) AreBytes }
+    ensures line { OnOk result (out.new.items ≡ out.old.items ++ text_line slot (option_map (λ t. t.now) text.entry)) }
 {
     let Some(text) = text else {
         return Ok(());
     };
+    holds_bytes(text);
     let Some(name) = name_of(Kind::Text, Slot(slot)) else {
         return Ok(());
     };
@@ -121,7 +128,8 @@ fn push_numbers(alloc: Global, out: &mut Vec<u8>, entry: &Entry) -> Result<(), A
 
 fn push_texts(out: &mut Vec<u8>, entry: &Entry) -> Result<(), AllocError>
     requires { length entry.now.texts ≡ 512 }
-    ensures { OnOk result (out.new.items ≡ out.old.items ++ lines_from text_line 0 entry.now.texts) }
+    ensures lines { OnOk result (out.new.items ≡ out.old.items ++ lines_from text_line 0 entry.now.texts) }
+    ensures bytes { OnOk result (HasBytes entry.now) }
 {
     for slot in 0..512u16 {
         push_text(out, slot, entry.text(Slot(slot)))?;
@@ -131,7 +139,9 @@ fn push_texts(out: &mut Vec<u8>, entry: &Entry) -> Result<(), AllocError>
 
 #[tactic(auto, unfolding(crate::specs::Print::printed))]
 fn text_of(alloc: Global, entry: &Entry) -> Result<Vec<u8>, AllocError>
-    ensures { IfOk result (λ text. text.items ≡ printed entry.now) }
+    ensures text { IfOk result (λ text. text.items ≡ printed entry.now) }
+    ensures described { IsDescription entry.now }
+    ensures bytes { IfOk result (λ _. HasBytes entry.now) }
 {
     let mut text = Vec::from_slice(alloc, entry.names())?;
     text.extend_from_slice(b",\n")?;
@@ -143,14 +153,18 @@ fn text_of(alloc: Global, entry: &Entry) -> Result<Vec<u8>, AllocError>
 
 /// The source text of an entry (tic(1), infocmp(1)): its names, then a line for each present
 /// capability that has a name, booleans, numbers and strings, each in slot order; and how many
-/// present capabilities have none. The one fault is NoMemory.
+/// present capabilities have none. The text is a source of one entry without a note, which resolves
+/// by its first reference name to the entry without its unnamed capabilities. The one fault is
+/// NoMemory.
 pub fn print(alloc: Global, entry: &Entry) -> Result<Printed, SourceFault>
     ensures text { IfOk result (λ p. p.text ≡ printed entry.now) }
     ensures unnamed { IfOk result (λ p. p.unnamed ≡ unnamed_count entry.now) }
+    ensures reads { IfOk result (λ _. ReadsBack entry.now) }
     ensures only { IsOkUnless result SourceFault.NoMemory }
 {
     let text = Bytes(text_of(alloc, entry)?);
     let unnamed = entry.unnamed();
+    printed_reads_back();
     Ok(Printed { text, unnamed })
 }
 

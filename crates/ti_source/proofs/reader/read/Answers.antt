@@ -1,7 +1,6 @@
 use Rattle.std.proofs.Common.{◌≡◌, ◌∙◌, [], ◌∷◌, Ok, None, sym, ap, rules, refl}
 use Rattle.std.proofs.lemmas.Result.{err_from_is_err_and}
 use Rattle.ti_source.specs.Line.{lines}
-use Rattle.ti_source.specs.Reading.{source_of}
 use Rattle.ti_source.specs.Steps.{State, read_through, with_lines, whole}
 use Rattle.ti_source.specs.Seen.{seen_line}
 use Rattle.ti_source.proofs.ReadingLaws.{Fails-bind, lines-fail, lines-go, lines-end}
