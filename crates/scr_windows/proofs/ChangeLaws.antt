@@ -24,7 +24,7 @@ run_filled old new area row from end cell surface part row_in end_in run =
 ap2 : {X Y Z : Type 0} (f : X → Y → Z) {a b : X} {c d : Y} → a ≡ b → c ≡ d → f a c ≡ f b d
 ap2 f p q = λ i. f (p i) (q i)
 
-run_at : {old new : SurfaceView} {row from end : ℕ} {value : ℕ → CellView} (from2 end2 : ℕ) → from ≡ from2 → end ≡ end2 → RunIs old new row from end value → RunIs old new row from2 end2 value
+pub run_at : {old new : SurfaceView} {row from end : ℕ} {value : ℕ → CellView} (from2 end2 : ℕ) → from ≡ from2 → end ≡ end2 → RunIs old new row from end value → RunIs old new row from2 end2 value
 run_at {old} {new} {row} {from} {end} {value} from2 end2 e f run =
     let P : ℕ → Type 0 = λ x. RunIs old new row x end value in
     let Q : ℕ → Type 0 = λ x. RunIs old new row from2 x value in

@@ -93,7 +93,7 @@ cond_at : {X : Type 0} (b : Bool) (x y z : X) → (b ≡ true → z ≡ x) → (
 cond_at true x y z h k = h refl
 cond_at false x y z h k = k refl
 
-is_inside_tells : (area : Area) (r c : ℕ) → is_inside area r c ≡ true → (area.top ≤ r) × (r < area.top + area.rows) × (area.left ≤ c) × (c < area.left + area.columns)
+pub is_inside_tells : (area : Area) (r c : ℕ) → is_inside area r c ≡ true → (area.top ≤ r) × (r < area.top + area.rows) × (area.left ≤ c) × (c < area.left + area.columns)
 is_inside_tells area r c t = tells area.top area.left area.rows area.columns r c t
   where
     tells : (top left rows columns r c : ℕ) → (leb top r && ltb r (top + rows) && leb left c && ltb c (left + columns)) ≡ true → (top ≤ r) × (r < top + rows) × (left ≤ c) × (c < left + columns)

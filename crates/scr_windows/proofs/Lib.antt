@@ -1,6 +1,7 @@
 pub mod BorderLaws
 pub mod ChangeLaws
 pub mod ChildLaws
+pub mod CopyLaws
 pub mod DeskLaws
 pub mod FrameLaws
 pub mod GridLaws

@@ -1,6 +1,7 @@
 pub mod Adding
 pub mod Borders
 pub mod Calls
+pub mod Copying
 pub mod DeskViews
 pub mod Erasing
 pub mod Formulas

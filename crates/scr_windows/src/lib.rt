@@ -7,6 +7,9 @@ mod areas;
 mod border_tests;
 mod borders;
 mod changes;
+mod copying;
+#[cfg(test)]
+mod copying_tests;
 mod desks;
 mod drawing;
 mod erasing;

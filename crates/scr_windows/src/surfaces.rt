@@ -1,14 +1,15 @@
-ghost use Rattle.std.specs.Prelude.{ℕ, ◌≡◌, ◌+◌, ◌-◌, ◌<◌, ◌≤◌, length, map, replicate, MatchResult};
+ghost use Rattle.std.specs.Prelude.{ℕ, ◌≡◌, ◌+◌, ◌-◌, ◌<◌, ◌≤◌, length, map, replicate, slice_index_or, MatchResult};
 ghost use Rattle.std.specs.List.{range_with_len};
 ghost use Rattle.scr_windows.specs.SurfaceViews.{IsPart, IsSurface, IsSurfaceSize, blank_surface, cell_of, inside_at};
 ghost use Rattle.scr_windows.specs.declared.faults.WinFault.TheVariants.{NoMemory};
 ghost use Rattle.scr_cells.specs.CellViews.{blank_cell};
+ghost use Rattle.scr_windows.specs.Copying.{laid};
 ghost use Rattle.scr_windows.specs.Formulas.{exchanged};
 ghost use Rattle.scr_windows.specs.Runs.{RunIs};
 
 use crate::areas::Area;
 use crate::faults::WinFault;
-use crate::runs::{exchange_run, put_run};
+use crate::runs::{exchange_run, lay_run, put_run};
 use scr_cells::Cell;
 use std::alloc::Global;
 use std::marker::Model;
@@ -98,6 +99,16 @@ impl Surface {
             old,
             new,
         );
+    }
+
+    /// Lays cells over the places of a row from a column on; with overlay a blank leaves its place.
+    pub fn lay_row(&mut self, row: u32, from: u32, cells: &[Cell], overlay: bool)
+        requires row { row < self.old.rows }
+        requires end { from + length cells.now ≤ self.old.columns }
+        ensures { RunIs self.old self.new row from (from + length cells.now) (λ c. laid overlay (slice_index_or cells.now (c - from) blank_cell) (cell_of self.old row c)) }
+    {
+        let start = row as usize * self.columns as usize + from as usize;
+        lay_run(&mut self.cells, start, cells, overlay);
     }
 
     /// Copies the places of a row from one column up to another to the places of a row from a column on.

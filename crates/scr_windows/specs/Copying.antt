@@ -1,0 +1,68 @@
+-- What the calls that copy cells do. X/Open Curses Issue 7, copywin(), overlay(), overwrite().
+use Rattle.std.specs.Prelude.{ℕ, Bool, List, length, Option, None, Some, Result, Ok, Err, slice_index_or, ◌≡◌, ◌+◌, ◌-◌, ◌*◌, ◌<◌, ◌==◌, ◌||◌, ◌&&◌, leb, min, max, if◌then◌else◌}
+use Rattle.scr_cells.specs.CellViews.{CellView, blank_cell}
+use Rattle.scr_windows.specs.declared.areas.Area.{Area}
+use Rattle.scr_windows.specs.declared.faults.WinFault.{WinFault}
+use Rattle.scr_windows.specs.declared.faults.WinFault.TheVariants.{IsPad, OutOfWindow}
+use Rattle.scr_windows.specs.SurfaceViews.{is_inside}
+use Rattle.scr_windows.specs.DeskViews.{DeskView, window_at}
+use Rattle.scr_windows.specs.Calls.{place_of, on_window, write}
+use Rattle.scr_windows.specs.Reading.{at}
+
+-- a cell takes the place of another; with overlay a blank leaves the other, whatever the blank's attributes
+abbrev pub laid : Bool → CellView → CellView → CellView
+laid overlay cell under = if overlay && cell.byte == 32 then under else cell
+
+-- a rectangle of cells laid over a part of a window; every other place stays
+abbrev pub part_laid : Bool → Area → (ℕ → ℕ → CellView) → (ℕ → ℕ → CellView) → ℕ → ℕ → CellView
+part_laid overlay part cells at r c = if is_inside part r c then laid overlay (cells (r - part.top) (c - part.left)) (at r c) else at r c
+
+-- the cells of one window before, from a row and a column on, laid over a part of another, whose lines there are touched
+abbrev pub copied : DeskView → ℕ → ℕ → ℕ → ℕ → Area → Bool → DeskView
+copied desk i j row column part overlay = write desk j part.top (part.top + part.rows) (part_laid overlay part (λ r c. at desk i (row + r) (column + c)))
+
+-- the places from a row and a column of a window on, as many as the part has, are in the window
+abbrev pub has_part : Area → ℕ → ℕ → Area → Bool
+has_part area row column part = leb (row + part.rows) area.rows && leb (column + part.columns) area.columns
+
+-- copywin(): the target's part is given by its first and its last row and column
+abbrev pub copy_call : DeskView → ℕ → ℕ → ℕ → ℕ → ℕ → ℕ → ℕ → ℕ → Bool → DeskView × Result (Unit {0}) WinFault
+copy_call desk source target row column top left bottom right overlay =
+    on_window desk (place_of desk source) (λ i. on_window desk (place_of desk target) (λ j.
+    let part : Area = record { top = top; left = left; rows = bottom + 1 - top; columns = right + 1 - left } in
+    if leb top bottom && leb left right && has_part (window_at desk j).frame.area top left part && has_part (window_at desk i).frame.area row column part then
+    (copied desk i j row column part overlay, Ok tt)
+    else (desk, Err OutOfWindow)))
+
+-- the part of the screen that two windows both cover, from the later of their first rows and columns up to the earlier of their
+-- ends, is copied from one to the other; nothing where there is none
+abbrev pub laid_over : DeskView → ℕ → ℕ → ℕ × ℕ → ℕ × ℕ → Bool → DeskView
+laid_over desk i j source target overlay =
+    let a : Area = (window_at desk i).frame.area in
+    let b : Area = (window_at desk j).frame.area in
+    let top : ℕ = max source.0 target.0 in
+    let left : ℕ = max source.1 target.1 in
+    let rows : ℕ = min (source.0 + a.rows) (target.0 + b.rows) - top in
+    let columns : ℕ = min (source.1 + a.columns) (target.1 + b.columns) - left in
+    if rows == 0 || columns == 0 then desk
+    else copied desk i j (top - source.0) (left - source.1) (record { top = top - target.0; left = left - target.1; rows = rows; columns = columns }) overlay
+
+abbrev pub over_screen : DeskView → ℕ → ℕ → Option (ℕ × ℕ) → Option (ℕ × ℕ) → Bool → DeskView × Result (Unit {0}) WinFault
+over_screen desk i j None target overlay = (desk, Err IsPad)
+over_screen desk i j (Some source) None overlay = (desk, Err IsPad)
+over_screen desk i j (Some source) (Some target) overlay = (laid_over desk i j source target overlay, Ok tt)
+
+-- overlay(), and overwrite() without overlay
+abbrev pub overlay_call : DeskView → ℕ → ℕ → Bool → DeskView × Result (Unit {0}) WinFault
+overlay_call desk source target overlay =
+    on_window desk (place_of desk source) (λ i. on_window desk (place_of desk target) (λ j.
+    over_screen desk i j (window_at desk i).frame.origin (window_at desk j).frame.origin overlay))
+
+-- a rectangle of so many rows and columns, row after row
+pub record IsBlock (cells : List CellView) (rows columns : ℕ) (f : ℕ → ℕ → CellView) : Type 0 where
+  pub many : length cells ≡ rows * columns
+  pub each : (r c : ℕ) → r < rows → c < columns → slice_index_or cells (r * columns + c) blank_cell ≡ f r c
+
+-- the same rectangle read from the cells
+abbrev pub block_at : List CellView → ℕ → ℕ → ℕ → CellView
+block_at cells columns r c = slice_index_or cells (r * columns + c) blank_cell

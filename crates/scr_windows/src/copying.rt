@@ -1,0 +1,230 @@
+ghost use Rattle.std.specs.Prelude.{◌≡◌, ◌+◌, ◌*◌, ◌<◌, ◌≤◌, length, true, false, MatchResult, Ok};
+ghost use Rattle.scr_windows.specs.SurfaceViews.{IsPart, IsSurface, filled, inside_at};
+ghost use Rattle.scr_windows.specs.DeskViews.{window_at};
+ghost use Rattle.scr_windows.specs.Calls.{write};
+ghost use Rattle.scr_windows.specs.Reading.{at};
+ghost use Rattle.scr_windows.specs.Making.{Allocated};
+ghost use Rattle.scr_windows.specs.Copying.{IsBlock, block_at, copied, copy_call, has_part, overlay_call, part_laid};
+ghost use Rattle.scr_windows.specs.declared.faults.WinFault.TheVariants.{NoMemory};
+
+use crate::areas::Area;
+use crate::desks::Desk;
+use crate::faults::{Win, WinFault};
+use crate::surfaces::Surface;
+use scr_cells::Cell;
+use std::alloc::Global;
+
+impl Desk {
+    /// Copies cells of a window to a rectangle of a window, which may be the same or share its cells:
+    /// each place of the rectangle gets the cell that the source had before at the same distance from
+    /// the row and the column. The rectangle reaches from `top` and `left` to `bottom` and `right`, both
+    /// inside. With `overlay` a byte 32 leaves the target's cell, whatever its attributes. All lines of
+    /// the rectangle are touched.
+    ///
+    /// Refused: NoWindow; OutOfWindow where the rectangle is not wholly in the target, the part copied
+    /// not wholly in the source, or the corners are the wrong way round; NoMemory. X/Open Curses Issue 7,
+    /// copywin().
+    pub fn copy(
+        &mut self,
+        alloc: Global,
+        source: Win,
+        target: Win,
+        row: u32,
+        column: u32,
+        top: u32,
+        left: u32,
+        bottom: u32,
+        right: u32,
+        overlay: bool,
+    ) -> Result<(), WinFault>
+        ensures { Allocated self.old (copy_call self.old source.0 target.0 row column top left bottom right overlay) (self.new, result) }
+    {
+        let from = self.pen(source)?;
+        let to = self.pen(target)?;
+        if top > bottom || left > right || bottom >= to.area.rows || right >= to.area.columns {
+            return Err(WinFault::OutOfWindow);
+        }
+        let part = Area {
+            top,
+            left,
+            rows: bottom - top + 1,
+            columns: right - left + 1,
+        };
+        if !has_part(from.area, row, column, part) {
+            return Err(WinFault::OutOfWindow);
+        }
+        self.copy_part(alloc, from.place, to.place, row, column, part, overlay)
+    }
+
+    /// Copies the part of the screen that two windows both cover from one to the other, but for the
+    /// places where the source has a byte 32. The lines of this part are touched.
+    ///
+    /// Refused: NoWindow; IsPad where either is a pad; NoMemory. X/Open Curses Issue 7, overlay().
+    pub fn overlay(&mut self, alloc: Global, source: Win, target: Win) -> Result<(), WinFault>
+        ensures { Allocated self.old (overlay_call self.old source.0 target.0 true) (self.new, result) }
+    {
+        self.lay_over(alloc, source, target, true)
+    }
+
+    /// Copies the part of the screen that two windows both cover from one to the other. The lines of
+    /// this part are touched.
+    ///
+    /// Refused: NoWindow; IsPad where either is a pad; NoMemory. X/Open Curses Issue 7, overwrite().
+    pub fn overwrite(&mut self, alloc: Global, source: Win, target: Win) -> Result<(), WinFault>
+        ensures { Allocated self.old (overlay_call self.old source.0 target.0 false) (self.new, result) }
+    {
+        self.lay_over(alloc, source, target, false)
+    }
+
+    // Copies the part of the screen that two windows both cover.
+    fn lay_over(
+        &mut self,
+        alloc: Global,
+        source: Win,
+        target: Win,
+        overlay: bool,
+    ) -> Result<(), WinFault>
+        ensures { Allocated self.old (overlay_call self.old source.0 target.0 overlay) (self.new, result) }
+    {
+        let from = self.place(source)?;
+        let to = self.place(target)?;
+        let one = self.window(from).frame();
+        let other = self.window(to).frame();
+        let (Some(first), Some(second)) = (one.origin, other.origin) else {
+            return Err(WinFault::IsPad);
+        };
+        let top = first.0.max(second.0);
+        let left = first.1.max(second.1);
+        let bottom = (first.0 + one.area.rows).min(second.0 + other.area.rows);
+        let right = (first.1 + one.area.columns).min(second.1 + other.area.columns);
+        if top >= bottom || left >= right {
+            return Ok(());
+        }
+        let part = Area {
+            top: top - second.0,
+            left: left - second.1,
+            rows: bottom - top,
+            columns: right - left,
+        };
+        self.copy_part(
+            alloc,
+            from,
+            to,
+            top - first.0,
+            left - first.1,
+            part,
+            overlay,
+        )
+    }
+
+    // Copies cells of the window at a place, from a row and a column on, to a part of the window at
+    // another place, by way of memory of their own.
+    fn copy_part(
+        &mut self,
+        alloc: Global,
+        source: usize,
+        target: usize,
+        row: u32,
+        column: u32,
+        part: Area,
+        overlay: bool,
+    ) -> Result<(), WinFault>
+        requires source { source < length self.old.windows }
+        requires target { target < length self.old.windows }
+        requires some_rows { 1 ≤ part.rows }
+        requires some_columns { 1 ≤ part.columns }
+        requires below { row + part.rows ≤ (window_at self.old source).frame.area.rows }
+        requires right { column + part.columns ≤ (window_at self.old source).frame.area.columns }
+        requires end { part.top + part.rows ≤ (window_at self.old target).frame.area.rows }
+        requires edge { part.left + part.columns ≤ (window_at self.old target).frame.area.columns }
+        ensures { Allocated self.old (copied self.old source target row column part overlay, Ok tt) (self.new, result) }
+    {
+        let cells = self.block(alloc, source, row, column, part)?;
+        self.lay(target, part, &cells, overlay);
+        Ok(())
+    }
+
+    // The cells of the window at a place from a row and a column on, as many rows and columns as the
+    // part has.
+    fn block(
+        &self,
+        alloc: Global,
+        place: usize,
+        row: u32,
+        column: u32,
+        part: Area,
+    ) -> Result<Vec<Cell>, WinFault>
+        requires place { place < length self.now.windows }
+        requires some_rows { 1 ≤ part.rows }
+        requires some_columns { 1 ≤ part.columns }
+        requires below { row + part.rows ≤ (window_at self.now place).frame.area.rows }
+        requires right { column + part.columns ≤ (window_at self.now place).frame.area.columns }
+        ensures { MatchResult result (λ cells. IsBlock cells.items part.rows part.columns (λ r c. at self.now place (row + r) (column + c))) (λ fault. fault ≡ NoMemory) }
+    {
+        let frame = self.window(place).frame();
+        let area = Area {
+            top: frame.area.top + row,
+            left: frame.area.left + column,
+            rows: part.rows,
+            columns: part.columns,
+        };
+        self.surfaces[frame.surface].block(alloc, area)
+    }
+
+    // Lays a block of cells over a part of the window at a place, and touches the lines.
+    fn lay(&mut self, place: usize, part: Area, cells: &[Cell], overlay: bool)
+        requires here { place < length self.old.windows }
+        requires below { part.top + part.rows ≤ (window_at self.old place).frame.area.rows }
+        requires right { part.left + part.columns ≤ (window_at self.old place).frame.area.columns }
+        requires many { length cells.now ≡ part.rows * part.columns }
+        ensures { self.new ≡ write self.old place part.top (part.top + part.rows) (part_laid overlay part (block_at cells.now part.columns)) }
+    {
+        let window = &mut self.windows[place];
+        let frame = window.frame();
+        window.mark(part.top, part.top + part.rows, true);
+        self.surfaces[frame.surface].lay(frame.area, part, cells, overlay);
+    }
+}
+
+impl Surface {
+    // The cells of an area, row after row. Refused for want of memory alone.
+    fn block(&self, alloc: Global, area: Area) -> Result<Vec<Cell>, WinFault>
+        requires part { IsPart self.now area }
+        requires surface { IsSurface self.now }
+        ensures { MatchResult result (λ cells. IsBlock cells.items area.rows area.columns (inside_at self.now area)) (λ fault. fault ≡ NoMemory) }
+    {
+        let mut cells = Vec::with_capacity(alloc, area.rows as usize * area.columns as usize)?;
+        for row in 0..area.rows {
+            cells.extend_from_slice(self.line(area, row))?;
+        }
+        Ok(cells)
+    }
+
+    // Lays a block of cells over a part of an area; with overlay a blank leaves its place.
+    fn lay(&mut self, area: Area, part: Area, cells: &[Cell], overlay: bool)
+        requires area { IsPart self.old area }
+        requires below { part.top + part.rows ≤ area.rows }
+        requires right { part.left + part.columns ≤ area.columns }
+        requires many { length cells.now ≡ part.rows * part.columns }
+        requires surface { IsSurface self.old }
+        ensures { self.new ≡ filled self.old area (part_laid overlay part (block_at cells.now part.columns) (inside_at self.old area)) }
+    {
+        let columns = part.columns as usize;
+        let left = area.left + part.left;
+        for row in 0..part.rows {
+            let start = row as usize * columns;
+            let line = &cells[start..start + columns];
+            self.lay_row(area.top + (part.top + row), left, line, overlay);
+        }
+    }
+}
+
+// Whether the places from a row and a column of an area on, as many as the part has, are in the area.
+fn has_part(area: Area, row: u32, column: u32, part: Area) -> bool
+    ensures { result ≡ has_part area row column part }
+{
+    part.rows <= area.rows
+        && part.columns <= area.columns
+        && row <= area.rows - part.rows
+        && column <= area.columns - part.columns
+}
