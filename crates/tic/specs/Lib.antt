@@ -1,2 +1,4 @@
-pub mod Answers
-pub mod Checked
+pub mod Compiling
+pub mod Faults
+pub mod FileNames
+pub mod Progress

@@ -1,107 +1,124 @@
-//! `tic`: checks terminfo source (tic(1)).
+//! `tic`: compiles terminfo source, and lists compiled files (tic(1), infocmp(1)).
 //!
-//! `tic -c FILE` reads FILE, or the standard input where FILE is `-`, and prints the first name of
-//! each entry, one a line; doubtful fields are noted on standard error. A fault is printed there
-//! as `tic: ` and its text. The status is 0, 1 for a fault and 2 for wrong words.
+//! `tic -c FILE` compiles FILE and prints the first name of each entry and the size of its compiled file,
+//! one entry a line. `tic -o DIR FILE` writes the files below DIR, one for each name of an entry, and
+//! prints nothing. `tic -d COMPILED` prints a compiled file as source. FILE or COMPILED is the standard
+//! input where it is `-`. Doubtful fields, and what a listing leaves out, are told on standard error. A
+//! fault is printed there as `tic: ` and its text. The status is 0, 1 for a fault and 2 for wrong words.
 #![tactic(auto)]
 
-mod check;
+mod compiler;
+mod failure;
 mod fault;
-mod input;
+mod file_names;
+mod lister;
+mod output;
 mod report;
 #[cfg(test)]
 mod tests;
 mod words;
+mod written;
 
-use check::{Checked, check};
 use clap::error::ErrorKind;
-use fault::TicFault;
-use input::{InputFault, read_all};
-use report::{name_lines, note_lines};
-use std::alloc::AllocError;
+use compiler::{Compiled, compile};
+use failure::Failure;
+use lister::list;
+use output::write_files;
+use program_input::{InputFault, read_input};
+use report::{left_out_lines, note_lines, size_lines};
 use std::io::Write;
 use std::process::ExitCode;
-use std::{env, fs};
-
-/// The status of a fault.
-const FAULT: u8 = 1;
-
-/// The status of wrong words.
-const WRONG_WORDS: u8 = 2;
+use std::{env, fs, io};
+use words::Task;
 
 fn main(rt: HostRuntime) -> ExitCode {
-    ExitCode::from(status(&rt))
-}
-
-fn status(rt: &HostRuntime) -> u8 {
-    let Ok(words) = env::args(rt) else {
-        return out_of_memory(rt);
+    let ended = match words_given(&rt) {
+        Ok(words) => perform(&rt, words.as_slice()),
+        Err(failure) => told(&rt, &failure),
     };
-    let Ok(words) = words.collect::<Vec<String>>(rt.alloc()) else {
-        return out_of_memory(rt);
+    ExitCode::from(ended)
+}
+
+// Prints why the program ends, and gives its status.
+fn told(rt: &HostRuntime, failure: &Failure<'_>) -> u8 {
+    let _ = eprintln!(rt; "{failure}");
+    failure.status()
+}
+
+fn words_given<'a>(rt: &HostRuntime) -> Result<Vec<String>, Failure<'a>> {
+    match env::args(rt) {
+        Ok(words) => Ok(words.collect(rt.alloc())?),
+        Err(error) if error.kind() == io::ErrorKind::OutOfMemory => Err(Failure::NoMemory),
+        Err(_) => Err(Failure::NotText),
+    }
+}
+
+// Does what the words ask for, and gives the status.
+fn perform(rt: &HostRuntime, words: &[String]) -> u8 {
+    let ended = match words::matches(rt.alloc(), words) {
+        Ok(matches) => match words::task_of(&matches) {
+            Some(task) => run(rt, task),
+            None => Err(Failure::NotText),
+        },
+        Err(error) if error.kind() == ErrorKind::OutOfMemory => Err(Failure::NoMemory),
+        Err(error) => Err(Failure::Words(error)),
     };
-    match words::matches(rt.alloc(), words.as_slice()) {
-        Ok(matches) => match matches.get_str("check") {
-            Some(file) => check_file(rt, file),
-            None => WRONG_WORDS,
-        },
-        Err(wrong) => {
-            if matches!(wrong.kind(), ErrorKind::OutOfMemory) {
-                return out_of_memory(rt);
-            }
-            let _ = rt.eprint(wrong);
-            WRONG_WORDS
+    match ended {
+        Ok(()) => 0,
+        Err(failure) => told(rt, &failure),
+    }
+}
+
+fn run<'a>(rt: &HostRuntime, task: Task<'a>) -> Result<(), Failure<'a>> {
+    match task {
+        Task::Sizes(file) => {
+            let compiled = compiled(rt, file)?;
+            let sizes = size_lines(rt.alloc(), &compiled.sizes)?;
+            print(rt, sizes.as_slice())
         }
-    }
-}
-
-fn out_of_memory(rt: &HostRuntime) -> u8 {
-    let _ = rt.eprintln("tic: out of memory");
-    FAULT
-}
-
-fn check_file(rt: &HostRuntime, file: &str) -> u8 {
-    match input_of(rt, file) {
-        Ok(source) => report_on(rt, source.as_slice()),
-        Err(InputFault::NoMemory) => out_of_memory(rt),
-        Err(InputFault::Unreadable) => {
-            let _ = eprintln!(rt; "tic: cannot read {file}");
-            FAULT
+        Task::Files(directory, file) => {
+            let compiled = compiled(rt, file)?;
+            write_files(rt, directory, &compiled.files)
         }
+        Task::Listing(file) => print_listing(rt, file),
     }
 }
 
-fn input_of(rt: &HostRuntime, file: &str) -> Result<Vec<u8>, InputFault> {
-    if file == "-" {
-        return read_all(rt.alloc(), &mut rt.stdin());
-    }
-    match fs::open(rt, file) {
-        Ok(mut opened) => read_all(rt.alloc(), &mut opened),
-        Err(_) => Err(InputFault::Unreadable),
-    }
-}
-
-fn report_on(rt: &HostRuntime, source: &[u8]) -> u8 {
-    match check(rt.alloc(), source) {
-        Ok(checked) => match print_all(rt, &checked) {
-            Ok(status) => status,
-            Err(_) => out_of_memory(rt),
-        },
-        Err(TicFault::NoMemory) => out_of_memory(rt),
-        Err(fault) => {
-            let _ = eprintln!(rt; "tic: {fault}");
-            FAULT
-        }
-    }
-}
-
-fn print_all(rt: &HostRuntime, checked: &Checked) -> Result<u8, AllocError> {
-    let notes = note_lines(rt.alloc(), &checked.notes)?;
-    let names = name_lines(rt.alloc(), &checked.names)?;
+// What a source is compiled to; the notes on it are printed.
+fn compiled<'a>(rt: &HostRuntime, file: &'a str) -> Result<Compiled, Failure<'a>> {
+    let source = input_of(rt, file)?;
+    let compiled = compile(rt.alloc(), source.as_slice())?;
+    let notes = note_lines(rt.alloc(), &compiled.notes)?;
     let _ = rt.stderr().write_all(notes.as_slice());
-    if rt.stdout().write_all(names.as_slice()).is_err() {
-        let _ = rt.eprintln("tic: cannot write -");
-        return Ok(FAULT);
+    Ok(compiled)
+}
+
+// Prints a compiled file as source, and tells what is left out of it.
+fn print_listing<'a>(rt: &HostRuntime, file: &'a str) -> Result<(), Failure<'a>> {
+    let bytes = input_of(rt, file)?;
+    let listing = list(rt.alloc(), bytes.as_slice())?;
+    let left_out = left_out_lines(rt.alloc(), listing.unnamed, listing.skipped)?;
+    let printed = print(rt, listing.text.0.as_slice());
+    let _ = rt.stderr().write_all(left_out.as_slice());
+    printed
+}
+
+fn print<'a>(rt: &HostRuntime, text: &[u8]) -> Result<(), Failure<'a>> {
+    rt.stdout().write_all(text).map_err(|_| Failure::Output)
+}
+
+fn input_of<'a>(rt: &HostRuntime, file: &'a str) -> Result<Vec<u8>, Failure<'a>> {
+    let read = if file == "-" {
+        read_input(rt.alloc(), &mut rt.stdin())
+    } else {
+        match fs::open(rt, file) {
+            Ok(mut opened) => read_input(rt.alloc(), &mut opened),
+            Err(_) => return Err(Failure::Read(file)),
+        }
+    };
+    match read {
+        Ok(bytes) => Ok(bytes),
+        Err(InputFault::Failed) => Err(Failure::Read(file)),
+        Err(InputFault::NoMemory) => Err(Failure::NoMemory),
     }
-    Ok(0)
 }

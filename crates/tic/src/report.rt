@@ -1,6 +1,7 @@
 //! What `tic` prints.
 
-use crate::check::{Names, Notes};
+use crate::compiler::Notes;
+use crate::written::Sizes;
 use std::alloc::{AllocError, Global};
 use ti_source::Cause;
 
@@ -27,12 +28,34 @@ pub(crate) fn note_lines(alloc: Global, notes: &Notes) -> Result<Vec<u8>, AllocE
     Ok(lines)
 }
 
-/// A line for each name.
-pub(crate) fn name_lines(alloc: Global, names: &Names) -> Result<Vec<u8>, AllocError> {
+/// A line for each entry: its first reference name and the size of its file.
+pub(crate) fn size_lines(alloc: Global, sizes: &Sizes) -> Result<Vec<u8>, AllocError> {
     let mut lines = Vec::new(alloc);
-    for name in names.0.as_slice() {
+    for (name, size) in sizes.0.as_slice() {
+        let digits = size.to_string(alloc)?;
         lines.extend_from_slice(name.0.as_slice())?;
+        lines.push(b' ')?;
+        lines.extend_from_slice(digits.as_bytes())?;
         lines.push(b'\n')?;
+    }
+    Ok(lines)
+}
+
+/// What a listing leaves out: a line for capabilities without a name and one for bytes after the
+/// string table, each where there are some.
+pub(crate) fn left_out_lines(
+    alloc: Global,
+    unnamed: usize,
+    skipped: usize,
+) -> Result<Vec<u8>, AllocError> {
+    let mut lines = Vec::new(alloc);
+    if unnamed > 0 {
+        let line = format!(in alloc; "{unnamed} capabilities without a name left out\n")?;
+        lines.extend_from_slice(line.as_bytes())?;
+    }
+    if skipped > 0 {
+        let line = format!(in alloc; "{skipped} bytes skipped\n")?;
+        lines.extend_from_slice(line.as_bytes())?;
     }
     Ok(lines)
 }

@@ -1,0 +1,10 @@
+use Rattle.std.proofs.Common.{◌≡◌, List, take}
+use Rattle.ti_caps.specs.Description.{Description}
+use Rattle.tic.specs.Compiling.{AreCompiled, names_of}
+use Rattle.tic.specs.Progress.{written_of}
+use Rattle.tic.proofs.compiler.written_by.Given as goal
+
+-- the entries so far are compiled
+abbrev pub invariant-loop-i : goal.invariant-loop-i
+invariant-loop-i l =
+    (ds : List Description) × AreCompiled l.source.entries (take l.i (names_of l.source.entries)) ds × (l.written ≡ written_of ds)

@@ -1,0 +1,49 @@
+//! Why the program ends with another status than 0.
+
+use crate::fault::TicFault;
+use std::alloc::AllocError;
+use thiserror::Error;
+
+/// Why the program ends with another status than 0, in the words that it prints.
+#[derive(Debug, Drop, Error)]
+pub(crate) enum Failure<'a> {
+    #[error("{0}")]
+    Words(clap::Error),
+    #[error("the words are not all text")]
+    NotText,
+    #[error("tic: cannot read {0}")]
+    Read(&'a str),
+    #[error("tic: cannot write -")]
+    Output,
+    #[error("tic: cannot write {0}")]
+    Write(String),
+    #[error("tic: {0}")]
+    Fault(TicFault),
+    #[error("tic: out of memory")]
+    NoMemory,
+}
+
+impl Failure<'_> {
+    /// 2 for wrong words, else 1.
+    pub(crate) fn status(&self) -> u8 {
+        match self {
+            Failure::Words(_) | Failure::NotText => 2,
+            _ => 1,
+        }
+    }
+}
+
+impl From<AllocError> for Failure<'_> {
+    fn from(_e: AllocError) -> Self {
+        Failure::NoMemory
+    }
+}
+
+impl From<TicFault> for Failure<'_> {
+    fn from(fault: TicFault) -> Self {
+        match fault {
+            TicFault::NoMemory => Failure::NoMemory,
+            other => Failure::Fault(other),
+        }
+    }
+}

@@ -1,0 +1,39 @@
+//! Compiled files as they are written below a folder.
+
+use crate::failure::Failure;
+use crate::written::Files;
+use std::alloc::Global;
+use std::io::ErrorKind;
+use std::path::{Path, PathBuf};
+use std::{fs, io, str};
+
+// A path below a folder; a compiled file's path is ASCII.
+fn below<'a>(alloc: Global, directory: &str, path: &[u8]) -> Result<PathBuf, Failure<'a>> {
+    let path = str::from_utf8(path).unwrap_or("");
+    Ok(Path::new(directory).join(alloc, path)?)
+}
+
+fn write_file(rt: &HostRuntime, path: &PathBuf, bytes: &[u8]) -> io::Result<()> {
+    if let Some(folder) = path.parent() {
+        fs::create_dir_all(rt, folder)?;
+    }
+    fs::write(rt, path.as_path(), bytes)
+}
+
+/// Writes the files below a folder, which is made where it is not there, as are the folders in it.
+/// Files that are there are replaced.
+pub(crate) fn write_files<'a>(
+    rt: &HostRuntime,
+    directory: &str,
+    files: &Files,
+) -> Result<(), Failure<'a>> {
+    for (path, bytes) in files.0.as_slice() {
+        let path = below(rt.alloc(), directory, path.0.as_slice())?;
+        match write_file(rt, &path, bytes.0.as_slice()) {
+            Ok(()) => {}
+            Err(error) if error.kind() == ErrorKind::OutOfMemory => return Err(Failure::NoMemory),
+            Err(_) => return Err(Failure::Write(path.into_os_string())),
+        }
+    }
+    Ok(())
+}
