@@ -24,7 +24,7 @@ next_row columns r s h =
     let e : (r + 1) * columns ≤ s * columns = mul-le (r + 1) columns s columns (omega arith) (omega arith) in
     omega arith
 
-map_range : {X : Type 0} (f g : ℕ → X) (a n : ℕ) → ((k : ℕ) → a ≤ k → k < a + n → f k ≡ g k) → map f (range_with_len a n) ≡ map g (range_with_len a n)
+pub map_range : {X : Type 0} (f g : ℕ → X) (a n : ℕ) → ((k : ℕ) → a ≤ k → k < a + n → f k ≡ g k) → map f (range_with_len a n) ≡ map g (range_with_len a n)
 map_range f g a zero h = refl
 map_range f g a (suc n) h =
     let e : f a ≡ g a = h a (omega arith) (omega arith) in

@@ -9,3 +9,4 @@ pub mod MakingLaws
 pub mod ReadingLaws
 pub mod RemovingLaws
 pub mod RunLaws
+pub mod SyncLaws

@@ -11,4 +11,5 @@ pub mod Removing
 pub mod Runs
 pub mod Settings
 pub mod SurfaceViews
+pub mod Syncing
 pub mod Touching

@@ -27,6 +27,9 @@ mod runs;
 mod settings;
 mod subwindows;
 mod surfaces;
+mod syncing;
+#[cfg(test)]
+mod syncing_tests;
 #[cfg(test)]
 mod tests;
 mod touching;
