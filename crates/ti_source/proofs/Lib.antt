@@ -16,6 +16,7 @@ pub mod PrintLaws
 pub mod PrintedBackLaws
 pub mod ReadingLaws
 pub mod ResolvingLaws
+pub mod SpokenLaws
 pub mod StatementsBackLaws
 pub mod StepLaws
 pub mod TableBytesLaws

@@ -10,5 +10,6 @@ pub mod Reading
 pub mod Resolving
 pub mod Result
 pub mod Seen
+pub mod Spoken
 pub mod Steps
 pub mod Walk

@@ -14,6 +14,7 @@ mod printer;
 mod reader;
 mod resolver;
 mod source;
+mod spoken;
 mod statement;
 mod walk;
 

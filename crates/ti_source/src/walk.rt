@@ -46,11 +46,7 @@ pub(crate) struct Walk {
 fn new_marks(alloc: Global, count: usize) -> Result<Vec<Mark>, AllocError>
     ensures { IfOk result (λ v. v.items ≡ replicate count Mark.New) }
 {
-    let mut marks = Vec::with_capacity(alloc, count)?;
-    for _entry in 0..count {
-        marks.push(Mark::New)?;
-    }
-    Ok(marks)
+    vec![in alloc; Mark::New; count]
 }
 
 fn mark_at(marks: &[Mark], place: usize) -> Option<Mark>

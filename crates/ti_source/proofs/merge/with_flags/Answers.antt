@@ -9,4 +9,4 @@ loop-slot-preserved c =
 
 pub returns : goal.returns
 returns c =
-    flags-end (flag_in c.args.statements.now (map (λ u. u.now) c.args.used.now)) c.args.entry c.loop-slot.merged 64 c.loop-slot.slot c.requires (omega arith) c.loop-slot.invariant
+    flags-end (flag_in c.args.statements.now (map (λ u. u.now) c.args.used.now)) c.args.entry c.loop-slot.merged 64 c.loop-slot.slot c.requires.room (omega arith) c.loop-slot.invariant
