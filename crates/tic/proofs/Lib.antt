@@ -1,2 +1,3 @@
 pub mod CompilingLaws
+pub mod OnceLaws
 pub mod WrittenLaws

@@ -78,3 +78,7 @@ abbrev pub IsFaulty : List ℕ → TicFault → Type 0
 IsFaulty text fault =
     ((f : SourceFault) × (source_of text ≡ Err f) × (fault ≡ Source f))
     ⊎ ((source : Whole) × (source_of text ≡ Ok source) × IsFirstRefused source.entries (names_of source.entries) fault)
+
+-- a source that is compiled to something
+abbrev pub CanBeCompiled : List ℕ → Type 0
+CanBeCompiled text = (compiled : Compiled) × IsCompiled text compiled

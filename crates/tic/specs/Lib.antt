@@ -1,4 +1,5 @@
 pub mod Compiling
 pub mod Faults
 pub mod FileNames
+pub mod Once
 pub mod Progress

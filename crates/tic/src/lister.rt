@@ -5,6 +5,7 @@ ghost use Rattle.ti_binary.specs.declared.faults.BinFault.{BinFault};
 ghost use Rattle.ti_binary.specs.Files.{Reads, refusal};
 ghost use Rattle.ti_caps.specs.Description.{Description, unnamed_count};
 ghost use Rattle.ti_source.specs.Print.{printed};
+ghost use Rattle.ti_source.specs.ReadBack.{ReadsBack};
 ghost use Rattle.tic.specs.Faults.{IsPlain};
 
 use crate::fault::TicFault;
@@ -25,11 +26,13 @@ pub struct Listing {
 }
 
 /// Lists a compiled file: the source text of its entry, how many of its capabilities have no name and
-/// are left out, and how many bytes follow its string table (term(5), 'Legacy Storage Format').
+/// are left out, and how many bytes follow its string table (term(5), 'Legacy Storage Format'). The text
+/// is a source of one entry, which resolves to the file's without its unnamed capabilities.
 ///
 /// `Decode` with the first reason for which the bytes are no file; `NoMemory` comes last.
 pub fn list(alloc: Global, bytes: &[u8]) -> Result<Listing, TicFault>
     ensures ok { IfOk result (λ l. (d : Description) × Reads bytes.now d l.skipped × (l.text ≡ printed d) × (l.unnamed ≡ unnamed_count d)) }
+    ensures reads { IfOk result (λ l. (d : Description) × (l.text ≡ printed d) × ReadsBack d) }
     ensures err { IfErr result (λ f. (f ≡ TicFault.NoMemory) ⊎ ((b : BinFault) × (refusal bytes.now ≡ Some b) × (f ≡ TicFault.Decode b))) }
     ensures good { refusal bytes.now ≡ None → IsOkUnless result TicFault.NoMemory }
     ensures plain { IfErr result IsPlain }

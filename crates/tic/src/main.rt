@@ -11,6 +11,7 @@ mod compiler;
 mod failure;
 mod fault;
 mod file_names;
+mod laws;
 mod lister;
 mod output;
 mod report;
