@@ -4,6 +4,7 @@ use Rattle.std.proofs.lemmas.Nat.{mul-le}
 use Rattle.scr_cells.specs.CellViews.{blank_cell}
 use Rattle.scr_cells.specs.PictureViews.{IsSize}
 use Rattle.std.specs.Prelude.{MatchOption}
+use Rattle.std.specs.Option.{is_some}
 use Rattle.std.proofs.lemmas.List.Elements.{All-push}
 use Rattle.std.proofs.lemmas.List.{get_or-map, map-append, length-append}
 use Rattle.std.proofs.Math.ListN.{get_or-append}
@@ -13,7 +14,7 @@ use Rattle.scr_windows.specs.declared.areas.Area.{Area}
 use Rattle.scr_windows.specs.declared.frames.Frame.{Frame}
 use Rattle.scr_windows.specs.declared.frames.State.{State}
 use Rattle.scr_windows.specs.SurfaceViews.{SurfaceView, IsSurface, blank_surface}
-use Rattle.scr_windows.specs.DeskViews.{no_attributes, WindowView, DeskView, IsWindow, IsPlaced, IsChild, AreFrames, IsDesk, Placed, window_at, no_window, no_frame, size_of, fresh_window}
+use Rattle.scr_windows.specs.DeskViews.{no_attributes, WindowView, DeskView, IsWindow, IsPlaced, IsChild, IsInsideOnScreen, AreFrames, IsDesk, Placed, window_at, no_window, no_frame, size_of, fresh_window}
 use Rattle.scr_windows.specs.Making.{IsRootPlace, with_root, root_frame, screen_area, IsChildPlace, child_frame, with_child, part_of}
 use Rattle.scr_windows.proofs.DeskLaws.{Reads, reads_window, here_too, placed, length_map, frame_of}
 use Rattle.scr_windows.proofs.MakingLaws.{fresh_is_window, blank_is_surface, screen_is_size}
@@ -73,7 +74,7 @@ child_is_desk d i area origin h l few made inside =
     let at : get_or frames i no_frame ≡ parent = get_or-map frame_of d.windows i no_window no_frame l in
     let older : parent.number ≤ d.made = (let P : Frame → Type 0 = λ f. f.number ≤ d.made in subst P at (h.frames.numbers i no_frame (omega (arith, many)))) in
     let on : IsPlaced d.rows d.columns (map size_of d.surfaces) parent = (let P : Frame → Type 0 = λ f. IsPlaced d.rows d.columns (map size_of d.surfaces) f in subst P at (h.frames.placed i no_frame (omega (arith, many)))) in
-    let child : IsChild frame parent = record { later = omega arith; surface = refl; above = inside.above; below = inside.below; left = inside.left; right = inside.right } in
+    let child : IsChild frame parent = record { later = omega arith; surface = refl; above = inside.above; below = inside.below; left = inside.left; right = inside.right; on_screen = inside.in_parent } in
     let C : Frame → Type 0 = λ f. IsChild frame f in
     record {
       size = h.size;
@@ -144,12 +145,19 @@ derived_place d i frame origin part rows columns row column p frame_is origin_is
       left = omega (arith, a.1);
       right = omega (arith, a.1, a.5);
       on_screen = (omega (arith, on.0, a.4), omega (arith, on.1, a.5));
+      in_parent = (let Q : Option (ℕ × ℕ) → Type 0 = λ o. IsInsideOnScreen (Some (origin.0 + row, origin.1 + column)) part o (window_at d i).frame.area in
+          subst Q (sym (sym (ap (λ (f : Frame). f.origin) frame_is) ∙ origin_is)) (omega arith, omega (arith, a.4, heights), omega arith, omega (arith, a.5, widths)));
     }
 
+-- a window that has no place on the screen
+pub no_origin : (o : Option (ℕ × ℕ)) → is_some o ≡ false → o ≡ None
+no_origin None e = refl
+no_origin (Some p) e = absurd (let z : ⊥ = (cc) in z)
+
 -- the same of a pad
-pub divided_place : (d : DeskView) (i : ℕ) (frame : Frame) (part : Area) (rows columns row column : ℕ) → frame ≡ (window_at d i).frame
+pub divided_place : (d : DeskView) (i : ℕ) (frame : Frame) (part : Area) (rows columns row column : ℕ) → frame ≡ (window_at d i).frame → frame.origin ≡ None
     → part_of frame.area rows columns row column ≡ Some part → IsChildPlace d i part None
-divided_place d i frame part rows columns row column frame_is part_is =
+divided_place d i frame part rows columns row column frame_is pad part_is =
     let a = part_tells frame.area part rows columns row column part_is in
     let tops : frame.area.top ≡ (window_at d i).frame.area.top = ap (λ (f : Frame). f.area.top) frame_is in
     let lefts : frame.area.left ≡ (window_at d i).frame.area.left = ap (λ (f : Frame). f.area.left) frame_is in
@@ -163,6 +171,7 @@ divided_place d i frame part rows columns row column frame_is part_is =
       left = omega (arith, a.1);
       right = omega (arith, a.1, a.5);
       on_screen = tt;
+      in_parent = (let Q : Option (ℕ × ℕ) → Type 0 = λ o. IsInsideOnScreen None part o (window_at d i).frame.area in subst Q (sym (sym (ap (λ (f : Frame). f.origin) frame_is) ∙ pad)) tt);
     }
 
 -- a surface more: each window stays on its own

@@ -1,16 +1,20 @@
 -- Windows that get other frames, and where a window of a number stands.
-use Rattle.std.proofs.Common.{◌≡◌, ℕ, ◌+◌, ◌<◌, ◌∙◌, ap, arith, List, ◌++◌, length, map, take, drop, get_or, Option, None, Some}
+use Rattle.std.proofs.Common.{◌≡◌, ℕ, ◌+◌, ◌<◌, ◌∙◌, ap, arith, List, [], ◌∷◌, ◌++◌, length, map, take, drop, get_or, Option, None, Some, refl}
 use Rattle.std.specs.Prelude.{Ok, slice_set}
 use Rattle.std.proofs.lemmas.List.{length-append, length-take-le, length-drop, get_or_default}
 use Rattle.std.proofs.lemmas.List.Edits.{map_over_more}
 use Rattle.scr_windows.specs.declared.frames.Frame.{Frame}
 use Rattle.scr_windows.specs.DeskViews.{WindowView}
 use Rattle.scr_windows.specs.Calls.{found}
-use Rattle.scr_windows.proofs.DeskLaws.{length_map}
+use Rattle.scr_windows.proofs.DeskLaws.{frame_of, length_map}
 
 -- a window with another frame
 abbrev pub reframed : (Frame → Frame) → WindowView → WindowView
 reframed g w = record w { frame = g w.frame }
+
+pub map_reframed : (g : Frame → Frame) (ws : List WindowView) → map frame_of (map (reframed g) ws) ≡ map g (map frame_of ws)
+map_reframed g [] = refl
+map_reframed g (w ∷ ws) = ap (λ fs. g w.frame ∷ fs) (map_reframed g ws)
 
 -- one window more of a loop over all
 pub reframed_more : (g : Frame → Frame) (xs ys : List WindowView) (i : ℕ) (first second new : WindowView) (frame : Frame) → i < length xs → ys ≡ map (reframed g) (take i xs) ++ drop i xs

@@ -3,10 +3,13 @@ pub mod ChangeLaws
 pub mod ChildLaws
 pub mod CopyLaws
 pub mod DeskLaws
+pub mod FamilyLaws
 pub mod FrameLaws
 pub mod GridLaws
 pub mod MakingLaws
+pub mod MovingLaws
 pub mod ReadingLaws
 pub mod RemovingLaws
 pub mod RunLaws
+pub mod ShiftLaws
 pub mod SyncLaws

@@ -126,7 +126,7 @@ lowered_parent frames s frame has = kept frame.parent has
         let at : get_or (map (lowered_frame s) frames) k no_frame ≡ lowered_frame s parent = get_or-map (lowered_frame s) frames k no_frame no_frame has.1 in
         let q : (get_or (map (lowered_frame s) frames) k no_frame).number ≡ number = ap (λ (f : Frame). f.number) at ∙ has.2 in
         let Q : Frame → Type 0 = λ f. IsChild (lowered_frame s frame) f in
-        let child : IsChild (lowered_frame s frame) (lowered_frame s parent) = record { later = has.3.later; surface = ap (λ n. cond (ltb s n) (n - 1) n) has.3.surface; above = has.3.above; below = has.3.below; left = has.3.left; right = has.3.right } in
+        let child : IsChild (lowered_frame s frame) (lowered_frame s parent) = record { later = has.3.later; surface = ap (λ n. cond (ltb s n) (n - 1) n) has.3.surface; above = has.3.above; below = has.3.below; left = has.3.left; right = has.3.right; on_screen = has.3.on_screen } in
         (k, omega (arith, length_map (lowered_frame s) frames, has.1), q, subst Q (sym at) child)
 
 frames_lowered : (rows columns : ℕ) (sizes : List (ℕ × ℕ)) (made : ℕ) (frames : List Frame) (s : ℕ) → AreFrames rows columns sizes made frames → s < length sizes

@@ -1,7 +1,8 @@
 -- A desk: surfaces, and the windows on them. X/Open Curses Issue 7, 'Screens, Windows and Terminals'.
-use Rattle.std.specs.Prelude.{ℕ, Bool, true, false, ◌≡◌, ◌+◌, ◌-◌, ◌^◌, ◌<◌, ◌≤◌, List, [], ◌∷◌, length, map, replicate, None, Some, slice_index_or, MatchOption, All}
+use Rattle.std.specs.Prelude.{ℕ, Bool, true, false, ◌≡◌, ◌+◌, ◌-◌, ◌^◌, ◌<◌, ◌≤◌, List, [], ◌∷◌, length, map, replicate, None, Some, slice_index_or, MatchOption, Option, All}
 use Rattle.scr_cells.specs.CellViews.{CellView, blank_cell}
 use Rattle.scr_cells.specs.PictureViews.{IsSize}
+use Rattle.scr_windows.specs.declared.areas.Area.{Area}
 use Rattle.scr_windows.specs.declared.frames.Frame.{Frame}
 use Rattle.scr_windows.specs.declared.frames.State.{State}
 use Rattle.scr_cells.specs.declared.attributes.Attrs.{Attrs}
@@ -77,7 +78,15 @@ pub record IsPlaced (rows columns : ℕ) (sizes : List (ℕ × ℕ)) (frame : Fr
   pub right : frame.area.left + frame.area.columns ≤ (slice_index_or sizes frame.surface (0, 0)).1
   pub origin : MatchOption frame.origin (Unit {0}) (λ place. (place.0 + frame.area.rows ≤ rows) × (place.1 + frame.area.columns ≤ columns))
 
--- a frame lies wholly inside another on the same surface, and was made later
+-- a window's place on the screen lies wholly inside another's; or neither has one
+abbrev pub IsInsideOnScreen : Option (ℕ × ℕ) → Area → Option (ℕ × ℕ) → Area → Type 0
+IsInsideOnScreen None area None within = Unit {0}
+IsInsideOnScreen None area (Some above) within = ⊥
+IsInsideOnScreen (Some place) area None within = ⊥
+IsInsideOnScreen (Some place) area (Some above) within =
+    (above.0 ≤ place.0) × (place.0 + area.rows ≤ above.0 + within.rows) × (above.1 ≤ place.1) × (place.1 + area.columns ≤ above.1 + within.columns)
+
+-- a frame lies wholly inside another on the same surface and on the screen, and was made later
 pub record IsChild (frame parent : Frame) : Type 0 where
   pub later : parent.number < frame.number
   pub surface : frame.surface ≡ parent.surface
@@ -85,6 +94,7 @@ pub record IsChild (frame parent : Frame) : Type 0 where
   pub below : frame.area.top + frame.area.rows ≤ parent.area.top + parent.area.rows
   pub left : parent.area.left ≤ frame.area.left
   pub right : frame.area.left + frame.area.columns ≤ parent.area.left + parent.area.columns
+  pub on_screen : IsInsideOnScreen frame.origin frame.area parent.origin parent.area
 
 -- windows by ascending numbers, each number one that was given; a subwindow's parent is there
 pub record AreFrames (rows columns : ℕ) (sizes : List (ℕ × ℕ)) (made : ℕ) (frames : List Frame) : Type 0 where

@@ -6,6 +6,7 @@ pub mod DeskViews
 pub mod Erasing
 pub mod Formulas
 pub mod Making
+pub mod Moving
 pub mod Reading
 pub mod Removing
 pub mod Runs

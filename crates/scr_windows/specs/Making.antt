@@ -5,7 +5,7 @@ use Rattle.scr_windows.specs.declared.frames.Frame.{Frame}
 use Rattle.scr_windows.specs.declared.faults.Win.{Win}
 use Rattle.scr_windows.specs.declared.faults.WinFault.{WinFault}
 use Rattle.scr_windows.specs.declared.faults.WinFault.TheVariants.{IsPad, NotPad, OutOfWindow, OffScreen, NotInParent, TooBig, TooMany, NoMemory}
-use Rattle.scr_windows.specs.DeskViews.{DeskView, fresh_window, no_attributes, window_at}
+use Rattle.scr_windows.specs.DeskViews.{DeskView, IsInsideOnScreen, fresh_window, no_attributes, window_at}
 use Rattle.scr_cells.specs.CellViews.{blank_cell}
 use Rattle.scr_windows.specs.SurfaceViews.{IsSurfaceSize, blank_surface}
 use Rattle.scr_windows.specs.Calls.{place_of, on_window}
@@ -77,6 +77,7 @@ pub record IsChildPlace (desk : DeskView) (i : ℕ) (area : Area) (origin : Opti
   pub left : (window_at desk i).frame.area.left ≤ area.left
   pub right : area.left + area.columns ≤ (window_at desk i).frame.area.left + (window_at desk i).frame.area.columns
   pub on_screen : MatchOption origin (Unit {0}) (λ place. (place.0 + area.rows ≤ desk.rows) × (place.1 + area.columns ≤ desk.columns))
+  pub in_parent : IsInsideOnScreen origin area (window_at desk i).frame.origin (window_at desk i).frame.area
 
 -- derwin() of a pad
 abbrev pub pad_divided : DeskView → ℕ → Option (ℕ × ℕ) → ℕ → ℕ → ℕ → ℕ → DeskView × Result Win WinFault

@@ -18,6 +18,9 @@ mod frames;
 mod making;
 #[cfg(test)]
 mod making_tests;
+mod moving;
+#[cfg(test)]
+mod moving_tests;
 mod reading;
 mod removing;
 #[cfg(test)]

@@ -1,0 +1,106 @@
+-- What the calls that move windows do. X/Open Curses Issue 7, mvwin(), mvderwin().
+use Rattle.std.specs.Prelude.{ℕ, Bool, true, false, zero, suc, ◌≡◌, ◌<◌, ◌≤◌, List, length, map, Option, None, Some, Result, Ok, Err, slice_index_or, ◌+◌, ◌-◌, ◌==◌, ◌&&◌, ◌||◌, leb, MatchOption, if◌then◌else◌}
+use Rattle.scr_windows.specs.declared.areas.Area.{Area}
+use Rattle.scr_windows.specs.declared.frames.Frame.{Frame}
+use Rattle.scr_windows.specs.declared.moving.Shift.{Shift}
+use Rattle.scr_windows.specs.declared.moving.Shift.TheVariants.{Screen, Surface}
+use Rattle.scr_windows.specs.declared.faults.WinFault.{WinFault}
+use Rattle.scr_windows.specs.declared.faults.WinFault.TheVariants.{IsPad, IsSub, OffScreen, NotInParent}
+use Rattle.scr_windows.specs.DeskViews.{WindowView, DeskView, window_at}
+use Rattle.scr_windows.specs.Calls.{place_of, on_window, with_window, marked}
+
+-- the number of a window, and that of its parent
+abbrev pub link_of : WindowView → ℕ × Option ℕ
+link_of window = (window.frame.number, window.frame.parent)
+
+abbrev pub from_parent : (ℕ → Bool) → Option ℕ → Bool
+from_parent f None = false
+from_parent f (Some parent) = f parent
+
+-- among the first so many windows, the window of a number is an ancestor or descends from it: it has the ancestor's number, or
+-- its parent, which stands before it, is the ancestor or descends from it
+abbrev pub descends : List (ℕ × Option ℕ) → ℕ → ℕ → ℕ → Bool
+descends links ancestor zero number = false
+descends links ancestor (suc k) number =
+    if (slice_index_or links k (0, None)).0 == number then number == ancestor || from_parent (descends links ancestor k) (slice_index_or links k (0, None)).1
+    else descends links ancestor k number
+
+-- where a place comes to, when another comes to a third
+abbrev pub place_shifted : ℕ × ℕ → ℕ × ℕ → ℕ × ℕ → ℕ × ℕ
+place_shifted from to place = (to.0 + (place.0 - from.0), to.1 + (place.1 - from.1))
+
+abbrev pub origin_shifted : ℕ × ℕ → ℕ × ℕ → Option (ℕ × ℕ) → Option (ℕ × ℕ)
+origin_shifted from to None = None
+origin_shifted from to (Some place) = Some (place_shifted from to place)
+
+abbrev pub area_shifted : ℕ × ℕ → ℕ × ℕ → Area → Area
+area_shifted from to area = record area { top = to.0 + (area.top - from.0); left = to.1 + (area.left - from.1) }
+
+-- a window moves on the screen, or on its surface
+abbrev pub shifted : Shift → Frame → Frame
+shifted (Screen from to) frame = record frame { origin = origin_shifted from to frame.origin }
+shifted (Surface from to) frame = record frame { area = area_shifted from to frame.area }
+
+-- a window and its descendants move, and no other window does
+abbrev pub family_frame : List (ℕ × Option ℕ) → ℕ → ℕ → Shift → Frame → Frame
+family_frame links count ancestor shift frame = if descends links ancestor count frame.number then shifted shift frame else frame
+
+abbrev pub family_shifted : ℕ → Shift → List WindowView → List WindowView
+family_shifted ancestor shift windows = map (λ (w : WindowView). record w { frame = family_frame (map link_of windows) (length windows) ancestor shift w.frame }) windows
+
+abbrev pub with_family_shifted : DeskView → ℕ → Shift → DeskView
+with_family_shifted desk i shift = record desk { windows = family_shifted (window_at desk i).frame.number shift desk.windows }
+
+-- and the lines of the window itself are touched
+abbrev pub moved : DeskView → ℕ → Shift → DeskView
+moved desk i shift =
+    with_window (with_family_shifted desk i shift) i (marked 0 (window_at desk i).frame.area.rows true (window_at (with_family_shifted desk i shift) i))
+
+-- mvwin(): the window's first place comes to a place of the screen, and those of all descendants move alike
+abbrev pub window_moved : DeskView → ℕ → Option (ℕ × ℕ) → Option ℕ → ℕ → ℕ → DeskView × Result (Unit {0}) WinFault
+window_moved desk i None parent row column = (desk, Err IsPad)
+window_moved desk i (Some origin) (Some parent) row column = (desk, Err IsSub)
+window_moved desk i (Some origin) None row column =
+    if leb (row + (window_at desk i).frame.area.rows) desk.rows && leb (column + (window_at desk i).frame.area.columns) desk.columns then
+    (moved desk i (Screen origin (row, column)), Ok tt)
+    else (desk, Err OffScreen)
+
+abbrev pub move_window_call : DeskView → ℕ → ℕ → ℕ → DeskView × Result (Unit {0}) WinFault
+move_window_call desk win row column = on_window desk (place_of desk win) (λ i. window_moved desk i (window_at desk i).frame.origin (window_at desk i).frame.parent row column)
+
+-- the first place of the window's part of its surface comes to a row and a column of the parent's part
+abbrev pub moved_in : DeskView → ℕ → Area → ℕ → ℕ → DeskView × Result (Unit {0}) WinFault
+moved_in desk i within row column =
+    let area : Area = (window_at desk i).frame.area in
+    if leb (row + area.rows) within.rows && leb (column + area.columns) within.columns then
+    (moved desk i (Surface (area.top, area.left) (within.top + row, within.left + column)), Ok tt)
+    else (desk, Err NotInParent)
+
+-- mvderwin(): the places on the screen stay, and the descendants' parts of the surface move alike
+abbrev pub derived_moved : DeskView → ℕ → Option (ℕ × ℕ) → Option ℕ → ℕ → ℕ → DeskView × Result (Unit {0}) WinFault
+derived_moved desk i None parent row column = (desk, Err IsPad)
+derived_moved desk i (Some origin) None row column = (desk, Err NotInParent)
+derived_moved desk i (Some origin) (Some parent) row column = on_window desk (place_of desk parent) (λ k. moved_in desk i (window_at desk k).frame.area row column)
+
+abbrev pub move_derived_call : DeskView → ℕ → ℕ → ℕ → DeskView × Result (Unit {0}) WinFault
+move_derived_call desk win row column = on_window desk (place_of desk win) (λ i. derived_moved desk i (window_at desk i).frame.origin (window_at desk i).frame.parent row column)
+
+-- what a shift of the window at a place asks for: a window without a parent stays on the screen; a subwindow stays in its parent
+abbrev pub IsShift : DeskView → ℕ → Shift → Type 0
+IsShift desk i (Screen from to) =
+    ((window_at desk i).frame.parent ≡ None) × ((window_at desk i).frame.origin ≡ Some from) × (to.0 + (window_at desk i).frame.area.rows ≤ desk.rows) × (to.1 + (window_at desk i).frame.area.columns ≤ desk.columns)
+IsShift desk i (Surface from to) =
+    (from ≡ ((window_at desk i).frame.area.top, (window_at desk i).frame.area.left)) × ((k : ℕ) × (k < length desk.windows) × ((window_at desk i).frame.parent ≡ Some (window_at desk k).frame.number)
+    × ((window_at desk k).frame.area.top ≤ to.0) × (to.0 + (window_at desk i).frame.area.rows ≤ (window_at desk k).frame.area.top + (window_at desk k).frame.area.rows)
+    × ((window_at desk k).frame.area.left ≤ to.1) × (to.1 + (window_at desk i).frame.area.columns ≤ (window_at desk k).frame.area.left + (window_at desk k).frame.area.columns))
+
+-- no sum of a shift passes the numbers' end
+abbrev pub IsNear : ℕ × ℕ → Type 0
+IsNear place = (place.0 ≤ 1000000) × (place.1 ≤ 1000000)
+
+abbrev pub IsNearFrame : Frame → Type 0
+IsNearFrame frame = IsNear (frame.area.top, frame.area.left) × MatchOption frame.origin (Unit {0}) IsNear
+
+abbrev pub IsNearShift : Shift → Type 0
+IsNearShift (Screen from to) = IsNear to
+IsNearShift (Surface from to) = IsNear to
