@@ -1,3 +1,4 @@
+pub mod AncestorLaws
 pub mod BorderLaws
 pub mod ChangeLaws
 pub mod ChildLaws

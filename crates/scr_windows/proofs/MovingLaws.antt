@@ -11,7 +11,7 @@ use Rattle.scr_windows.specs.declared.frames.Frame.{Frame}
 use Rattle.scr_windows.specs.declared.moving.Shift.{Shift}
 use Rattle.scr_windows.specs.declared.moving.Shift.TheVariants.{Screen, Surface}
 use Rattle.scr_windows.specs.DeskViews.{WindowView, DeskView, IsWindow, AreFrames, IsDesk, Placed, window_at, no_window, no_frame, size_of}
-use Rattle.scr_windows.specs.Moving.{IsNear, IsNearFrame, IsNearShift, IsShift, descends, family_frame, from_parent, family_shifted, link_of, with_family_shifted}
+use Rattle.scr_windows.specs.Moving.{IsNear, IsNearFrame, IsNearShift, IsShift, descends, family_frame, from_parent, family_shifted, link_of}
 use Rattle.scr_windows.proofs.DeskLaws.{Reads, reads_window, here_too, placed, length_map, frame_of}
 use Rattle.scr_windows.proofs.FrameLaws.{map_reframed, reframed, reframed_more, was_found}
 use Rattle.scr_windows.proofs.FamilyLaws.{frame_link, map_links}
@@ -46,7 +46,7 @@ window_turned w b shift h =
       touched = h.touched ∙ sym rows;
     }
 
-pub family_is_desk : (d : DeskView) (i : ℕ) (shift : Shift) → IsDesk d → i < length d.windows → IsShift d i shift → IsDesk (with_family_shifted d i shift)
+pub family_is_desk : (d : DeskView) (i : ℕ) (shift : Shift) → IsDesk d → i < length d.windows → IsShift d i shift → IsDesk (record d { windows = family_shifted (window_at d i).frame.number shift d.windows })
 family_is_desk d i shift h l s =
     let frames : List Frame = map frame_of d.windows in
     let many : length frames ≡ length d.windows = length_map frame_of d.windows in
@@ -76,7 +76,7 @@ family_moved d old is i shift w frame ws h l s reads frame_is ws_is =
     let I : DeskView → Type 0 = λ v. IsShift v i shift in
     let here : i < length d.windows = here_too d old i is l in
     let number : frame.number ≡ (window_at d i).frame.number = ap (λ (f : Frame). f.number) (frame_is ∙ ap frame_of (reads_window d i w reads here)) in
-    let whole : record d { windows = ws } ≡ with_family_shifted d i shift = (λ j. record d { windows = (ws_is ∙ ap (λ n. family_shifted n shift d.windows) number) j }) in
+    let whole : record d { windows = ws } ≡ record d { windows = family_shifted (window_at d i).frame.number shift d.windows } = (λ j. record d { windows = (ws_is ∙ ap (λ n. family_shifted n shift d.windows) number) j }) in
     let P : DeskView → Type 0 = λ v. IsDesk v in
     subst P (sym whole) (family_is_desk d i shift h here (subst I (sym is) s))
 

@@ -1,5 +1,6 @@
 -- What the calls that move windows do. X/Open Curses Issue 7, mvwin(), mvderwin().
 use Rattle.std.specs.Prelude.{ℕ, Bool, true, false, zero, suc, ◌≡◌, ◌<◌, ◌≤◌, List, length, map, Option, None, Some, Result, Ok, Err, slice_index_or, ◌+◌, ◌-◌, ◌==◌, ◌&&◌, ◌||◌, leb, MatchOption, if◌then◌else◌}
+use Rattle.std.specs.List.{list_any, range_with_len}
 use Rattle.scr_windows.specs.declared.areas.Area.{Area}
 use Rattle.scr_windows.specs.declared.frames.Frame.{Frame}
 use Rattle.scr_windows.specs.declared.moving.Shift.{Shift}
@@ -8,22 +9,7 @@ use Rattle.scr_windows.specs.declared.faults.WinFault.{WinFault}
 use Rattle.scr_windows.specs.declared.faults.WinFault.TheVariants.{IsPad, IsSub, OffScreen, NotInParent}
 use Rattle.scr_windows.specs.DeskViews.{WindowView, DeskView, window_at}
 use Rattle.scr_windows.specs.Calls.{place_of, on_window, with_window, marked}
-
--- the number of a window, and that of its parent
-abbrev pub link_of : WindowView → ℕ × Option ℕ
-link_of window = (window.frame.number, window.frame.parent)
-
-abbrev pub from_parent : (ℕ → Bool) → Option ℕ → Bool
-from_parent f None = false
-from_parent f (Some parent) = f parent
-
--- among the first so many windows, the window of a number is an ancestor or descends from it: it has the ancestor's number, or
--- its parent, which stands before it, is the ancestor or descends from it
-abbrev pub descends : List (ℕ × Option ℕ) → ℕ → ℕ → ℕ → Bool
-descends links ancestor zero number = false
-descends links ancestor (suc k) number =
-    if (slice_index_or links k (0, None)).0 == number then number == ancestor || from_parent (descends links ancestor k) (slice_index_or links k (0, None)).1
-    else descends links ancestor k number
+use Rattle.scr_windows.specs.Syncing.{ancestors}
 
 -- where a place comes to, when another comes to a third
 abbrev pub place_shifted : ℕ × ℕ → ℕ × ℕ → ℕ × ℕ → ℕ × ℕ
@@ -41,15 +27,16 @@ abbrev pub shifted : Shift → Frame → Frame
 shifted (Screen from to) frame = record frame { origin = origin_shifted from to frame.origin }
 shifted (Surface from to) frame = record frame { area = area_shifted from to frame.area }
 
+-- the window at a place is the one at another, or descends from it
+abbrev pub is_family : DeskView → ℕ → ℕ → Bool
+is_family desk i k = k == i || list_any (λ above. above == i) (ancestors desk k)
+
 -- a window and its descendants move, and no other window does
-abbrev pub family_frame : List (ℕ × Option ℕ) → ℕ → ℕ → Shift → Frame → Frame
-family_frame links count ancestor shift frame = if descends links ancestor count frame.number then shifted shift frame else frame
-
-abbrev pub family_shifted : ℕ → Shift → List WindowView → List WindowView
-family_shifted ancestor shift windows = map (λ (w : WindowView). record w { frame = family_frame (map link_of windows) (length windows) ancestor shift w.frame }) windows
-
 abbrev pub with_family_shifted : DeskView → ℕ → Shift → DeskView
-with_family_shifted desk i shift = record desk { windows = family_shifted (window_at desk i).frame.number shift desk.windows }
+with_family_shifted desk i shift =
+    record desk {
+      windows = map (λ k. if is_family desk i k then record (window_at desk k) { frame = shifted shift (window_at desk k).frame } else window_at desk k) (range_with_len 0 (length desk.windows));
+    }
 
 -- and the lines of the window itself are touched
 abbrev pub moved : DeskView → ℕ → Shift → DeskView
@@ -104,3 +91,28 @@ IsNearFrame frame = IsNear (frame.area.top, frame.area.left) × MatchOption fram
 abbrev pub IsNearShift : Shift → Type 0
 IsNearShift (Screen from to) = IsNear to
 IsNearShift (Surface from to) = IsNear to
+
+-- The rest are words of private functions, which look for a window's ancestors by their numbers.
+
+-- the number of a window, and that of its parent
+abbrev pub link_of : WindowView → ℕ × Option ℕ
+link_of window = (window.frame.number, window.frame.parent)
+
+abbrev pub from_parent : (ℕ → Bool) → Option ℕ → Bool
+from_parent f None = false
+from_parent f (Some parent) = f parent
+
+-- among the first so many windows, the window of a number is an ancestor or descends from it: it has the ancestor's number, or
+-- its parent, which stands before it, is the ancestor or descends from it
+abbrev pub descends : List (ℕ × Option ℕ) → ℕ → ℕ → ℕ → Bool
+descends links ancestor zero number = false
+descends links ancestor (suc k) number =
+    if (slice_index_or links k (0, None)).0 == number then number == ancestor || from_parent (descends links ancestor k) (slice_index_or links k (0, None)).1
+    else descends links ancestor k number
+
+-- the frame of a window that moves if it descends from an ancestor
+abbrev pub family_frame : List (ℕ × Option ℕ) → ℕ → ℕ → Shift → Frame → Frame
+family_frame links count ancestor shift frame = if descends links ancestor count frame.number then shifted shift frame else frame
+
+abbrev pub family_shifted : ℕ → Shift → List WindowView → List WindowView
+family_shifted ancestor shift windows = map (λ (w : WindowView). record w { frame = family_frame (map link_of windows) (length windows) ancestor shift w.frame }) windows
