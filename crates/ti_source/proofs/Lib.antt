@@ -1,3 +1,4 @@
+pub mod AloneLaws
 pub mod BytesLaws
 pub mod EscapeLaws
 pub mod EscapesBackLaws

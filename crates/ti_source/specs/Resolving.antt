@@ -1,5 +1,5 @@
 -- The entry of a name with its uses taken in (terminfo(5), "Similar Terminals").
-use Rattle.std.specs.Prelude.{◌≡◌, ℕ, Bool, true, false, List, [], ◌∷◌, Option, Some, None, map, ◌==◌, if◌then◌else◌}
+use Rattle.std.specs.Prelude.{◌≡◌, ℕ, Bool, true, false, List, [], ◌∷◌, Option, Some, None, map, slice_get, ◌==◌, if◌then◌else◌}
 use Rattle.std.specs.List.{list_any, range_with_len}
 use Rattle.ti_caps.specs.declared.table.Kind.{Kind}
 use Rattle.ti_caps.specs.declared.table.Kind.TheVariants.{Flag, Number, Text}
@@ -87,6 +87,10 @@ Resolved entries name d = Resolve entries (name ∷ []) (d ∷ [])
 
 abbrev pub Unresolved : List Described → List ℕ → SourceFault → Type 0
 Unresolved entries name fault = Fault entries [] (name ∷ []) fault
+
+-- the entry of a place that uses no other
+abbrev pub StandsAlone : List Described → Option ℕ → Described → Type 0
+StandsAlone entries place d = (i : ℕ) × (place ≡ Some i) × (slice_get entries i ≡ Some d) × (d.uses ≡ [])
 
 -- names resolve to one list of entries, have one fault, and not both
 abbrev pub ResolveOnce : Type 0

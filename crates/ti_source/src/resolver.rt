@@ -1,16 +1,32 @@
 //! Entries with their uses taken in.
 
-ghost use Rattle.std.specs.Prelude.{List, [], ◌∷◌, map, IfErr, IfOk};
+ghost use Rattle.std.specs.Prelude.{List, [], ◌∷◌, map, IfErr, IfOk, IfSome};
 ghost use Rattle.ti_caps.specs.Description.{Description};
 ghost use Rattle.ti_caps.specs.Names.{first_name};
-ghost use Rattle.ti_source.specs.Resolving.{Fault, FaultOnce, Resolve, ResolveOnce, ResolveOrFault, Resolved, Unresolved};
+ghost use Rattle.ti_source.specs.Resolving.{Fault, FaultOnce, Resolve, ResolveOnce, ResolveOrFault, Resolved, StandsAlone, Unresolved};
 ghost use Rattle.ti_source.specs.Result.{Stops};
 
+use crate::entries::Entries;
 use crate::fault::SourceFault;
+use crate::merge::merge;
 use crate::source::Source;
+use crate::statement::SourceEntry;
 use crate::walk::Walk;
 use std::alloc::Global;
 use ti_caps::{Entry, first_name};
+
+/// The entry of a place, where it uses no other.
+fn without_uses(entries: &Entries, place: Option<usize>) -> Option<&SourceEntry>
+    ensures { IfSome result (λ e. StandsAlone entries.now place e.now) }
+{
+    let i = place?;
+    let entry = entries.as_slice().get(i)?;
+    if entry.uses().is_empty() {
+        Some(entry)
+    } else {
+        None
+    }
+}
 
 /// The entry of a name with its uses taken in (terminfo(5), "Similar Terminals"): for each
 /// capability its own field, present or cancelled, else the first `use=` whose resolved entry has
@@ -24,6 +40,9 @@ pub fn resolve(alloc: Global, source: &Source, name: &[u8]) -> Result<Entry, Sou
 {
     let entries = source.entries();
     let place = entries.place_of(name);
+    if let Some(entry) = without_uses(entries, place) {
+        return merge(alloc, entry, &[]);
+    }
     let walk = Walk::new(alloc, entries, true)?.reach(alloc, entries, place)?;
     Ok(walk.into_entry(entries, place))
 }

@@ -1,0 +1,28 @@
+-- An entry that uses no other.
+use Rattle.std.proofs.Common.{◌≡◌, ◌∙◌, ℕ, zero, suc, Bool, true, false, eqb, nat_lt, List, [], ◌∷◌, length, map, Option, Some, Result, Ok, Err, IfOk, slice_get, slice_index_or, refl, sym, ap, arith}
+use Rattle.std.proofs.lemmas.Bool.{eqb-true, ltb-true}
+use Rattle.std.proofs.lemmas.Option.{slice_get-get_or}
+use Rattle.ti_caps.specs.Description.{Description}
+use Rattle.ti_source.specs.Described.{Described}
+use Rattle.ti_source.specs.Named.{found_from, place_of}
+use Rattle.ti_source.specs.Resolving.{merged, nothing, Resolve, Resolved, StandsAlone}
+use Rattle.ti_source.proofs.WalkLaws.{resolved-at}
+
+pub is-empty : {A : Type 0} → (xs : List A) → true ≡ eqb (length xs) 0 → xs ≡ []
+is-empty [] e = refl
+is-empty (x ∷ xs) e =
+    let none : length (x ∷ xs) ≡ 0 = eqb-true (length (x ∷ xs)) 0 (sym e) in
+    absurd (omega arith)
+
+pub found-in : (entries held : List Described) (i : ℕ) (d e : Described) → held ≡ entries → nat_lt i (length held) ≡ true → d ≡ slice_index_or held i e → slice_get entries i ≡ Some d
+found-in entries held i d e same less is =
+    ap (λ es. slice_get es i) (sym same) ∙ slice_get-get_or held i e (ltb-true i (length held) less) ∙ ap Some (sym is)
+
+pub alone-resolves : (entries : List Described) (name : List ℕ) (place : Option ℕ) (d : Described) (used : List Description) → place ≡ place_of entries name → StandsAlone entries place d → used ≡ [] → Resolved entries name (merged d used)
+alone-resolves entries name place d used is (i, at, found, none) empty =
+    let uses : Resolve entries d.uses used = rw (none, empty) nothing in
+    resolved-at entries i d used found uses name (sym is ∙ at)
+
+pub ok-more : {A E : Type 0} → (r : Result A E) (P Q : A → Type 0) → IfOk r P → ((x : A) → P x → Q x) → IfOk r Q
+ok-more (Ok x) P Q h more = more x h
+ok-more (Err e) P Q h more = h
