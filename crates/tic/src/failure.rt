@@ -9,8 +9,8 @@ use thiserror::Error;
 pub(crate) enum Failure<'a> {
     #[error("{0}")]
     Words(clap::Error),
-    #[error("the words are not all text")]
-    NotText,
+    #[error("wrong words")]
+    WrongWords,
     #[error("tic: cannot read {0}")]
     Read(&'a str),
     #[error("tic: cannot write -")]
@@ -27,7 +27,7 @@ impl Failure<'_> {
     /// 2 for wrong words, else 1.
     pub(crate) fn status(&self) -> u8 {
         match self {
-            Failure::Words(_) | Failure::NotText => 2,
+            Failure::Words(_) | Failure::WrongWords => 2,
             _ => 1,
         }
     }

@@ -50,7 +50,7 @@ fn words_given<'a>(rt: &HostRuntime) -> Result<Vec<String>, Failure<'a>> {
     match env::args(rt) {
         Ok(words) => Ok(words.collect(rt.alloc())?),
         Err(error) if error.kind() == io::ErrorKind::OutOfMemory => Err(Failure::NoMemory),
-        Err(_) => Err(Failure::NotText),
+        Err(_) => Err(Failure::WrongWords),
     }
 }
 
@@ -59,7 +59,7 @@ fn perform(rt: &HostRuntime, words: &[String]) -> u8 {
     let ended = match words::matches(rt.alloc(), words) {
         Ok(matches) => match words::task_of(&matches) {
             Some(task) => run(rt, task),
-            None => Err(Failure::NotText),
+            None => Err(Failure::WrongWords),
         },
         Err(error) if error.kind() == ErrorKind::OutOfMemory => Err(Failure::NoMemory),
         Err(error) => Err(Failure::Words(error)),
