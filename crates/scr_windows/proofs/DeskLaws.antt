@@ -125,6 +125,16 @@ state_set d old is i w new state h l e fits n =
     let changed : IsWindow (record (window_at d i) { state = state }) = record { state = subst P (sym is) fits; touched = (placed d i h here).window.touched } in
     with_window_is_desk d i new h here same (subst Q (sym (n ∙ (λ j. record (at j) { state = state }))) changed)
 
+pub cursor_set : (d old : DeskView) (is : d ≡ old) (i : ℕ) (w new : WindowView) (row column : ℕ) → IsDesk d → i < length old.windows → Reads d.windows i w → row < (window_at old i).frame.area.rows → column < (window_at old i).frame.area.columns
+    → new ≡ record w { state = record w.state { cursor = (row, column) } } → IsDesk (with_window d i new)
+cursor_set d old is i w new row column h l e below right n =
+    let here : i < length d.windows = here_too d old i is l in
+    let at : w ≡ window_at d i = reads_window d i w e here in
+    let P : WindowView → Type 0 = λ v. IsState (window_at d i).frame v.state in
+    let Q : DeskView → Type 0 = λ v. IsState (window_at v i).frame w.state in
+    let was : IsState (window_at old i).frame w.state = subst Q is (subst P (sym at) (placed d i h here).window.state) in
+    state_set d old is i w new (record w.state { cursor = (row, column) }) h l e (record { cursor_row = below; cursor_column = right; region_order = was.region_order; region_end = was.region_end }) n
+
 pub lines_marked : (d old : DeskView) (is : d ≡ old) (i : ℕ) (w new : WindowView) (first end : ℕ) (mark : Bool) → IsDesk d → i < length old.windows → Reads d.windows i w
     → new ≡ marked first end mark w → IsDesk (with_window d i new)
 lines_marked d old is i w new first end mark h l e n =

@@ -1,9 +1,10 @@
 -- Cells one after another, seen as lines.
-use Rattle.std.proofs.Common.{◌≡◌, ℕ, ◌+◌, ◌-◌, ◌*◌, ◌<◌, ◌≤◌, sym, ◌∙◌, ap, refl, arith, List, [], ◌∷◌, zero, suc, length, map, take, drop, get_or, Bool, cond, ltb, leb, ◌&&◌, true, false}
+use Rattle.std.proofs.Common.{◌≡◌, ℕ, ◌+◌, ◌-◌, ◌*◌, ◌<◌, ◌≤◌, sym, ◌∙◌, ap, refl, arith, List, [], ◌∷◌, zero, suc, length, map, set, take, drop, get_or, Bool, cond, ltb, leb, ◌&&◌, true, false}
 use Rattle.std.specs.List.{range_with_len}
 use Rattle.std.proofs.lemmas.Nat.{mul-le}
 use Rattle.std.proofs.Math.Seq.{drop-cons}
-use Rattle.std.proofs.lemmas.List.{get_or-drop, get_or-take, take_all}
+use Rattle.std.proofs.lemmas.Grind.{get_or-set_at}
+use Rattle.std.proofs.lemmas.List.{get_or-drop, get_or-set_other, get_or-take, length-set, take_all}
 use Rattle.std.proofs.lemmas.List.FromFn.{get_or-map-range_with_len}
 use Rattle.std.proofs.lemmas.Bool.Decides.{nat_tests}
 use Rattle.scr_cells.specs.CellViews.{CellView, blank_cell}
@@ -130,3 +131,12 @@ marks_are first end mark old new len put before after =
     mark_at : (first end : ℕ) (mark : Bool) (old new : List Bool) (k : ℕ) → (first ≤ k → k < end → get_or new k false ≡ mark) → (k < first → get_or new k false ≡ get_or old k false) → (end ≤ k → get_or new k false ≡ get_or old k false)
         → get_or new k false ≡ cond (leb first k && ltb k end) mark (get_or old k false)
     mark_at first end mark old new k put before after = grind (arith, nat_tests)
+
+-- one line's mark, where the line is there, and where it is not
+pub mark_put : (line : ℕ) (mark : Bool) (marks : List Bool) → line < length marks → set marks line mark ≡ marked_lines line (line + 1) mark marks
+mark_put line mark marks l =
+    marks_are line (line + 1) mark marks (set marks line mark) (length-set marks line mark)
+    (λ k b h e. get_or-set_at marks line k mark false (omega arith) l) (λ k b. get_or-set_other marks line k mark false (λ p. absurd (omega arith))) (λ k b h. get_or-set_other marks line k mark false (λ p. absurd (omega arith)))
+
+pub no_mark_put : (line : ℕ) (mark : Bool) (marks : List Bool) → length marks ≤ line → marks ≡ marked_lines line (line + 1) mark marks
+no_mark_put line mark marks l = marks_are line (line + 1) mark marks marks refl (λ k b h e. absurd (omega arith)) (λ k b. refl) (λ k b h. refl)

@@ -184,9 +184,7 @@ impl Desk {
         ensures added { (self.new, result) ≡ gone_to self.old place (row, column) }
         ensures there { place < length self.new.windows }
     {
-        let mut state = self.pen_at(place).state;
-        state.cursor = (row, column);
-        self.set_state(place, state);
+        self.set_cursor(place, row, column);
         Added::Done
     }
 

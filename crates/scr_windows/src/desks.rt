@@ -89,6 +89,16 @@ impl Desk {
         self.windows[place].set_state(state);
     }
 
+    // Puts the cursor of the window at a place to a row and a column inside.
+    pub(crate) fn set_cursor(&mut self, place: usize, row: u32, column: u32)
+        requires here { place < length self.old.windows }
+        requires row { row < (window_at self.old place).frame.area.rows }
+        requires column { column < (window_at self.old place).frame.area.columns }
+        ensures { self.new ≡ with_window self.old place (record (window_at self.old place) { state = record (window_at self.old place).state { cursor = (row, column) } }) }
+    {
+        self.windows[place].set_cursor(row, column);
+    }
+
     // Marks lines of the window at a place.
     pub(crate) fn mark(&mut self, place: usize, first: u32, end: u32, mark: bool)
         requires here { place < length self.old.windows }

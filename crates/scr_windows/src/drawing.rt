@@ -19,7 +19,7 @@ impl Desk {
     {
         let window = &mut self.windows[place];
         let frame = window.frame();
-        window.mark(row, row + 1, true);
+        window.touch_line(row);
         self.surfaces[frame.surface].fill_run(frame.area, row, from, end, cell);
     }
 
@@ -60,7 +60,7 @@ impl Desk {
     {
         let window = &mut self.windows[place];
         let frame = window.frame();
-        window.mark(row, row + 1, true);
+        window.touch_line(row);
         self.surfaces[frame.surface].open_row(frame.area, row, column, cell);
     }
 
@@ -73,7 +73,7 @@ impl Desk {
     {
         let window = &mut self.windows[place];
         let frame = window.frame();
-        window.mark(row, row + 1, true);
+        window.touch_line(row);
         self.surfaces[frame.surface].close_row(frame.area, row, column, cell);
     }
 

@@ -1,4 +1,4 @@
-ghost use Rattle.std.specs.Prelude.{◌≡◌, ◌<◌, ◌==◌, false, length, slice_index_or, MatchResult, ◌≤◌};
+ghost use Rattle.std.specs.Prelude.{◌≡◌, ◌+◌, ◌<◌, ◌==◌, true, false, length, slice_index_or, MatchResult, ◌≤◌};
 ghost use Rattle.std.specs.List.{list_any, position};
 ghost use Rattle.scr_windows.specs.DeskViews.{WindowView, fresh_window};
 ghost use Rattle.scr_windows.specs.declared.faults.WinFault.TheVariants.{NoMemory};
@@ -99,6 +99,20 @@ impl Window {
         is_any(&self.touched)
     }
 
+    /// Puts the cursor to a row and a column.
+    pub fn set_cursor(&mut self, row: u32, column: u32)
+        ensures { self.new ≡ record self.old { state = record self.old.state { cursor = (row, column) } } }
+    {
+        self.state.cursor = (row, column);
+    }
+
+    /// Touches a line, if it is there.
+    pub fn touch_line(&mut self, row: u32)
+        ensures { self.new ≡ marked row (row + 1) true self.old }
+    {
+        touch_one(&mut self.touched, row as usize);
+    }
+
     /// Marks the lines from one up to another as touched, or as not touched.
     pub fn mark(&mut self, first: u32, end: u32, mark: bool)
         ensures { self.new ≡ marked first end mark self.old }
@@ -121,6 +135,15 @@ fn is_any(marks: &[bool]) -> bool
     ensures { result ≡ list_any (λ mark. mark) marks.now }
 {
     marks.iter().any(|mark| *mark)
+}
+
+// Marks one line, if it is there.
+fn touch_one(touched: &mut [bool], line: usize)
+    ensures { touched.new ≡ marked_lines line (line + 1) true touched.old }
+{
+    if line < touched.len() {
+        touched[line] = true;
+    }
 }
 
 // Marks the lines from one up to another in a way.

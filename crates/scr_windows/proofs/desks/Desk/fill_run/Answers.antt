@@ -17,4 +17,4 @@ fill_run-requires-clause-surface c = draws_whole _ _ c.args.place _ _ _ (record 
 pub invariant_of-self : goal.invariant_of-self
 invariant_of-self c =
     drawn _ _ c.args.place _ _ _ _ _ c.args.row _ (run_put c.args.row c.args.from c.args.end c.args.cell) (record { is = c.self.view_is; desk = c.self.invariant; here = c.requires.here; window = c.index_mut-window.ensures.value; frame_is = c.frame-frame.ensures })
-    c.index_mut.ensures.value c.mark.ensures c.fill_run.ensures
+    c.index_mut.ensures.value c.touch_line.ensures c.fill_run.ensures

@@ -17,4 +17,4 @@ open_row-requires-clause-surface c = draws_whole _ _ c.args.place _ _ _ (record 
 pub invariant_of-self : goal.invariant_of-self
 invariant_of-self c =
     drawn _ _ c.args.place _ _ _ _ _ c.args.row _ (row_opened c.args.row c.args.column c.args.cell) (record { is = c.self.view_is; desk = c.self.invariant; here = c.requires.here; window = c.index_mut-window.ensures.value; frame_is = c.frame-frame.ensures })
-    c.index_mut.ensures.value c.mark.ensures c.open_row.ensures
+    c.index_mut.ensures.value c.touch_line.ensures c.open_row.ensures
