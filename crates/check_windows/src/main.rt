@@ -8,6 +8,7 @@ mod copying;
 mod erasing;
 mod formulas;
 mod making;
+mod moving;
 mod plain;
 mod random;
 mod settings;

@@ -149,8 +149,8 @@ impl Plain {
     }
 }
 
-// How many rows and columns a part has, where it is one and wholly inside.
-fn part(
+/// How many rows and columns a part has, where it is one and wholly inside.
+pub fn part(
     all_rows: u32,
     all_columns: u32,
     rows: u32,

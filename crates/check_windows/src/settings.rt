@@ -27,6 +27,16 @@ impl Plain {
         Ok(())
     }
 
+    pub fn clear_ok(&mut self, win: Win, on: bool) -> Result<(), WinFault> {
+        self.window_mut(win)?.clear_ok = on;
+        Ok(())
+    }
+
+    pub fn leave_ok(&mut self, win: Win, on: bool) -> Result<(), WinFault> {
+        self.window_mut(win)?.leave_ok = on;
+        Ok(())
+    }
+
     pub fn attr_on(&mut self, win: Win, attrs: Attrs) -> Result<(), WinFault> {
         let window = self.window_mut(win)?;
         window.attrs = Attrs(window.attrs.0 | attrs.0);

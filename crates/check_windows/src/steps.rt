@@ -24,13 +24,14 @@ fn same<T: PartialEq + Drop>(one: T, other: T) -> Result<()> {
 impl Both {
     /// Makes one call on both desks.
     pub fn step(&mut self, alloc: Global, random: &mut Random) -> Result<()> {
-        match random.below(24) {
-            0 => self.make(alloc, random),
-            1..6 => self.add(alloc, random),
+        match random.below(27) {
+            0..2 => self.make(alloc, random),
+            2..6 => self.add(alloc, random),
             6..8 => self.erase(alloc, random),
             8..12 => self.move_rows(alloc, random),
             12..16 => self.copy(alloc, random),
-            16..20 => self.touch(random),
+            16..19 => self.touch(random),
+            19..23 => self.move_windows(alloc, random),
             _ => self.set(alloc, random),
         }
     }
@@ -45,28 +46,41 @@ impl Both {
         }
     }
 
+    // The window without a parent that a window descends from.
+    fn root(&self, win: Win) -> Win {
+        let mut root = win;
+        for _ in 0..self.plain.windows.len() {
+            if let Ok(window) = self.plain.window(root)
+                && let Some(parent) = window.parent
+            {
+                root = Win(parent);
+            }
+        }
+        root
+    }
+
     fn make(&mut self, alloc: Global, random: &mut Random) -> Result<()> {
         let win = self.win(random);
         let (r, c) = (random.short(), random.short());
         let (y, x) = (random.short(), random.short());
-        match random.below(24) {
-            0..3 => same(
+        match random.below(26) {
+            0..5 => same(
                 self.desk.new_window(alloc, r, c, y, x),
                 self.plain.new_window(alloc, r, c, y, x),
             ),
-            3 => same(
+            5..8 => same(
                 self.desk.new_pad(alloc, r, c),
                 self.plain.new_pad(alloc, r, c),
             ),
-            4..16 => same(
+            8..17 => same(
                 self.desk.derive(alloc, win, r, c, y, x),
                 self.plain.derive(alloc, win, r, c, y, x),
             ),
-            16..20 => same(
+            17..20 => same(
                 self.desk.sub(alloc, win, r, c, y, x),
                 self.plain.sub(alloc, win, r, c, y, x),
             ),
-            20..22 => same(
+            20..24 => same(
                 self.desk.sub_pad(alloc, win, r, c, y, x),
                 self.plain.sub_pad(alloc, win, r, c, y, x),
             ),
@@ -163,17 +177,39 @@ impl Both {
         }
     }
 
+    fn move_windows(&mut self, alloc: Global, random: &mut Random) -> Result<()> {
+        let win = self.win(random);
+        let (y, x) = (random.short(), random.short());
+        match random.below(5) {
+            0 => same(
+                self.desk.move_window(win, y, x),
+                self.plain.move_window(alloc, win, y, x),
+            ),
+            1 => {
+                let root = self.root(win);
+                same(
+                    self.desk.move_window(root, y, x),
+                    self.plain.move_window(alloc, root, y, x),
+                )
+            }
+            _ => same(
+                self.desk.move_derived(win, y, x),
+                self.plain.move_derived(alloc, win, y, x),
+            ),
+        }
+    }
+
     fn copy(&mut self, alloc: Global, random: &mut Random) -> Result<()> {
         let source = self.win(random);
         let target = self.win(random);
         let over = random.below(2) == 0;
         let c = Corners {
-            row: random.size(),
-            column: random.size(),
-            top: random.size(),
-            left: random.size(),
-            bottom: random.size(),
-            right: random.size(),
+            row: random.short(),
+            column: random.short(),
+            top: random.short(),
+            left: random.short(),
+            bottom: random.short(),
+            right: random.short(),
         };
         match random.below(5) {
             0 => same(
@@ -215,7 +251,7 @@ impl Both {
         let attrs = Attrs(random.attributes());
         let byte = if on { 32 } else { b'.' };
         let cell = Cell::new(byte, attrs).unwrap_or(Cell::blank());
-        match random.below(8) {
+        match random.below(10) {
             0 => same(
                 self.desk.attr_on(win, attrs),
                 self.plain.attr_on(win, attrs),
@@ -236,6 +272,8 @@ impl Both {
                 self.desk.change_background(win, cell),
                 self.plain.change_background(alloc, win, cell),
             ),
+            5 => same(self.desk.clear_ok(win, on), self.plain.clear_ok(win, on)),
+            6 => same(self.desk.leave_ok(win, on), self.plain.leave_ok(win, on)),
             _ => same(self.desk.scroll_ok(win, on), self.plain.scroll_ok(win, on)),
         }
     }
