@@ -12,13 +12,13 @@ use std::marker::Model;
 /// and Terminals').
 #[derive(Drop)]
 pub struct Desk {
-    pub rows: u32,
-    pub columns: u32,
-    pub surfaces: Vec<Surface>,
+    pub(crate) rows: u32,
+    pub(crate) columns: u32,
+    pub(crate) surfaces: Vec<Surface>,
     // By ascending numbers.
-    pub windows: Vec<Window>,
+    pub(crate) windows: Vec<Window>,
     // How many windows were made after the first.
-    pub made: u32,
+    pub(crate) made: u32,
 }
 
 impl Model for Desk {
