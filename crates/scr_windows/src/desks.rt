@@ -10,6 +10,10 @@ use std::marker::Model;
 
 /// The windows of a screen and the surfaces that they are on (X/Open Curses Issue 7, 'Screens, Windows
 /// and Terminals').
+///
+/// In every call rows and columns are counted from 0, from the window's first place unless the call says
+/// otherwise, and the corners of a rectangle are both inside it. A refused call changes nothing; where
+/// several refusals hold, the first that the call names is given.
 #[derive(Drop)]
 pub struct Desk {
     pub(crate) rows: u32,

@@ -4,6 +4,8 @@
 mod adding;
 mod areas;
 #[cfg(test)]
+mod background_tests;
+#[cfg(test)]
 mod border_tests;
 mod borders;
 mod changes;
@@ -15,6 +17,8 @@ mod drawing;
 mod erasing;
 mod faults;
 mod frames;
+#[cfg(test)]
+mod limits_tests;
 mod making;
 #[cfg(test)]
 mod making_tests;

@@ -55,7 +55,7 @@ impl Desk {
 
     /// Whether a line of a window is touched.
     ///
-    /// Refused: NoWindow; OutOfWindow. X/Open Curses Issue 7, is_linetouched().
+    /// Refused: NoWindow; OutOfWindow where the window has no such row. X/Open Curses Issue 7, is_linetouched().
     pub fn line_touched(&self, win: Win, row: u32) -> Result<bool, WinFault>
         ensures { result ≡ line_touched_answer self.now win.0 row }
     {
@@ -76,9 +76,9 @@ impl Desk {
         Ok(self.window(place).is_any_touched())
     }
 
-    /// The cells of a row of a window, lent.
+    /// The cells of a row of a window from the left, lent. Curses has no such call.
     ///
-    /// Refused: NoWindow; OutOfWindow.
+    /// Refused: NoWindow; OutOfWindow where the window has no such row.
     pub fn line(&self, win: Win, row: u32) -> Result<&[Cell], WinFault>
         ensures { MatchResult result (λ cells. row_answer self.now win.0 row ≡ Ok cells.now) (λ fault. row_answer self.now win.0 row ≡ Err fault) }
     {
