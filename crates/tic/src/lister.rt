@@ -29,10 +29,9 @@ pub struct Listing {
 /// are left out, and how many bytes follow its string table (term(5), 'Legacy Storage Format'). The text
 /// is a source of one entry, which resolves to the file's without its unnamed capabilities.
 ///
-/// `Decode` with the first reason for which the bytes are no file; `NoMemory` comes last.
+/// `Decode` with the first reason for which the bytes are no file; `NoMemory` where memory runs out.
 pub fn list(alloc: Global, bytes: &[u8]) -> Result<Listing, TicFault>
-    ensures ok { IfOk result (λ l. (d : Description) × Reads bytes.now d l.skipped × (l.text ≡ printed d) × (l.unnamed ≡ unnamed_count d)) }
-    ensures reads { IfOk result (λ l. (d : Description) × (l.text ≡ printed d) × ReadsBack d) }
+    ensures ok { IfOk result (λ l. (d : Description) × Reads bytes.now d l.skipped × (l.text ≡ printed d) × (l.unnamed ≡ unnamed_count d) × ReadsBack d) }
     ensures err { IfErr result (λ f. (f ≡ TicFault.NoMemory) ⊎ ((b : BinFault) × (refusal bytes.now ≡ Some b) × (f ≡ TicFault.Decode b))) }
     ensures good { refusal bytes.now ≡ None → IsOkUnless result TicFault.NoMemory }
     ensures plain { IfErr result IsPlain }
