@@ -70,7 +70,7 @@ fn any_unended(table: &[u8], offsets: &[u8], count: u16) -> bool
 /// The entry of a compiled file, and how many bytes follow its string table (term(5), 'Legacy Storage
 /// Format'). Positions without a name are kept.
 ///
-/// Refused with the first fault of `BinFault` in its order; `NoMemory` comes last.
+/// Refused with the first fault of `BinFault` in its order; `NoMemory` where memory runs out.
 pub fn decode(alloc: Global, bytes: &[u8]) -> Result<(Entry, usize), BinFault>
     ensures refused { IfErr result (λ fault. (fault ≡ BinFault.NoMemory) ⊎ (refusal bytes.now ≡ Some fault)) }
     ensures good { refusal bytes.now ≡ None → IsOkUnless result BinFault.NoMemory }
