@@ -39,8 +39,7 @@ impl Plain {
         }
         let parent = self.window(Win(window.parent.ok_or(WinFault::NotInParent)?))?;
         let (rows, columns) = (window.rows, window.columns);
-        part(parent.rows, parent.columns, rows, columns, row, column)
-            .ok_or(WinFault::NotInParent)?;
+        part(parent.rows, parent.columns, rows, columns, row, column).ok_or(WinFault::NotInParent)?;
         let old = (window.top, window.left);
         let new = (
             parent.top.saturating_add(row),
