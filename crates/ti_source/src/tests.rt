@@ -252,3 +252,11 @@ fn capabilities_without_a_name_are_counted(rt: HostRuntime) -> Result<(), Fail> 
     prints(&rt, &entry, "t,\n\tcr=\\s\\E^?\\\\\\^\\,\\377^A,\n", 2);
     Ok(())
 }
+
+#[test]
+fn all_entries_are_resolved(rt: HostRuntime) {
+    let good = read(rt.alloc(), b"a,\n\tuse=b,\nb,\n\tam,\n").expect(&rt, "a good source");
+    assert_eq!(rt; resolve_all(rt.alloc(), &good), Ok(()));
+    let ring = read(rt.alloc(), b"a,\n\tam,\nb,\n\tuse=b,\n").expect(&rt, "a good source");
+    assert_eq!(rt; resolve_all(rt.alloc(), &ring), Err(SourceFault::UseCycle));
+}
