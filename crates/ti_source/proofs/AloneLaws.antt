@@ -1,12 +1,17 @@
--- An entry that uses no other.
-use Rattle.std.proofs.Common.{◌≡◌, ◌∙◌, ℕ, zero, suc, Bool, true, false, eqb, nat_lt, List, [], ◌∷◌, length, map, Option, Some, Result, Ok, Err, IfOk, slice_get, slice_index_or, refl, sym, ap, arith}
+-- An entry that uses no other, and a name that has none.
+use Rattle.std.specs.Prelude.{is_none}
+use Rattle.std.proofs.Common.{None, ◌≡◌, ◌∙◌, ℕ, true, eqb, nat_lt, List, [], ◌∷◌, length, Option, Some, Result, Ok, Err, IfOk, slice_get, slice_index_or, refl, sym, ap, arith}
 use Rattle.std.proofs.lemmas.Bool.{eqb-true, ltb-true}
 use Rattle.std.proofs.lemmas.Option.{slice_get-get_or}
 use Rattle.ti_caps.specs.Description.{Description}
+use Rattle.ti_source.specs.declared.fault.SourceFault.TheVariants.{UnknownName}
+use Rattle.ti_source.specs.declared.statement.Statement.{Statement}
 use Rattle.ti_source.specs.Described.{Described}
-use Rattle.ti_source.specs.Named.{found_from, place_of}
-use Rattle.ti_source.specs.Resolving.{merged, nothing, Resolve, Resolved, StandsAlone}
-use Rattle.ti_source.proofs.WalkLaws.{resolved-at}
+use Rattle.ti_source.specs.Named.{place_of}
+use Rattle.ti_source.specs.Resolving.{merged, nothing, unknown, Resolve, Resolved, StandsAlone, Unresolved}
+use Rattle.ti_source.specs.Walk.{of_fields}
+use Rattle.ti_source.proofs.NamedLaws.{found-none}
+use Rattle.ti_source.proofs.TaskLaws.{resolved-at}
 
 pub is-empty : {A : Type 0} → (xs : List A) → true ≡ eqb (length xs) 0 → xs ≡ []
 is-empty [] e = refl
@@ -26,3 +31,13 @@ alone-resolves entries name place d used is (i, at, found, none) empty =
 pub ok-more : {A E : Type 0} → (r : Result A E) (P Q : A → Type 0) → IfOk r P → ((x : A) → P x → Q x) → IfOk r Q
 ok-more (Ok x) P Q h more = more x h
 ok-more (Err e) P Q h more = h
+
+-- it is what its own fields give
+pub alone-merged : (d : Described) (names : List ℕ) (fields : List Statement) → names ≡ d.names → fields ≡ d.statements → merged (of_fields names fields) [] ≡ merged d []
+unfolding merged
+alone-merged d names fields named own = ap (λ ns. merged (of_fields ns fields) []) named ∙ ap (λ fs. merged (of_fields d.names fs) []) own
+
+-- a name that no entry has
+pub no-name : (entries : List Described) (name : List ℕ) (place : Option ℕ) → place ≡ place_of entries name → is_none place ≡ true → Unresolved entries name UnknownName
+no-name entries name None is none = unknown (found-none name entries is)
+no-name entries name (Some i) is none = cc

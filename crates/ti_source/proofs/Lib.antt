@@ -1,10 +1,13 @@
 pub mod AloneLaws
 pub mod BytesLaws
+pub mod InForceLaws
 pub mod EscapeLaws
 pub mod EscapesBackLaws
 pub mod FieldLaws
 pub mod FieldsBackLaws
 pub mod FormsBackLaws
+pub mod GatherLaws
+pub mod StandsForLaws
 pub mod GoodLaws
 pub mod LinesBackLaws
 pub mod MeaningLaws
@@ -13,6 +16,7 @@ pub mod NamedLaws
 pub mod NumberLaws
 pub mod NumbersBackLaws
 pub mod OnceLaws
+pub mod PlaceLaws
 pub mod PrintLaws
 pub mod PrintedBackLaws
 pub mod ReadingLaws
@@ -21,4 +25,5 @@ pub mod SpokenLaws
 pub mod StatementsBackLaws
 pub mod StepLaws
 pub mod TableBytesLaws
+pub mod TaskLaws
 pub mod WalkLaws

@@ -7,10 +7,10 @@ use Rattle.ti_caps.specs.declared.table.Kind.TheVariants.{Flag, Number, Text}
 use Rattle.ti_caps.specs.Table.{name_at, or_else, same_kind}
 use Rattle.ti_caps.specs.Description.{Description}
 use Rattle.ti_source.specs.declared.statement.Said.{Said}
-use Rattle.ti_source.specs.declared.statement.Said.TheVariants as said
 use Rattle.ti_source.specs.declared.statement.Statement.{Statement}
 use Rattle.ti_source.specs.Print.{if_named, named_only}
 use Rattle.ti_source.specs.Reading.{speaks_of}
+use Rattle.ti_source.specs.Spoken.{flag_said, number_said, text_said}
 use Rattle.ti_source.specs.Resolving.{said_of, flag_by, number_by, text_by, flag_in, number_in, text_in, merged}
 use Rattle.ti_source.proofs.StatementsBackLaws.{named_statement, statements_from, of-other-kind}
 
@@ -18,7 +18,7 @@ said_of-cond : (t : Bool) (s : Said) (x y : Option Said) → cond t (Some s) (or
 said_of-cond true s x y = refl
 said_of-cond false s x y = refl
 
-said_of-append : (kind : Kind) (j : ℕ) (xs ys : List Statement) → said_of kind j (xs ++ ys) ≡ or_else (said_of kind j xs) (said_of kind j ys)
+pub said_of-append : (kind : Kind) (j : ℕ) (xs ys : List Statement) → said_of kind j (xs ++ ys) ≡ or_else (said_of kind j xs) (said_of kind j ys)
 said_of-append kind j [] ys = refl
 said_of-append kind j (x ∷ xs) ys =
     ap (λ o. cond (speaks_of kind j x) (Some x.said) o) (said_of-append kind j xs ys) ∙ said_of-cond (speaks_of kind j x) x.said (said_of kind j xs) (said_of kind j ys)
@@ -61,7 +61,7 @@ below kind k j (o ∷ os) lt =
     said_of-append kind j (named_statement kind k (name_at kind k) o) (statements_from kind (suc k) os)
     ∙ rw (other-place kind k j (name_at kind k) o other, below kind (suc k) j os (omega arith)) refl
 
-or-none : (x : Option Said) → or_else x None ≡ x
+pub or-none : (x : Option Said) → or_else x None ≡ x
 or-none None = refl
 or-none (Some s) = refl
 
@@ -87,19 +87,6 @@ said-of-place : (kind : Kind) (j : ℕ) (os : List (Option Said)) → said_of ki
 said-of-place kind j os =
     let none : 0 + j ≡ j = omega arith in
     ap (λ i. said_of kind i (statements_from kind 0 os)) (sym none) ∙ said-at kind 0 j os ∙ ap (λ i. if_named (name_at kind i) None (get_or os j None)) none
-
--- what a flag, a number and a text say
-abbrev pub flag_said : Bool → Option Said
-flag_said false = None
-flag_said true = Some said.Present
-
-abbrev pub number_said : Option ℕ → Option Said
-number_said None = None
-number_said (Some n) = Some (said.Number n)
-
-abbrev pub text_said : Option (List ℕ) → Option Said
-text_said None = None
-text_said (Some text) = Some (said.Text text)
 
 abbrev no_said : Option Said
 no_said = None

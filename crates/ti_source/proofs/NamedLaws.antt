@@ -130,11 +130,6 @@ slice_get-at [] i x lt at = absurd (omega arith)
 slice_get-at (y ∷ ys) zero x lt at = ap Some (sym at)
 slice_get-at (y ∷ ys) (suc i) x lt at = slice_get-at ys i x (omega arith) at
 
-pub slice_get-past : {A : Type 0} → (xs : List A) (i : ℕ) → length xs ≤ i → slice_get xs i ≡ None
-slice_get-past [] i past = refl
-slice_get-past (y ∷ ys) zero past = absurd (omega arith)
-slice_get-past (y ∷ ys) (suc i) past = slice_get-past ys i (omega arith)
-
 pub found-there : (i : ℕ) (name : List ℕ) (ds : List Described) (p : ℕ) (d : Described) → found_from i name ds ≡ Some (p, d) → (i ≤ p) × (slice_get ds (p - i) ≡ Some d) × (has_name name d ≡ true)
 found-there i name [] p d e = cc
 found-there i name (x ∷ xs) p d e = by (found-there (suc i) name xs p d) (has_name name x) refl e
@@ -170,18 +165,6 @@ found-none name ds none = by (found_from 0 name ds) none
     by : (o : Option (ℕ × Described)) → None ≡ option_map (λ (p : ℕ × Described). p.0) o → o ≡ None
     by None e = refl
     by (Some f) e = cc
-
-pub found-within : (name : List ℕ) (ds : List Described) (p : ℕ) → Some p ≡ option_map (λ p. p.0) (found_from 0 name ds) → slice_get ds p ≡ None → ⊥
-found-within name ds p place none = by (found_from 0 name ds) refl place
-  where
-    by : (o : Option (ℕ × Described)) → found_from 0 name ds ≡ o → Some p ≡ option_map (λ p. p.0) o → ⊥
-    by None e place = cc
-    by (Some f) e place =
-        let same : p ≡ f.0 = cc in
-        let there = found-there 0 name ds f.0 f.1 e in
-        let z : f.0 - 0 ≡ p = omega arith in
-        let here : slice_get ds (f.0 - 0) ≡ None = ap (slice_get ds) z ∙ none in
-        cc (there.1, here)
 
 pub found-any : (i : ℕ) (name : List ℕ) (ds : List Described) → is_some (option_map (λ p. p.0) (found_from i name ds)) ≡ list_any (has_name name) ds
 found-any i name [] = refl

@@ -26,7 +26,8 @@ use Rattle.ti_source.proofs.FieldsBackLaws.{not-all-blank}
 use Rattle.ti_source.proofs.FormsBackLaws.{Fits, drop-one-more, one-first, one-more, take-front}
 use Rattle.ti_source.proofs.StepLaws.{read-through}
 use Rattle.ti_source.proofs.StatementsBackLaws.{AllFit, Goes-line, goes-on, of-other-kind, reading, said_line, statements_from}
-use Rattle.ti_source.proofs.MergedBackLaws.{all_statements, flag_said, merged-back, number_said, text_said}
+use Rattle.ti_source.specs.Spoken.{flag_said, number_said, text_said}
+use Rattle.ti_source.proofs.MergedBackLaws.{all_statements, merged-back}
 
 -- how a line of names begins
 record HeadPlain (b : ℕ) : Type 0 where

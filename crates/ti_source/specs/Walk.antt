@@ -1,15 +1,20 @@
 -- What the marks and the list of work of a way through uses stand for.
-use Rattle.std.specs.Prelude.{◌≡◌, ◌⊎◌, ◌<◌, ℕ, ◌+◌, ◌*◌, Bool, true, false, List, [], ◌∷◌, Option, Some, None, length, map, slice_get, is_some, ◌==◌}
+use Rattle.std.specs.Prelude.{◌≡◌, ◌⊎◌, ◌<◌, ℕ, ◌+◌, ◌*◌, Bool, true, false, List, [], ◌∷◌, Option, Some, None, length, map, reverse, slice_get, is_some, ◌==◌}
 use Rattle.std.specs.List.{list_any}
+use Rattle.ti_caps.specs.declared.table.Kind.{Kind}
 use Rattle.ti_caps.specs.Description.{Description}
+use Rattle.ti_caps.specs.Table.{or_else}
 use Rattle.ti_source.specs.declared.fault.SourceFault.{SourceFault}
 use Rattle.ti_source.specs.declared.walk.Mark.{Mark}
 use Rattle.ti_source.specs.declared.walk.Mark.TheVariants.{New, Open, Done}
 use Rattle.ti_source.specs.declared.walk.Task.{Task}
 use Rattle.ti_source.specs.declared.walk.Task.TheVariants.{Visit, Leave}
+use Rattle.ti_source.specs.declared.walk.Walk.{Walk}
+use Rattle.ti_source.specs.declared.statement.Statement.{Statement}
 use Rattle.ti_source.specs.Described.{Described}
 use Rattle.ti_source.specs.Named.{place_of}
-use Rattle.ti_source.specs.Resolving.{Resolved, Fault}
+use Rattle.ti_source.specs.Resolving.{Resolve, Resolved, Fault, merged, said_of}
+use Rattle.ti_source.specs.Spoken.{first_said, room, said_in}
 
 -- a visit of each of these names
 abbrev pub visits : List Described → List (List ℕ) → List Task
@@ -45,7 +50,7 @@ abbrev pub position : Option Mark → Option ℕ
 position (Some (Done k)) = Some k
 position _ = None
 
--- where the resolved entry of a place is kept
+-- where the fields of a place's resolved entry are kept
 abbrev pub done_at : List Mark → Option ℕ → Option ℕ
 done_at marks None = None
 done_at marks (Some i) = position (slice_get marks i)
@@ -76,17 +81,39 @@ Held entries marks first (Visit p ∷ tasks) = Held entries marks (p ∷ first) 
 Held entries marks first (Leave i ∷ tasks) =
     ((d : Described) × (slice_get entries i ≡ Some d) × AllWithin marks first (map (place_of entries) d.uses)) × Held entries marks (Some i ∷ first) tasks
 
--- what is kept of an entry that is done is its resolved entry
-abbrev pub Keeps : List Described → List Mark → List Description → Type 0
-Keeps entries marks kept = (i k : ℕ) → slice_get marks i ≡ Some (Done k) → (d : Description) × ResolvedAt entries (Some i) d × (slice_get kept k ≡ Some d)
+-- an entry of these fields, which uses no other
+abbrev pub of_fields : List ℕ → List Statement → Described
+of_fields names fields = record { names = names; statements = fields; uses = [] }
+
+-- fields by which a resolved entry has what it has
+pub record StandsFor (names : List ℕ) (fields : List Statement) (d : Description) : Type 0 where
+  pub says : (kind : Kind) (slot : ℕ) → slot < room kind → said_of kind slot fields ≡ said_in d kind slot
+  pub whole : merged (of_fields names fields) [] ≡ d
+
+-- an entry's fields, and behind them those of the resolved entries that it uses
+pub record Gathers (entries : List Described) (d : Described) (fields : List Statement) : Type 0 where
+  pub used : List Description
+  pub resolved : Resolve entries d.uses used
+  pub says : (kind : Kind) (slot : ℕ) → slot < room kind → said_of kind slot fields ≡ or_else (said_of kind slot d.statements) (first_said used kind slot)
+
+-- what is kept of the resolved entry of a place
+pub record Kept (entries : List Described) (i : ℕ) (fields : List Statement) : Type 0 where
+  pub entry : Described
+  pub at : slice_get entries i ≡ Some entry
+  pub d : Description
+  pub resolved : ResolvedAt entries (Some i) d
+  pub stands : StandsFor entry.names fields d
+
+-- what is kept of each entry that is done
+abbrev pub Keeps : List Described → List Mark → List (List Statement) → Type 0
+Keeps entries marks kept = (i k : ℕ) → slice_get marks i ≡ Some (Done k) → (fields : List Statement) × (slice_get kept k ≡ Some fields) × Kept entries i fields
 
 -- what holds between two tasks
-pub record IsWalk (entries : List Described) (keeps : Bool) (marks : List Mark) (kept : List Description) (tasks : List Task) : Type 0 where
+pub record IsWalk (entries : List Described) (marks : List Mark) (kept : List (List Statement)) (tasks : List Task) : Type 0 where
   pub sized : length marks ≡ length entries
   pub opened : (i : ℕ) → slice_get marks i ≡ Some Open → list_any (λ j. j == i) (leaves tasks) ≡ true
   pub fresh : (i : ℕ) → slice_get marks i ≡ Some New → list_any (λ j. j == i) (leaves tasks) ≡ false
-  pub done : (i k : ℕ) → slice_get marks i ≡ Some (Done k) → (d : Description) × ResolvedAt entries (Some i) d
-  pub keeping : keeps ≡ true → Keeps entries marks kept
+  pub keeps : Keeps entries marks kept
   pub held : Held entries marks [] tasks
 
 -- how many entries are not entered yet
@@ -99,9 +126,12 @@ count_new [] = 0
 count_new (m ∷ ms) = one_if_new m + count_new ms
 
 -- what a task does: nothing that is known or to be done is lost, the faults of what is left are faults of what was to be done, and less is left
-pub record Stepped (entries : List Described) (keeps : Bool) (marks : List Mark) (tasks : List Task) (keeping : Bool) (after : List Mark) (kept : List Description) (left : List Task) : Type 0 where
-  pub same : keeping ≡ keeps
-  pub walk : IsWalk entries keeps after kept left
+pub record Stepped (entries : List Described) (marks : List Mark) (tasks : List Task) (after : List Mark) (kept : List (List Statement)) (left : List Task) : Type 0 where
+  pub walk : IsWalk entries after kept left
   pub lifts : (fault : SourceFault) → FaultIn entries left fault → FaultIn entries tasks fault
   pub carries : (p : Option ℕ) → Within marks (places tasks) p → Within after (places left) p
   pub less : 34 * count_new after + length left < 34 * count_new marks + length tasks
+
+-- a walk on which nothing is left to do
+abbrev pub IsReady : List Described → Walk → Type 0
+IsReady entries walk = IsWalk entries walk.marks.items walk.kept.items [] × (reverse walk.tasks.items ≡ [])

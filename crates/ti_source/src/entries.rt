@@ -117,15 +117,6 @@ impl Entries {
         self.places.contains_key(name)
     }
 
-    /// The first entry that has this reference name, and its place.
-    pub(crate) fn find(&self, name: &[u8]) -> Option<(usize, &SourceEntry)>
-        ensures { option_map (λ r. (r.0, r.1.now)) result ≡ found_from 0 name.now self.now }
-    {
-        let place = *self.places.get(name)?;
-        let entry = self.items.get(place)?;
-        Some((place, entry))
-    }
-
     /// The place of the first entry that has this reference name.
     pub(crate) fn place_of(&self, name: &[u8]) -> Option<usize>
         ensures { result ≡ place_of self.now name.now }

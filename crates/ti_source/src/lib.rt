@@ -5,6 +5,7 @@ mod entries;
 mod escape;
 mod fault;
 mod field;
+mod fields;
 mod filling;
 mod line;
 mod merge;
@@ -23,7 +24,7 @@ pub use note::{Cause, Note};
 pub use printer::{Printed, numbers_read_back, print, printed_reads_back, texts_read_back};
 pub use reader::read;
 pub use resolver::{
-    names_have_one_fault, names_resolve_once, resolve, resolve_all, resolved_names_have_no_fault,
+    Resolver, names_have_one_fault, names_resolve_once, resolve, resolved_names_have_no_fault,
 };
 pub use source::Source;
 

@@ -57,7 +57,7 @@ impl State {
         let Some(entry) = current else {
             return Ok(Source::new(done, notes));
         };
-        Ok(Source::new(done.with_entry(alloc, entry)?, notes))
+        Ok(Source::new(done.with_entry(alloc, entry.shrunk())?, notes))
     }
 
     fn continued(self, alloc: Global, line: u32, text: &[u8]) -> Result<State, SourceFault>

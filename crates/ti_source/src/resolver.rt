@@ -1,19 +1,19 @@
 //! Entries with their uses taken in.
 
-ghost use Rattle.std.specs.Prelude.{List, [], ◌∷◌, map, IfErr, IfOk, IfSome};
-ghost use Rattle.ti_caps.specs.Description.{Description};
-ghost use Rattle.ti_caps.specs.Names.{first_name};
-ghost use Rattle.ti_source.specs.Resolving.{Fault, FaultOnce, Resolve, ResolveOnce, ResolveOrFault, Resolved, StandsAlone, Unresolved};
+ghost use Rattle.std.specs.Prelude.{◌≡◌, [], IfErr, IfOk, IfSome};
+ghost use Rattle.ti_source.specs.Resolving.{FaultOnce, ResolveOnce, ResolveOrFault, Resolved, StandsAlone, Unresolved, merged};
 ghost use Rattle.ti_source.specs.Result.{Stops};
 
 use crate::entries::Entries;
 use crate::fault::SourceFault;
+use crate::fields::Fields;
 use crate::merge::merge;
 use crate::source::Source;
 use crate::statement::SourceEntry;
 use crate::walk::Walk;
 use std::alloc::Global;
-use ti_caps::{Entry, first_name};
+use std::marker::Model;
+use ti_caps::Entry;
 
 /// The entry of a place, where it uses no other.
 fn without_uses(entries: &Entries, place: Option<usize>) -> Option<&SourceEntry>
@@ -28,38 +28,86 @@ fn without_uses(entries: &Entries, place: Option<usize>) -> Option<&SourceEntry>
     }
 }
 
+/// An entry that uses no other.
+fn alone(alloc: Global, entry: &SourceEntry) -> Result<Entry, SourceFault>
+    ensures ok { IfOk result (λ e. e ≡ merged entry.now []) }
+    ensures err { IfErr result (λ f. f ≡ SourceFault.NoMemory) }
+{
+    let mut fields = Fields::new(alloc);
+    fields.extend_from_slice(entry.statements())?;
+    merge(alloc, entry.names(), &fields)
+}
+
+/// Resolves names of one source, one after another (terminfo(5), "Similar Terminals"). An entry with
+/// uses, and each that it uses, is followed once and the fields that are in force are kept, until a
+/// fault of following them, after which all are followed anew. Contracts see the source's entries.
+#[derive(Drop)]
+pub struct Resolver<'a> {
+    entries: &'a Entries,
+    /// None until an entry with uses is followed, and after a fault.
+    walk: Option<Walk<'a>>,
+}
+
+impl<'a> Model for Resolver<'a> {
+    ghost use Rattle.std.specs.Prelude.{List, IfSome};
+    ghost use Rattle.ti_source.specs.Described.{Described};
+    ghost use Rattle.ti_source.specs.Walk.{IsReady};
+
+    ghost Value = { List Described };
+
+    ghost view = { λ r. r.entries.now };
+
+    ghost invariant = { λ r. IfSome r.walk (λ w. IsReady r.entries.now w) };
+}
+
+impl<'a> Resolver<'a> {
+    /// A resolver of a source's names.
+    pub fn new(source: &'a Source) -> Resolver<'a>
+        ensures { result ≡ source.entry.now.entries }
+    {
+        Resolver {
+            entries: source.entries(),
+            walk: None,
+        }
+    }
+
+    /// The entry of a name with its uses taken in, as `resolve` gives it, whatever was asked before.
+    /// UnknownName, UseCycle, NoMemory as there.
+    pub fn resolve(&mut self, alloc: Global, name: &[u8]) -> Result<Entry, SourceFault>
+        ensures same { self.new ≡ self.old }
+        ensures ok { IfOk result (λ e. Resolved self.old name.now e) }
+        ensures err { IfErr result (λ f. Stops f (Unresolved self.old name.now f)) }
+    {
+        let entries = self.entries;
+        let place = entries.place_of(name);
+        if let Some(entry) = without_uses(entries, place) {
+            return alone(alloc, entry);
+        }
+        if place.is_none() {
+            return Err(SourceFault::UnknownName);
+        }
+        let walk = match self.walk.take() {
+            Some(walk) => walk,
+            None => Walk::new(alloc, entries)?,
+        };
+        let walk = walk.reach(alloc, entries, place)?;
+        let entry = walk.entry(alloc, entries, place);
+        self.walk = Some(walk);
+        entry
+    }
+}
+
 /// The entry of a name with its uses taken in (terminfo(5), "Similar Terminals"): for each
 /// capability its own field, present or cancelled, else the first `use=` whose resolved entry has
 /// it present. A used entry is resolved by itself, whole before the next, and carries no
 /// cancellation. UnknownName where no entry has the name, or a used one; UseCycle where a use
-/// leads back to an entry on its own chain; the first fault from left to right. Each entry is
-/// resolved once.
+/// leads back to an entry on its own chain; the first fault from left to right; NoMemory where
+/// memory runs out. A `Resolver` is for many names of one source.
 pub fn resolve(alloc: Global, source: &Source, name: &[u8]) -> Result<Entry, SourceFault>
     ensures ok { IfOk result (λ e. Resolved source.now.entries name.now e) }
     ensures err { IfErr result (λ f. Stops f (Unresolved source.now.entries name.now f)) }
 {
-    let entries = source.entries();
-    let place = entries.place_of(name);
-    if let Some(entry) = without_uses(entries, place) {
-        return merge(alloc, entry, &[]);
-    }
-    let walk = Walk::new(alloc, entries, true)?.reach(alloc, entries, place)?;
-    Ok(walk.into_entry(entries, place))
-}
-
-/// Resolves every entry by its first reference name, in their order, and keeps none. The fault is
-/// that of the first entry that doesn't resolve. Each entry is resolved once.
-pub fn resolve_all(alloc: Global, source: &Source) -> Result<(), SourceFault>
-    ensures ok { IfOk result (λ _. (ds : List Description) × Resolve source.now.entries (map (λ e. first_name e.names) source.now.entries) ds) }
-    ensures err { IfErr result (λ f. Stops f (Fault source.now.entries [] (map (λ e. first_name e.names) source.now.entries) f)) }
-{
-    let entries = source.entries();
-    let mut walk = Walk::new(alloc, entries, false)?;
-    for entry in entries.as_slice() {
-        let place = entries.place_of(first_name(entry.names()));
-        walk = walk.reach(alloc, entries, place)?;
-    }
-    Ok(())
+    Resolver::new(source).resolve(alloc, name)
 }
 
 /// Names resolve to one list of entries at most.

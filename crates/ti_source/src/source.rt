@@ -9,7 +9,7 @@ use crate::note::Note;
 use std::marker::Model;
 use ti_caps::first_name;
 
-/// The entries of a source, in their order, and the notes on its doubtful fields.
+/// The entries of a source (terminfo(5)), in their order, and the notes on its doubtful fields.
 #[derive(Debug, Drop)]
 pub struct Source {
     entries: Entries,

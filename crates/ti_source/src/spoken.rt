@@ -1,9 +1,11 @@
-//! Which statement of an entry speaks first of each capability.
+//! Which field speaks first of each capability.
 
-ghost use Rattle.std.specs.Prelude.{◌≡◌, ◌<◌, ◌+◌, IfOk, length, option_map, replicate, None, drop};
+ghost use Rattle.std.specs.Prelude.{◌≡◌, ◌<◌, ◌+◌, IfOk, IfSome, length, option_map, replicate, None, drop};
+ghost use Rattle.ti_source.specs.Described.{IsGood};
 ghost use Rattle.ti_source.specs.Resolving.{said_of};
-ghost use Rattle.ti_source.specs.Spoken.{Indexes, IsIndex, place, room};
+ghost use Rattle.ti_source.specs.Spoken.{AreInForce, Indexes, IsIndex, is_in_force, is_present, place, room};
 
+use crate::fields::Fields;
 use crate::statement::{Said, Statement};
 use std::alloc::{AllocError, Global};
 use ti_caps::{Kind, Slot};
@@ -41,49 +43,87 @@ fn no_places(alloc: Global, count: usize) -> Result<Vec<Option<usize>>, AllocErr
     vec![in alloc; None; count]
 }
 
-/// Puts a statement at its capability's place; the index is one of the statements behind it.
-fn put(index: &mut [Option<usize>], statements: &[Statement], i: usize)
-    requires there { i < length statements.now }
+/// Puts a field at its capability's place; the index is one of the fields behind it.
+fn put(index: &mut [Option<usize>], fields: &Fields<'_>, i: usize)
+    requires there { i < length fields.now }
     requires long { length index.now ≡ 640 }
-    requires behind { Indexes statements.now (drop (i + 1) statements.now) index.now }
+    requires behind { Indexes fields.now (drop (i + 1) fields.now) index.now }
     ensures long { length index.new ≡ 640 }
-    ensures with { Indexes statements.now (drop i statements.now) index.new }
+    ensures with { Indexes fields.now (drop i fields.now) index.new }
 {
-    let statement = &statements[i];
-    if statement.slot.0 >= room(statement.kind) {
+    let field = fields.at(i);
+    if field.slot.0 >= room(field.kind) {
         return;
     }
-    index[place(statement.kind, statement.slot)] = Some(i);
+    index[place(field.kind, field.slot)] = Some(i);
 }
 
-/// For each capability the place of the first statement that speaks of it.
-pub(crate) fn index_of(
-    alloc: Global,
-    statements: &[Statement],
-) -> Result<Vec<Option<usize>>, AllocError>
-    ensures { IfOk result (λ v. IsIndex statements.now v.items) }
+/// For each capability the place of the first field that speaks of it.
+pub(crate) fn index_of(alloc: Global, fields: &Fields<'_>) -> Result<Vec<Option<usize>>, AllocError>
+    ensures { IfOk result (λ v. IsIndex fields.now v.items) }
 {
     let mut index = no_places(alloc, CAPABILITIES)?;
-    let mut left = statements.len();
+    let mut left = fields.len();
     while left > 0 {
         left -= 1;
-        put(index.as_mut_slice(), statements, left);
+        put(index.as_mut_slice(), fields, left);
     }
     Ok(index)
 }
 
-/// What the statements say of a capability.
+/// What the fields say of a capability.
 pub(crate) fn said_of<'a>(
-    statements: &'a [Statement],
+    fields: &Fields<'a>,
     index: &[Option<usize>],
     kind: Kind,
     slot: Slot,
 ) -> Option<&'a Said>
-    requires index { IsIndex statements.now index.now }
+    requires index { IsIndex fields.now index.now }
     requires room { slot.0 < room kind }
-    ensures { option_map (λ s. s.now) result ≡ said_of kind slot.0 statements.entry.now }
+    ensures value { option_map (λ s. s.now) result ≡ said_of kind slot.0 fields.now }
+    ensures good { IfSome result (λ s. IsGood s.now) }
 {
     let i = index[place(kind, slot)]?;
-    let statement = statements.get(i)?;
-    Some(&statement.said)
+    let field = fields.get(i)?;
+    Some(&field.said)
+}
+
+fn is_present(kind: Kind, said: &Said) -> bool
+    ensures { result ≡ is_present kind said.now }
+{
+    match (kind, said) {
+        (Kind::Flag, Said::Present) => true,
+        (Kind::Number, Said::Number(_)) => true,
+        (Kind::Text, Said::Text(_)) => true,
+        _ => false,
+    }
+}
+
+/// Whether the field at a place is in force.
+fn is_in_force(field: &Statement, index: &[Option<usize>], i: usize) -> bool
+    requires { length index.now ≡ 640 }
+    ensures { result ≡ is_in_force index.now i field.now }
+{
+    if field.slot.0 >= room(field.kind) {
+        return false;
+    }
+    match index[place(field.kind, field.slot)] {
+        Some(first) => first == i && is_present(field.kind, &field.said),
+        None => false,
+    }
+}
+
+/// The fields in force: those that make a capability present, where none before speaks of it.
+pub(crate) fn in_force<'a>(alloc: Global, fields: &Fields<'a>) -> Result<Fields<'a>, AllocError>
+    ensures { IfOk result (λ v. AreInForce fields.now v) }
+{
+    let index = index_of(alloc, fields)?;
+    let mut found = Fields::new(alloc);
+    for i in 0..fields.len() {
+        let field = fields.at(i);
+        if is_in_force(field, &index, i) {
+            found.push(field)?;
+        }
+    }
+    Ok(found.shrunk())
 }

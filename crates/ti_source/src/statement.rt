@@ -127,6 +127,15 @@ impl SourceEntry {
         Ok(self)
     }
 
+    /// The entry without spare room for more fields.
+    pub(crate) fn shrunk(mut self) -> SourceEntry
+        ensures { result ≡ self }
+    {
+        self.statements.shrink_to_fit();
+        self.uses.shrink_to_fit();
+        self
+    }
+
     pub(crate) fn with_use(mut self, other: Bytes) -> Result<SourceEntry, SourceFault>
         requires { length self.uses < 32 }
         ensures { Gives result (Ok (record self { uses = self.uses ++ other ∷ [] })) }

@@ -1,15 +1,15 @@
 //! The way through the uses of entries, each entry being entered at most once.
 
 ghost use Rattle.std.specs.Prelude.{◌≡◌, ◌<◌, ◌∷◌, [], ◌++◌, List, length, Some, None, true, IfOk, IfErr, OnOk, map, replicate, reverse, slice_get};
-ghost use Rattle.ti_caps.specs.Description.{Description};
-ghost use Rattle.ti_source.specs.Resolving.{Resolve, merged};
-ghost use Rattle.ti_source.specs.Walk.{AreKnown, FaultAt, FaultIn, IsWalk, Keeps, ResolvedAt, Stepped, done_at, known, visits};
+ghost use Rattle.ti_source.specs.Walk.{AreKnown, FaultAt, FaultIn, Gathers, IsReady, IsWalk, Keeps, ResolvedAt, Stepped, done_at, known, visits};
 ghost use Rattle.ti_source.specs.Named.{place_of};
 ghost use Rattle.ti_source.specs.Result.{Stops};
 
 use crate::entries::Entries;
 use crate::fault::SourceFault;
+use crate::fields::Fields;
 use crate::merge::merge;
+use crate::spoken::in_force;
 use crate::statement::SourceEntry;
 use std::alloc::{AllocError, Global};
 use ti_caps::{Bytes, Entry};
@@ -21,7 +21,7 @@ pub(crate) enum Mark {
     New,
     /// On the chain of uses.
     Open,
-    /// Resolved, and kept at a place where entries are kept.
+    /// Resolved; its fields are kept at this position.
     Done(usize),
 }
 
@@ -34,12 +34,11 @@ pub(crate) enum Task {
     Leave(usize),
 }
 
-/// Entries with their marks, the resolved ones where they are kept, and what is left to do, the next last.
+/// How far each entry is, the fields kept of the resolved ones, and what is left to do, the next last.
 #[derive(Drop)]
-pub(crate) struct Walk {
-    keeps: bool,
+pub(crate) struct Walk<'a> {
     marks: Vec<Mark>,
-    kept: Vec<Entry>,
+    kept: Vec<Fields<'a>>,
     tasks: Vec<Task>,
 }
 
@@ -55,7 +54,7 @@ fn mark_at(marks: &[Mark], place: usize) -> Option<Mark>
     marks.get(place).copied()
 }
 
-/// Where the resolved entry of a place is kept, if it is done.
+/// Where the fields of a place's resolved entry are kept, if it is done.
 fn done_at(marks: &[Mark], place: Option<usize>) -> Option<usize>
     ensures { result ≡ done_at marks.now place }
 {
@@ -79,53 +78,34 @@ fn put_visits(tasks: &mut Vec<Task>, entries: &Entries, uses: &[Bytes]) -> Resul
     Ok(())
 }
 
-/// The resolved entries of these names, each of which is done and kept.
-fn used_by<'a>(
+/// The fields of an entry, and behind them those of the resolved entries that it uses, in their order.
+fn gathered<'a>(
     alloc: Global,
     entries: &Entries,
     marks: &[Mark],
-    kept: &'a [Entry],
-    uses: &[Bytes],
-) -> Result<Vec<&'a Entry>, AllocError>
-    requires known { AreKnown marks.now (map (place_of entries.now) uses.now) }
-    requires kept { Keeps entries.now marks.now kept.now }
-    ensures { IfOk result (λ used. Resolve entries.now uses.now (map (λ u. u.now) used.items)) }
-{
-    let mut used = Vec::with_capacity(alloc, uses.len())?;
-    for other in uses {
-        let place = entries.place_of(other.0.as_slice());
-        let position = done_at(marks, place).unwrap();
-        used.push(&kept[position])?;
-    }
-    Ok(used)
-}
-
-/// The resolved entry of one whose uses are done and kept.
-fn resolved_by(
-    alloc: Global,
-    entries: &Entries,
-    marks: &[Mark],
-    kept: &[Entry],
-    entry: &SourceEntry,
-) -> Result<Entry, SourceFault>
+    kept: &[Fields<'a>],
+    entry: &'a SourceEntry,
+) -> Result<Fields<'a>, AllocError>
     requires known { AreKnown marks.now (map (place_of entries.now) entry.now.uses) }
     requires kept { Keeps entries.now marks.now kept.now }
-    ensures ok { IfOk result (λ e. (used : List Description) × Resolve entries.now entry.now.uses used × (e ≡ merged entry.now used)) }
-    ensures err { IfErr result (λ f. f ≡ SourceFault.NoMemory) }
+    ensures { IfOk result (λ fields. Gathers entries.now entry.entry.now fields) }
 {
-    let used = used_by(alloc, entries, marks, kept, entry.uses())?;
-    merge(alloc, entry, &used)
+    let mut fields = Fields::new(alloc);
+    fields.extend_from_slice(entry.statements())?;
+    for other in entry.uses() {
+        let place = entries.place_of(other.0.as_slice());
+        let position = done_at(marks, place).unwrap();
+        fields.extend(&kept[position])?;
+    }
+    Ok(fields)
 }
 
-impl Walk {
-    pub(crate) fn new(alloc: Global, entries: &Entries, keeps: bool) -> Result<Walk, SourceFault>
-        ensures walk { IfOk result (λ w. IsWalk entries.now keeps w.marks.items w.kept.items (reverse w.tasks.items)) }
-        ensures keeps { IfOk result (λ w. w.keeps ≡ keeps) }
-        ensures done { IfOk result (λ w. reverse w.tasks.items ≡ []) }
+impl<'a> Walk<'a> {
+    pub(crate) fn new(alloc: Global, entries: &Entries) -> Result<Walk<'a>, SourceFault>
+        ensures ready { IfOk result (λ w. IsReady entries.now w) }
         ensures err { IfErr result (λ f. f ≡ SourceFault.NoMemory) }
     {
         Ok(Walk {
-            keeps,
             marks: new_marks(alloc, entries.as_slice().len())?,
             kept: Vec::new(alloc),
             tasks: Vec::new(alloc),
@@ -133,10 +113,10 @@ impl Walk {
     }
 
     /// Enters an entry: its uses are next, and it is left after them.
-    fn entered(mut self, entries: &Entries, i: usize) -> Result<Walk, SourceFault>
-        requires walk { IsWalk entries.now self.keeps self.marks.items self.kept.items (Task.Visit (Some i) ∷ reverse self.tasks.items) }
+    fn entered(mut self, entries: &'a Entries, i: usize) -> Result<Walk<'a>, SourceFault>
+        requires walk { IsWalk entries.now self.marks.items self.kept.items (Task.Visit (Some i) ∷ reverse self.tasks.items) }
         requires new { slice_get self.marks.items i ≡ Some Mark.New }
-        ensures ok { IfOk result (λ w. Stepped entries.now self.keeps self.marks.items (Task.Visit (Some i) ∷ reverse self.tasks.items) w.keeps w.marks.items w.kept.items (reverse w.tasks.items)) }
+        ensures ok { IfOk result (λ w. Stepped entries.now self.entry.marks.items (Task.Visit (Some i) ∷ reverse self.entry.tasks.items) w.marks.items w.kept.items (reverse w.tasks.items)) }
         ensures err { IfErr result (λ f. f ≡ SourceFault.NoMemory) }
     {
         let entry = &entries.as_slice()[i];
@@ -146,10 +126,10 @@ impl Walk {
         Ok(self)
     }
 
-    fn visited(self, entries: &Entries, i: usize) -> Result<Walk, SourceFault>
-        requires { IsWalk entries.now self.keeps self.marks.items self.kept.items (Task.Visit (Some i) ∷ reverse self.tasks.items) }
-        ensures ok { IfOk result (λ w. Stepped entries.now self.keeps self.marks.items (Task.Visit (Some i) ∷ reverse self.tasks.items) w.keeps w.marks.items w.kept.items (reverse w.tasks.items)) }
-        ensures err { IfErr result (λ f. Stops f (FaultIn entries.now (Task.Visit (Some i) ∷ reverse self.tasks.items) f)) }
+    fn visited(self, entries: &'a Entries, i: usize) -> Result<Walk<'a>, SourceFault>
+        requires { IsWalk entries.now self.marks.items self.kept.items (Task.Visit (Some i) ∷ reverse self.tasks.items) }
+        ensures ok { IfOk result (λ w. Stepped entries.now self.entry.marks.items (Task.Visit (Some i) ∷ reverse self.entry.tasks.items) w.marks.items w.kept.items (reverse w.tasks.items)) }
+        ensures err { IfErr result (λ f. Stops f (FaultIn entries.now (Task.Visit (Some i) ∷ reverse self.entry.tasks.items) f)) }
     {
         match mark_at(&self.marks, i) {
             Some(Mark::New) => self.entered(entries, i),
@@ -160,28 +140,29 @@ impl Walk {
     }
 
     /// Leaves an entry whose uses are done.
-    fn left(mut self, alloc: Global, entries: &Entries, i: usize) -> Result<Walk, SourceFault>
+    fn left(
+        mut self,
+        alloc: Global,
+        entries: &'a Entries,
+        i: usize,
+    ) -> Result<Walk<'a>, SourceFault>
         requires there { i < length entries.now }
-        requires walk { IsWalk entries.now self.keeps self.marks.items self.kept.items (Task.Leave i ∷ reverse self.tasks.items) }
-        ensures ok { IfOk result (λ w. Stepped entries.now self.keeps self.marks.items (Task.Leave i ∷ reverse self.tasks.items) w.keeps w.marks.items w.kept.items (reverse w.tasks.items)) }
+        requires walk { IsWalk entries.now self.marks.items self.kept.items (Task.Leave i ∷ reverse self.tasks.items) }
+        ensures ok { IfOk result (λ w. Stepped entries.now self.entry.marks.items (Task.Leave i ∷ reverse self.entry.tasks.items) w.marks.items w.kept.items (reverse w.tasks.items)) }
         ensures err { IfErr result (λ f. f ≡ SourceFault.NoMemory) }
     {
         let position = self.kept.len();
-        if !self.keeps {
-            self.marks[i] = Mark::Done(position);
-            return Ok(self);
-        }
         let entry = &entries.as_slice()[i];
-        let resolved = resolved_by(alloc, entries, &self.marks, &self.kept, entry)?;
-        self.kept.push(resolved)?;
+        let fields = gathered(alloc, entries, &self.marks, &self.kept, entry)?;
+        self.kept.push(in_force(alloc, &fields)?)?;
         self.marks[i] = Mark::Done(position);
         Ok(self)
     }
 
-    fn step(self, alloc: Global, entries: &Entries, task: Task) -> Result<Walk, SourceFault>
-        requires { IsWalk entries.now self.keeps self.marks.items self.kept.items (task ∷ reverse self.tasks.items) }
-        ensures ok { IfOk result (λ w. Stepped entries.now self.keeps self.marks.items (task ∷ reverse self.tasks.items) w.keeps w.marks.items w.kept.items (reverse w.tasks.items)) }
-        ensures err { IfErr result (λ f. Stops f (FaultIn entries.now (task ∷ reverse self.tasks.items) f)) }
+    fn step(self, alloc: Global, entries: &'a Entries, task: Task) -> Result<Walk<'a>, SourceFault>
+        requires { IsWalk entries.now self.marks.items self.kept.items (task ∷ reverse self.tasks.items) }
+        ensures ok { IfOk result (λ w. Stepped entries.now self.entry.marks.items (task ∷ reverse self.entry.tasks.items) w.marks.items w.kept.items (reverse w.tasks.items)) }
+        ensures err { IfErr result (λ f. Stops f (FaultIn entries.now (task ∷ reverse self.entry.tasks.items) f)) }
     {
         match task {
             Task::Visit(place) => match place {
@@ -192,18 +173,15 @@ impl Walk {
         }
     }
 
-    /// Resolves the entry of a place, if there is one.
+    /// Follows the entry of a place and keeps its fields; UnknownName where there is none.
     pub(crate) fn reach(
         self,
         alloc: Global,
-        entries: &Entries,
+        entries: &'a Entries,
         place: Option<usize>,
-    ) -> Result<Walk, SourceFault>
-        requires walk { IsWalk entries.now self.keeps self.marks.items self.kept.items (reverse self.tasks.items) }
-        requires done { reverse self.tasks.items ≡ [] }
-        ensures walk { IfOk result (λ w. IsWalk entries.now self.keeps w.marks.items w.kept.items (reverse w.tasks.items)) }
-        ensures keeps { IfOk result (λ w. w.keeps ≡ self.keeps) }
-        ensures done { IfOk result (λ w. reverse w.tasks.items ≡ []) }
+    ) -> Result<Walk<'a>, SourceFault>
+        requires { IsReady entries.now self }
+        ensures ready { IfOk result (λ w. IsReady entries.now w) }
         ensures known { IfOk result (λ w. known w.marks.items place ≡ true) }
         ensures err { IfErr result (λ f. Stops f (FaultAt entries.now [] place f)) }
     {
@@ -216,12 +194,20 @@ impl Walk {
     }
 
     /// The resolved entry of a place that is done and kept.
-    pub(crate) fn into_entry(mut self, entries: &Entries, place: Option<usize>) -> Entry
-        requires known { known self.marks.items place ≡ true }
-        requires kept { Keeps entries.now self.marks.items self.kept.items }
-        ensures { ResolvedAt entries.now place result }
+    pub(crate) fn entry(
+        &self,
+        alloc: Global,
+        entries: &Entries,
+        place: Option<usize>,
+    ) -> Result<Entry, SourceFault>
+        requires known { known self.now.marks.items place ≡ true }
+        requires kept { Keeps entries.now self.now.marks.items self.now.kept.items }
+        ensures ok { IfOk result (λ e. ResolvedAt entries.now place e) }
+        ensures err { IfErr result (λ f. f ≡ SourceFault.NoMemory) }
     {
+        let i = place.unwrap();
         let position = done_at(&self.marks, place).unwrap();
-        self.kept.swap_remove(position)
+        let entry = &entries.as_slice()[i];
+        merge(alloc, entry.names(), &self.kept[position])
     }
 }

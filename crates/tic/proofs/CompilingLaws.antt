@@ -1,5 +1,5 @@
 -- Compiling entry by entry.
-use Rattle.std.proofs.Common.{◌≡◌, ◌∙◌, ℕ, zero, suc, ◌+◌, List, [], ◌∷◌, ◌++◌, Some, None, slice_get, take, drop, append-nil, refl, sym, ap, add-one}
+use Rattle.std.proofs.Common.{◌≡◌, ◌∙◌, ℕ, zero, suc, ◌+◌, List, [], ◌∷◌, ◌++◌, Some, None, slice_get, take, drop, append-nil, refl, sym, ap, subst, add-one}
 use Rattle.std.specs.Prelude.{is_none}
 use Rattle.std.specs.List.{flat_map}
 use Rattle.std.proofs.lemmas.List.{map-append}
@@ -40,6 +40,9 @@ written-more ds d = λ i. record {
   files = sym (flat_map-append files_of ds (d ∷ []) ∙ ap (λ fs. flat_map files_of ds ++ fs) (append-nil (files_of d))) i;
   sizes = sym (map-append size_of ds (d ∷ [])) i;
 }
+
+pub refused-among : {es entries : List Described} {name : List ℕ} {fault : TicFault} → es ≡ entries → Refused es name fault → Refused entries name fault
+refused-among {name = name} {fault = fault} same refused = subst (λ xs. Refused xs name fault) same refused
 
 -- the first entry that is refused
 pub refused-at : (entries : List Described) (names : List (List ℕ)) (i : ℕ) (name : List ℕ) (ds : List Description) (fault : TicFault) → AreCompiled entries (take i names) ds → slice_get names i ≡ Some name → Refused entries name fault → IsFirstRefused entries names fault

@@ -12,7 +12,7 @@ use crate::laws::compiled_sources_have_no_fault;
 use crate::written::{Files, Sizes, Written};
 use std::alloc::Global;
 use std::marker::Model;
-use ti_source::{Note, Source, read, resolve};
+use ti_source::{Note, Resolver, Source, read};
 
 /// Notes on doubtful fields, in the order of their source.
 #[derive(Debug, Drop)]
@@ -41,15 +41,16 @@ pub struct Compiled {
 // Resolves the entry of a name and adds its files and its size.
 fn put_named(
     alloc: Global,
-    source: &Source,
+    resolver: &mut Resolver<'_>,
     name: &[u8],
     written: &mut Written,
 ) -> Result<(), TicFault>
-    ensures ok { OnOk result ((d : Description) × Resolved source.now.entries name.now d × (refusal_of d ≡ None) × (written.new ≡ with_entry d written.old)) }
-    ensures err { IfErr result (λ f. (f ≡ TicFault.NoMemory) ⊎ Refused source.now.entries name.now f) }
+    ensures same { resolver.new ≡ resolver.old }
+    ensures ok { OnOk result ((d : Description) × Resolved resolver.old name.now d × (refusal_of d ≡ None) × (written.new ≡ with_entry d written.old)) }
+    ensures err { IfErr result (λ f. (f ≡ TicFault.NoMemory) ⊎ Refused resolver.old name.now f) }
     ensures plain { IfErr result IsPlain }
 {
-    let entry = resolve(alloc, source, name)?;
+    let entry = resolver.resolve(alloc, name)?;
     written.put(alloc, &entry)
 }
 
@@ -59,9 +60,10 @@ fn written_by(alloc: Global, source: &Source) -> Result<Written, TicFault>
     ensures err { IfErr result (λ f. (f ≡ TicFault.NoMemory) ⊎ IsFirstRefused source.now.entries (names_of source.now.entries) f) }
     ensures plain { IfErr result IsPlain }
 {
+    let mut resolver = Resolver::new(source);
     let mut written = Written::new(alloc);
     for i in 0..source.len() {
-        put_named(alloc, source, source.name(i), &mut written)?;
+        put_named(alloc, &mut resolver, source.name(i), &mut written)?;
     }
     Ok(written)
 }

@@ -1,4 +1,4 @@
-use Rattle.std.proofs.Common.{rules, ap, sym, ◌∙◌, length, eqb}
+use Rattle.std.proofs.Common.{ap, sym, ◌∙◌, length, eqb}
 use Rattle.ti_source.proofs.AloneLaws.{is-empty, found-in}
 use Rattle.ti_source.proofs.resolver.without_uses.Goals as goal
 

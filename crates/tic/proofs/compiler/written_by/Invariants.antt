@@ -4,7 +4,8 @@ use Rattle.tic.specs.Compiling.{AreCompiled, names_of}
 use Rattle.tic.specs.Progress.{written_of}
 use Rattle.tic.proofs.compiler.written_by.Given as goal
 
--- the entries so far are compiled
+-- the entries so far are compiled, and the resolver is one of these entries
 abbrev pub invariant-loop-i : goal.invariant-loop-i
 invariant-loop-i l =
-    (ds : List Description) × AreCompiled l.source.entries (take l.i (names_of l.source.entries)) ds × (l.written ≡ written_of ds)
+    (l.resolver ≡ l.source.entries)
+    × ((ds : List Description) × AreCompiled l.source.entries (take l.i (names_of l.source.entries)) ds × (l.written ≡ written_of ds))

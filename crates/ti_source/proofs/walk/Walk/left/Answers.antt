@@ -1,27 +1,17 @@
-use Rattle.std.proofs.Common.{◌≡◌, ◌<◌, ◌∙◌, ◌∷◌, ◌++◌, [], ap, length, map, slice_get, set, Some, reverse, rules, subst}
+use Rattle.std.proofs.Common.{◌≡◌, ◌<◌, ◌∙◌, ap, length, map, slice_get, set, Some, reverse, rules, subst}
 use Rattle.ti_source.specs.declared.walk.Mark.TheVariants.{Done}
 use Rattle.ti_source.specs.Described.{Described}
 use Rattle.ti_source.specs.Named.{place_of}
 use Rattle.ti_source.specs.Walk.{AreKnown}
+use Rattle.ti_source.proofs.GatherLaws.{kept-with}
 use Rattle.ti_source.proofs.NamedLaws.{slice_get-at}
-use Rattle.ti_source.proofs.WalkLaws.{left-stepped, leave-known, resolve-known}
+use Rattle.ti_source.proofs.WalkLaws.{left-stepped, leave-known}
 use Rattle.ti_source.proofs.walk.Walk.left.Goals as goal
 
-pub returns-then-not-self-clause-ok : goal.returns-then-not-self-clause-ok
-returns-then-not-self-clause-ok c =
+pub gathered-requires-clause-known : goal.gathered-requires-clause-known
+gathered-requires-clause-known c =
     let entries = c.args.entries.now in
-    let marks = c.args.self.marks.items in
-    let kept = c.args.self.kept.items in
-    let tasks = reverse c.args.self.tasks.items in
-    let sized : c.args.self.kept.len ≡ length kept = search rules in
-    let k = leave-known entries c.args.self.keeps marks kept c.args.i tasks c.requires.walk in
-    let r = resolve-known entries marks k.0.uses c.requires.walk.done k.2 in
-    left-stepped entries c.args.self.keeps marks _ kept kept c.args.i k.0 r.0 tasks c.requires.walk k.1 r.1 (ap (λ n. set marks c.args.i (Done n)) (c.len-position.ensures ∙ sized)) (λ t. cc)
-
-pub resolved_by-requires-clause-known : goal.resolved_by-requires-clause-known
-resolved_by-requires-clause-known c =
-    let entries = c.args.entries.now in
-    let k = leave-known entries c.args.self.keeps c.args.self.marks.items c.args.self.kept.items c.args.i (reverse c.args.self.tasks.items) c.requires.walk in
+    let k = leave-known entries c.args.self.marks.items c.args.self.kept.items c.args.i (reverse c.args.self.tasks.items) c.requires.walk in
     let lt : c.args.i < length c.as_slice.result.now = rw c.as_slice.ensures c.requires.there in
     let at : slice_get entries c.args.i ≡ Some c.index-as_slice-i.result = rw (← c.as_slice.ensures) (slice_get-at c.as_slice.result.now c.args.i c.index-as_slice-i.result lt c.index-as_slice-i.is) in
     let same : k.0 ≡ c.index-as_slice-i.result = cc (k.1, at) in
@@ -37,5 +27,5 @@ returns-clause-ok c =
     let sized : c.args.self.kept.len ≡ length kept = search rules in
     let lt : c.args.i < length c.as_slice.result.now = rw c.as_slice.ensures c.requires.there in
     let at : slice_get entries c.args.i ≡ Some c.index-as_slice-i.result = rw (← c.as_slice.ensures) (slice_get-at c.as_slice.result.now c.args.i c.index-as_slice-i.result lt c.index-as_slice-i.is) in
-    let r = c.in_ok-resolved.ensures.ok in
-    left-stepped entries c.args.self.keeps marks _ kept c.push.new.self.items c.args.i c.index-as_slice-i.result r.0 tasks c.requires.walk at r.1 (ap (λ n. set marks c.args.i (Done n)) (c.len-position.ensures ∙ sized)) (λ t. c.in_ok-push.ensures.items ∙ ap (λ e. kept ++ e ∷ []) r.2)
+    let keep = kept-with entries c.args.i c.index-as_slice-i.result _ _ at c.in_ok-fields.ensures c.in_ok-in_force.ensures in
+    left-stepped entries marks _ kept c.push.new.self.items c.args.i _ tasks c.requires.walk keep (ap (λ n. set marks c.args.i (Done n)) (c.len-position.ensures ∙ sized)) c.in_ok-push.ensures.items

@@ -1,8 +1,10 @@
-use Rattle.std.proofs.Common.{◌∙◌, ap, length, replicate}
+use Rattle.std.proofs.Common.{◌∙◌, ap, length, replicate, refl}
 use Rattle.ti_source.specs.declared.walk.Mark.TheVariants.{New}
 use Rattle.ti_source.proofs.WalkLaws.{walk-new}
 use Rattle.ti_source.proofs.walk.Walk.new.Goals as goal
 
-pub returns-clause-walk : goal.returns-clause-walk
-returns-clause-walk c =
-    rw c.new-2.ensures.items (walk-new c.args.entries.now c.args.keeps c.in_ok-new_marks.field-0.items c.new.result.items (c.in_ok-new_marks.ensures ∙ ap (λ es. replicate (length es) New) c.as_slice.ensures))
+pub returns-clause-ready : goal.returns-clause-ready
+returns-clause-ready c = (
+  walk-new c.args.entries.now c.in_ok-new_marks.field-0.items c.new.result.items (c.in_ok-new_marks.ensures ∙ ap (λ es. replicate (length es) New) c.as_slice.ensures),
+  rw c.new-2.ensures.items refl,
+)
