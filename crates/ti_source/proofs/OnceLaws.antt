@@ -1,13 +1,15 @@
 -- Names resolve once, have one fault, and not both.
-use Rattle.std.proofs.Common.{◌≡◌, ◌∙◌, ℕ, suc, ◌+◌, ◌-◌, ◌≤◌, Bool, true, false, ◌||◌, eqb, List, [], ◌∷◌, Option, Some, None, slice_get, refl, ap, sym, subst, arith}
+use Rattle.std.proofs.Common.{◌≡◌, ◌∙◌, ℕ, suc, ◌+◌, ◌-◌, ◌≤◌, Bool, true, false, ◌||◌, eqb, List, [], ◌∷◌, Option, Some, None, Result, Ok, Err, IfErr, inl, inr, slice_get, refl, ap, sym, subst, arith}
+use Rattle.std.specs.Prelude.{IsOkUnless}
 use Rattle.std.specs.List.{list_any}
 use Rattle.std.proofs.lemmas.Bool.{eqb-true, eq-eqb}
 use Rattle.ti_caps.specs.Description.{Description}
 use Rattle.ti_source.specs.declared.fault.SourceFault.{SourceFault}
-use Rattle.ti_source.specs.declared.fault.SourceFault.TheVariants.{UnknownName, UseCycle}
+use Rattle.ti_source.specs.declared.fault.SourceFault.TheVariants.{UnknownName, UseCycle, NoMemory}
 use Rattle.ti_source.specs.Described.{Described}
 use Rattle.ti_source.specs.Named.{found_from}
-use Rattle.ti_source.specs.Resolving.{merged, Resolve, nothing, more, Fault, unknown, cycle, below, later, Resolved, FaultOnce, ResolveOrFault}
+use Rattle.ti_source.specs.Resolving.{merged, Resolve, nothing, more, Fault, unknown, cycle, below, later, Resolved, Unresolved, FaultOnce, ResolveOrFault}
+use Rattle.ti_source.specs.Result.{Stops}
 use Rattle.ti_source.proofs.NamedLaws.{found-there}
 
 -- ---- what a resolved list of names rests on
@@ -243,3 +245,9 @@ pub resolve-or-fault : ResolveOrFault
 resolve-or-fault entries names ds fault r f =
     let size = sized r in
     not-both size.0 f size.1 (λ i on d at m uses. cc)
+
+-- the answer for a name that resolves
+pub good-answer : {A : Type 0} → (entries : List Described) (name : List ℕ) (r : Result A SourceFault) → IfErr r (λ f. Stops f (Unresolved entries name f)) → (d : Description) → Resolved entries name d → IsOkUnless r NoMemory
+good-answer entries name (Ok a) h d one = tt
+good-answer entries name (Err f) (inl e) d one = e
+good-answer entries name (Err f) (inr fault) d one = absurd (resolve-or-fault entries (name ∷ []) (d ∷ []) f one fault)

@@ -109,7 +109,7 @@ pub(crate) fn decode(alloc: Global, text: &[u8]) -> Result<Bytes, AllocError>
     ensures value { IfOk result (λ bytes. bytes ≡ decoded text.now) }
     ensures whole { IfOk result (λ bytes. has_nul bytes ≡ false) }
 {
-    let mut decoded = Vec::new(alloc);
+    let mut decoded = Vec::with_capacity(alloc, text.len())?;
     let mut rest = text;
     while !rest.is_empty() {
         decoded.push(not_nul(meant(rest)))?;

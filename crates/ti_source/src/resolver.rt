@@ -1,6 +1,7 @@
 //! Entries with their uses taken in.
 
-ghost use Rattle.std.specs.Prelude.{◌≡◌, [], IfErr, IfOk, IfSome};
+ghost use Rattle.std.specs.Prelude.{◌≡◌, [], IfErr, IfOk, IfSome, IsOkUnless};
+ghost use Rattle.ti_caps.specs.Description.{Description};
 ghost use Rattle.ti_source.specs.Resolving.{FaultOnce, ResolveOnce, ResolveOrFault, Resolved, StandsAlone, Unresolved, merged};
 ghost use Rattle.ti_source.specs.Result.{Stops};
 
@@ -71,9 +72,7 @@ impl<'a> Resolver<'a> {
         }
     }
 
-    /// The entry of a name with its uses taken in, as `resolve` gives it, whatever was asked before.
-    /// UnknownName, UseCycle, NoMemory as there.
-    pub fn resolve(&mut self, alloc: Global, name: &[u8]) -> Result<Entry, SourceFault>
+    fn resolved(&mut self, alloc: Global, name: &[u8]) -> Result<Entry, SourceFault>
         ensures same { self.new ≡ self.old }
         ensures ok { IfOk result (λ e. Resolved self.old name.now e) }
         ensures err { IfErr result (λ f. Stops f (Unresolved self.old name.now f)) }
@@ -95,6 +94,17 @@ impl<'a> Resolver<'a> {
         self.walk = Some(walk);
         entry
     }
+
+    /// The entry of a name with its uses taken in, as `resolve` gives it, whatever was asked before.
+    /// UnknownName, UseCycle, NoMemory as there.
+    pub fn resolve(&mut self, alloc: Global, name: &[u8]) -> Result<Entry, SourceFault>
+        ensures same { self.new ≡ self.old }
+        ensures ok { IfOk result (λ e. Resolved self.old name.now e) }
+        ensures err { IfErr result (λ f. Stops f (Unresolved self.old name.now f)) }
+        ensures good { (d : Description) → Resolved self.old name.now d → IsOkUnless result SourceFault.NoMemory }
+    {
+        self.resolved(alloc, name)
+    }
 }
 
 /// The entry of a name with its uses taken in (terminfo(5), "Similar Terminals"): for each
@@ -106,6 +116,7 @@ impl<'a> Resolver<'a> {
 pub fn resolve(alloc: Global, source: &Source, name: &[u8]) -> Result<Entry, SourceFault>
     ensures ok { IfOk result (λ e. Resolved source.now.entries name.now e) }
     ensures err { IfErr result (λ f. Stops f (Unresolved source.now.entries name.now f)) }
+    ensures good { (d : Description) → Resolved source.now.entries name.now d → IsOkUnless result SourceFault.NoMemory }
 {
     Resolver::new(source).resolve(alloc, name)
 }
