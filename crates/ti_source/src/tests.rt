@@ -106,7 +106,7 @@ fn uses_are_taken_in_order(rt: HostRuntime) {
     has_number(&rt, &a, "cols", None);
     has_number(&rt, &entry(&rt, text, "b"), "cols", Some(80));
     fails(&rt, text, "zz", SourceFault::UnknownName);
-    let cycle = "a,\n\tuse=b,\nb,\n\tam, use=c,\nc,\n\tcols#80, use=a,\n";
+    let cycle = "a,\n\tcols@, use=b, use=c,\nb,\n\tam, use=c,\nc,\n\tcols#80, lines#24, use=a,\n";
     fails(&rt, cycle, "a", SourceFault::UseCycle);
     // A cancellation stays in its entry, and the first use with the capability wins.
     let text = "d,\n\tuse=e, use=f, use=g,\ne,\n\tcols@,\nf,\n\tcols#1,\ng,\n\tcols#2,\n";
@@ -126,6 +126,50 @@ fn uses_are_taken_in_order(rt: HostRuntime) {
     );
     // A name with a blank is no reference name.
     fails(&rt, "a|b c,\n", "b c", SourceFault::UnknownName);
+}
+
+#[test]
+fn the_first_fault_of_uses_is_given(rt: HostRuntime) {
+    let text = "a,\n\tuse=zz, use=a,\n";
+    fails(&rt, text, "a", SourceFault::UnknownName);
+    let text = "a,\n\tuse=a, use=zz,\n";
+    fails(&rt, text, "a", SourceFault::UseCycle);
+}
+
+#[test]
+fn a_use_has_what_the_use_before_it_cancels(rt: HostRuntime) {
+    let text = "a,\n\tuse=b, use=c,\nb,\n\tcols@, use=d,\nc,\n\tuse=d,\nd,\n\tcols#80,\n";
+    has_number(&rt, &entry(&rt, text, "b"), "cols", None);
+    has_number(&rt, &entry(&rt, text, "a"), "cols", Some(80));
+}
+
+#[test]
+fn fields_follow_the_names_and_comments(rt: HostRuntime) {
+    let t = entry(&rt, "t, am, cols#80,\n", "t");
+    assert!(rt; t.flag(slot(&rt, "am")));
+    has_number(&rt, &t, "cols", Some(80));
+    notes(&rt, "t, foo,", &[(1, Cause::Unknown, "foo")]);
+    let text = "t,\n# x\n\n\tfoo, cols#80,";
+    has_number(&rt, &entry(&rt, text, "t"), "cols", Some(80));
+    notes(&rt, text, &[(4, Cause::Unknown, "foo")]);
+}
+
+#[test]
+fn empty_names_and_odd_uses_are_unknown(rt: HostRuntime) {
+    notes(
+        &rt,
+        "t,\n\t=x, @,",
+        &[(2, Cause::Unknown, ""), (2, Cause::Unknown, "")],
+    );
+    notes(
+        &rt,
+        "t,\n\tuse, use#1, use@,",
+        &[
+            (2, Cause::Unknown, "use"),
+            (2, Cause::Unknown, "use"),
+            (2, Cause::Unknown, "use"),
+        ],
+    );
 }
 
 #[test]
@@ -229,6 +273,36 @@ fn faults_come_in_their_order(rt: HostRuntime) {
     is_read(&rt, "# \0\u{e9}\nt,", 1);
     is_read(&rt, "t\r\n\tam,\r\n", 1);
     is_read(&rt, "", 0);
+}
+
+#[test]
+fn the_leftmost_fault_of_a_line_is_given(rt: HostRuntime) {
+    faults(&rt, "t, cols#x,", SourceFault::BadNumber(1));
+    faults(&rt, "a b, cols#x", SourceFault::BadNames(1));
+    faults(&rt, "a,\na, cols#x", SourceFault::DuplicateName(2));
+}
+
+#[test]
+fn a_foreign_byte_comes_before_other_faults_of_its_line(rt: HostRuntime) {
+    faults(&rt, "\t\u{e9},", SourceFault::NotAscii(1));
+    faults(&rt, "a,\na,\u{e9}", SourceFault::NotAscii(2));
+    faults(&rt, "a b,\u{e9}", SourceFault::NotAscii(1));
+}
+
+/// 32 uses, and these fields on the 34th line.
+fn faults_after_32_uses(rt: &(impl Abort + AllocGlobal), fields: &str, fault: SourceFault) {
+    let mut text = String::from_str(rt.alloc(), "a,\nb, use=a,\n").expect(rt, "memory");
+    for _ in 0..31u8 {
+        text.push_str("\tuse=a,\n").expect(rt, "memory");
+    }
+    text.push_str(fields).expect(rt, "memory");
+    faults(rt, text.as_str(), fault);
+}
+
+#[test]
+fn the_leftmost_of_a_use_and_a_number_is_given(rt: HostRuntime) {
+    faults_after_32_uses(&rt, "\tuse=a, cols#x,", SourceFault::TooManyUses);
+    faults_after_32_uses(&rt, "\tcols#x, use=a,", SourceFault::BadNumber(34));
 }
 
 #[test]
