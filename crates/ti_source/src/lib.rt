@@ -29,4 +29,6 @@ pub use resolver::{
 pub use source::Source;
 
 #[cfg(test)]
+mod resolving_tests;
+#[cfg(test)]
 mod tests;
