@@ -13,7 +13,8 @@ use Rattle.scr_windows.specs.declared.frames.State.{State}
 use Rattle.scr_windows.specs.SurfaceViews.{SurfaceView, IsSurface, IsPart, cell_of, grid, filled, inside_at, is_inside}
 use Rattle.scr_windows.specs.DeskViews.{WindowView, DeskView, IsState, IsWindow, IsPlaced, AreFrames, IsDesk, window_at, surface_at, no_window, no_surface, no_frame, size_of, Placed}
 use Rattle.scr_windows.specs.Calls.{fill, with_window, marked, marked_lines, write}
-use Rattle.scr_windows.specs.Reading.{row_at}
+use Rattle.scr_windows.specs.Reading.{row_at, contents}
+use Rattle.scr_windows.specs.Lending.{LentView, lines_in}
 use Rattle.scr_windows.proofs.GridLaws.{grid_same}
 
 pub length_map : {X Y : Type 0} (f : X → Y) (xs : List X) → length (map f xs) ≡ length xs
@@ -202,3 +203,11 @@ pub placed_by : (d old : DeskView) (i : ℕ) → d ≡ old → IsDesk d → i < 
 placed_by d old i is h l =
     let P : DeskView → Type 0 = λ v. Placed v i in
     subst P is (placed d i h (here_too d old i is l))
+
+pub draws_contents : (d old : DeskView) (i : ℕ) (w : WindowView) (frame : Frame) (s : SurfaceView) → Draws d old i w frame → Reads d.surfaces frame.surface s
+    → record { window = w; lines = lines_in s w.frame.area } ≡ contents old i
+draws_contents d old i w frame s h r =
+    let at : w ≡ window_at d i = reads_window d i w h.window (here_too d old i h.is h.here) in
+    let surfaces : s ≡ surface_at d (window_at d i).frame.surface = surface_path d old i w frame s h r in
+    let here : record { window = w; lines = lines_in s w.frame.area } ≡ contents d i = (λ j. record { window = at j; lines = lines_in (surfaces j) (at j).frame.area }) in
+    here ∙ ap (λ v. contents v i) h.is

@@ -7,8 +7,10 @@ pub mod DeskLaws
 pub mod FamilyLaws
 pub mod FrameLaws
 pub mod GridLaws
+pub mod LendingLaws
 pub mod MakingLaws
 pub mod MovingLaws
+pub mod NumberLaws
 pub mod ReadingLaws
 pub mod RemovingLaws
 pub mod RunLaws

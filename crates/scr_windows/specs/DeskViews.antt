@@ -1,5 +1,6 @@
 -- A desk: surfaces, and the windows on them. X/Open Curses Issue 7, 'Screens, Windows and Terminals'.
 use Rattle.std.specs.Prelude.{ℕ, Bool, true, false, ◌≡◌, ◌+◌, ◌-◌, ◌^◌, ◌<◌, ◌≤◌, List, [], ◌∷◌, length, map, replicate, None, Some, slice_index_or, MatchOption, Option, All}
+use Rattle.std.specs.List.{AllPairs}
 use Rattle.scr_cells.specs.CellViews.{CellView, blank_cell}
 use Rattle.scr_cells.specs.PictureViews.{IsSize}
 use Rattle.scr_windows.specs.declared.areas.Area.{Area}
@@ -31,6 +32,10 @@ fresh_window frame attrs background =
       state = record { cursor = (0, 0); attrs = attrs; background = background; region = (0, frame.area.rows - 1); scroll_ok = false; clear_ok = false; leave_ok = false };
       touched = replicate frame.area.rows true;
     }
+
+-- windows by ascending numbers
+abbrev pub AreAscending : List WindowView → Type 0
+AreAscending windows = AllPairs (λ (v : WindowView) (w : WindowView). v.frame.number < w.frame.number) windows
 
 -- no attributes
 abbrev pub no_attributes : Attrs

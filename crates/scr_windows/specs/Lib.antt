@@ -5,6 +5,7 @@ pub mod Copying
 pub mod DeskViews
 pub mod Erasing
 pub mod Formulas
+pub mod Lending
 pub mod Making
 pub mod Moving
 pub mod Reading

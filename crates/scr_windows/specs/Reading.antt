@@ -1,12 +1,14 @@
 -- What the calls that read answer. X/Open Curses Issue 7, the pages named.
-use Rattle.std.specs.Prelude.{ℕ, Bool, false, Option, None, Some, Result, Ok, Err, List, map, ltb, ◌&&◌, slice_index_or, if◌then◌else◌}
+use Rattle.std.specs.Prelude.{ℕ, Bool, false, Option, None, Some, Result, Ok, Err, List, map, length, ltb, ◌&&◌, slice_index_or, if◌then◌else◌}
 use Rattle.std.specs.List.{range_with_len, list_any}
 use Rattle.scr_cells.specs.CellViews.{CellView}
 use Rattle.scr_windows.specs.declared.faults.WinFault.{WinFault}
 use Rattle.scr_windows.specs.declared.faults.WinFault.TheVariants.{OutOfWindow, IsPad}
 use Rattle.scr_windows.specs.SurfaceViews.{inside_at}
 use Rattle.scr_windows.specs.DeskViews.{DeskView, window_at, surface_at}
+use Rattle.scr_windows.specs.Lending.{LentView, lines_in}
 use Rattle.scr_windows.specs.Calls.{place_of}
+use Rattle.scr_windows.specs.declared.faults.Win.{Win}
 
 -- the cell in a row and a column of a window
 abbrev pub at : DeskView → ℕ → ℕ → ℕ → CellView
@@ -15,6 +17,14 @@ at desk i r c = inside_at (surface_at desk (window_at desk i).frame.surface) (wi
 -- the cells of a row of a window
 abbrev pub row_at : DeskView → ℕ → ℕ → List CellView
 row_at desk i r = map (at desk i r) (range_with_len 0 (window_at desk i).frame.area.columns)
+
+-- what is lent of a window: the window and its lines
+abbrev pub contents : DeskView → ℕ → LentView
+contents desk i = record { window = window_at desk i; lines = lines_in (surface_at desk (window_at desk i).frame.surface) (window_at desk i).frame.area }
+
+-- the window at an index among those that there are
+abbrev pub nth_answer : DeskView → ℕ → Option Win
+nth_answer desk i = if ltb i (length desk.windows) then Some (record { 0 = (window_at desk i).frame.number }) else None
 
 -- an answer about a window, which refuses a window that is not there
 abbrev pub about_window : {A : Type 0} → Result ℕ WinFault → (ℕ → Result A WinFault) → Result A WinFault
@@ -47,6 +57,10 @@ line_touched_answer desk win row = about_window (place_of desk win) (λ i.
 
 abbrev pub window_touched_answer : DeskView → ℕ → Result Bool WinFault
 window_touched_answer desk win = about_window (place_of desk win) (λ i. Ok (list_any (λ mark. mark) (window_at desk i).touched))
+
+-- a window that is lent
+abbrev pub window_answer : DeskView → ℕ → Result LentView WinFault
+window_answer desk win = about_window (place_of desk win) (λ i. Ok (contents desk i))
 
 -- a row that is lent
 abbrev pub row_answer : DeskView → ℕ → ℕ → Result (List CellView) WinFault

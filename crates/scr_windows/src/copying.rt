@@ -88,8 +88,8 @@ impl Desk {
     {
         let from = self.place(source)?;
         let to = self.place(target)?;
-        let one = self.window(from).frame();
-        let other = self.window(to).frame();
+        let one = self.window_at(from).frame();
+        let other = self.window_at(to).frame();
         let (Some(first), Some(second)) = (one.origin, other.origin) else {
             return Err(WinFault::IsPad);
         };
@@ -161,7 +161,7 @@ impl Desk {
         requires right { column + part.columns ≤ (window_at self.now place).frame.area.columns }
         ensures { MatchResult result (λ cells. IsBlock cells.items part.rows part.columns (λ r c. at self.now place (row + r) (column + c))) (λ fault. fault ≡ NoMemory) }
     {
-        let frame = self.window(place).frame();
+        let frame = self.window_at(place).frame();
         let area = Area {
             top: frame.area.top + row,
             left: frame.area.left + column,

@@ -53,7 +53,7 @@ impl Desk {
         ensures { MatchResult result (IsPen self.now win.0) (λ fault. place_of self.now win.0 ≡ Err fault) }
     {
         let place = self.place(win)?;
-        let window = self.window(place);
+        let window = self.window_at(place);
         Ok(Pen {
             place,
             area: window.frame().area,
@@ -67,7 +67,7 @@ impl Desk {
         ensures place { result.place ≡ place }
         ensures pen { IsPenAt self.now result }
     {
-        let window = self.window(place);
+        let window = self.window_at(place);
         Pen {
             place,
             area: window.frame().area,
@@ -76,7 +76,7 @@ impl Desk {
     }
 
     // The window at a place.
-    pub(crate) fn window(&self, place: usize) -> &Window
+    pub(crate) fn window_at(&self, place: usize) -> &Window
         requires { place < length self.now.windows }
         ensures window { result.now ≡ window_at self.now place }
         ensures placed { Placed self.now place }

@@ -19,6 +19,7 @@ mod faults;
 mod frames;
 #[cfg(test)]
 mod limits_tests;
+mod lent;
 mod making;
 #[cfg(test)]
 mod making_tests;
@@ -44,3 +45,4 @@ mod windows;
 
 pub use desks::Desk;
 pub use faults::{Added, Win, WinFault};
+pub use lent::WindowRef;

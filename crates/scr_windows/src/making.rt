@@ -66,7 +66,7 @@ impl Desk {
     ) -> Result<Win, WinFault>
         ensures { Allocated self.old (new_window_call self.old rows columns row column) (self.new, result) }
     {
-        let screen = self.screen();
+        let screen = self.screen_area();
         let Some(area) = part_of(screen, rows, columns, row, column) else {
             return Err(WinFault::OffScreen);
         };
@@ -90,7 +90,7 @@ impl Desk {
     }
 
     // The screen as an area.
-    fn screen(&self) -> Area
+    fn screen_area(&self) -> Area
         ensures area { result ≡ screen_area self.now }
         ensures size { IsSize self.now.rows self.now.columns }
     {

@@ -26,7 +26,7 @@ impl Desk {
         ensures { (self.new, result) ≡ move_window_call self.old win.0 row column }
     {
         let place = self.place(win)?;
-        let frame = self.window(place).frame();
+        let frame = self.window_at(place).frame();
         let Some(origin) = frame.origin else {
             return Err(WinFault::IsPad);
         };
@@ -51,7 +51,7 @@ impl Desk {
         ensures { (self.new, result) ≡ move_derived_call self.old win.0 row column }
     {
         let place = self.place(win)?;
-        let frame = self.window(place).frame();
+        let frame = self.window_at(place).frame();
         if frame.origin.is_none() {
             return Err(WinFault::IsPad);
         }
@@ -59,7 +59,7 @@ impl Desk {
             return Err(WinFault::NotInParent);
         };
         let above = self.place(Win(parent))?;
-        let within = self.window(above).frame().area;
+        let within = self.window_at(above).frame().area;
         if !fits(row, frame.area.rows, within.rows)
             || !fits(column, frame.area.columns, within.columns)
         {
@@ -77,7 +77,7 @@ impl Desk {
         requires fits { IsShift self.old place shift }
         ensures { self.new ≡ moved self.old place shift }
     {
-        let rows = self.window(place).frame().area.rows;
+        let rows = self.window_at(place).frame().area.rows;
         self.shift_windows(place, shift);
         self.mark(place, 0, rows, true);
     }

@@ -1,12 +1,63 @@
-ghost use Rattle.std.specs.Prelude.{◌≡◌, ◌<◌, length, MatchResult};
-ghost use Rattle.scr_windows.specs.DeskViews.{window_at};
-ghost use Rattle.scr_windows.specs.Reading.{cell_at_answer, cursor_answer, size_answer, origin_answer, line_touched_answer, window_touched_answer, row_answer, row_at};
+ghost use Rattle.std.specs.Prelude.{◌≡◌, ◌<◌, ◌≤◌, length, MatchResult};
+ghost use Rattle.scr_windows.specs.DeskViews.{IsDesk, window_at};
+ghost use Rattle.scr_windows.specs.Reading.{cell_at_answer, cursor_answer, size_answer, origin_answer, line_touched_answer, window_touched_answer, row_answer, row_at, nth_answer, window_answer, contents};
 
 use crate::desks::Desk;
 use crate::faults::{Win, WinFault};
-use scr_cells::Cell;
+use crate::lent::WindowRef;
+use scr_cells::{Cell, Size};
 
 impl Desk {
+    /// The size of the screen. X/Open Curses Issue 7, LINES and COLS.
+    pub fn screen(&self) -> Size
+        ensures rows { result.rows ≡ self.now.rows }
+        ensures columns { result.columns ≡ self.now.columns }
+        ensures desk { IsDesk self.now }
+    {
+        Size {
+            rows: self.rows,
+            columns: self.columns,
+        }
+    }
+
+    /// How many windows there are.
+    pub fn count(&self) -> usize
+        ensures count { result ≡ length self.now.windows }
+        ensures few { result ≤ 1000 }
+    {
+        self.windows.len()
+    }
+
+    /// The window at an index among those that there are, by ascending numbers from index 0 on; `None` behind the last.
+    pub fn nth(&self, index: usize) -> Option<Win>
+        ensures { result ≡ nth_answer self.now index }
+    {
+        if index < self.windows.len() {
+            Some(Win(self.windows[index].frame().number))
+        } else {
+            None
+        }
+    }
+
+    /// Lends a window for reading.
+    ///
+    /// Refused: NoWindow.
+    pub fn window(&self, win: Win) -> Result<WindowRef<'_>, WinFault>
+        ensures { result ≡ window_answer self.now win.0 }
+    {
+        let place = self.place(win)?;
+        Ok(self.lent(place))
+    }
+
+    // Lends the window at a place.
+    fn lent(&self, place: usize) -> WindowRef<'_>
+        requires { place < length self.now.windows }
+        ensures { result ≡ contents self.now place }
+    {
+        let window = &self.windows[place];
+        WindowRef::new(window, &self.surfaces[window.frame().surface])
+    }
+
     /// The cell in a row and a column of a window.
     ///
     /// Refused: NoWindow; OutOfWindow for a place outside the window. X/Open Curses Issue 7, inch().
@@ -47,7 +98,7 @@ impl Desk {
         ensures { result ≡ origin_answer self.now win.0 }
     {
         let place = self.place(win)?;
-        match self.window(place).frame().origin {
+        match self.window_at(place).frame().origin {
             Some(origin) => Ok(origin),
             None => Err(WinFault::IsPad),
         }
@@ -63,7 +114,7 @@ impl Desk {
         if row >= pen.area.rows {
             return Err(WinFault::OutOfWindow);
         }
-        Ok(self.window(pen.place).is_touched(row))
+        Ok(self.window_at(pen.place).is_touched(row))
     }
 
     /// Whether some line of a window is touched.
@@ -73,7 +124,7 @@ impl Desk {
         ensures { result ≡ window_touched_answer self.now win.0 }
     {
         let place = self.place(win)?;
-        Ok(self.window(place).is_any_touched())
+        Ok(self.window_at(place).is_any_touched())
     }
 
     /// The cells of a row of a window from the left, lent. Curses has no such call.

@@ -29,7 +29,7 @@ impl Desk {
         requires alone { has_children (window_at self.old place).frame.number self.old.windows ≡ false }
         ensures { self.new ≡ deleted self.old place }
     {
-        let surface = self.window(place).frame().surface;
+        let surface = self.window_at(place).frame().surface;
         self.remove_window(place);
         if !is_used(&self.windows, surface) {
             self.free_surface(surface);

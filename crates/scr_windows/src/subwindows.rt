@@ -49,7 +49,7 @@ impl Desk {
         ensures { Allocated self.old (sub_call self.old win.0 rows columns row column) (self.new, result) }
     {
         let place = self.place(win)?;
-        let Some((top, left)) = self.window(place).frame().origin else {
+        let Some((top, left)) = self.window_at(place).frame().origin else {
             return Err(WinFault::IsPad);
         };
         if row < top || column < left {
@@ -74,7 +74,7 @@ impl Desk {
         ensures { Allocated self.old (sub_pad_call self.old win.0 rows columns row column) (self.new, result) }
     {
         let place = self.place(win)?;
-        let frame = self.window(place).frame();
+        let frame = self.window_at(place).frame();
         if frame.origin.is_some() {
             return Err(WinFault::NotPad);
         }
@@ -97,7 +97,7 @@ impl Desk {
         requires { place < length self.old.windows }
         ensures { Allocated self.old (derived self.old place (window_at self.old place).frame.origin rows columns row column) (self.new, result) }
     {
-        let frame = self.window(place).frame();
+        let frame = self.window_at(place).frame();
         let Some(origin) = frame.origin else {
             return Err(WinFault::IsPad);
         };

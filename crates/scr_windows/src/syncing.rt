@@ -63,7 +63,7 @@ impl Desk {
         ensures before { MatchOption result (Unit {0}) (λ parent. parent < place) }
         ensures desk { IsDesk self.now }
     {
-        match self.window(place).frame().parent {
+        match self.window_at(place).frame().parent {
             Some(number) => place_of_number(&self.windows, number),
             None => None,
         }
@@ -76,8 +76,8 @@ impl Desk {
         requires apart { from ≢ to }
         ensures { self.new ≡ with_window self.old to (with_touched (touched_at (window_at self.old from)) (window_at self.old to)) }
     {
-        let one = self.window(from).frame().area;
-        let other = self.window(to).frame().area;
+        let one = self.window_at(from).frame().area;
+        let other = self.window_at(to).frame().area;
         let end = (one.top + one.rows).min(other.top + other.rows);
         for row in one.top.max(other.top)..end {
             if self.is_row_touched(from, row) {
@@ -92,7 +92,7 @@ impl Desk {
         requires { place < length self.now.windows }
         ensures { result ≡ touched_at (window_at self.now place) row }
     {
-        let window = self.window(place);
+        let window = self.window_at(place);
         let area = window.frame().area;
         row >= area.top && row - area.top < area.rows && window.is_touched(row - area.top)
     }

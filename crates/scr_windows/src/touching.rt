@@ -1,5 +1,5 @@
 ghost use Rattle.std.specs.Prelude.{◌≡◌, true, false};
-ghost use Rattle.scr_windows.specs.Touching.{touch_all_call, touch_lines_call};
+ghost use Rattle.scr_windows.specs.Touching.{take_lines_call, touch_all_call, touch_lines_call};
 
 use crate::desks::Desk;
 use crate::faults::{Win, WinFault};
@@ -46,5 +46,23 @@ impl Desk {
         }
         self.mark(pen.place, first, first + n, changed);
         Ok(())
+    }
+
+    /// Takes n lines of a window from one on for an update: they are no longer touched, and what `clear_ok` wished for
+    /// is answered and taken back.
+    ///
+    /// Refused: NoWindow; OutOfWindow where the window has fewer than `first + n` lines. curs_refresh(3X), wnoutrefresh().
+    pub fn take_lines(&mut self, win: Win, first: u32, n: u32) -> Result<bool, WinFault>
+        ensures { (self.new, result) ≡ take_lines_call self.old win.0 first n }
+    {
+        let pen = self.pen(win)?;
+        if first > pen.area.rows || n > pen.area.rows - first {
+            return Err(WinFault::OutOfWindow);
+        }
+        self.mark(pen.place, first, first + n, false);
+        let mut state = pen.state;
+        state.clear_ok = false;
+        self.set_state(pen.place, state);
+        Ok(pen.state.clear_ok)
     }
 }

@@ -1,6 +1,6 @@
 ghost use Rattle.std.specs.Prelude.{◌≡◌, ◌+◌, ◌<◌, ◌==◌, true, false, length, slice_index_or, MatchResult, ◌≤◌};
 ghost use Rattle.std.specs.List.{list_any, position};
-ghost use Rattle.scr_windows.specs.DeskViews.{WindowView, fresh_window};
+ghost use Rattle.scr_windows.specs.DeskViews.{WindowView, AreAscending, fresh_window};
 ghost use Rattle.scr_windows.specs.declared.faults.WinFault.TheVariants.{NoMemory};
 ghost use Rattle.scr_windows.specs.Calls.{marked, marked_lines};
 
@@ -121,13 +121,17 @@ impl Window {
     }
 }
 
-/// Where the window of a number stands.
+/// Where the window of a number stands among windows by ascending numbers.
 pub fn place_of_number(windows: &[Window], number: u32) -> Option<usize>
+    requires { AreAscending windows.now }
     ensures { result ≡ position (λ (w : WindowView). w.frame.number == number) windows.now }
 {
-    windows
-        .iter()
-        .position(|window| window.frame().number == number)
+    let place = windows.partition_point(|window| window.frame().number < number);
+    if place < windows.len() && windows[place].frame().number == number {
+        Some(place)
+    } else {
+        None
+    }
 }
 
 // Whether some mark is set.
