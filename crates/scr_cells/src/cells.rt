@@ -1,8 +1,8 @@
-ghost use Rattle.std.specs.Prelude.{◌≡◌, ◌↔◌, ◌==◌, IsSome, IfSome};
+ghost use Rattle.std.specs.Prelude.{◌≡◌, ◌↔◌, ◌==◌, IsSome, IsTrue, IfSome};
 ghost use Rattle.std.proofs.Common.{rules};
 ghost use Rattle.std.specs.Ordering.{eq_of_both, on};
 ghost use Rattle.std.specs.Cmp.Rules.{comparing};
-ghost use Rattle.scr_cells.specs.CellViews.{IsCell, IsCharacter, blank_cell};
+ghost use Rattle.scr_cells.specs.CellViews.{IsCell, IsCharacter, blank_cell, is_character};
 
 use crate::Attrs;
 use std::marker::Model;
@@ -35,7 +35,7 @@ impl Cell {
         ensures character { IsSome result ↔ IsCharacter byte }
         ensures holds { IfSome result (λ cell. cell ≡ record { byte = byte; attrs = attrs.0 }) }
     {
-        if !(32..=126).contains(&byte) {
+        if !is_character(byte) {
             return None;
         }
         Some(Cell {
@@ -65,6 +65,14 @@ impl Cell {
     {
         Attrs((self.packed / 256) as u8)
     }
+}
+
+/// Whether a byte is a character: 32 to 126, the blank or a graphic character of ASCII.
+pub fn is_character(byte: u8) -> bool
+    ensures value { result ≡ is_character byte }
+    ensures character { IsTrue result ↔ IsCharacter byte }
+{
+    (32..=126).contains(&byte)
 }
 
 impl PartialEq for Cell {

@@ -14,7 +14,7 @@ mod sizes;
 mod tests;
 
 pub use attributes::Attrs;
-pub use cells::Cell;
+pub use cells::{Cell, is_character};
 pub use looks::Look;
 pub use out_of_memory::NoMemory;
 pub use pictures::Picture;

@@ -14,7 +14,11 @@ use Rattle.scr_windows.specs.declared.areas.Area.{Area}
 use Rattle.scr_windows.specs.declared.frames.Frame.{Frame}
 use Rattle.scr_windows.specs.declared.frames.State.{State}
 use Rattle.scr_windows.specs.SurfaceViews.{SurfaceView, IsSurface, blank_surface}
-use Rattle.scr_windows.specs.DeskViews.{no_attributes, WindowView, DeskView, IsWindow, IsPlaced, IsChild, IsInsideOnScreen, AreFrames, IsDesk, Placed, window_at, no_window, no_frame, size_of, fresh_window}
+use Rattle.scr_windows.specs.DeskViews.{no_attributes, WindowView, DeskView, IsWindow, IsPlaced, IsChild, IsInsideOnScreen, AreFrames, IsDesk, Placed, window_at, HasOwn, no_window, no_frame, fresh_window}
+use Rattle.scr_windows.specs.declared.sheets.Sheet.{Sheet}
+use Rattle.scr_windows.specs.Sheets.{size_on}
+use Rattle.std.proofs.lemmas.List.Quantifiers.{all_pairs_push}
+use Rattle.scr_windows.proofs.SheetLaws.{has_sheet, size_last, size_more}
 use Rattle.scr_windows.specs.Making.{IsRootPlace, with_root, root_frame, screen_area, IsChildPlace, child_frame, with_child, part_of}
 use Rattle.scr_windows.proofs.DeskLaws.{Reads, reads_window, here_too, placed, length_map, frame_of}
 use Rattle.scr_windows.proofs.MakingLaws.{fresh_is_window, blank_is_surface, screen_is_size}
@@ -53,13 +57,14 @@ last_ascends frames last h l i j less in_all =
           omega (arith, l i (omega arith), ap (λ (f : Frame). f.number) e, ap (λ (f : Frame). f.number) f))
     ]
 
-frames_more : (rows columns : ℕ) (sizes : List (ℕ × ℕ)) (made : ℕ) (frames : List Frame) (last : Frame) → AreFrames rows columns sizes made frames → length frames < 1000
-    → IsPlaced rows columns sizes last → last.number ≡ made + 1 → HasParent frames last → AreFrames rows columns sizes (made + 1) (frames ++ last ∷ [])
-frames_more rows columns sizes made frames last h few p number parent = record {
+frames_more : (rows columns : ℕ) (sizes : ℕ → ℕ × ℕ) (made : ℕ) (frames : List Frame) (last : Frame) → AreFrames rows columns sizes made frames → length frames < 1000
+    → IsPlaced rows columns sizes last → HasOwn last → last.number ≡ made + 1 → HasParent frames last → AreFrames rows columns sizes (made + 1) (frames ++ last ∷ [])
+frames_more rows columns sizes made frames last h few p own number parent = record {
   few = omega (arith, length-append frames (last ∷ []));
   placed = All-push (IsPlaced rows columns sizes) frames last h.placed p;
   numbers = All-push (λ (frame : Frame). frame.number ≤ made + 1) frames last (λ k d l. omega (arith, h.numbers k d l)) (omega (arith, number));
   ascending = last_ascends frames last h.ascending (λ k l. omega (arith, h.numbers k no_frame l, number));
+  roots = All-push HasOwn frames last h.roots own;
   parents = All-push (HasParent (frames ++ last ∷ [])) frames last (λ k d l. more_parents frames last (get_or frames k d) (h.parents k d l)) (more_parents frames last last parent);
 }
 
@@ -73,18 +78,20 @@ child_is_desk d i area origin h l few made inside =
     let many : length frames ≡ length d.windows = length_map frame_of d.windows in
     let at : get_or frames i no_frame ≡ parent = get_or-map frame_of d.windows i no_window no_frame l in
     let older : parent.number ≤ d.made = (let P : Frame → Type 0 = λ f. f.number ≤ d.made in subst P at (h.frames.numbers i no_frame (omega (arith, many)))) in
-    let on : IsPlaced d.rows d.columns (map size_of d.surfaces) parent = (let P : Frame → Type 0 = λ f. IsPlaced d.rows d.columns (map size_of d.surfaces) f in subst P at (h.frames.placed i no_frame (omega (arith, many)))) in
+    let on : IsPlaced d.rows d.columns (size_on d.surfaces) parent = (let P : Frame → Type 0 = λ f. IsPlaced d.rows d.columns (size_on d.surfaces) f in subst P at (h.frames.placed i no_frame (omega (arith, many)))) in
     let child : IsChild frame parent = record { later = omega arith; surface = refl; above = inside.above; below = inside.below; left = inside.left; right = inside.right; on_screen = inside.in_parent } in
     let C : Frame → Type 0 = λ f. IsChild frame f in
     record {
       size = h.size;
       made = omega arith;
       surfaces = h.surfaces;
+      sheets = h.sheets;
+      given = λ k e b. omega (arith, h.given k e b);
       windows = All-push IsWindow d.windows _ h.windows (fresh_is_window frame (window_at d i).state.attrs (window_at d i).state.background inside.some_rows inside.some_columns);
-      frames = (let P : List Frame → Type 0 = λ fs. AreFrames d.rows d.columns (map size_of d.surfaces) (d.made + 1) fs in
-          subst P (sym (map-append frame_of d.windows _)) (frames_more d.rows d.columns (map size_of d.surfaces) d.made frames frame h.frames (omega (arith, many))
-          (record { surface = on.surface; some_rows = inside.some_rows; some_columns = inside.some_columns; below = omega (arith, on.below, inside.below); right = omega (arith, on.right, inside.right); origin = inside.on_screen })
-          refl
+      frames = (let P : List Frame → Type 0 = λ fs. AreFrames d.rows d.columns (size_on d.surfaces) (d.made + 1) fs in
+          subst P (sym (map-append frame_of d.windows _)) (frames_more d.rows d.columns (size_on d.surfaces) d.made frames frame h.frames (omega (arith, many))
+          (record { some_rows = inside.some_rows; some_columns = inside.some_columns; below = omega (arith, on.below, inside.below); right = omega (arith, on.right, inside.right); origin = inside.on_screen })
+          tt refl
           (i, omega (arith, many), ap (λ (f : Frame). f.number) at, subst C (sym at) child)));
     }
 
@@ -175,11 +182,10 @@ divided_place d i frame part rows columns row column frame_is pad part_is =
     }
 
 -- a surface more: each window stays on its own
-placed_still : (rows columns : ℕ) (sizes : List (ℕ × ℕ)) (size : ℕ × ℕ) (frame : Frame) → IsPlaced rows columns sizes frame → IsPlaced rows columns (sizes ++ size ∷ []) frame
-placed_still rows columns sizes size frame p =
-    let same : get_or (sizes ++ size ∷ []) frame.surface (0, 0) ≡ get_or sizes frame.surface (0, 0) = get_or-append sizes (size ∷ []) (0, 0) frame.surface p.surface in
+placed_still : (rows columns : ℕ) (sheets : List Sheet) (last : Sheet) (frame : Frame) → IsPlaced rows columns (size_on sheets) frame → IsPlaced rows columns (size_on (sheets ++ last ∷ [])) frame
+placed_still rows columns sheets last frame p =
+    let same : size_on (sheets ++ last ∷ []) frame.surface ≡ size_on sheets frame.surface = size_more sheets last frame.surface (has_sheet sheets frame.surface (omega (arith, p.some_rows, p.below))) in
     record {
-      surface = omega (arith, p.surface, length-append sizes (size ∷ []));
       some_rows = p.some_rows;
       some_columns = p.some_columns;
       below = omega (arith, p.below, ap (λ (s : ℕ × ℕ). s.0) same);
@@ -187,48 +193,52 @@ placed_still rows columns sizes size frame p =
       origin = p.origin;
     }
 
+-- the surface that is made with the next window
+abbrev next_sheet : DeskView → ℕ → ℕ → Sheet
+next_sheet d rows columns = record { number = d.made + 1; surface = blank_surface rows columns }
+
 pub root_is_desk : (d : DeskView) (rows columns : ℕ) (origin : Option (ℕ × ℕ)) → IsDesk d → length d.windows < 1000 → d.made < 4294967295 → IsRootPlace d rows columns origin → IsDesk (with_root d rows columns origin)
 root_is_desk d rows columns origin h few made on =
     let frame : Frame = root_frame d rows columns origin in
     let frames : List Frame = map frame_of d.windows in
     let many : length frames ≡ length d.windows = length_map frame_of d.windows in
-    let sizes : List (ℕ × ℕ) = map size_of d.surfaces in
-    let all : length sizes ≡ length d.surfaces = length_map size_of d.surfaces in
-    let size : ℕ × ℕ = (rows, columns) in
-    let last : get_or (sizes ++ size ∷ []) (length d.surfaces) (0, 0) ≡ size = ap (λ k. get_or (sizes ++ size ∷ []) k (0, 0)) (sym all) ∙ get_or-append_seam sizes size [] (0, 0) in
-    let still : AreFrames d.rows d.columns (sizes ++ size ∷ []) d.made frames = record {
+    let next : Sheet = next_sheet d rows columns in
+    let sheets : List Sheet = d.surfaces ++ next ∷ [] in
+    let last : size_on sheets (d.made + 1) ≡ (rows, columns) = size_last d.surfaces next (λ k e b. omega (arith, h.given k e b)) in
+    let still : AreFrames d.rows d.columns (size_on sheets) d.made frames = record {
       few = h.frames.few;
-      placed = λ k e l. placed_still d.rows d.columns sizes size (get_or frames k e) (h.frames.placed k e l);
+      placed = λ k e l. placed_still d.rows d.columns d.surfaces next (get_or frames k e) (h.frames.placed k e l);
       numbers = h.frames.numbers;
       ascending = h.frames.ascending;
+      roots = h.frames.roots;
       parents = h.frames.parents;
     } in
     record {
       size = h.size;
       made = omega arith;
-      surfaces = All-push IsSurface d.surfaces (blank_surface rows columns) h.surfaces (blank_is_surface rows columns on.size);
+      surfaces = All-push (λ (sheet : Sheet). IsSurface sheet.surface) d.surfaces next h.surfaces (blank_is_surface rows columns on.size);
+      sheets = all_pairs_push (λ (s : Sheet) (t : Sheet). s.number < t.number) d.surfaces next h.sheets (λ k e b. omega (arith, h.given k e b));
+      given = All-push (λ (sheet : Sheet). sheet.number ≤ d.made + 1) d.surfaces next (λ k e b. omega (arith, h.given k e b)) (omega arith);
       windows = All-push IsWindow d.windows _ h.windows (fresh_is_window frame no_attributes blank_cell on.size.some_rows on.size.some_columns);
-      frames = (let P : List Frame → Type 0 = λ fs. AreFrames d.rows d.columns (map size_of (d.surfaces ++ blank_surface rows columns ∷ [])) (d.made + 1) fs in
-          let Q : List (ℕ × ℕ) → Type 0 = λ zs. AreFrames d.rows d.columns zs (d.made + 1) (frames ++ frame ∷ []) in
-          subst P (sym (map-append frame_of d.windows _)) (subst Q (sym (map-append size_of d.surfaces _)) (frames_more d.rows d.columns (sizes ++ size ∷ []) d.made frames frame still (omega (arith, many))
+      frames = (let P : List Frame → Type 0 = λ fs. AreFrames d.rows d.columns (size_on sheets) (d.made + 1) fs in
+          subst P (sym (map-append frame_of d.windows _)) (frames_more d.rows d.columns (size_on sheets) d.made frames frame still (omega (arith, many))
           (record {
-            surface = omega (arith, all, length-append sizes (size ∷ []));
             some_rows = on.size.some_rows;
             some_columns = on.size.some_columns;
             below = omega (arith, ap (λ (s : ℕ × ℕ). s.0) last);
             right = omega (arith, ap (λ (s : ℕ × ℕ). s.1) last);
             origin = on.on_screen;
           })
-          refl tt)));
+          refl refl tt));
     }
 
-pub root_added : (d old : DeskView) → d ≡ old → (rows columns : ℕ) (origin : Option (ℕ × ℕ)) (surface : SurfaceView) (new : WindowView) (ss : List SurfaceView) (ws : List WindowView) → IsDesk d → IsRootPlace old rows columns origin
+pub root_added : (d old : DeskView) → d ≡ old → (rows columns : ℕ) (origin : Option (ℕ × ℕ)) (surface : SurfaceView) (new : WindowView) (ss : List Sheet) (ws : List WindowView) → IsDesk d → IsRootPlace old rows columns origin
     → surface ≡ blank_surface rows columns → new ≡ fresh_window (root_frame d rows columns origin) no_attributes blank_cell
-    → ss ≡ d.surfaces ++ surface ∷ [] → ws ≡ d.windows ++ new ∷ [] → length d.windows < 1000 → d.made < 4294967295 → IsDesk (record d { surfaces = ss; windows = ws; made = d.made + 1 })
+    → ss ≡ d.surfaces ++ record { number = d.made + 1; surface = surface } ∷ [] → ws ≡ d.windows ++ new ∷ [] → length d.windows < 1000 → d.made < 4294967295 → IsDesk (record d { surfaces = ss; windows = ws; made = d.made + 1 })
 root_added d old is rows columns origin surface new ss ws h on surface_is new_is ss_is ws_is few made =
     let I : DeskView → Type 0 = λ v. IsRootPlace v rows columns origin in
     let whole : record d { surfaces = ss; windows = ws; made = d.made + 1 } ≡ with_root d rows columns origin
-    = (λ j. record d { surfaces = (ss_is ∙ ap (λ v. d.surfaces ++ v ∷ []) surface_is) j; windows = (ws_is ∙ ap (λ v. d.windows ++ v ∷ []) new_is) j; made = d.made + 1 }) in
+    = (λ j. record d { surfaces = (ss_is ∙ ap (λ v. d.surfaces ++ record { number = d.made + 1; surface = v } ∷ []) surface_is) j; windows = (ws_is ∙ ap (λ v. d.windows ++ v ∷ []) new_is) j; made = d.made + 1 }) in
     let P : DeskView → Type 0 = λ v. IsDesk v in
     subst P (sym whole) (root_is_desk d rows columns origin h few made (subst I (sym is) on))
 

@@ -10,12 +10,20 @@ use Rattle.std.proofs.lemmas.List.FromFn.{get_or-map-range_with_len, length-map-
 use Rattle.scr_cells.specs.CellViews.{CellView, blank_cell}
 use Rattle.scr_windows.specs.declared.areas.Area.{Area}
 use Rattle.scr_windows.specs.SurfaceViews.{SurfaceView, IsSurface, IsPart, cell_of, inside_at, is_inside, filled}
+use Rattle.scr_windows.specs.Sheets.{with_surface}
 use Rattle.scr_windows.specs.DeskViews.{DeskView, surface_at, window_at}
 use Rattle.scr_windows.specs.Calls.{write, marked}
 use Rattle.scr_windows.specs.Copying.{laid, part_laid, block_at, IsBlock}
 use Rattle.scr_windows.specs.Runs.{RunIs, Changes}
 use Rattle.scr_windows.proofs.ChangeLaws.{run_at}
 use Rattle.scr_windows.proofs.RunLaws.{then_run, unchanged}
+use Rattle.std.proofs.Common.{add_assoc, Ok, Err}
+use Rattle.std.specs.Prelude.{Result, MatchResult}
+use Rattle.scr_windows.specs.declared.frames.Frame.{Frame}
+use Rattle.scr_windows.specs.declared.sheets.Sheet.{Sheet}
+use Rattle.scr_windows.specs.DeskViews.{WindowView}
+use Rattle.scr_windows.specs.Reading.{at}
+use Rattle.scr_windows.proofs.DeskLaws.{Draws, Finds, draws_at}
 
 ap2 : {X Y Z : Type 0} (f : X → Y → Z) {a b : X} {c d : Y} → a ≡ b → c ≡ d → f a c ≡ f b d
 ap2 f p q = λ i. f (p i) (q i)
@@ -111,4 +119,21 @@ block_laid d i part overlay cells items f is h =
     cond_same (is_inside part r c) (laid overlay (block_at items part.columns (r - part.top) (c - part.left)) (at r c)) (laid overlay (f (r - part.top) (c - part.left)) (at r c)) (at r c) (λ t.
     let i = is_inside_tells part r c t in ap (λ cell. laid overlay cell (at r c)) (h.each (r - part.top) (c - part.left) (omega (arith, i.0, i.1)) (omega (arith, i.2, i.3))))) in
     ap (λ xs. write d i part.top (part.top + part.rows) (part_laid overlay part (block_at xs part.columns))) is
-    ∙ (λ j. record d { surfaces = slice_set d.surfaces (window_at d i).frame.surface (same j); windows = slice_set d.windows i (marked part.top (part.top + part.rows) true (window_at d i)) })
+    ∙ (λ j. record d { surfaces = with_surface (window_at d i).frame.surface (same j) d.surfaces; windows = slice_set d.windows i (marked part.top (part.top + part.rows) true (window_at d i)) })
+
+-- a part of an area is one of the surface
+pub part_within : (s : SurfaceView) (area : Area) (row column rows columns : ℕ) → IsPart s area → 1 ≤ rows → 1 ≤ columns → row + rows ≤ area.rows → column + columns ≤ area.columns
+    → IsPart s (record { top = area.top + row; left = area.left + column; rows = rows; columns = columns })
+part_within s area row column rows columns p h k below right = record { some_rows = h; some_columns = k; below = omega (arith, p.below); right = omega (arith, p.right) }
+
+-- the cells of a window from a row and a column on
+pub block_read : (d old : DeskView) (i k : ℕ) (w : WindowView) (frame : Frame) (sheet : Sheet) (items : List CellView) (row column rows columns : ℕ) → Draws d old i w frame → Finds d frame.surface k sheet
+    → IsBlock items rows columns (inside_at sheet.surface (record { top = frame.area.top + row; left = frame.area.left + column; rows = rows; columns = columns })) → IsBlock items rows columns (λ r c. at old i (row + r) (column + c))
+block_read d old i k w frame sheet items row column rows columns h f b = record {
+  many = b.many;
+  each = λ r c below right. b.each r c below right ∙ (λ j. cell_of sheet.surface (add_assoc frame.area.top row r j) (add_assoc frame.area.left column c j)) ∙ draws_at d old i k w frame sheet h f (row + r) (column + c);
+}
+
+pub match_mapped : {A E : Type 0} (r : Result A E) (P Q : A → Type 0) (F : E → Type 0) → ((a : A) → P a → Q a) → MatchResult r P F → MatchResult r Q F
+match_mapped (Ok a) P Q F f h = f a h
+match_mapped (Err e) P Q F f h = h

@@ -1,5 +1,5 @@
 -- Changes that keep a desk one.
-use Rattle.std.proofs.Common.{◌≡◌, ℕ, ◌-◌, ◌<◌, sym, subst, ◌∙◌, ap, refl, arith, List, [], ◌∷◌, zero, suc, length, map, get_or, Bool, cond, true}
+use Rattle.std.proofs.Common.{◌≡◌, ℕ, ◌-◌, ◌<◌, ◌≤◌, sym, subst, ◌∙◌, ap, refl, arith, List, [], ◌∷◌, zero, suc, length, map, get_or, Bool, cond, true}
 use Rattle.std.specs.Prelude.{slice_set}
 use Rattle.std.specs.List.{range_with_len}
 use Rattle.std.proofs.Math.Seq.{map-set_same}
@@ -11,9 +11,14 @@ use Rattle.scr_windows.specs.declared.areas.Area.{Area}
 use Rattle.scr_windows.specs.declared.frames.Frame.{Frame}
 use Rattle.scr_windows.specs.declared.frames.State.{State}
 use Rattle.scr_windows.specs.SurfaceViews.{SurfaceView, IsSurface, IsPart, cell_of, grid, filled, inside_at, is_inside}
-use Rattle.scr_windows.specs.DeskViews.{WindowView, DeskView, IsState, IsWindow, IsPlaced, AreFrames, IsDesk, window_at, surface_at, no_window, no_surface, no_frame, size_of, Placed}
+use Rattle.scr_windows.specs.DeskViews.{WindowView, DeskView, IsState, IsWindow, IsPlaced, AreFrames, IsDesk, window_at, AreAscending, surface_at, no_window, no_frame, Placed}
+use Rattle.scr_windows.specs.declared.sheets.Sheet.{Sheet}
+use Rattle.scr_windows.specs.Sheets.{HasSheet, no_sheet, size_on, with_surface}
+use Rattle.scr_windows.proofs.SheetLaws.{all_put, has_sheet, sheets_put, sizes_put, surface_found, surface_put}
+use Rattle.scr_windows.specs.declared.drawings.Drawing.{Drawing}
+use Rattle.scr_windows.specs.Drawings.{drawn, lines_drawn}
 use Rattle.scr_windows.specs.Calls.{fill, with_window, marked, marked_lines, write}
-use Rattle.scr_windows.specs.Reading.{row_at, contents}
+use Rattle.scr_windows.specs.Reading.{at, row_at, contents}
 use Rattle.scr_windows.specs.Lending.{LentView, lines_in}
 use Rattle.scr_windows.proofs.GridLaws.{grid_same}
 
@@ -23,6 +28,12 @@ length_map f (x ∷ xs) = ap suc (length_map f xs)
 
 abbrev pub frame_of : WindowView → Frame
 frame_of w = w.frame
+
+abbrev pub frame_number : Frame → ℕ
+frame_number frame = frame.number
+
+abbrev pub number_of : WindowView → ℕ
+number_of w = w.frame.number
 
 -- a filled surface is one, of the same size
 pub cell_of_grid : (rows columns : ℕ) (f : ℕ → ℕ → CellView) (r c : ℕ) → r < rows → c < columns → cell_of (record { rows = rows; columns = columns; lines = grid rows columns f }) r c ≡ f r c
@@ -38,7 +49,7 @@ filled_is_surface s area f h = record {
   whole = grid_same s.rows s.columns _ _ (λ r c b k. sym (cell_of_grid s.rows s.columns (λ r c. cond (is_inside area r c) (f (r - area.top) (c - area.left)) (cell_of s r c)) r c b k));
 }
 
-pub filled_size : (s : SurfaceView) (area : Area) (f : ℕ → ℕ → CellView) → size_of (filled s area f) ≡ size_of s
+pub filled_size : (s : SurfaceView) (area : Area) (f : ℕ → ℕ → CellView) → ◌≡◌ {A = ℕ × ℕ} ((filled s area f).rows, (filled s area f).columns) (s.rows, s.columns)
 unfolding filled
 filled_size s area f = refl
 
@@ -46,25 +57,19 @@ pub placed : (d : DeskView) (i : ℕ) → IsDesk d → i < length d.windows → 
 placed d i h l =
     let frame : Frame = (window_at d i).frame in
     let frames : length (map frame_of d.windows) ≡ length d.windows = length_map frame_of d.windows in
-    let sizes : length (map size_of d.surfaces) ≡ length d.surfaces = length_map size_of d.surfaces in
     let is : get_or (map frame_of d.windows) i no_frame ≡ frame = get_or-map frame_of d.windows i no_window no_frame l in
-    let P : Frame → Type 0 = λ f. IsPlaced d.rows d.columns (map size_of d.surfaces) f in
-    let p : IsPlaced d.rows d.columns (map size_of d.surfaces) frame = subst P is (h.frames.placed i no_frame (omega arith)) in
-    let on : frame.surface < length d.surfaces = omega (arith, p.surface) in
-    let size : get_or (map size_of d.surfaces) frame.surface (0, 0) ≡ size_of (surface_at d frame.surface) = get_or-map size_of d.surfaces frame.surface no_surface (0, 0) on in
+    let P : Frame → Type 0 = λ f. IsPlaced d.rows d.columns (size_on d.surfaces) f in
+    let p : IsPlaced d.rows d.columns (size_on d.surfaces) frame = subst P is (h.frames.placed i no_frame (omega arith)) in
+    let on : HasSheet d.surfaces frame.surface = has_sheet d.surfaces frame.surface (omega (arith, p.some_rows, p.below)) in
+    let S : SurfaceView → Type 0 = λ s. IsSurface s in
     record {
       here = l;
       window = h.windows i no_window l;
       surface = on;
-      whole = h.surfaces frame.surface no_surface on;
+      whole = subst S (surface_found d.surfaces frame.surface on.0 h.sheets on.1 on.2) (h.surfaces on.0 no_sheet on.1);
       screen = h.size;
       origin = p.origin;
-      part = record {
-        some_rows = p.some_rows;
-        some_columns = p.some_columns;
-        below = omega (arith, p.below, ap (λ (s : ℕ × ℕ). s.0) size);
-        right = omega (arith, p.right, ap (λ (s : ℕ × ℕ). s.1) size);
-      };
+      part = record { some_rows = p.some_rows; some_columns = p.some_columns; below = p.below; right = p.right };
     }
 
 -- a window gets another state, in the same frame
@@ -73,8 +78,10 @@ with_window_is_desk d i w h l same is = record {
   size = h.size;
   made = h.made;
   surfaces = h.surfaces;
+  sheets = h.sheets;
+  given = h.given;
   windows = All-set IsWindow d.windows i w is h.windows;
-  frames = (let P : List Frame → Type 0 = λ frames. AreFrames d.rows d.columns (map size_of d.surfaces) d.made frames in subst P (sym (map-set_same frame_of d.windows i w no_window same)) h.frames);
+  frames = (let P : List Frame → Type 0 = λ frames. AreFrames d.rows d.columns (size_on d.surfaces) d.made frames in subst P (sym (map-set_same frame_of d.windows i w no_window same)) h.frames);
 }
 
 -- the surface of a window is filled
@@ -84,13 +91,18 @@ fill_is_desk d i f h l =
     let k : ℕ = (window_at d i).frame.surface in
     let s : SurfaceView = surface_at d k in
     let a : Area = (window_at d i).frame.area in
-    let g : ℕ → ℕ → CellView = f (inside_at s a) in
+    let new : SurfaceView = filled s a (f (inside_at s a)) in
+    let sizes : (n : ℕ) → size_on (with_surface k new d.surfaces) n ≡ size_on d.surfaces n = sizes_put d.surfaces k new p.surface (filled_size s a (f (inside_at s a))) in
+    let P : (ℕ → ℕ × ℕ) → Type 0 = λ zs. AreFrames d.rows d.columns zs d.made (map frame_of d.windows) in
+    let same : size_on (with_surface k new d.surfaces) ≡ size_on d.surfaces = (λ j n. sizes n j) in
     record {
       size = h.size;
       made = h.made;
-      surfaces = All-set IsSurface d.surfaces k (filled s a g) (filled_is_surface s a g p.whole) h.surfaces;
+      surfaces = all_put (λ (sheet : Sheet). IsSurface sheet.surface) d.surfaces k new (λ sheet _. filled_is_surface s a (f (inside_at s a)) p.whole) h.surfaces;
+      sheets = sheets_put d.surfaces k new h.sheets;
+      given = all_put (λ (sheet : Sheet). sheet.number ≤ d.made) d.surfaces k new (λ sheet b. b) h.given;
       windows = h.windows;
-      frames = (let P : List (ℕ × ℕ) → Type 0 = λ sizes. AreFrames d.rows d.columns sizes d.made (map frame_of d.windows) in subst P (sym (map-set_same size_of d.surfaces k (filled s a g) no_surface (filled_size s a g))) h.frames);
+      frames = subst P (sym same) h.frames;
     }
 
 pub length-marked_lines : (first end : ℕ) (mark : Bool) (marks : List Bool) → length (marked_lines first end mark marks) ≡ length marks
@@ -111,6 +123,10 @@ Reads xs i x = x ≡ get_or xs i x
 
 pub reads_window : (d : DeskView) (i : ℕ) (w : WindowView) → Reads d.windows i w → i < length d.windows → w ≡ window_at d i
 reads_window d i w e h = e ∙ get_or_any d.windows i w no_window h
+
+-- what code knows of a window that it was lent
+pub reads_of : (d old : DeskView) (i : ℕ) (w : WindowView) → d ≡ old → i < length old.windows → w ≡ window_at old i → Reads d.windows i w
+reads_of d old i w is l e = e ∙ ap (λ v. window_at v i) (sym is) ∙ get_or_any d.windows i no_window w (omega (arith, l, ap (λ (v : DeskView). length v.windows) is))
 
 pub here_too : (d old : DeskView) (i : ℕ) → d ≡ old → i < length old.windows → i < length d.windows
 here_too d old i is h = omega (arith, h, ap (λ (v : DeskView). length v.windows) is)
@@ -156,58 +172,125 @@ pub record Draws (d old : DeskView) (i : ℕ) (w : WindowView) (frame : Frame) :
 frame_path : (d old : DeskView) (i : ℕ) (w : WindowView) (frame : Frame) → Draws d old i w frame → frame ≡ (window_at d i).frame
 frame_path d old i w frame h = h.frame_is ∙ ap frame_of (reads_window d i w h.window (here_too d old i h.is h.here))
 
-pub draws_on : (d old : DeskView) (i : ℕ) (w : WindowView) (frame : Frame) → Draws d old i w frame → frame.surface < length d.surfaces
+-- the surface of the window is there
+pub draws_on : (d old : DeskView) (i : ℕ) (w : WindowView) (frame : Frame) → Draws d old i w frame → HasSheet d.surfaces frame.surface
 draws_on d old i w frame h =
-    let P : Frame → Type 0 = λ f. f.surface < length d.surfaces in
+    let P : Frame → Type 0 = λ f. HasSheet d.surfaces f.surface in
     subst P (sym (frame_path d old i w frame h)) (placed d i h.desk (here_too d old i h.is h.here)).surface
 
-surface_path : (d old : DeskView) (i : ℕ) (w : WindowView) (frame : Frame) (s : SurfaceView) → Draws d old i w frame → Reads d.surfaces frame.surface s → s ≡ surface_at d (window_at d i).frame.surface
-surface_path d old i w frame s h r = r ∙ get_or_any d.surfaces frame.surface s no_surface (draws_on d old i w frame h) ∙ ap (λ (f : Frame). surface_at d f.surface) (frame_path d old i w frame h)
+-- what a drawing knows of the surface: where it was found, and what was read there
+pub record Finds (d : DeskView) (number k : ℕ) (sheet : Sheet) : Type 0 where
+  pub within : k < length d.surfaces
+  pub number_is : (get_or d.surfaces k no_sheet).number ≡ number
+  pub sheet_is : Reads d.surfaces k sheet
 
-pub draws_part : (d old : DeskView) (i : ℕ) (w : WindowView) (frame : Frame) (s : SurfaceView) → Draws d old i w frame → Reads d.surfaces frame.surface s → IsPart s frame.area
-draws_part d old i w frame s h r =
+pub found : (d : DeskView) (items : List Sheet) (number k : ℕ) (sheet : Sheet) → items ≡ d.surfaces → k < length items → (get_or items k no_sheet).number ≡ number → Reads d.surfaces k sheet → Finds d number k sheet
+found d items number k sheet is l e r =
+    let P : List Sheet → Type 0 = λ ss. (k < length ss) × ((get_or ss k no_sheet).number ≡ number) in
+    let at = subst P is (l, e) in
+    record { within = at.0; number_is = at.1; sheet_is = r }
+
+-- what the search for the surface asks
+pub can_find : (d old : DeskView) (i : ℕ) (w : WindowView) (frame : Frame) (items : List Sheet) → Draws d old i w frame → items ≡ d.surfaces → HasSheet items frame.surface
+can_find d old i w frame items h is =
+    let P : List Sheet → Type 0 = λ ss. HasSheet ss frame.surface in
+    subst P (sym is) (draws_on d old i w frame h)
+
+sheet_path : (d : DeskView) (number k : ℕ) (sheet : Sheet) → Finds d number k sheet → sheet ≡ get_or d.surfaces k no_sheet
+sheet_path d number k sheet f = f.sheet_is ∙ get_or_any d.surfaces k sheet no_sheet f.within
+
+surface_path : (d old : DeskView) (i k : ℕ) (w : WindowView) (frame : Frame) (sheet : Sheet) → Draws d old i w frame → Finds d frame.surface k sheet → sheet.surface ≡ surface_at d (window_at d i).frame.surface
+surface_path d old i k w frame sheet h f =
+    ap (λ (s : Sheet). s.surface) (sheet_path d frame.surface k sheet f) ∙ surface_found d.surfaces frame.surface k h.desk.sheets f.within f.number_is ∙ ap (λ (g : Frame). surface_at d g.surface) (frame_path d old i w frame h)
+
+pub draws_part : (d old : DeskView) (i k : ℕ) (w : WindowView) (frame : Frame) (sheet : Sheet) → Draws d old i w frame → Finds d frame.surface k sheet → IsPart sheet.surface frame.area
+draws_part d old i k w frame sheet h f =
     let P : SurfaceView → Type 0 = λ v. IsPart v frame.area in
-    let Q : Frame → Type 0 = λ f. IsPart (surface_at d (window_at d i).frame.surface) f.area in
-    subst P (sym (surface_path d old i w frame s h r)) (subst Q (sym (frame_path d old i w frame h)) (placed d i h.desk (here_too d old i h.is h.here)).part)
+    let Q : Frame → Type 0 = λ g. IsPart (surface_at d (window_at d i).frame.surface) g.area in
+    subst P (sym (surface_path d old i k w frame sheet h f)) (subst Q (sym (frame_path d old i w frame h)) (placed d i h.desk (here_too d old i h.is h.here)).part)
 
-pub draws_whole : (d old : DeskView) (i : ℕ) (w : WindowView) (frame : Frame) (s : SurfaceView) → Draws d old i w frame → Reads d.surfaces frame.surface s → IsSurface s
-draws_whole d old i w frame s h r =
+pub draws_whole : (d old : DeskView) (i k : ℕ) (w : WindowView) (frame : Frame) (sheet : Sheet) → Draws d old i w frame → Finds d frame.surface k sheet → IsSurface sheet.surface
+draws_whole d old i k w frame sheet h f =
     let P : SurfaceView → Type 0 = λ v. IsSurface v in
-    subst P (sym (surface_path d old i w frame s h r)) (placed d i h.desk (here_too d old i h.is h.here)).whole
+    subst P (sym (surface_path d old i k w frame sheet h f)) (placed d i h.desk (here_too d old i h.is h.here)).whole
 
-pub drawn : (d old : DeskView) (i : ℕ) (w m : WindowView) (frame : Frame) (s t : SurfaceView) (first end : ℕ) (f : (ℕ → ℕ → CellView) → ℕ → ℕ → CellView)
-    → Draws d old i w frame → Reads d.surfaces frame.surface s → m ≡ marked first end true w → t ≡ filled s frame.area (f (inside_at s frame.area))
-    → IsDesk (record d { surfaces = slice_set d.surfaces frame.surface t; windows = slice_set d.windows i m })
-drawn d old i w m frame s t first end f h r marks cells =
+-- the desk after lines were marked and the surface was filled
+pub written_path : (d old : DeskView) (i k : ℕ) (w m : WindowView) (frame : Frame) (sheet new : Sheet) (t : SurfaceView) (first end : ℕ) (f : (ℕ → ℕ → CellView) → ℕ → ℕ → CellView)
+    → Draws d old i w frame → Finds d frame.surface k sheet → m ≡ marked first end true w → t ≡ filled sheet.surface frame.area (f (inside_at sheet.surface frame.area)) → new ≡ record sheet { surface = t }
+    → record d { surfaces = slice_set d.surfaces k new; windows = slice_set d.windows i m } ≡ write d i first end f
+written_path d old i k w m frame sheet new t first end f h r marks cells new_is =
     let here : i < length d.windows = here_too d old i h.is h.here in
     let at : w ≡ window_at d i = reads_window d i w h.window here in
     let frames : frame ≡ (window_at d i).frame = frame_path d old i w frame h in
-    let surfaces : s ≡ surface_at d (window_at d i).frame.surface = surface_path d old i w frame s h r in
+    let surfaces : sheet.surface ≡ surface_at d (window_at d i).frame.surface = surface_path d old i k w frame sheet h r in
     let windows_is : m ≡ marked first end true (window_at d i) = marks ∙ ap (marked first end true) at in
     let cells_is : t ≡ filled (surface_at d (window_at d i).frame.surface) (window_at d i).frame.area (f (inside_at (surface_at d (window_at d i).frame.surface) (window_at d i).frame.area))
     = cells ∙ (λ j. filled (surfaces j) (frames j).area (f (inside_at (surfaces j) (frames j).area))) in
-    let whole : record d { surfaces = slice_set d.surfaces frame.surface t; windows = slice_set d.windows i m } ≡ write d i first end f
-    = (λ j. record d { surfaces = slice_set d.surfaces (frames j).surface (cells_is j); windows = slice_set d.windows i (windows_is j) }) in
-    let P : DeskView → Type 0 = λ v. IsDesk v in
-    subst P (sym whole) (with_window_is_desk (fill d i f) i (marked first end true (window_at d i)) (fill_is_desk d i f h.desk here) here refl (marked_is_window first end true _ (placed d i h.desk here).window))
+    let found : sheet ≡ get_or d.surfaces k no_sheet = sheet_path d frame.surface k sheet r in
+    let put : slice_set d.surfaces k new ≡ with_surface frame.surface t d.surfaces
+    = surface_put d.surfaces frame.surface k t new h.desk.sheets r.within r.number_is (new_is ∙ (λ j. record (found j) { surface = t })) in
+    let sheets : slice_set d.surfaces k new ≡ with_surface (window_at d i).frame.surface (filled (surface_at d (window_at d i).frame.surface) (window_at d i).frame.area (f (inside_at (surface_at d (window_at d i).frame.surface) (window_at d i).frame.area))) d.surfaces
+    = put ∙ (λ j. with_surface (frames j).surface (cells_is j) d.surfaces) in
+    (λ j. record d { surfaces = sheets j; windows = slice_set d.windows i (windows_is j) })
 
-pub draws_row : (d old : DeskView) (i : ℕ) (w : WindowView) (frame : Frame) (s : SurfaceView) → Draws d old i w frame → Reads d.surfaces frame.surface s → (row : ℕ)
-    → map (inside_at s frame.area row) (range_with_len 0 frame.area.columns) ≡ row_at old i row
-draws_row d old i w frame s h r row =
+pub drawn_is_desk : (d old : DeskView) (i k : ℕ) (w m : WindowView) (frame : Frame) (sheet new : Sheet) (t : SurfaceView) (first end : ℕ) (f : (ℕ → ℕ → CellView) → ℕ → ℕ → CellView)
+    → Draws d old i w frame → Finds d frame.surface k sheet → m ≡ marked first end true w → t ≡ filled sheet.surface frame.area (f (inside_at sheet.surface frame.area)) → new ≡ record sheet { surface = t }
+    → IsDesk (record d { surfaces = slice_set d.surfaces k new; windows = slice_set d.windows i m })
+drawn_is_desk d old i k w m frame sheet new t first end f h r marks cells new_is =
+    let here : i < length d.windows = here_too d old i h.is h.here in
+    let P : DeskView → Type 0 = λ v. IsDesk v in
+    subst P (sym (written_path d old i k w m frame sheet new t first end f h r marks cells new_is))
+    (with_window_is_desk (fill d i f) i (marked first end true (window_at d i)) (fill_is_desk d i f h.desk here) here refl (marked_is_window first end true _ (placed d i h.desk here).window))
+
+-- a drawing is the definition
+pub drawing_path : (d old : DeskView) (i k : ℕ) (w m : WindowView) (frame : Frame) (sheet new : Sheet) (t : SurfaceView) (lines : ℕ × ℕ) (drawing : Drawing) → Draws d old i w frame → Finds d frame.surface k sheet → lines ≡ lines_drawn drawing frame.area.rows
+    → m ≡ marked lines.0 lines.1 true w → t ≡ filled sheet.surface frame.area (drawn drawing frame.area.rows frame.area.columns (inside_at sheet.surface frame.area)) → new ≡ record sheet { surface = t }
+    → record d { surfaces = slice_set d.surfaces k new; windows = slice_set d.windows i m }
+    ≡ write old i (lines_drawn drawing (window_at old i).frame.area.rows).0 (lines_drawn drawing (window_at old i).frame.area.rows).1 (drawn drawing (window_at old i).frame.area.rows (window_at old i).frame.area.columns)
+drawing_path d old i k w m frame sheet new t lines drawing h r lines_is marks cells new_is =
     let frames : frame ≡ (window_at d i).frame = frame_path d old i w frame h in
-    let surfaces : s ≡ surface_at d (window_at d i).frame.surface = surface_path d old i w frame s h r in
-    let here : map (inside_at s frame.area row) (range_with_len 0 frame.area.columns) ≡ row_at d i row = (λ j. map (inside_at (surfaces j) (frames j).area row) (range_with_len 0 (frames j).area.columns)) in
+    let all : lines ≡ lines_drawn drawing (window_at d i).frame.area.rows = lines_is ∙ ap (λ (f : Frame). lines_drawn drawing f.area.rows) frames in
+    let here : write d i lines.0 lines.1 (drawn drawing frame.area.rows frame.area.columns)
+    ≡ write d i (lines_drawn drawing (window_at d i).frame.area.rows).0 (lines_drawn drawing (window_at d i).frame.area.rows).1 (drawn drawing (window_at d i).frame.area.rows (window_at d i).frame.area.columns)
+    = (λ j. write d i (all j).0 (all j).1 (drawn drawing (frames j).area.rows (frames j).area.columns)) in
+    written_path d old i k w m frame sheet new t lines.0 lines.1 (drawn drawing frame.area.rows frame.area.columns) h r marks cells new_is
+    ∙ here
+    ∙ ap (λ v. write v i (lines_drawn drawing (window_at v i).frame.area.rows).0 (lines_drawn drawing (window_at v i).frame.area.rows).1 (drawn drawing (window_at v i).frame.area.rows (window_at v i).frame.area.columns)) h.is
+
+pub draws_at : (d old : DeskView) (i k : ℕ) (w : WindowView) (frame : Frame) (sheet : Sheet) → Draws d old i w frame → Finds d frame.surface k sheet → (r c : ℕ) → inside_at sheet.surface frame.area r c ≡ at old i r c
+draws_at d old i k w frame sheet h f r c =
+    let frames : frame ≡ (window_at d i).frame = frame_path d old i w frame h in
+    let surfaces : sheet.surface ≡ surface_at d (window_at d i).frame.surface = surface_path d old i k w frame sheet h f in
+    let here : inside_at sheet.surface frame.area r c ≡ at d i r c = (λ j. inside_at (surfaces j) (frames j).area r c) in
+    here ∙ ap (λ v. at v i r c) h.is
+
+pub draws_row : (d old : DeskView) (i k : ℕ) (w : WindowView) (frame : Frame) (sheet : Sheet) → Draws d old i w frame → Finds d frame.surface k sheet → (row : ℕ)
+    → map (inside_at sheet.surface frame.area row) (range_with_len 0 frame.area.columns) ≡ row_at old i row
+draws_row d old i k w frame sheet h r row =
+    let frames : frame ≡ (window_at d i).frame = frame_path d old i w frame h in
+    let surfaces : sheet.surface ≡ surface_at d (window_at d i).frame.surface = surface_path d old i k w frame sheet h r in
+    let here : map (inside_at sheet.surface frame.area row) (range_with_len 0 frame.area.columns) ≡ row_at d i row = (λ j. map (inside_at (surfaces j) (frames j).area row) (range_with_len 0 (frames j).area.columns)) in
     here ∙ ap (λ v. row_at v i row) h.is
+
+pub draws_contents : (d old : DeskView) (i k : ℕ) (w : WindowView) (frame : Frame) (sheet : Sheet) → Draws d old i w frame → Finds d frame.surface k sheet
+    → record { window = w; lines = lines_in sheet.surface w.frame.area } ≡ contents old i
+draws_contents d old i k w frame sheet h r =
+    let at : w ≡ window_at d i = reads_window d i w h.window (here_too d old i h.is h.here) in
+    let surfaces : sheet.surface ≡ surface_at d (window_at d i).frame.surface = surface_path d old i k w frame sheet h r in
+    let here : record { window = w; lines = lines_in sheet.surface w.frame.area } ≡ contents d i = (λ j. record { window = at j; lines = lines_in (surfaces j) (at j).frame.area }) in
+    here ∙ ap (λ v. contents v i) h.is
 
 pub placed_by : (d old : DeskView) (i : ℕ) → d ≡ old → IsDesk d → i < length old.windows → Placed old i
 placed_by d old i is h l =
     let P : DeskView → Type 0 = λ v. Placed v i in
     subst P is (placed d i h (here_too d old i is l))
 
-pub draws_contents : (d old : DeskView) (i : ℕ) (w : WindowView) (frame : Frame) (s : SurfaceView) → Draws d old i w frame → Reads d.surfaces frame.surface s
-    → record { window = w; lines = lines_in s w.frame.area } ≡ contents old i
-draws_contents d old i w frame s h r =
-    let at : w ≡ window_at d i = reads_window d i w h.window (here_too d old i h.is h.here) in
-    let surfaces : s ≡ surface_at d (window_at d i).frame.surface = surface_path d old i w frame s h r in
-    let here : record { window = w; lines = lines_in s w.frame.area } ≡ contents d i = (λ j. record { window = at j; lines = lines_in (surfaces j) (at j).frame.area }) in
-    here ∙ ap (λ v. contents v i) h.is
+
+-- the windows of a desk stand by ascending numbers
+pub desk_ascends : (d : DeskView) → IsDesk d → AreAscending d.windows
+desk_ascends d h i j e less l =
+    let many : length (map frame_of d.windows) ≡ length d.windows = length_map frame_of d.windows in
+    let up = h.frames.ascending i j less (omega (arith, many)) in
+    let x : get_or (map frame_of d.windows) i no_frame ≡ (get_or d.windows i e).frame = get_or-map frame_of d.windows i e no_frame (omega arith) in
+    let y : get_or (map frame_of d.windows) j no_frame ≡ (get_or d.windows j e).frame = get_or-map frame_of d.windows j e no_frame l in
+    omega (arith, up, ap frame_number x, ap frame_number y)

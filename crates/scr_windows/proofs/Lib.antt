@@ -14,5 +14,6 @@ pub mod NumberLaws
 pub mod ReadingLaws
 pub mod RemovingLaws
 pub mod RunLaws
+pub mod SheetLaws
 pub mod ShiftLaws
 pub mod SyncLaws

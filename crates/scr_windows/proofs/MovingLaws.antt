@@ -10,7 +10,8 @@ use Rattle.scr_windows.specs.declared.areas.Area.{Area}
 use Rattle.scr_windows.specs.declared.frames.Frame.{Frame}
 use Rattle.scr_windows.specs.declared.moving.Shift.{Shift}
 use Rattle.scr_windows.specs.declared.moving.Shift.TheVariants.{Screen, Surface}
-use Rattle.scr_windows.specs.DeskViews.{WindowView, DeskView, IsWindow, AreFrames, IsDesk, Placed, window_at, no_window, no_frame, size_of}
+use Rattle.scr_windows.specs.DeskViews.{WindowView, DeskView, IsWindow, AreFrames, IsDesk, Placed, window_at, no_window, no_frame}
+use Rattle.scr_windows.specs.Sheets.{size_on}
 use Rattle.scr_windows.specs.Moving.{IsNear, IsNearFrame, IsNearShift, IsShift, descends, family_frame, from_parent, family_shifted, link_of}
 use Rattle.scr_windows.proofs.DeskLaws.{Reads, reads_window, here_too, placed, length_map, frame_of}
 use Rattle.scr_windows.proofs.FrameLaws.{map_reframed, reframed, reframed_more, was_found}
@@ -55,16 +56,18 @@ family_is_desk d i shift h l s =
     let B : Frame → Type 0 = λ f. Begins shift f in
     let E : Frame → Type 0 = λ f. FitsScreen d.rows d.columns shift f in
     let S : Frame → Type 0 = λ f. Stays frames shift f in
-    let after : AreFrames d.rows d.columns (map size_of d.surfaces) d.made (map (family_frame (map frame_link frames) (length frames) (get_or frames i no_frame).number shift) frames)
-    = frames_moved d.rows d.columns (map size_of d.surfaces) d.made frames i shift h.frames (omega (arith, l, many)) (subst B (sym at) (shift_begins d i shift s)) (subst E (sym at) (shift_fits d i shift s)) (subst S (sym at) (shift_stays d i shift s)) in
+    let after : AreFrames d.rows d.columns (size_on d.surfaces) d.made (map (family_frame (map frame_link frames) (length frames) (get_or frames i no_frame).number shift) frames)
+    = frames_moved d.rows d.columns (size_on d.surfaces) d.made frames i shift h.frames (omega (arith, l, many)) (subst B (sym at) (shift_begins d i shift s)) (subst E (sym at) (shift_fits d i shift s)) (subst S (sym at) (shift_stays d i shift s)) in
     let turn : Frame → Frame = family_frame (map link_of d.windows) (length d.windows) number shift in
     let whole : map frame_of (family_shifted number shift d.windows) ≡ map (family_frame (map frame_link frames) (length frames) (get_or frames i no_frame).number shift) frames
     = map_reframed turn d.windows ∙ (λ j. map (family_frame (map_links d.windows j) (sym many j) (sym at j).number shift) frames) in
-    let P : List Frame → Type 0 = λ fs. AreFrames d.rows d.columns (map size_of d.surfaces) d.made fs in
+    let P : List Frame → Type 0 = λ fs. AreFrames d.rows d.columns (size_on d.surfaces) d.made fs in
     record {
       size = h.size;
       made = h.made;
       surfaces = h.surfaces;
+      sheets = h.sheets;
+      given = h.given;
       windows = All-map IsWindow (reframed turn) d.windows (λ k e b. window_turned (get_or d.windows k e) (descends (map link_of d.windows) number (length d.windows) (get_or d.windows k e).frame.number) shift (h.windows k e b));
       frames = subst P (sym whole) after;
     }

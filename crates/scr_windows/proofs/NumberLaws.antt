@@ -1,24 +1,24 @@
--- Where the window of a number stands among windows by ascending numbers.
-use Rattle.std.proofs.Common.{◌≡◌, ◌≢◌, ◌⊎◌, inl, inr, ℕ, ◌<◌, ◌≤◌, sym, ap, ◌∙◌, arith, List, length, map, get_or, Option, None, Some, Bool, true, false, cond, ltb, ◌==◌}
-use Rattle.std.specs.List.{position, position_or_len}
+-- Where the one of a number stands among things by ascending numbers: windows and surfaces.
+use Rattle.std.proofs.Common.{◌≡◌, ◌≢◌, ◌⊎◌, inl, inr, ℕ, ◌+◌, ◌<◌, ◌≤◌, sym, subst, ap, ◌∙◌, refl, arith, List, [], ◌∷◌, zero, suc, length, map, get_or, Option, None, Some, Bool, true, false, cond, ltb, ◌==◌}
+use Rattle.std.specs.Prelude.{filter, not}
+use Rattle.std.specs.List.{AllPairs, position, position_or_len}
 use Rattle.std.specs.List.Sorted.{IsNonDecreasingBy, IsPartitionedBy, IsPartitionPoint}
 use Rattle.std.proofs.lemmas.Bool.Decides.{nat_tests}
 use Rattle.std.proofs.lemmas.List.Sorted.{IsPartitionedBy-ltb}
 use Rattle.std.proofs.lemmas.List.Sums.{position_or_len_is}
 use Rattle.std.proofs.lemmas.List.{get_or-map, get_or_default}
-use Rattle.scr_windows.specs.declared.frames.Frame.{Frame}
-use Rattle.scr_windows.specs.DeskViews.{WindowView, DeskView, IsDesk, AreAscending, no_window, no_frame}
-use Rattle.scr_windows.proofs.DeskLaws.{frame_of, length_map}
 
-abbrev pub number_of : WindowView → ℕ
-number_of w = w.frame.number
+-- numbers ascend
+abbrev pub Rises : {X : Type 0} → (X → ℕ) → List X → Type 0
+Rises n xs = AllPairs (λ x y. n x < n y) xs
 
--- a window is the one of this number, or is before it
-abbrev pub is_of : ℕ → WindowView → Bool
-is_of number w = w.frame.number == number
+-- one is before a number
+abbrev pub is_before : {X : Type 0} → (X → ℕ) → ℕ → X → Bool
+is_before n number x = ltb (n x) number
 
-abbrev pub is_before : ℕ → WindowView → Bool
-is_before number w = ltb w.frame.number number
+-- where the search for a number ends
+abbrev pub IsEnd : {X : Type 0} → (X → ℕ) → ℕ → List X → ℕ → Type 0
+IsEnd n number xs i = IsPartitionPoint (λ x. is_before n number x ≡ true) (λ x. is_before n number x ≡ false) xs i
 
 less_or_same : (i k : ℕ) → i ≤ k → (i < k) ⊎ (i ≡ k)
 less_or_same i k le = grind arith
@@ -26,14 +26,14 @@ less_or_same i k le = grind arith
 less_or_from : (i k : ℕ) → (k < i) ⊎ (i ≤ k)
 less_or_from i k = grind arith
 
-pub are_partitioned : (ws : List WindowView) (number : ℕ) → AreAscending ws → IsPartitionedBy (is_before number) ws
-are_partitioned ws number h = IsPartitionedBy-ltb number_of ws number rising
-  where
-    rising : IsNonDecreasingBy number_of ws
-    rising i j d le l = rises i j le (λ less. h i j d less l)
-      where
-        rises : (i j : ℕ) → i ≤ j → (i < j → number_of (get_or ws i d) < number_of (get_or ws j d)) → number_of (get_or ws i d) ≤ number_of (get_or ws j d)
-        rises i j le f = elim (less_or_same i j le) [ | inl b ↦ (let k = f b in omega (arith, k)) | inr e ↦ (let k = ap (λ n. number_of (get_or ws n d)) e in omega (arith, k)) ]
+rises_to : {X : Type 0} (n : X → ℕ) (xs : List X) → Rises n xs → (i k : ℕ) (d : X) → i ≤ k → k < length xs → n (get_or xs i d) ≤ n (get_or xs k d)
+rises_to n xs up i k d le l = elim (less_or_same i k le) [
+  | inl less ↦ (let more = up i k d less l in omega (arith, more))
+  | inr e ↦ (let same = ap (λ m. n (get_or xs m d)) e in omega (arith, same))
+]
+
+pub are_partitioned : {X : Type 0} (n : X → ℕ) (xs : List X) (number : ℕ) → Rises n xs → IsPartitionedBy (is_before n number) xs
+are_partitioned n xs number up = IsPartitionedBy-ltb n xs number (λ i k d le l. rises_to n xs up i k d le l)
 
 not_of : (number a : ℕ) → ltb a number ≡ true → (a == number) ≡ false
 not_of number a h = grind (arith, nat_tests)
@@ -41,62 +41,89 @@ not_of number a h = grind (arith, nat_tests)
 not_before : (number a : ℕ) → ltb a number ≡ false → number ≤ a
 not_before number a h = grind (arith, nat_tests)
 
-above : (number a : ℕ) → number ≤ a → a ≢ number → number < a
-above number a h k = grind arith
+before : (number a : ℕ) → ltb a number ≡ true → a < number
+before number a h = grind (arith, nat_tests)
 
 greater : (number a : ℕ) → number < a → (a == number) ≡ false
 greater number a h = grind (arith, nat_tests)
 
-is_it : (number a : ℕ) → a ≡ number → (a == number) ≡ true
+pub is_it : (number a : ℕ) → a ≡ number → (a == number) ≡ true
 is_it number a h = grind (arith, nat_tests)
 
-none : (n m : ℕ) → n ≡ m → cond (ltb n m) (Some n) None ≡ None
-none n m e = ap (λ b. cond b (Some n) None) (same n m e)
+pub is_not : (number a : ℕ) → a ≢ number → (a == number) ≡ false
+is_not number a h = grind (arith, nat_tests)
+
+pub equal : (a b : ℕ) → (a == b) ≡ true → a ≡ b
+equal a b h = grind (arith, nat_tests)
+
+pub differs : (a b : ℕ) → (a == b) ≡ false → a ≢ b
+differs a b h = λ e. (let z : ⊥ = grind (arith, nat_tests) in z)
+
+none : (k m : ℕ) → k ≡ m → cond (ltb k m) (Some k) None ≡ None
+none k m e = ap (λ b. cond b (Some k) None) (same k m e)
   where
     same : (a b : ℕ) → a ≡ b → ltb a b ≡ false
     same a b h = grind (arith, nat_tests)
 
-some : (n m i : ℕ) → n ≡ i → i < m → cond (ltb n m) (Some n) None ≡ Some i
-some n m i e h = ap (λ k. cond (ltb k m) (Some k) None) e ∙ ap (λ b. cond b (Some i) None) (less i m h)
+some : (k m i : ℕ) → k ≡ i → i < m → cond (ltb k m) (Some k) None ≡ Some i
+some k m i e h = ap (λ v. cond (ltb v m) (Some v) None) e ∙ ap (λ b. cond b (Some i) None) (less i m h)
   where
     less : (a b : ℕ) → a < b → ltb a b ≡ true
     less a b h = grind (arith, nat_tests)
 
-pub found_at : (ws : List WindowView) (number i : ℕ) → IsPartitionPoint (λ w. is_before number w ≡ true) (λ w. is_before number w ≡ false) ws i → i < length ws
-    → (get_or ws i no_window).frame.number ≡ number → Some i ≡ position (is_of number) ws
-found_at ws number i h l e =
-    let first : position_or_len (is_of number) ws ≡ i = position_or_len_is (is_of number) ws i no_window (omega arith) (λ k b. not_of number _ (h.0 k no_window (omega arith) b)) (λ _. is_it number _ e) in
-    sym (some (position_or_len (is_of number) ws) (length ws) i first l)
+pub found_at : {X : Type 0} (n : X → ℕ) (xs : List X) (number i : ℕ) (d : X) → IsEnd n number xs i → i < length xs → n (get_or xs i d) ≡ number → Some i ≡ position (λ x. n x == number) xs
+found_at {X} n xs number i d h l e =
+    let p : X → Bool = λ x. n x == number in
+    let first : position_or_len p xs ≡ i = position_or_len_is p xs i d (omega arith) (λ k b. not_of number _ (h.0 k d (omega arith) b)) (λ _. is_it number _ e) in
+    sym (some (position_or_len p xs) (length xs) i first l)
 
-pub absent_at : (ws : List WindowView) (number i : ℕ) → AreAscending ws → IsPartitionPoint (λ w. is_before number w ≡ true) (λ w. is_before number w ≡ false) ws i
-    → (i < length ws → number_of (get_or ws i no_window) ≢ number) → None ≡ position (is_of number) ws
-absent_at ws number i up h other =
-    let first : position_or_len (is_of number) ws ≡ length ws = position_or_len_is (is_of number) ws (length ws) no_window (omega arith) fails (λ l. absurd (omega arith)) in
-    sym (none (position_or_len (is_of number) ws) (length ws) first)
+pub absent_at : {X : Type 0} (n : X → ℕ) (xs : List X) (number i : ℕ) (d : X) → Rises n xs → IsEnd n number xs i → (i < length xs → n (get_or xs i d) ≢ number) → None ≡ position (λ x. n x == number) xs
+absent_at {X} n xs number i d up h other =
+    let p : X → Bool = λ x. n x == number in
+    let first : position_or_len p xs ≡ length xs = position_or_len_is p xs (length xs) d (omega arith) fails (λ l. absurd (omega arith)) in
+    sym (none (position_or_len p xs) (length xs) first)
   where
-    beyond : (k : ℕ) → i ≤ k → k < length ws → number < number_of (get_or ws i no_window) → number < number_of (get_or ws k no_window)
-    beyond k le l b = elim (less_or_same i k le) [
-      | inl less ↦ (let more = up i k no_window less l in omega (arith, more))
-      | inr e ↦ (let same = ap (λ n. number_of (get_or ws n no_window)) e in omega (arith, same))
-    ]
+    above : (a : ℕ) → number ≤ a → a ≢ number → number < a
+    above a h k = grind arith
 
-    fails : (k : ℕ) → k < length ws → is_of number (get_or ws k no_window) ≡ false
+    fails : (k : ℕ) → k < length xs → (n (get_or xs k d) == number) ≡ false
     fails k l = elim (less_or_from i k) [
-      | inl b ↦ not_of number _ (h.0 k no_window (omega arith) b)
-      | inr from ↦ (let at : i < length ws = omega arith in
-          let over : number < number_of (get_or ws i no_window) = above number _ (not_before number _ (h.1 i no_window (omega arith) at)) (other at) in
-          greater number _ (beyond k from l over))
+      | inl b ↦ not_of number _ (h.0 k d (omega arith) b)
+      | inr from ↦ (let at : i < length xs = omega arith in
+          let over : number < n (get_or xs i d) = above _ (not_before number _ (h.1 i d (omega arith) at)) (other at) in
+          let up' = rises_to n xs up i k d from l in
+          greater number _ (omega (arith, over, up')))
     ]
 
--- the number that code reads of the window at a place
-pub read_number : (ws : List WindowView) (i : ℕ) (w : WindowView) (frame : Frame) → i < length ws → w ≡ get_or ws i w → frame ≡ w.frame → number_of (get_or ws i no_window) ≡ frame.number
-read_number ws i w frame l w_is frame_is = ap number_of (get_or_default ws i no_window w l ∙ sym w_is) ∙ ap (λ (f : Frame). f.number) (sym frame_is)
+-- where one has the number, the search ends at it
+pub ends_there : {X : Type 0} (n : X → ℕ) (xs : List X) (number i k : ℕ) (d : X) → Rises n xs → IsEnd n number xs i → k < length xs → n (get_or xs k d) ≡ number → (i < length xs) × (n (get_or xs i d) ≡ number)
+ends_there n xs number i k d up h l e = elim (less_or_from i k) [
+  | inl b ↦ absurd (let less = before number _ (h.0 k d (omega arith) b) in omega (arith, less, e))
+  | inr from ↦ (let at : i < length xs = omega arith in
+      let low = not_before number _ (h.1 i d (omega arith) at) in
+      let high = rises_to n xs up i k d from l in
+      (at, omega (arith, low, high, e)))
+]
 
--- the windows of a desk stand by ascending numbers
-pub desk_ascends : (d : DeskView) → IsDesk d → AreAscending d.windows
-desk_ascends d h i j e less l =
-    let many : length (map frame_of d.windows) ≡ length d.windows = length_map frame_of d.windows in
-    let up = h.frames.ascending i j less (omega (arith, many)) in
-    let x : get_or (map frame_of d.windows) i no_frame ≡ (get_or d.windows i e).frame = get_or-map frame_of d.windows i e no_frame (omega arith) in
-    let y : get_or (map frame_of d.windows) j no_frame ≡ (get_or d.windows j e).frame = get_or-map frame_of d.windows j e no_frame l in
-    omega (arith, up, ap (λ (f : Frame). f.number) x, ap (λ (f : Frame). f.number) y)
+-- what code reads at a place
+pub read_number : {X Y : Type 0} (n : X → ℕ) (m : Y → ℕ) (g : X → Y) → ((x : X) → m (g x) ≡ n x) → (xs : List X) (i : ℕ) (x d : X) (y : Y) → i < length xs → x ≡ get_or xs i x → y ≡ g x → n (get_or xs i d) ≡ m y
+read_number n m g same xs i x d y l x_is y_is = ap n (get_or_default xs i d x l ∙ sym x_is) ∙ sym (same x) ∙ ap m (sym y_is)
+
+-- what passes a test stands among those that pass
+pub kept_in_filter : {X : Type 0} (p : X → Bool) (xs : List X) (k : ℕ) (d : X) → k < length xs → p (get_or xs k d) ≡ true → (m : ℕ) × (m < length (filter p xs)) × (get_or (filter p xs) m d ≡ get_or xs k d)
+kept_in_filter p [] k d l h = absurd (omega (arith, l))
+kept_in_filter {X} p (x ∷ xs) zero d l h = let P : List X → Type 0 = λ ys. (m : ℕ) × (m < length ys) × (get_or ys m d ≡ x) in subst P (sym (ap (λ b. cond b (x ∷ filter p xs) (filter p xs)) h)) (zero, omega arith, refl)
+kept_in_filter {X} p (x ∷ xs) (suc k) d l h = more (p x) (kept_in_filter p xs k d (omega (arith, l)) h)
+  where
+    more : (b : Bool) → ((m : ℕ) × (m < length (filter p xs)) × (get_or (filter p xs) m d ≡ get_or xs k d)) → (m : ℕ) × (m < length (cond b (x ∷ filter p xs) (filter p xs))) × (get_or (cond b (x ∷ filter p xs) (filter p xs)) m d ≡ get_or xs k d)
+    more true at = (suc at.0, omega (arith, at.1), at.2)
+    more false at = at
+
+-- what is made of those that pass a test of what is made of them
+pub map-filter : {X Y : Type 0} (f : X → Y) (p : Y → Bool) (xs : List X) → map f (filter (λ x. p (f x)) xs) ≡ filter p (map f xs)
+map-filter f p [] = refl
+map-filter {X} {Y} f p (x ∷ xs) = one (p (f x)) (map-filter f p xs)
+  where
+    one : (b : Bool) → map f (filter (λ x. p (f x)) xs) ≡ filter p (map f xs) → map f (cond b (x ∷ filter (λ x. p (f x)) xs) (filter (λ x. p (f x)) xs)) ≡ cond b (f x ∷ filter p (map f xs)) (filter p (map f xs))
+    one true rest = ap (λ ys. f x ∷ ys) rest
+    one false rest = rest

@@ -1,62 +1,50 @@
--- A window less keeps a desk one, and a surface less that no window is on.
-use Rattle.std.proofs.Common.{◌≡◌, ◌≢◌, ◌⊎◌, inl, inr, ℕ, ◌+◌, ◌-◌, ◌<◌, ◌≤◌, sym, subst, ◌∙◌, ap, refl, arith, List, [], ◌∷◌, ◌++◌, suc, length, map, take, drop, get_or, Option, None, Some, Bool, true, false, cond, ltb, ◌==◌}
-use Rattle.std.specs.Prelude.{All, MatchOption}
-use Rattle.std.specs.Prelude.{Ok}
-use Rattle.std.specs.List.{list_any, remove, position}
+-- A window less keeps a desk one.
+use Rattle.std.proofs.Common.{◌≡◌, ◌≢◌, ℕ, ◌+◌, ◌<◌, ◌≤◌, sym, subst, ◌∙◌, ap, refl, arith, List, [], ◌∷◌, zero, suc, length, map, get_or, Option, None, Some, Bool, true, false, cond, ◌==◌}
+use Rattle.std.specs.Prelude.{All, MatchOption, Ok, filter, not}
+use Rattle.std.specs.List.{list_any, count_by, position}
 use Rattle.std.proofs.lemmas.Bool.Decides.{nat_tests}
-use Rattle.std.proofs.lemmas.List.{get_or-map, map-append, take-map, drop-map, get_or_default}
-use Rattle.std.proofs.lemmas.List.Edits.{length-remove, get_or-remove_below, get_or-remove_above}
-use Rattle.std.proofs.lemmas.List.Elements.{All-append, All-take, All-drop, All-map}
+use Rattle.std.proofs.lemmas.List.{get_or_default}
+use Rattle.std.proofs.lemmas.List.Elements.{All-map, All-filter, filter_passes}
 use Rattle.std.proofs.lemmas.List.Folds.{list_any_at}
-use Rattle.std.proofs.lemmas.List.Quantifiers.{all_pairs_remove, position-Some}
+use Rattle.std.proofs.lemmas.List.Kept.{AllPairs-filter}
 use Rattle.scr_windows.specs.declared.frames.Frame.{Frame}
-use Rattle.scr_windows.specs.SurfaceViews.{SurfaceView, IsSurface}
-use Rattle.scr_windows.specs.DeskViews.{WindowView, DeskView, IsWindow, IsPlaced, IsChild, AreFrames, IsDesk, window_at, no_window, no_frame, size_of}
-use Rattle.scr_windows.specs.Removing.{is_number, has_children, is_used, lowered_frame, lowered, surface_freed, without}
-use Rattle.scr_windows.specs.Calls.{place_of}
-use Rattle.scr_windows.proofs.DeskLaws.{length_map, frame_of, here_too}
-use Rattle.scr_windows.proofs.FrameLaws.{was_found}
+use Rattle.scr_windows.specs.declared.sheets.Sheet.{Sheet}
+use Rattle.scr_windows.specs.SurfaceViews.{IsSurface}
+use Rattle.scr_windows.specs.Sheets.{size_on, without_surface}
+use Rattle.scr_windows.specs.DeskViews.{WindowView, DeskView, HasOwn, IsWindow, IsPlaced, IsChild, AreFrames, IsDesk, no_frame}
+use Rattle.scr_windows.specs.Removing.{is_number, has_children, others, deleted}
+use Rattle.scr_windows.proofs.DeskLaws.{length_map, frame_of}
+use Rattle.scr_windows.proofs.NumberLaws.{is_not, differs, kept_in_filter, map-filter}
+use Rattle.scr_windows.proofs.SheetLaws.{size_less}
 
-below_or_above : (k i : ℕ) → (k < i) ⊎ (i ≤ k)
-below_or_above k i = grind arith
+-- a frame has another number
+abbrev other_frame : ℕ → Frame → Bool
+other_frame number frame = not (frame.number == number)
 
-pub all_but : {X : Type 0} (P : X → Type 0) (xs : List X) (i : ℕ) → All P xs → All P (remove xs i)
-all_but P xs i h = All-append P (take i xs) (drop (suc i) xs) (All-take P i xs h) (All-drop P (suc i) xs h)
+-- what was not refused is another number
+not_false : (b : Bool) → b ≡ false → not b ≡ true
+not_false b h = ap not h
 
-pub map-remove : {X Y : Type 0} (f : X → Y) (xs : List X) (i : ℕ) → map f (remove xs i) ≡ remove (map f xs) i
-map-remove f xs i = map-append f (take i xs) (drop (suc i) xs) ∙ (λ j. sym (take-map f i xs) j ++ sym (drop-map f (suc i) xs) j)
-
--- where one of a list that is not the removed one stands afterwards
-kept_at : {X : Type 0} (xs : List X) (i k : ℕ) (d : X) → i < length xs → k < length xs → k ≢ i → (m : ℕ) × (m < length (remove xs i)) × (get_or (remove xs i) m d ≡ get_or xs k d)
-kept_at xs i k d h l apart = elim (below_or_above k i) [
-  | inl b ↦ (k, omega (arith, length-remove xs i h), get_or-remove_below xs i d k b h)
-  | inr b ↦ (let more : i < k = above i k b apart in
-      let back : k - 1 + 1 ≡ k = omega arith in
-      (k - 1, omega (arith, length-remove xs i h), get_or-remove_above xs i d (k - 1) (omega arith) h ∙ ap (λ n. get_or xs n d) back))
-]
-  where
-    above : (i k : ℕ) → i ≤ k → k ≢ i → i < k
-    above i k b apart = grind arith
+from_not : (b : Bool) → not b ≡ true → b ≡ false
+from_not true h = sym h
+from_not false h = refl
 
 -- the parent of a frame is among these
 abbrev HasParent : List Frame → Frame → Type 0
 HasParent frames frame = MatchOption frame.parent (Unit {0}) (λ number. (k : ℕ) × (k < length frames) × ((get_or frames k no_frame).number ≡ number) × IsChild frame (get_or frames k no_frame))
 
-same_number : (a b : ℕ) → a ≡ b → (b == a) ≡ false → ⊥
-same_number a b e f = grind (arith, nat_tests)
-
-parent_kept : (frames : List Frame) (i : ℕ) (frame : Frame) → i < length frames → is_number (get_or frames i no_frame).number frame.parent ≡ false → HasParent frames frame → HasParent (remove frames i) frame
-parent_kept frames i frame h other has = kept frame.parent other has
+parent_kept : (frames : List Frame) (number : ℕ) (frame : Frame) → is_number number frame.parent ≡ false → HasParent frames frame → HasParent (filter (other_frame number) frames) frame
+parent_kept frames number frame other has = kept frame.parent other has
   where
-    kept : (o : Option ℕ) → is_number (get_or frames i no_frame).number o ≡ false
-        → MatchOption o (Unit {0}) (λ number. (k : ℕ) × (k < length frames) × ((get_or frames k no_frame).number ≡ number) × IsChild frame (get_or frames k no_frame))
-        → MatchOption o (Unit {0}) (λ number. (k : ℕ) × (k < length (remove frames i)) × ((get_or (remove frames i) k no_frame).number ≡ number) × IsChild frame (get_or (remove frames i) k no_frame))
+    kept : (o : Option ℕ) → is_number number o ≡ false
+        → MatchOption o (Unit {0}) (λ given. (k : ℕ) × (k < length frames) × ((get_or frames k no_frame).number ≡ given) × IsChild frame (get_or frames k no_frame))
+        → MatchOption o (Unit {0}) (λ given. (k : ℕ) × (k < length (filter (other_frame number) frames)) × ((get_or (filter (other_frame number) frames) k no_frame).number ≡ given) × IsChild frame (get_or (filter (other_frame number) frames) k no_frame))
     kept None other has = tt
-    kept (Some number) other has =
+    kept (Some given) other has =
         let k : ℕ = has.0 in
-        let apart : k ≢ i = (λ e. same_number (get_or frames i no_frame).number number (ap (λ n. (get_or frames n no_frame).number) (sym e) ∙ has.2) other) in
-        let at = kept_at frames i k no_frame h has.1 apart in
-        let q : (get_or (remove frames i) at.0 no_frame).number ≡ number = ap (λ (f : Frame). f.number) at.2 ∙ has.2 in
+        let apart : ((get_or frames k no_frame).number == number) ≡ false = is_not number _ (λ e. differs given number other (sym has.2 ∙ e)) in
+        let at = kept_in_filter (other_frame number) frames k no_frame has.1 (not_false _ apart) in
+        let q : (get_or (filter (other_frame number) frames) at.0 no_frame).number ≡ given = ap (λ (f : Frame). f.number) at.2 ∙ has.2 in
         let Q : Frame → Type 0 = λ f. IsChild frame f in
         (at.0, at.1, q, subst Q (sym at.2) has.3)
 
@@ -64,14 +52,49 @@ parent_kept frames i frame h other has = kept frame.parent other has
 both : {X : Type 0} (P Q R : X → Type 0) (xs : List X) → ((x : X) → P x → Q x → R x) → All P xs → All Q xs → All R xs
 both P Q R xs f p q = λ k d l. f (get_or xs k d) (p k d l) (q k d l)
 
-frames_without : (rows columns : ℕ) (sizes : List (ℕ × ℕ)) (made : ℕ) (frames : List Frame) (i : ℕ) → AreFrames rows columns sizes made frames → i < length frames
-    → All (λ (f : Frame). is_number (get_or frames i no_frame).number f.parent ≡ false) frames → AreFrames rows columns sizes made (remove frames i)
-frames_without rows columns sizes made frames i h l alone = record {
-  few = omega (arith, length-remove frames i l, h.few);
-  placed = all_but (IsPlaced rows columns sizes) frames i h.placed;
-  numbers = all_but (λ (frame : Frame). frame.number ≤ made) frames i h.numbers;
-  ascending = (λ a b less in'. ascends a b no_frame less in');
-  parents = all_but (HasParent (remove frames i)) frames i (both _ _ (HasParent (remove frames i)) frames (λ f p q. parent_kept frames i f l p q) alone h.parents);
+-- a window on the surface of one that has no subwindows is that one: its parent would be on the surface too
+alone_on : (frames : List Frame) (number : ℕ) → All HasOwn frames → All (HasParent frames) frames → All (λ (f : Frame). is_number number f.parent ≡ false) frames
+    → (most k : ℕ) → k < length frames → (get_or frames k no_frame).number < most → (get_or frames k no_frame).surface ≡ number → (get_or frames k no_frame).number ≡ number
+alone_on frames number roots parents alone zero k l less on = absurd (omega (arith, less))
+alone_on frames number roots parents alone (suc most) k l less on = by_parent (alone_on frames number roots parents alone most) (get_or frames k no_frame).parent (roots k no_frame l) (parents k no_frame l) (alone k no_frame l)
+  where
+    by_parent : ((m : ℕ) → m < length frames → (get_or frames m no_frame).number < most → (get_or frames m no_frame).surface ≡ number → (get_or frames m no_frame).number ≡ number) → (o : Option ℕ) → MatchOption o ((get_or frames k no_frame).surface ≡ (get_or frames k no_frame).number) (λ _. Unit {0})
+        → MatchOption o (Unit {0}) (λ given. (m : ℕ) × (m < length frames) × ((get_or frames m no_frame).number ≡ given) × IsChild (get_or frames k no_frame) (get_or frames m no_frame))
+        → is_number number o ≡ false → (get_or frames k no_frame).number ≡ number
+    by_parent earlier None own has other = sym own ∙ on
+    by_parent earlier (Some given) own has other =
+        let there = earlier has.0 has.1 (omega (arith, less, has.3.later)) (sym has.3.surface ∙ on) in
+        absurd (differs given number other (sym has.2 ∙ there))
+
+fewer : {X : Type 0} (p : X → Bool) (xs : List X) → length (filter p xs) ≤ length xs
+fewer p [] = omega arith
+fewer {X} p (x ∷ xs) = one (p x) (fewer p xs)
+  where
+    one : (b : Bool) → length (filter p xs) ≤ length xs → length (cond b (x ∷ filter p xs) (filter p xs)) ≤ suc (length xs)
+    one true rest = omega arith
+    one false rest = omega arith
+
+-- a frame on another surface is placed as before
+placed_less : (rows columns number : ℕ) (sheets : List Sheet) (frame : Frame) → frame.surface ≢ number → IsPlaced rows columns (size_on sheets) frame → IsPlaced rows columns (size_on (without_surface number sheets)) frame
+placed_less rows columns number sheets frame apart p =
+    let same : size_on (without_surface number sheets) frame.surface ≡ size_on sheets frame.surface = size_less sheets number frame.surface apart in
+    record {
+      some_rows = p.some_rows;
+      some_columns = p.some_columns;
+      below = omega (arith, p.below, ap (λ (s : ℕ × ℕ). s.0) same);
+      right = omega (arith, p.right, ap (λ (s : ℕ × ℕ). s.1) same);
+      origin = p.origin;
+    }
+
+frames_less : (rows columns number made : ℕ) (sheets : List Sheet) (frames : List Frame) → AreFrames rows columns (size_on sheets) made frames → All (λ (f : Frame). is_number number f.parent ≡ false) frames
+    → AreFrames rows columns (size_on (without_surface number sheets)) made (filter (other_frame number) frames)
+frames_less rows columns number made sheets frames h alone = record {
+  few = omega (arith, h.few, fewer (other_frame number) frames);
+  placed = kept_of (IsPlaced rows columns (size_on sheets)) (IsPlaced rows columns (size_on (without_surface number sheets))) (λ f apart p. placed_less rows columns number sheets f apart p) h.placed;
+  numbers = All-filter (other_frame number) (λ (f : Frame). f.number ≤ made) frames h.numbers;
+  ascending = λ i j less l. ascends i j no_frame less l;
+  roots = All-filter (other_frame number) HasOwn frames h.roots;
+  parents = All-filter (other_frame number) (HasParent (filter (other_frame number) frames)) frames (both _ _ (HasParent (filter (other_frame number) frames)) frames (λ f p q. parent_kept frames number f p q) alone h.parents);
 }
   where
     ordered : (a b : ℕ) (d : Frame) → a < b → b < length frames → (get_or frames a d).number < (get_or frames b d).number
@@ -80,71 +103,22 @@ frames_without rows columns sizes made frames i h l alone = record {
         let y : get_or frames b d ≡ get_or frames b no_frame = get_or_default frames b d no_frame in' in
         omega (arith, h.ascending a b less in', ap (λ (f : Frame). f.number) x, ap (λ (f : Frame). f.number) y)
 
-    ascends : (a b : ℕ) (d : Frame) → a < b → b < length (remove frames i) → (get_or (remove frames i) a d).number < (get_or (remove frames i) b d).number
-    ascends = all_pairs_remove (λ (f : Frame) (g : Frame). f.number < g.number) frames i l ordered
+    ascends : (a b : ℕ) (d : Frame) → a < b → b < length (filter (other_frame number) frames) → (get_or (filter (other_frame number) frames) a d).number < (get_or (filter (other_frame number) frames) b d).number
+    ascends = AllPairs-filter (λ (f : Frame) (g : Frame). f.number < g.number) (other_frame number) frames ordered
 
--- a frame is not on the surface that goes
-lowered_placed : (rows columns : ℕ) (sizes : List (ℕ × ℕ)) (s : ℕ) (frame : Frame) → s < length sizes → frame.surface ≢ s → IsPlaced rows columns sizes frame → IsPlaced rows columns (remove sizes s) (lowered_frame s frame)
-lowered_placed rows columns sizes s frame h apart p =
-    let k : ℕ = cond (ltb s frame.surface) (frame.surface - 1) frame.surface in
-    let at : (k < length (remove sizes s)) × (get_or (remove sizes s) k (0, 0) ≡ get_or sizes frame.surface (0, 0)) = elim (below_or_above frame.surface s) [
-      | inl b ↦ (let e : k ≡ frame.surface = stays s frame.surface b in
-          (omega (arith, length-remove sizes s h, e, p.surface), ap (λ n. get_or (remove sizes s) n (0, 0)) e ∙ get_or-remove_below sizes s (0, 0) frame.surface b h))
-      | inr b ↦ (let e : k ≡ frame.surface - 1 = sinks s frame.surface b apart in
-          let more : s < frame.surface = above s frame.surface b apart in
-          let back : frame.surface - 1 + 1 ≡ frame.surface = omega arith in
-          (omega (arith, length-remove sizes s h, e, p.surface), ap (λ n. get_or (remove sizes s) n (0, 0)) e ∙ get_or-remove_above sizes s (0, 0) (frame.surface - 1) (omega arith) h ∙ ap (λ n. get_or sizes n (0, 0)) back))
-    ] in
-    record {
-      surface = at.0;
-      some_rows = p.some_rows;
-      some_columns = p.some_columns;
-      below = omega (arith, p.below, ap (λ (z : ℕ × ℕ). z.0) at.1);
-      right = omega (arith, p.right, ap (λ (z : ℕ × ℕ). z.1) at.1);
-      origin = p.origin;
-    }
-  where
-    stays : (s n : ℕ) → n < s → cond (ltb s n) (n - 1) n ≡ n
-    stays s n b = grind (arith, nat_tests)
+    -- a window of another number is on another surface
+    away : (k : ℕ) → k < length frames → other_frame number (get_or frames k no_frame) ≡ true → (get_or frames k no_frame).surface ≢ number
+    away k l t on = differs (get_or frames k no_frame).number number (from_not ((get_or frames k no_frame).number == number) t) (alone_on frames number h.roots h.parents alone (suc (get_or frames k no_frame).number) k l (omega arith) on)
 
-    above : (s n : ℕ) → s ≤ n → n ≢ s → s < n
-    above s n b apart = grind arith
+    apart : All (λ (f : Frame). other_frame number f ≡ true → f.surface ≢ number) frames
+    apart = λ k d l. (let P : Frame → Type 0 = λ f. other_frame number f ≡ true → f.surface ≢ number in subst P (get_or_default frames k no_frame d l) (away k l))
 
-    sinks : (s n : ℕ) → s ≤ n → n ≢ s → cond (ltb s n) (n - 1) n ≡ n - 1
-    sinks s n b apart = grind (arith, nat_tests)
-
-lowered_parent : (frames : List Frame) (s : ℕ) (frame : Frame) → HasParent frames frame → HasParent (map (lowered_frame s) frames) (lowered_frame s frame)
-lowered_parent frames s frame has = kept frame.parent has
-  where
-    kept : (o : Option ℕ)
-        → MatchOption o (Unit {0}) (λ number. (k : ℕ) × (k < length frames) × ((get_or frames k no_frame).number ≡ number) × IsChild frame (get_or frames k no_frame))
-        → MatchOption o (Unit {0}) (λ number. (k : ℕ) × (k < length (map (lowered_frame s) frames)) × ((get_or (map (lowered_frame s) frames) k no_frame).number ≡ number) × IsChild (lowered_frame s frame) (get_or (map (lowered_frame s) frames) k no_frame))
-    kept None has = tt
-    kept (Some number) has =
-        let k : ℕ = has.0 in
-        let parent : Frame = get_or frames k no_frame in
-        let at : get_or (map (lowered_frame s) frames) k no_frame ≡ lowered_frame s parent = get_or-map (lowered_frame s) frames k no_frame no_frame has.1 in
-        let q : (get_or (map (lowered_frame s) frames) k no_frame).number ≡ number = ap (λ (f : Frame). f.number) at ∙ has.2 in
-        let Q : Frame → Type 0 = λ f. IsChild (lowered_frame s frame) f in
-        let child : IsChild (lowered_frame s frame) (lowered_frame s parent) = record { later = has.3.later; surface = ap (λ n. cond (ltb s n) (n - 1) n) has.3.surface; above = has.3.above; below = has.3.below; left = has.3.left; right = has.3.right; on_screen = has.3.on_screen } in
-        (k, omega (arith, length_map (lowered_frame s) frames, has.1), q, subst Q (sym at) child)
-
-frames_lowered : (rows columns : ℕ) (sizes : List (ℕ × ℕ)) (made : ℕ) (frames : List Frame) (s : ℕ) → AreFrames rows columns sizes made frames → s < length sizes
-    → All (λ (f : Frame). f.surface ≢ s) frames → AreFrames rows columns (remove sizes s) made (map (lowered_frame s) frames)
-frames_lowered rows columns sizes made frames s h l apart = record {
-  few = omega (arith, length_map (lowered_frame s) frames, h.few);
-  placed = All-map (IsPlaced rows columns (remove sizes s)) (lowered_frame s) frames (both _ _ (λ f. IsPlaced rows columns (remove sizes s) (lowered_frame s f)) frames (λ f p q. lowered_placed rows columns sizes s f l p q) apart h.placed);
-  numbers = All-map (λ (frame : Frame). frame.number ≤ made) (lowered_frame s) frames h.numbers;
-  ascending = (λ a b less in'. ascends a b less in');
-  parents = All-map (HasParent (map (lowered_frame s) frames)) (lowered_frame s) frames (λ k d b. lowered_parent frames s (get_or frames k d) (h.parents k d b));
-}
-  where
-    ascends : (a b : ℕ) → a < b → b < length (map (lowered_frame s) frames) → (get_or (map (lowered_frame s) frames) a no_frame).number < (get_or (map (lowered_frame s) frames) b no_frame).number
-    ascends a b less in' =
-        let here : b < length frames = omega (arith, length_map (lowered_frame s) frames) in
-        let x : get_or (map (lowered_frame s) frames) a no_frame ≡ lowered_frame s (get_or frames a no_frame) = get_or-map (lowered_frame s) frames a no_frame no_frame (omega arith) in
-        let y : get_or (map (lowered_frame s) frames) b no_frame ≡ lowered_frame s (get_or frames b no_frame) = get_or-map (lowered_frame s) frames b no_frame no_frame here in
-        omega (arith, h.ascending a b less here, ap (λ (f : Frame). f.number) x, ap (λ (f : Frame). f.number) y)
+    kept_of : (P Q : Frame → Type 0) → ((f : Frame) → f.surface ≢ number → P f → Q f) → All P frames → All Q (filter (other_frame number) frames)
+    kept_of P Q f all =
+        both (λ (g : Frame). other_frame number g ≡ true) (λ (g : Frame). other_frame number g ≡ true → Q g) Q (filter (other_frame number) frames) (λ g t q. q t)
+        (filter_passes (other_frame number) frames)
+        (All-filter (other_frame number) (λ (g : Frame). other_frame number g ≡ true → Q g) frames
+            (both (λ (g : Frame). other_frame number g ≡ true → g.surface ≢ number) P (λ (g : Frame). other_frame number g ≡ true → Q g) frames (λ (g : Frame) a p t. f g (a t) p) apart all))
 
 -- no window passes a test
 none_passes : {X : Type 0} (p : X → Bool) (xs : List X) → list_any p xs ≡ false → All (λ x. p x ≡ false) xs
@@ -154,71 +128,32 @@ none_passes p xs h = λ k d l. fails (p (get_or xs k d)) (list_any p xs) h (λ t
     fails true all h f = sym (f refl) ∙ h
     fails false all h f = refl
 
-pub without_is_desk : (d : DeskView) (i : ℕ) → IsDesk d → i < length d.windows → has_children (window_at d i).frame.number d.windows ≡ false → IsDesk (without d i)
-without_is_desk d i h l alone =
+pub deleted_is_desk : (d : DeskView) (number : ℕ) → IsDesk d → has_children number d.windows ≡ false → IsDesk (deleted d number)
+deleted_is_desk d number h alone =
     let frames : List Frame = map frame_of d.windows in
-    let many : length frames ≡ length d.windows = length_map frame_of d.windows in
-    let at : get_or frames i no_frame ≡ (window_at d i).frame = get_or-map frame_of d.windows i no_window no_frame l in
-    let none : All (λ (w : WindowView). is_number (window_at d i).frame.number w.frame.parent ≡ false) d.windows = none_passes _ d.windows alone in
-    let others : All (λ (f : Frame). is_number (window_at d i).frame.number f.parent ≡ false) frames = All-map (λ (f : Frame). is_number (window_at d i).frame.number f.parent ≡ false) frame_of d.windows none in
-    let P : Frame → Type 0 = λ g. All (λ (f : Frame). is_number g.number f.parent ≡ false) frames in
-    let Q : List Frame → Type 0 = λ fs. AreFrames d.rows d.columns (map size_of d.surfaces) d.made fs in
+    let none : All (λ (w : WindowView). is_number number w.frame.parent ≡ false) d.windows = none_passes _ d.windows alone in
+    let free : All (λ (f : Frame). is_number number f.parent ≡ false) frames = All-map (λ (f : Frame). is_number number f.parent ≡ false) frame_of d.windows none in
+    let Q : List Frame → Type 0 = λ fs. AreFrames d.rows d.columns (size_on (without_surface number d.surfaces)) d.made fs in
     record {
       size = h.size;
       made = h.made;
-      surfaces = h.surfaces;
-      windows = all_but IsWindow d.windows i h.windows;
-      frames = subst Q (sym (map-remove frame_of d.windows i)) (frames_without d.rows d.columns (map size_of d.surfaces) d.made frames i h.frames (omega (arith, many)) (subst P (sym at) others));
+      surfaces = All-filter (λ (s : Sheet). not (s.number == number)) (λ (s : Sheet). IsSurface s.surface) d.surfaces h.surfaces;
+      sheets = AllPairs-filter (λ (s : Sheet) (t : Sheet). s.number < t.number) (λ (s : Sheet). not (s.number == number)) d.surfaces h.sheets;
+      given = All-filter (λ (s : Sheet). not (s.number == number)) (λ (s : Sheet). s.number ≤ d.made) d.surfaces h.given;
+      windows = All-filter (λ (w : WindowView). not (w.frame.number == number)) IsWindow d.windows h.windows;
+      frames = subst Q (sym (map-filter frame_of (other_frame number) d.windows)) (frames_less d.rows d.columns number d.made d.surfaces frames h.frames free);
     }
 
-map_lowered : (s : ℕ) (ws : List WindowView) → map frame_of (map (lowered s) ws) ≡ map (lowered_frame s) (map frame_of ws)
-map_lowered s [] = refl
-map_lowered s (w ∷ ws) = ap (λ fs. lowered_frame s w.frame ∷ fs) (map_lowered s ws)
-
-other_surface : (a b : ℕ) → (a == b) ≡ false → a ≢ b
-other_surface a b h = λ e. (let z : ⊥ = grind (arith, nat_tests) in z)
-
-pub freed_is_desk : (d : DeskView) (s : ℕ) → IsDesk d → s < length d.surfaces → is_used s d.windows ≡ false → IsDesk (surface_freed d s)
-freed_is_desk d s h l unused =
-    let frames : List Frame = map frame_of d.windows in
-    let sizes : List (ℕ × ℕ) = map size_of d.surfaces in
-    let all : length sizes ≡ length d.surfaces = length_map size_of d.surfaces in
-    let none : All (λ (w : WindowView). (w.frame.surface == s) ≡ false) d.windows = none_passes _ d.windows unused in
-    let apart : All (λ (f : Frame). f.surface ≢ s) frames = All-map (λ (f : Frame). f.surface ≢ s) frame_of d.windows (λ k e b. other_surface _ s (none k e b)) in
-    let Q : List Frame → Type 0 = λ fs. AreFrames d.rows d.columns (map size_of (remove d.surfaces s)) d.made fs in
-    let R : List (ℕ × ℕ) → Type 0 = λ zs. AreFrames d.rows d.columns zs d.made (map (lowered_frame s) frames) in
-    record {
-      size = h.size;
-      made = h.made;
-      surfaces = all_but IsSurface d.surfaces s h.surfaces;
-      windows = All-map IsWindow (lowered s) d.windows (λ k e b. record { state = record { cursor_row = (h.windows k e b).state.cursor_row; cursor_column = (h.windows k e b).state.cursor_column; region_order = (h.windows k e b).state.region_order; region_end = (h.windows k e b).state.region_end }; touched = (h.windows k e b).touched });
-      frames = subst Q (sym (map_lowered s d.windows)) (subst R (sym (map-remove size_of d.surfaces s)) (frames_lowered d.rows d.columns sizes d.made frames s h.frames (omega (arith, all)) apart));
-    }
-
--- what the code knows when the window is gone
-pub window_removed : (d old : DeskView) → d ≡ old → (i : ℕ) (ws : List WindowView) → IsDesk d → i < length old.windows → has_children (window_at old i).frame.number old.windows ≡ false
-    → ws ≡ remove d.windows i → IsDesk (record d { windows = ws })
-window_removed d old is i ws h l alone ws_is =
-    let A : DeskView → Type 0 = λ v. has_children (window_at v i).frame.number v.windows ≡ false in
-    let whole : record d { windows = ws } ≡ without d i = (λ j. record d { windows = ws_is j }) in
+-- what the code knows when the window and its surface are gone
+pub window_removed : (d old : DeskView) → d ≡ old → (number : ℕ) (ss : List Sheet) (ws : List WindowView) → IsDesk d → has_children number old.windows ≡ false
+    → ss ≡ without_surface number d.surfaces → ws ≡ others number d.windows → IsDesk (record d { surfaces = ss; windows = ws })
+window_removed d old is number ss ws h alone ss_is ws_is =
+    let A : DeskView → Type 0 = λ v. has_children number v.windows ≡ false in
+    let whole : record d { surfaces = ss; windows = ws } ≡ deleted d number = (λ j. record d { surfaces = ss_is j; windows = ws_is j }) in
     let P : DeskView → Type 0 = λ v. IsDesk v in
-    subst P (sym whole) (without_is_desk d i h (here_too d old i is l) (subst A (sym is) alone))
+    subst P (sym whole) (deleted_is_desk d number h (subst A (sym is) alone))
 
-pub surface_removed : (d old : DeskView) → d ≡ old → (s : ℕ) (ss : List SurfaceView) (ws : List WindowView) → IsDesk d → s < length old.surfaces → is_used s old.windows ≡ false
-    → ss ≡ remove d.surfaces s → ws ≡ map (lowered s) d.windows → IsDesk (record d { surfaces = ss; windows = ws })
-surface_removed d old is s ss ws h l unused ss_is ws_is =
-    let A : DeskView → Type 0 = λ v. is_used s v.windows ≡ false in
-    let whole : record d { surfaces = ss; windows = ws } ≡ surface_freed d s = (λ j. record d { surfaces = ss_is j; windows = ws_is j }) in
-    let P : DeskView → Type 0 = λ v. IsDesk v in
-    subst P (sym whole) (freed_is_desk d s h (omega (arith, l, ap (λ (v : DeskView). length v.surfaces) is)) (subst A (sym is) unused))
-
--- the window of a number is the one at its place
-pub no_children : (d : DeskView) (number i : ℕ) → place_of d number ≡ Ok i → has_children number d.windows ≡ false → has_children (window_at d i).frame.number d.windows ≡ false
-no_children d number i e alone =
-    let at : position (λ (w : WindowView). w.frame.number == number) d.windows ≡ Some i = was_found _ i e in
-    let found = position-Some (λ (w : WindowView). w.frame.number == number) d.windows i no_window at in
-    let same : (window_at d i).frame.number ≡ number = equal _ _ found.1 in
-    ap (λ n. has_children n d.windows) same ∙ alone
-  where
-    equal : (a b : ℕ) → (a == b) ≡ true → a ≡ b
-    equal a b h = grind (arith, nat_tests)
+pub removed_path : (d old : DeskView) → d ≡ old → (number : ℕ) (ss : List Sheet) (ws : List WindowView) → ss ≡ without_surface number d.surfaces → ws ≡ others number d.windows → record d { surfaces = ss; windows = ws } ≡ deleted old number
+removed_path d old is number ss ws ss_is ws_is =
+    let here : record d { surfaces = ss; windows = ws } ≡ deleted d number = (λ j. record d { surfaces = ss_is j; windows = ws_is j }) in
+    here ∙ ap (λ v. deleted v number) is

@@ -8,7 +8,7 @@ use Rattle.scr_windows.specs.declared.areas.Area.{Area}
 use Rattle.scr_windows.specs.declared.frames.Frame.{Frame}
 use Rattle.scr_windows.specs.declared.moving.Shift.{Shift}
 use Rattle.scr_windows.specs.declared.moving.Shift.TheVariants.{Screen, Surface}
-use Rattle.scr_windows.specs.DeskViews.{IsPlaced, IsChild, IsInsideOnScreen, AreFrames, no_frame}
+use Rattle.scr_windows.specs.DeskViews.{HasOwn, IsPlaced, IsChild, IsInsideOnScreen, AreFrames, no_frame}
 use Rattle.scr_windows.specs.Moving.{area_shifted, family_frame, origin_shifted, shifted}
 use Rattle.scr_windows.proofs.DeskLaws.{length_map}
 use Rattle.scr_windows.proofs.FamilyLaws.{frame_at, Ascends, Family, HasParent, Within, child_family, family_within, frame_link, one_place}
@@ -43,10 +43,10 @@ Begins (Screen from to) root = root.origin ≡ Some from
 Begins (Surface from to) root = from ≡ (root.area.top, root.area.left)
 
 -- and ends where the window is inside
-abbrev Ends : ℕ → ℕ → List (ℕ × ℕ) → Shift → Frame → Type 0
+abbrev Ends : ℕ → ℕ → (ℕ → ℕ × ℕ) → Shift → Frame → Type 0
 Ends rows columns sizes (Screen from to) root = (to.0 + root.area.rows ≤ rows) × (to.1 + root.area.columns ≤ columns)
 Ends rows columns sizes (Surface from to) root =
-    (to.0 + root.area.rows ≤ (get_or sizes root.surface (0, 0)).0) × (to.1 + root.area.columns ≤ (get_or sizes root.surface (0, 0)).1)
+    (to.0 + root.area.rows ≤ (sizes root.surface).0) × (to.1 + root.area.columns ≤ (sizes root.surface).1)
 
 -- a place that is inside comes to one that is inside
 on_screen_still : (rows columns : ℕ) (o : Option (ℕ × ℕ)) (a b : Area) (from to : ℕ × ℕ) → IsInsideOnScreen o a (Some from) b → to.0 + b.rows ≤ rows → to.1 + b.columns ≤ columns
@@ -54,11 +54,10 @@ on_screen_still : (rows columns : ℕ) (o : Option (ℕ × ℕ)) (a b : Area) (f
 on_screen_still rows columns None a b from to h k l = tt
 on_screen_still rows columns (Some p) a b from to h k l = (omega (arith, h.0, h.1), omega (arith, h.2, h.3))
 
-shifted_placed : (rows columns : ℕ) (sizes : List (ℕ × ℕ)) (shift : Shift) (f root : Frame) → Begins shift root → Ends rows columns sizes shift root → Within f root → IsPlaced rows columns sizes f → IsPlaced rows columns sizes (shifted shift f)
+shifted_placed : (rows columns : ℕ) (sizes : ℕ → ℕ × ℕ) (shift : Shift) (f root : Frame) → Begins shift root → Ends rows columns sizes shift root → Within f root → IsPlaced rows columns sizes f → IsPlaced rows columns sizes (shifted shift f)
 shifted_placed rows columns sizes (Screen from to) f root begins ends h p =
     let P : Option (ℕ × ℕ) → Type 0 = λ o. IsInsideOnScreen f.origin f.area o root.area in
     record {
-      surface = p.surface;
       some_rows = p.some_rows;
       some_columns = p.some_columns;
       below = p.below;
@@ -66,11 +65,10 @@ shifted_placed rows columns sizes (Screen from to) f root begins ends h p =
       origin = on_screen_still rows columns f.origin f.area root.area from to (subst P begins h.on_screen) ends.0 ends.1;
     }
 shifted_placed rows columns sizes (Surface from to) f root begins ends h p =
-    let size : get_or sizes f.surface (0, 0) ≡ get_or sizes root.surface (0, 0) = ap (λ k. get_or sizes k (0, 0)) h.surface in
+    let size : sizes f.surface ≡ sizes root.surface = ap sizes h.surface in
     let top : from.0 ≡ root.area.top = ap (λ (x : ℕ × ℕ). x.0) begins in
     let left : from.1 ≡ root.area.left = ap (λ (x : ℕ × ℕ). x.1) begins in
     record {
-      surface = p.surface;
       some_rows = p.some_rows;
       some_columns = p.some_columns;
       below = omega (arith, top, h.above, h.below, ends.0, ap (λ (z : ℕ × ℕ). z.0) size);
@@ -156,7 +154,7 @@ abbrev pub FitsScreen : ℕ → ℕ → Shift → Frame → Type 0
 FitsScreen rows columns (Screen from to) root = (to.0 + root.area.rows ≤ rows) × (to.1 + root.area.columns ≤ columns)
 FitsScreen rows columns (Surface from to) root = Unit {0}
 
-ends_of : (rows columns : ℕ) (sizes : List (ℕ × ℕ)) (made : ℕ) (frames : List Frame) (i : ℕ) (shift : Shift) → AreFrames rows columns sizes made frames → i < length frames
+ends_of : (rows columns : ℕ) (sizes : ℕ → ℕ × ℕ) (made : ℕ) (frames : List Frame) (i : ℕ) (shift : Shift) → AreFrames rows columns sizes made frames → i < length frames
     → FitsScreen rows columns shift (get_or frames i no_frame) → Stays frames shift (get_or frames i no_frame) → Ends rows columns sizes shift (get_or frames i no_frame)
 ends_of rows columns sizes made frames i (Screen from to) h l fits stays = fits
 ends_of rows columns sizes made frames i (Surface from to) h l fits stays =
@@ -166,7 +164,7 @@ ends_of rows columns sizes made frames i (Surface from to) h l fits stays =
     let has = subst P stays.2 (h.parents i no_frame l) in
     let place : has.0 ≡ k = one_place frames has.0 k h.ascending has.1 stays.1 has.2 in
     let surface : root.surface ≡ (get_or frames k no_frame).surface = has.3.surface ∙ ap (λ n. (get_or frames n no_frame).surface) place in
-    let size : get_or sizes root.surface (0, 0) ≡ get_or sizes (get_or frames k no_frame).surface (0, 0) = ap (λ n. get_or sizes n (0, 0)) surface in
+    let size : sizes root.surface ≡ sizes (get_or frames k no_frame).surface = ap sizes surface in
     let p = h.placed k no_frame stays.1 in
     (omega (arith, stays.4, p.below, ap (λ (z : ℕ × ℕ). z.0) size), omega (arith, stays.6, p.right, ap (λ (z : ℕ × ℕ). z.1) size))
 
@@ -186,10 +184,16 @@ child_turned shift f g root own true false begins e w alone c = alone (or_false 
 child_turned shift f g root own false true begins e w alone c = absurd (let z : false ≡ true = e ∙ or_true own in (cc))
 child_turned shift f g root own false false begins e w alone c = c
 
-placed_turned : (rows columns : ℕ) (sizes : List (ℕ × ℕ)) (shift : Shift) (f root : Frame) (b : Bool) → Begins shift root → Ends rows columns sizes shift root → (b ≡ true → Within f root) → IsPlaced rows columns sizes f
+placed_turned : (rows columns : ℕ) (sizes : ℕ → ℕ × ℕ) (shift : Shift) (f root : Frame) (b : Bool) → Begins shift root → Ends rows columns sizes shift root → (b ≡ true → Within f root) → IsPlaced rows columns sizes f
     → IsPlaced rows columns sizes (turned b shift f)
 placed_turned rows columns sizes shift f root false begins ends w p = p
 placed_turned rows columns sizes shift f root true begins ends w p = shifted_placed rows columns sizes shift f root begins ends (w refl) p
+
+-- a window that moves is on the surface that it was on
+own_turned : (b : Bool) (shift : Shift) (f : Frame) → HasOwn f → HasOwn (turned b shift f)
+own_turned false shift f h = h
+own_turned true (Screen from to) f h = h
+own_turned true (Surface from to) f h = h
 
 pub is_equal : (a b : ℕ) → (a == b) ≡ true → a ≡ b
 is_equal a b h = grind (arith, nat_tests)
@@ -204,7 +208,7 @@ turn frames i shift = family_frame (map frame_link frames) (length frames) (fram
 abbrev after : List Frame → ℕ → Shift → List Frame
 after frames i shift = map (turn frames i shift) frames
 
-pub frames_moved : (rows columns : ℕ) (sizes : List (ℕ × ℕ)) (made : ℕ) (frames : List Frame) (i : ℕ) (shift : Shift) → AreFrames rows columns sizes made frames → i < length frames
+pub frames_moved : (rows columns : ℕ) (sizes : ℕ → ℕ × ℕ) (made : ℕ) (frames : List Frame) (i : ℕ) (shift : Shift) → AreFrames rows columns sizes made frames → i < length frames
     → Begins shift (get_or frames i no_frame) → FitsScreen rows columns shift (get_or frames i no_frame) → Stays frames shift (get_or frames i no_frame)
     → AreFrames rows columns sizes made (map (family_frame (map frame_link frames) (length frames) (get_or frames i no_frame).number shift) frames)
 frames_moved rows columns sizes made frames i shift h l begins fits stays = record {
@@ -213,6 +217,7 @@ frames_moved rows columns sizes made frames i shift h l begins fits stays = reco
       (placed_turned rows columns sizes shift (frame_at frames k) (frame_at frames i) (is_family frames i k) begins ends (within k (here k b)) (h.placed k no_frame (here k b)))));
   numbers = All-from_get_or (λ (f : Frame). f.number ≤ made) (after frames i shift) no_frame (λ k b. omega (arith, number k (here k b), h.numbers k no_frame (here k b)));
   ascending = (λ a b less in'. omega (arith, number a (omega (arith, here b in')), number b (here b in'), h.ascending a b less (here b in')));
+  roots = All-from_get_or HasOwn (after frames i shift) no_frame (λ k b. (let P : Frame → Type 0 = λ f. HasOwn f in subst P (sym (now k (here k b))) (own_turned (is_family frames i k) shift (frame_at frames k) (h.roots k no_frame (here k b)))));
   parents = All-from_get_or (HasParent (after frames i shift)) (after frames i shift) no_frame (λ k b. (let P : Frame → Type 0 = λ f. HasParent (after frames i shift) f in subst P (sym (now k (here k b))) (parent k (here k b))));
 }
   where

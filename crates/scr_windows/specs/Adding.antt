@@ -1,7 +1,7 @@
 -- What the calls that add bytes do. X/Open Curses Issue 7, addch(), addnstr(), insch(), hline(), vline().
 use Rattle.std.specs.Prelude.{ℕ, List, [], ◌∷◌, Result, Ok, Err, ◌+◌, ◌-◌, ◌*◌, ◌/◌, ◌==◌, ◌||◌, ◌&&◌, ltb, leb, min, bit_or, bit_xor, if◌then◌else◌}
 use Rattle.std.specs.List.{list_any}
-use Rattle.scr_cells.specs.CellViews.{CellView}
+use Rattle.scr_cells.specs.CellViews.{CellView, is_character}
 use Rattle.scr_cells.specs.declared.attributes.Attrs.{Attrs}
 use Rattle.scr_windows.specs.declared.faults.WinFault.{WinFault}
 use Rattle.scr_windows.specs.declared.faults.WinFault.TheVariants.{NotAscii}
@@ -97,7 +97,7 @@ add_text_call desk win bytes = on_window desk (place_of desk win) (λ i.
 abbrev pub insert_byte_call : DeskView → ℕ → ℕ → Attrs → DeskView × Result (Unit {0}) WinFault
 insert_byte_call desk win byte attrs = on_window desk (place_of desk win) (λ i.
     let s : State = (window_at desk i).state in
-    if leb 32 byte && leb byte 126 then (write desk i s.cursor.0 (s.cursor.0 + 1) (row_opened s.cursor.0 s.cursor.1 (written byte attrs s)), Ok tt)
+    if is_character byte then (write desk i s.cursor.0 (s.cursor.0 + 1) (row_opened s.cursor.0 s.cursor.1 (written byte attrs s)), Ok tt)
     else (desk, Err NotAscii))
 
 -- hline(): places from the cursor on, at most to the edge
@@ -106,7 +106,7 @@ line_across_call desk win byte n = on_window desk (place_of desk win) (λ i.
     let w : WindowView = window_at desk i in
     let y : ℕ = w.state.cursor.0 in
     let x : ℕ = w.state.cursor.1 in
-    if leb 32 byte && leb byte 126 then
+    if is_character byte then
     ((if n == 0 then desk else write desk i y (y + 1) (run_put y x (min (x + n) w.frame.area.columns) (written byte no_attributes w.state))), Ok tt)
     else (desk, Err NotAscii))
 
@@ -117,6 +117,6 @@ line_down_call desk win byte n = on_window desk (place_of desk win) (λ i.
     let y : ℕ = w.state.cursor.0 in
     let x : ℕ = w.state.cursor.1 in
     let end : ℕ = min (y + n) w.frame.area.rows in
-    if leb 32 byte && leb byte 126 then
+    if is_character byte then
     ((if n == 0 then desk else write desk i y end (column_put x y end (written byte no_attributes w.state))), Ok tt)
     else (desk, Err NotAscii))

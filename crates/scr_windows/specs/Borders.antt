@@ -1,7 +1,7 @@
 -- What the call that draws a border does. X/Open Curses Issue 7, border().
-use Rattle.std.specs.Prelude.{ℕ, Bool, List, Result, Ok, Err, slice_index_or, ◌+◌, ◌==◌, ◌&&◌, leb, ltb, if◌then◌else◌}
+use Rattle.std.specs.Prelude.{ℕ, Bool, List, Result, Ok, Err, slice_index_or, ◌+◌, ◌==◌, ◌&&◌, ltb, if◌then◌else◌}
 use Rattle.std.specs.List.{list_all}
-use Rattle.scr_cells.specs.CellViews.{CellView}
+use Rattle.scr_cells.specs.CellViews.{CellView, is_character}
 use Rattle.scr_windows.specs.declared.borders.Border.{Border}
 use Rattle.scr_windows.specs.declared.faults.WinFault.{WinFault}
 use Rattle.scr_windows.specs.declared.faults.WinFault.TheVariants.{NotAscii}
@@ -9,10 +9,6 @@ use Rattle.scr_windows.specs.declared.frames.State.{State}
 use Rattle.scr_windows.specs.DeskViews.{WindowView, DeskView, window_at, no_attributes}
 use Rattle.scr_windows.specs.Calls.{place_of, on_window, write}
 use Rattle.scr_windows.specs.Adding.{written}
-
--- a byte that can be drawn
-abbrev pub is_graphic : ℕ → Bool
-is_graphic byte = leb 32 byte && leb byte 126
 
 -- the written form, without attributes of its own, of a byte among those of a border
 abbrev pub edge_cell : List ℕ → State → ℕ → CellView
@@ -51,7 +47,7 @@ bordered rows columns border at r c =
 abbrev pub border_call : DeskView → ℕ → List ℕ → DeskView × Result (Unit {0}) WinFault
 border_call desk win bytes = on_window desk (place_of desk win) (λ i.
     let w : WindowView = window_at desk i in
-    if list_all is_graphic bytes then (write desk i 0 w.frame.area.rows (bordered w.frame.area.rows w.frame.area.columns (border_of bytes w.state)), Ok tt)
+    if list_all is_character bytes then (write desk i 0 w.frame.area.rows (bordered w.frame.area.rows w.frame.area.columns (border_of bytes w.state)), Ok tt)
     else (desk, Err NotAscii))
 
 -- the first and the last column of the rows up to one are put: a word of private functions

@@ -8,6 +8,7 @@ use Rattle.scr_windows.specs.declared.frames.Pen.{Pen}
 use Rattle.scr_windows.specs.declared.faults.WinFault.{WinFault}
 use Rattle.scr_windows.specs.declared.faults.WinFault.TheVariants.{NoWindow}
 use Rattle.scr_windows.specs.SurfaceViews.{SurfaceView, filled, inside_at}
+use Rattle.scr_windows.specs.Sheets.{with_surface}
 use Rattle.scr_windows.specs.DeskViews.{WindowView, DeskView, window_at, surface_at, Placed}
 
 abbrev pub found : Option ℕ → Result ℕ WinFault
@@ -46,7 +47,7 @@ abbrev pub fill : DeskView → ℕ → ((ℕ → ℕ → CellView) → ℕ → �
 fill desk i f =
     let frame : Frame = (window_at desk i).frame in
     let surface : SurfaceView = surface_at desk frame.surface in
-    record desk { surfaces = slice_set desk.surfaces frame.surface (filled surface frame.area (f (inside_at surface frame.area))) }
+    record desk { surfaces = with_surface frame.surface (filled surface frame.area (f (inside_at surface frame.area))) desk.surfaces }
 
 -- the marks with those of the lines from one up to another as said, and the others as they are
 unfoldable pub marked_lines : ℕ → ℕ → Bool → List Bool → List Bool

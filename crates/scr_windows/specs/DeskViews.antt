@@ -7,7 +7,9 @@ use Rattle.scr_windows.specs.declared.areas.Area.{Area}
 use Rattle.scr_windows.specs.declared.frames.Frame.{Frame}
 use Rattle.scr_windows.specs.declared.frames.State.{State}
 use Rattle.scr_cells.specs.declared.attributes.Attrs.{Attrs}
+use Rattle.scr_windows.specs.declared.sheets.Sheet.{Sheet}
 use Rattle.scr_windows.specs.SurfaceViews.{SurfaceView, IsSurface, IsPart, blank_surface}
+use Rattle.scr_windows.specs.Sheets.{AreSheets, HasSheet, surface_on, size_on}
 
 -- a frame, which no drawing changes; what the calls set; and a mark for each line
 pub record WindowView : Type 0 where
@@ -15,12 +17,12 @@ pub record WindowView : Type 0 where
   pub state : State
   pub touched : List Bool
 
--- the screen's size, the surfaces, the windows that are there by ascending numbers, and how many were made after the
--- first
+-- the screen's size, the surfaces and the windows that are there, both by ascending numbers, and how many windows were made
+-- after the first
 pub record DeskView : Type 0 where
   pub rows : ℕ
   pub columns : ℕ
-  pub surfaces : List SurfaceView
+  pub surfaces : List Sheet
   pub windows : List WindowView
   pub made : ℕ
 
@@ -41,22 +43,19 @@ AreAscending windows = AllPairs (λ (v : WindowView) (w : WindowView). v.frame.n
 abbrev pub no_attributes : Attrs
 no_attributes = record { 0 = 0 }
 
--- what stands for a window or a surface where there is none
+-- what stands for a window where there is none
 abbrev pub no_frame : Frame
 no_frame = record { number = 0; surface = 0; area = record { top = 0; left = 0; rows = 0; columns = 0 }; parent = None; origin = None }
 
 abbrev pub no_window : WindowView
 no_window = fresh_window no_frame no_attributes blank_cell
 
-abbrev pub no_surface : SurfaceView
-no_surface = record { rows = 0; columns = 0; lines = [] }
-
--- the window and the surface at a place among the desk's
+-- the window at a place among the desk's, and the surface that bears a number
 abbrev pub window_at : DeskView → ℕ → WindowView
 window_at desk i = slice_index_or desk.windows i no_window
 
 abbrev pub surface_at : DeskView → ℕ → SurfaceView
-surface_at desk k = slice_index_or desk.surfaces k no_surface
+surface_at desk number = surface_on desk.surfaces number
 
 -- the cursor and the region are inside
 pub record IsState (frame : Frame) (state : State) : Type 0 where
@@ -70,17 +69,12 @@ pub record IsWindow (window : WindowView) : Type 0 where
   pub state : IsState window.frame window.state
   pub touched : length window.touched ≡ window.frame.area.rows
 
--- how many rows and columns a surface has
-abbrev pub size_of : SurfaceView → ℕ × ℕ
-size_of surface = (surface.rows, surface.columns)
-
 -- the window lies wholly on its surface, and wholly on the screen where it has a place there
-pub record IsPlaced (rows columns : ℕ) (sizes : List (ℕ × ℕ)) (frame : Frame) : Type 0 where
-  pub surface : frame.surface < length sizes
+pub record IsPlaced (rows columns : ℕ) (sizes : ℕ → ℕ × ℕ) (frame : Frame) : Type 0 where
   pub some_rows : 1 ≤ frame.area.rows
   pub some_columns : 1 ≤ frame.area.columns
-  pub below : frame.area.top + frame.area.rows ≤ (slice_index_or sizes frame.surface (0, 0)).0
-  pub right : frame.area.left + frame.area.columns ≤ (slice_index_or sizes frame.surface (0, 0)).1
+  pub below : frame.area.top + frame.area.rows ≤ (sizes frame.surface).0
+  pub right : frame.area.left + frame.area.columns ≤ (sizes frame.surface).1
   pub origin : MatchOption frame.origin (Unit {0}) (λ place. (place.0 + frame.area.rows ≤ rows) × (place.1 + frame.area.columns ≤ columns))
 
 -- a window's place on the screen lies wholly inside another's; or neither has one
@@ -101,20 +95,27 @@ pub record IsChild (frame parent : Frame) : Type 0 where
   pub right : frame.area.left + frame.area.columns ≤ parent.area.left + parent.area.columns
   pub on_screen : IsInsideOnScreen frame.origin frame.area parent.origin parent.area
 
+-- a window that is no subwindow is on the surface that was made with it
+abbrev pub HasOwn : Frame → Type 0
+HasOwn frame = MatchOption frame.parent (frame.surface ≡ frame.number) (λ _. Unit {0})
+
 -- windows by ascending numbers, each number one that was given; a subwindow's parent is there
-pub record AreFrames (rows columns : ℕ) (sizes : List (ℕ × ℕ)) (made : ℕ) (frames : List Frame) : Type 0 where
+pub record AreFrames (rows columns : ℕ) (sizes : ℕ → ℕ × ℕ) (made : ℕ) (frames : List Frame) : Type 0 where
   pub few : length frames ≤ 1000
   pub placed : All (IsPlaced rows columns sizes) frames
   pub numbers : All (λ frame. frame.number ≤ made) frames
   pub ascending : (i j : ℕ) → i < j → j < length frames → (slice_index_or frames i no_frame).number < (slice_index_or frames j no_frame).number
+  pub roots : All HasOwn frames
   pub parents : All (λ frame. MatchOption frame.parent (Unit {0}) (λ number. (k : ℕ) × (k < length frames) × ((slice_index_or frames k no_frame).number ≡ number) × IsChild frame (slice_index_or frames k no_frame))) frames
 
 pub record IsDesk (desk : DeskView) : Type 0 where
   pub size : IsSize desk.rows desk.columns
   pub made : desk.made < 2 ^ 32
-  pub surfaces : All IsSurface desk.surfaces
+  pub surfaces : All (λ (sheet : Sheet). IsSurface sheet.surface) desk.surfaces
+  pub sheets : AreSheets desk.surfaces
+  pub given : All (λ (sheet : Sheet). sheet.number ≤ desk.made) desk.surfaces
   pub windows : All IsWindow desk.windows
-  pub frames : AreFrames desk.rows desk.columns (map size_of desk.surfaces) desk.made (map (λ (w : WindowView). w.frame) desk.windows)
+  pub frames : AreFrames desk.rows desk.columns (size_on desk.surfaces) desk.made (map (λ (w : WindowView). w.frame) desk.windows)
 
 -- a desk with one window over the whole screen, blank
 abbrev pub first_frame : ℕ → ℕ → Frame
@@ -124,7 +125,7 @@ first_frame rows columns = record { number = 0; surface = 0; area = record { top
 pub record Placed (desk : DeskView) (i : ℕ) : Type 0 where
   pub here : i < length desk.windows
   pub window : IsWindow (window_at desk i)
-  pub surface : (window_at desk i).frame.surface < length desk.surfaces
+  pub surface : HasSheet desk.surfaces (window_at desk i).frame.surface
   pub whole : IsSurface (surface_at desk (window_at desk i).frame.surface)
   pub part : IsPart (surface_at desk (window_at desk i).frame.surface) (window_at desk i).frame.area
   pub screen : IsSize desk.rows desk.columns
@@ -135,7 +136,7 @@ first_desk rows columns =
     record {
       rows = rows;
       columns = columns;
-      surfaces = blank_surface rows columns ∷ [];
+      surfaces = record { number = 0; surface = blank_surface rows columns } ∷ [];
       windows = fresh_window (first_frame rows columns) no_attributes blank_cell ∷ [];
       made = 0;
     }

@@ -3,6 +3,7 @@ pub mod Borders
 pub mod Calls
 pub mod Copying
 pub mod DeskViews
+pub mod Drawings
 pub mod Erasing
 pub mod Formulas
 pub mod Lending
@@ -12,6 +13,7 @@ pub mod Reading
 pub mod Removing
 pub mod Runs
 pub mod Settings
+pub mod Sheets
 pub mod SurfaceViews
 pub mod Syncing
 pub mod Touching

@@ -90,13 +90,13 @@ sub_pad_call desk win rows columns row column = on_window desk (place_of desk wi
 -- the frame of the next window that has a surface of its own
 abbrev pub root_frame : DeskView → ℕ → ℕ → Option (ℕ × ℕ) → Frame
 root_frame desk rows columns origin =
-    record { number = desk.made + 1; surface = length desk.surfaces; area = record { top = 0; left = 0; rows = rows; columns = columns }; parent = None; origin = origin }
+    record { number = desk.made + 1; surface = desk.made + 1; area = record { top = 0; left = 0; rows = rows; columns = columns }; parent = None; origin = origin }
 
 -- the desk with a blank window on a surface of its own
 abbrev pub with_root : DeskView → ℕ → ℕ → Option (ℕ × ℕ) → DeskView
 with_root desk rows columns origin =
     record desk {
-      surfaces = desk.surfaces ++ blank_surface rows columns ∷ [];
+      surfaces = desk.surfaces ++ record { number = desk.made + 1; surface = blank_surface rows columns } ∷ [];
       windows = desk.windows ++ fresh_window (root_frame desk rows columns origin) no_attributes blank_cell ∷ [];
       made = desk.made + 1;
     }

@@ -1,10 +1,10 @@
 -- What the call that deletes a window does. X/Open Curses Issue 7, delwin().
-use Rattle.std.specs.Prelude.{ℕ, Bool, false, List, map, Option, None, Some, Result, Ok, Err, ◌-◌, ◌==◌, ltb, if◌then◌else◌}
-use Rattle.std.specs.List.{list_any, remove}
-use Rattle.scr_windows.specs.declared.frames.Frame.{Frame}
+use Rattle.std.specs.Prelude.{ℕ, Bool, false, List, filter, not, Option, None, Some, Result, Ok, Err, ◌==◌, if◌then◌else◌}
+use Rattle.std.specs.List.{list_any}
 use Rattle.scr_windows.specs.declared.faults.WinFault.{WinFault}
 use Rattle.scr_windows.specs.declared.faults.WinFault.TheVariants.{HasChildren}
-use Rattle.scr_windows.specs.DeskViews.{WindowView, DeskView, window_at}
+use Rattle.scr_windows.specs.DeskViews.{WindowView, DeskView}
+use Rattle.scr_windows.specs.Sheets.{without_surface}
 use Rattle.scr_windows.specs.Calls.{place_of, on_window}
 
 -- the parent is the window of a number
@@ -16,30 +16,14 @@ is_number number (Some parent) = parent == number
 abbrev pub has_children : ℕ → List WindowView → Bool
 has_children number windows = list_any (λ (w : WindowView). is_number number w.frame.parent) windows
 
--- some window is on a surface
-abbrev pub is_used : ℕ → List WindowView → Bool
-is_used surface windows = list_any (λ (w : WindowView). w.frame.surface == surface) windows
+-- the windows but that of a number
+abbrev pub others : ℕ → List WindowView → List WindowView
+others number windows = filter (λ (w : WindowView). not (w.frame.number == number)) windows
 
--- a surface is gone: those after it have numbers less by one
-abbrev pub lowered_frame : ℕ → Frame → Frame
-lowered_frame surface frame = record frame { surface = if ltb surface frame.surface then frame.surface - 1 else frame.surface }
-
-abbrev pub lowered : ℕ → WindowView → WindowView
-lowered surface window = record window { frame = lowered_frame surface window.frame }
-
-abbrev pub surface_freed : DeskView → ℕ → DeskView
-surface_freed desk surface = record desk { surfaces = remove desk.surfaces surface; windows = map (lowered surface) desk.windows }
-
--- the desk without a window
-abbrev pub without : DeskView → ℕ → DeskView
-without desk i = record desk { windows = remove desk.windows i }
-
--- a window is gone, and its surface with it where no other window is on it
+-- the window of a number goes, and the surface that was made with it; every other window and every other surface stays
 abbrev pub deleted : DeskView → ℕ → DeskView
-deleted desk i =
-    let surface : ℕ = (window_at desk i).frame.surface in
-    if is_used surface (without desk i).windows then without desk i else surface_freed (without desk i) surface
+deleted desk number = record desk { surfaces = without_surface number desk.surfaces; windows = others number desk.windows }
 
 -- delwin()
 abbrev pub delete_call : DeskView → ℕ → DeskView × Result (Unit {0}) WinFault
-delete_call desk win = on_window desk (place_of desk win) (λ i. if has_children win desk.windows then (desk, Err HasChildren) else (deleted desk i, Ok tt))
+delete_call desk win = on_window desk (place_of desk win) (λ i. if has_children win desk.windows then (desk, Err HasChildren) else (deleted desk win, Ok tt))

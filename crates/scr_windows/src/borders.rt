@@ -1,19 +1,20 @@
 ghost use Rattle.std.specs.Prelude.{◌≡◌, ◌<◌, length, slice_index_or, true};
 ghost use Rattle.std.specs.List.{list_all};
-ghost use Rattle.scr_windows.specs.DeskViews.{window_at, no_attributes};
+ghost use Rattle.scr_cells.specs.CellViews.{is_character};
+ghost use Rattle.scr_windows.specs.DeskViews.{no_attributes};
 ghost use Rattle.scr_windows.specs.SurfaceViews.{IsPart, IsSurface, filled, inside_at};
 ghost use Rattle.scr_windows.specs.Runs.{Changes};
 ghost use Rattle.scr_windows.specs.Adding.{written};
-ghost use Rattle.scr_windows.specs.Calls.{write};
-ghost use Rattle.scr_windows.specs.Borders.{is_graphic, edge_cell, border_of, bordered, border_call, sides_put};
+ghost use Rattle.scr_windows.specs.Borders.{edge_cell, border_of, bordered, border_call, sides_put};
 
 use crate::adding::written;
 use crate::areas::Area;
 use crate::desks::Desk;
+use crate::drawings::Drawing;
 use crate::faults::{Win, WinFault};
 use crate::frames::State;
 use crate::surfaces::Surface;
-use scr_cells::{Attrs, Cell};
+use scr_cells::{Attrs, Cell, is_character};
 
 /// What is written along the edges of a window, in the order in which it is written.
 #[derive(Clone, Copy)]
@@ -46,28 +47,17 @@ impl Desk {
         ensures { (self.new, result) ≡ border_call self.old win.0 bytes }
     {
         let pen = self.pen(win)?;
-        if !is_all_graphic(&bytes) {
+        if !are_characters(&bytes) {
             return Err(WinFault::NotAscii);
         }
-        self.draw_border(pen.place, border_of(&bytes, &pen.state));
+        self.draw(pen.place, &Drawing::Bordered(border_of(&bytes, &pen.state)));
         Ok(())
-    }
-
-    // Writes a border in the window at a place, and touches it.
-    fn draw_border(&mut self, place: usize, border: Border)
-        requires here { place < length self.old.windows }
-        ensures { self.new ≡ write self.old place 0 (window_at self.old place).frame.area.rows (bordered (window_at self.old place).frame.area.rows (window_at self.old place).frame.area.columns border) }
-    {
-        let window = &mut self.windows[place];
-        let frame = window.frame();
-        window.mark(0, frame.area.rows, true);
-        self.surfaces[frame.surface].draw_border(frame.area, border);
     }
 }
 
 impl Surface {
     // Writes a border in an area. Every place outside the area stays.
-    fn draw_border(&mut self, area: Area, border: Border)
+    pub(crate) fn draw_border(&mut self, area: Area, border: Border)
         requires part { IsPart self.old area }
         requires surface { IsSurface self.old }
         ensures { self.new ≡ filled self.old area (bordered area.rows area.columns border (inside_at self.old area)) }
@@ -100,16 +90,16 @@ impl Surface {
 }
 
 // Whether all bytes can be drawn.
-fn is_all_graphic(bytes: &[u8]) -> bool
-    ensures { result ≡ list_all is_graphic bytes.now }
+fn are_characters(bytes: &[u8]) -> bool
+    ensures { result ≡ list_all is_character bytes.now }
 {
-    bytes.iter().all(|byte| 32 <= *byte && *byte <= 126)
+    bytes.iter().all(|byte| is_character(*byte))
 }
 
 // The cells of a border.
 fn border_of(bytes: &[u8], state: &State) -> Border
     requires len { length bytes.now ≡ 8 }
-    requires graphic { list_all is_graphic bytes.now ≡ true }
+    requires graphic { list_all is_character bytes.now ≡ true }
     ensures { result ≡ border_of bytes.now state.now }
 {
     let left = edge(bytes, 0, state);
@@ -135,7 +125,7 @@ fn border_of(bytes: &[u8], state: &State) -> Border
 // The written form of a byte among those of a border.
 fn edge(bytes: &[u8], k: usize, state: &State) -> Cell
     requires here { k < length bytes.now }
-    requires graphic { list_all is_graphic bytes.now ≡ true }
+    requires graphic { list_all is_character bytes.now ≡ true }
     ensures { result ≡ edge_cell bytes.now state.now k }
 {
     written(bytes[k], Attrs(0), *state)

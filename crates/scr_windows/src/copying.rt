@@ -10,6 +10,7 @@ ghost use Rattle.scr_windows.specs.declared.faults.WinFault.TheVariants.{NoMemor
 use crate::areas::Area;
 use crate::desks::Desk;
 use crate::faults::{Win, WinFault};
+use crate::sheets::index_of_sheet;
 use crate::surfaces::Surface;
 use scr_cells::Cell;
 use std::alloc::Global;
@@ -168,7 +169,8 @@ impl Desk {
             rows: part.rows,
             columns: part.columns,
         };
-        self.surfaces[frame.surface].block(alloc, area)
+        let sheet = index_of_sheet(&self.surfaces, frame.surface);
+        self.surfaces[sheet].surface.block(alloc, area)
     }
 
     // Lays a block of cells over a part of the window at a place, and touches the lines.
@@ -182,7 +184,8 @@ impl Desk {
         let window = &mut self.windows[place];
         let frame = window.frame();
         window.mark(part.top, part.top + part.rows, true);
-        self.surfaces[frame.surface].lay(frame.area, part, cells, overlay);
+        let sheet = index_of_sheet(&self.surfaces, frame.surface);
+        self.surfaces[sheet].surface.lay(frame.area, part, cells, overlay);
     }
 }
 

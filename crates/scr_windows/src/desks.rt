@@ -4,7 +4,7 @@ ghost use Rattle.scr_windows.specs.Calls.{IsPen, IsPenAt, place_of, with_window,
 
 use crate::faults::{Win, WinFault};
 use crate::frames::{Pen, State};
-use crate::surfaces::Surface;
+use crate::sheets::Sheet;
 use crate::windows::{Window, place_of_number};
 use std::marker::Model;
 
@@ -18,7 +18,8 @@ use std::marker::Model;
 pub struct Desk {
     pub(crate) rows: u32,
     pub(crate) columns: u32,
-    pub(crate) surfaces: Vec<Surface>,
+    // By ascending numbers.
+    pub(crate) surfaces: Vec<Sheet>,
     // By ascending numbers.
     pub(crate) windows: Vec<Window>,
     // How many windows were made after the first.

@@ -2,6 +2,7 @@ ghost use Rattle.std.specs.Prelude.{◌≡◌};
 ghost use Rattle.scr_windows.specs.Erasing.{clear_to_eol_call, clear_to_bottom_call, erase_call, clear_call};
 
 use crate::desks::Desk;
+use crate::drawings::Drawing;
 use crate::faults::{Win, WinFault};
 
 impl Desk {
@@ -13,13 +14,7 @@ impl Desk {
     {
         let pen = self.pen(win)?;
         let (row, column) = pen.state.cursor;
-        self.fill_run(
-            pen.place,
-            row,
-            column,
-            pen.area.columns,
-            pen.state.background,
-        );
+        self.draw(pen.place, &Drawing::Run { row, from: column, end: pen.area.columns, cell: pen.state.background });
         Ok(())
     }
 
@@ -31,7 +26,7 @@ impl Desk {
     {
         let pen = self.pen(win)?;
         let (row, column) = pen.state.cursor;
-        self.fill_below(pen.place, row, column, pen.state.background);
+        self.draw(pen.place, &Drawing::Below { row, column, cell: pen.state.background });
         Ok(())
     }
 
@@ -43,7 +38,7 @@ impl Desk {
     {
         let pen = self.pen(win)?;
         let mut state = pen.state;
-        self.fill_rows(pen.place, 0, pen.area.rows, state.background);
+        self.draw(pen.place, &Drawing::Rows { first: 0, end: pen.area.rows, cell: state.background });
         state.cursor = (0, 0);
         self.set_state(pen.place, state);
         Ok(())
@@ -57,7 +52,7 @@ impl Desk {
     {
         let pen = self.pen(win)?;
         let mut state = pen.state;
-        self.fill_rows(pen.place, 0, pen.area.rows, state.background);
+        self.draw(pen.place, &Drawing::Rows { first: 0, end: pen.area.rows, cell: state.background });
         state.cursor = (0, 0);
         state.clear_ok = true;
         self.set_state(pen.place, state);

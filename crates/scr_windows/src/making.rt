@@ -9,6 +9,7 @@ use crate::desks::Desk;
 use crate::faults::{Win, WinFault};
 use crate::frames::Frame;
 use crate::subwindows::{MOST, part_of};
+use crate::sheets::Sheet;
 use crate::surfaces::Surface;
 use crate::windows::Window;
 use scr_cells::{Attrs, Cell, Size};
@@ -39,7 +40,8 @@ impl Desk {
             origin: Some((0, 0)),
         };
         let mut surfaces = Vec::new(alloc);
-        surfaces.push(Surface::blank(alloc, rows, columns)?)?;
+        let surface = Surface::blank(alloc, rows, columns)?;
+        surfaces.push(Sheet { number: 0, surface })?;
         let mut windows = Vec::new(alloc);
         windows.push(Window::fresh(alloc, frame, Attrs(0), Cell::blank())?)?;
         Ok(Desk {
@@ -119,7 +121,7 @@ impl Desk {
         let number = self.made + 1;
         let frame = Frame {
             number,
-            surface: self.surfaces.len(),
+            surface: number,
             area: Area {
                 top: 0,
                 left: 0,
@@ -132,7 +134,7 @@ impl Desk {
         let surface = Surface::blank(alloc, rows, columns)?;
         let window = Window::fresh(alloc, frame, Attrs(0), Cell::blank())?;
         self.windows.reserve(1)?;
-        self.surfaces.push(surface)?;
+        self.surfaces.push(Sheet { number, surface })?;
         self.windows.push(window)?;
         self.made = number;
         Ok(Win(number))

@@ -5,6 +5,7 @@ ghost use Rattle.scr_windows.specs.Reading.{cell_at_answer, cursor_answer, size_
 use crate::desks::Desk;
 use crate::faults::{Win, WinFault};
 use crate::lent::WindowRef;
+use crate::sheets::index_of_sheet;
 use scr_cells::{Cell, Size};
 
 impl Desk {
@@ -55,7 +56,8 @@ impl Desk {
         ensures { result ≡ contents self.now place }
     {
         let window = &self.windows[place];
-        WindowRef::new(window, &self.surfaces[window.frame().surface])
+        let sheet = index_of_sheet(&self.surfaces, window.frame().surface);
+        WindowRef::new(window, &self.surfaces[sheet].surface)
     }
 
     /// The cell in a row and a column of a window.
@@ -148,6 +150,7 @@ impl Desk {
         ensures width { length result.now ≡ (window_at self.now place).frame.area.columns }
     {
         let frame = self.windows[place].frame();
-        self.surfaces[frame.surface].line(frame.area, row)
+        let sheet = index_of_sheet(&self.surfaces, frame.surface);
+        self.surfaces[sheet].surface.line(frame.area, row)
     }
 }

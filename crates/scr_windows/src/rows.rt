@@ -2,6 +2,7 @@ ghost use Rattle.std.specs.Prelude.{◌≡◌};
 ghost use Rattle.scr_windows.specs.Erasing.{delete_byte_call, insert_delete_lines_call, scroll_call};
 
 use crate::desks::Desk;
+use crate::drawings::Drawing;
 use crate::faults::{Win, WinFault};
 
 impl Desk {
@@ -14,7 +15,7 @@ impl Desk {
     {
         let pen = self.pen(win)?;
         let (row, column) = pen.state.cursor;
-        self.close_row(pen.place, row, column, pen.state.background);
+        self.draw(pen.place, &Drawing::Closed { row, column, cell: pen.state.background });
         Ok(())
     }
 
@@ -31,9 +32,9 @@ impl Desk {
         let rows = pen.area.rows;
         let many = n.unsigned_abs();
         if n > 0 {
-            self.move_down(pen.place, row, rows, many, pen.state.background);
+            self.draw(pen.place, &Drawing::Down { first: row, end: rows, n: many, cell: pen.state.background });
         } else if n < 0 {
-            self.move_up(pen.place, row, rows, many, pen.state.background);
+            self.draw(pen.place, &Drawing::Up { first: row, end: rows, n: many, cell: pen.state.background });
         }
         Ok(())
     }
@@ -52,9 +53,9 @@ impl Desk {
         let (top, bottom) = pen.state.region;
         let many = n.unsigned_abs();
         if n > 0 {
-            self.move_up(pen.place, top, bottom + 1, many, pen.state.background);
+            self.draw(pen.place, &Drawing::Up { first: top, end: bottom + 1, n: many, cell: pen.state.background });
         } else if n < 0 {
-            self.move_down(pen.place, top, bottom + 1, many, pen.state.background);
+            self.draw(pen.place, &Drawing::Down { first: top, end: bottom + 1, n: many, cell: pen.state.background });
         }
         Ok(())
     }

@@ -2,6 +2,7 @@ ghost use Rattle.std.specs.Prelude.{◌≡◌};
 ghost use Rattle.scr_windows.specs.Settings.{move_cursor_call, set_region_call, scroll_ok_call, clear_ok_call, leave_ok_call, attr_on_call, attr_off_call, attr_set_call, set_background_call, change_background_call};
 
 use crate::desks::Desk;
+use crate::drawings::Drawing;
 use crate::faults::{Win, WinFault};
 use bitflags::Flags;
 use scr_cells::{Attrs, Cell};
@@ -131,7 +132,7 @@ impl Desk {
     {
         let pen = self.pen(win)?;
         let mut state = pen.state;
-        self.exchange(pen.place, state.background, cell);
+        self.draw(pen.place, &Drawing::Exchanged { old: state.background, new: cell });
         state.background = cell;
         self.set_state(pen.place, state);
         Ok(())

@@ -1,21 +1,22 @@
-use Rattle.std.proofs.Common.{rules, sym, ◌∙◌, ◌<◌, ◌≢◌, length, get_or, arith}
+use Rattle.std.proofs.Common.{rules, refl, sym, ◌∙◌, ◌<◌, ◌≢◌, length, get_or, arith}
 use Rattle.std.proofs.lemmas.List.Sorted.{IsPartitionPoint-from_clause}
 use Rattle.scr_windows.specs.DeskViews.{no_window}
-use Rattle.scr_windows.proofs.NumberLaws.{is_before, number_of, found_at, absent_at, are_partitioned, read_number}
+use Rattle.scr_windows.proofs.DeskLaws.{frame_of, number_of, frame_number}
+use Rattle.scr_windows.proofs.NumberLaws.{is_before, found_at, absent_at, are_partitioned, read_number}
 use Rattle.scr_windows.proofs.windows.place_of_number.Goals as goal
 use Rattle.scr_windows.proofs.windows.place_of_number.Goals.{else-place-windows-via-then-place-windows+else-frame-number, else-place-windows-via-else-place-windows}
 
 pub returns-then-frame-number : goal.returns-then-frame-number
 returns-then-frame-number c =
-    let parts = IsPartitionPoint-from_clause (is_before c.args.number) _ _ c.partition_point-place.ensures.partitioned (are_partitioned _ c.args.number c.requires) (λ x b f' k. search rules) in
-    let read = read_number _ c.partition_point-place.result _ _ c.if-place-windows.true c.index-windows-place.is c.frame.ensures in
-    found_at _ c.args.number _ parts c.if-place-windows.true (read ∙ c.if-frame-number.true)
+    let parts = IsPartitionPoint-from_clause (is_before number_of c.args.number) _ _ c.partition_point-place.ensures.partitioned (are_partitioned number_of _ c.args.number c.requires) (λ x b f' k. search rules) in
+    let read = read_number number_of frame_number frame_of (λ x. refl) _ c.partition_point-place.result _ no_window _ c.if-place-windows.true c.index-windows-place.is c.frame.ensures in
+    found_at number_of _ c.args.number _ no_window parts c.if-place-windows.true (read ∙ c.if-frame-number.true)
 
 pub returns-else-place-windows : goal.returns-else-place-windows
 returns-else-place-windows c =
-    let parts = IsPartitionPoint-from_clause (is_before c.args.number) _ _ c.partition_point-place.ensures.partitioned (are_partitioned _ c.args.number c.requires) (λ x b f' k. search rules) in
-    absent_at _ c.args.number _ c.requires parts
+    let parts = IsPartitionPoint-from_clause (is_before number_of c.args.number) _ _ c.partition_point-place.ensures.partitioned (are_partitioned number_of _ c.args.number c.requires) (λ x b f' k. search rules) in
+    absent_at number_of _ c.args.number _ no_window c.requires parts
     (elim c.else-place-windows.branch as (λ _. c.partition_point-place.result < length c.args.windows.now → number_of (get_or c.args.windows.now c.partition_point-place.result no_window) ≢ c.args.number) [
-      | else-place-windows-via-then-place-windows+else-frame-number w ↦ (λ l e. w.if-frame-number.false (sym (read_number _ c.partition_point-place.result _ _ l w.index-windows-place.is w.frame.ensures) ∙ e))
+      | else-place-windows-via-then-place-windows+else-frame-number w ↦ (λ l e. w.if-frame-number.false (sym (read_number number_of frame_number frame_of (λ x. refl) _ c.partition_point-place.result _ no_window _ l w.index-windows-place.is w.frame.ensures) ∙ e))
       | else-place-windows-via-else-place-windows w ↦ (λ l. absurd (omega arith))
     ])

@@ -1,7 +1,7 @@
 use Rattle.std.proofs.Common.{ℕ, ◌∙◌, ◌<◌, List, sym, ap, subst, Option}
 use Rattle.std.specs.Prelude.{MatchOption}
 use Rattle.scr_windows.specs.DeskViews.{WindowView, AreAscending}
-use Rattle.scr_windows.proofs.NumberLaws.{desk_ascends}
+use Rattle.scr_windows.proofs.DeskLaws.{desk_ascends}
 use Rattle.scr_windows.proofs.SyncLaws.{parent_before_in, parent_found}
 use Rattle.scr_windows.proofs.desks.Desk.parent_of.Goals as goal
 

@@ -2,7 +2,7 @@ use Rattle.std.proofs.Common.{◌==◌, List, arith, sym, ap, subst, length}
 use Rattle.std.proofs.lemmas.List.Quantifiers.{position-Some}
 use Rattle.scr_windows.specs.DeskViews.{DeskView, WindowView, AreAscending, Placed, no_window}
 use Rattle.scr_windows.proofs.DeskLaws.{placed}
-use Rattle.scr_windows.proofs.NumberLaws.{desk_ascends}
+use Rattle.scr_windows.proofs.DeskLaws.{desk_ascends}
 use Rattle.scr_windows.proofs.desks.Desk.place.Goals as goal
 
 pub returns-in-Some-clause-placed : goal.returns-in-Some-clause-placed

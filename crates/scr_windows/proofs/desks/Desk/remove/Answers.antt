@@ -1,0 +1,15 @@
+use Rattle.std.proofs.Common.{rules, ◌∙◌, ap}
+use Rattle.std.proofs.lemmas.Fn.{filter_same}
+use Rattle.scr_windows.specs.Removing.{deleted}
+use Rattle.scr_windows.proofs.RemovingLaws.{window_removed, removed_path}
+use Rattle.scr_windows.proofs.desks.Desk.remove.Goals as goal
+
+pub invariant_of-self : goal.invariant_of-self
+invariant_of-self c =
+    window_removed _ _ c.self.view_is c.args.number _ _ c.self.invariant c.requires.alone (filter_same _ _ _ (λ x b f' k. search rules) _ _ c.retain-2.ensures.filtered)
+    (filter_same _ _ _ (λ x b f' k. search rules) _ _ c.retain.ensures.filtered)
+
+pub returns : goal.returns
+returns c =
+    removed_path _ _ c.self.view_is c.args.number _ _ (filter_same _ _ _ (λ x b f' k. search rules) _ _ c.retain-2.ensures.filtered)
+    (filter_same _ _ _ (λ x b f' k. search rules) _ _ c.retain.ensures.filtered)
