@@ -6,6 +6,7 @@
 
 mod attributes;
 mod cells;
+mod grids;
 mod looks;
 mod out_of_memory;
 mod pictures;
@@ -15,6 +16,7 @@ mod tests;
 
 pub use attributes::Attrs;
 pub use cells::Cell;
+pub use grids::Grid;
 pub use looks::Look;
 pub use out_of_memory::NoMemory;
 pub use pictures::Picture;
