@@ -1,12 +1,13 @@
 -- Elements one after another, seen as the rows of a grid. The only place where rows are multiplied by columns.
-use Rattle.std.proofs.Common.{subst, ◌≡◌, ◌≢◌, ◌⊎◌, inl, inr, ℕ, ◌+◌, ◌-◌, ◌*◌, ◌<◌, ◌≤◌, sym, ◌∙◌, ap, refl, arith, List, [], ◌++◌, length, map, set, take, drop, get_or, cond, ltb, leb, ◌&&◌}
-use Rattle.std.specs.List.{range_with_len}
+use Rattle.std.proofs.Common.{Vec, subst, ◌≡◌, ◌≢◌, ◌⊎◌, inl, inr, ℕ, ◌+◌, ◌-◌, ◌*◌, ◌<◌, ◌≤◌, sym, ◌∙◌, ap, arith, List, [], ◌++◌, length, map, set, take, drop, get_or, cond, ltb, leb, ◌&&◌, ◌∷◌, replicate, suc}
+use Rattle.std.specs.List.{range_with_len, enumerate_from}
 use Rattle.std.proofs.lemmas.Nat.{mul-le}
-use Rattle.std.proofs.lemmas.List.{same_lists, get_or_append_left, get_or-append_right, get_or-take, get_or-drop, get_or-set_same, get_or-set_other, length-append, length-drop, length-set, length-take-le, append_assoc, drop-drop}
-use Rattle.std.proofs.lemmas.List.FromFn.{get_or-map-range_with_len, length-map-range_with_len}
+use Rattle.std.proofs.lemmas.List.{same_lists, get_or_append_left, get_or-append_right, get_or-take, get_or-drop, get_or-set_same, get_or-set_other, length-append, length-drop, length-set, length-take-le, append_assoc, drop-drop, drop-take, take-take, set_split, drop-replicate, take-replicate, length-replicate, get_or-replicate, set-append_right, drop_more, take_more, replicate_more, length-map, map_push, with_items_is}
+use Rattle.std.proofs.lemmas.List.FromFn.{get_or-map-range_with_len, length-map-range_with_len, length-enumerate_from}
 use Rattle.std.proofs.lemmas.Bool.Decides.{nat_tests}
 use borrow.Rule.Slice.PartMut.{put_mid}
-use Rattle.scr_cells.specs.Grids.{GridView, IsGrid, grid_row, grid_with_run, line_with_run, rows_of}
+use Rattle.std.specs.Vec.{with_items}
+use Rattle.scr_cells.specs.Grids.{GridView, IsGrid, changed_run, grid_at, grid_of, grid_row, grid_with, grid_with_run, line_with_run, rows_of}
 
 -- a place of an earlier row stands before every place of a later one
 pub earlier_row : (columns r c s : ℕ) → r < s → c < columns → r * columns + c < s * columns
@@ -88,7 +89,7 @@ run_in_row {A} rows columns items run r c len row_in fits =
     let was : get_or old k d ≡ take columns (drop (k * columns) items) = get_or-map-range_with_len _ 0 rows k k d k_in (omega arith) in
     e ∙ elim (same_or_apart k r) [
       | inl s ↦ ap (λ n. take columns (drop (n * columns) (line_with_run items (r * columns + c) run))) s ∙ this_row rows columns items run r c len row_in fits room len2
-        ∙ ap (λ xs. line_with_run xs c run) (sym (row_of_rows rows columns items r row_in)) ∙ sym (get_or-set_same old r line d (omega (arith, high))) ∙ ap (λ n. get_or (set old r line) n d) (sym s)
+          ∙ ap (λ xs. line_with_run xs c run) (sym (row_of_rows rows columns items r row_in)) ∙ sym (get_or-set_same old r line d (omega (arith, high))) ∙ ap (λ n. get_or (set old r line) n d) (sym s)
       | inr o ↦ other_row rows columns items run r c k len fits room len2 k_in o ∙ sym was ∙ sym (get_or-set_other old r k line d (not_same k r o))
     ])
   where
@@ -154,6 +155,10 @@ grid_is {A} rows columns items g is len =
     let P : GridView A → Type 0 = λ v. IsGrid v.rows v.columns v.lines in
     subst P is (rows_are_grid rows columns items len)
 
+-- where a place of the grid stands among the elements
+place_is : {A : Type 0} (rows columns : ℕ) (items : List A) (g : GridView A) (r c s : ℕ) → seen rows columns items ≡ g → s ≡ r * g.columns + c → s ≡ r * columns + c
+place_is rows columns items g r c s is s_is = s_is ∙ ap (λ n. r * n + c) (sym (ap (λ (v : GridView _). v.columns) is))
+
 -- what a method leaves that puts a run in a row
 pub run_is_put : {A : Type 0} (rows columns : ℕ) (items run new : List A) (g : GridView A) (r c : ℕ) → seen rows columns items ≡ g → length items ≡ rows * columns
     → r < g.rows → c + length run ≤ g.columns → new ≡ line_with_run items (r * columns + c) run
@@ -164,3 +169,134 @@ run_is_put {A} rows columns items run new g r c is len row_in fits e =
     ap (seen rows columns) e
     ∙ (λ i. record (seen rows columns items) { lines = run_in_row rows columns items run r c len row_in2 fits2 i })
     ∙ ap (λ (v : GridView A). record v { lines = grid_with_run v.lines r c run }) is
+
+pub run_is_put_at : {A : Type 0} (rows columns : ℕ) (items run new : List A) (g : GridView A) (r c s : ℕ) → seen rows columns items ≡ g → length items ≡ rows * columns
+    → r < g.rows → c + length run ≤ g.columns → s ≡ r * g.columns + c → new ≡ line_with_run items s run
+    → seen rows columns new ≡ record g { lines = grid_with_run g.lines r c run }
+run_is_put_at rows columns items run new g r c s is len row_in fits s_is e =
+    run_is_put rows columns items run new g r c is len row_in fits (e ∙ ap (λ k. line_with_run items k run) (place_is rows columns items g r c s is s_is))
+
+-- a part of a row stands in one piece
+pub part_is : {A : Type 0} (rows columns : ℕ) (items : List A) (g : GridView A) (r from n s : ℕ) → seen rows columns items ≡ g → r < g.rows → from + n ≤ g.columns → s ≡ r * g.columns + from
+    → take n (drop s items) ≡ take n (drop from (grid_row g.lines r))
+part_is {A} rows columns items g r from n s is row_in fits s_is =
+    let row_in2 : r < rows = omega (arith, ap (λ (v : GridView A). v.rows) is) in
+    let fits2 : from + n ≤ columns = omega (arith, ap (λ (v : GridView A). v.columns) is) in
+    let wide : columns ≡ from + (columns - from) = omega arith in
+    let row : List A = drop (r * columns) items in
+    ap (λ k. take n (drop k items)) (place_is rows columns items g r from s is s_is) ∙ ap (take n) (sym (drop-drop from (r * columns) items)) ∙ sym (take-take n (columns - from) (drop from row) (omega arith))
+    ∙ ap (take n) (sym (drop-take from (columns - from) row)) ∙ ap (λ w. take n (drop from (take w row))) (sym wide)
+    ∙ ap (λ line. take n (drop from line)) (sym (row_of_rows rows columns items r row_in2)) ∙ ap (λ (v : GridView A). take n (drop from (grid_row v.lines r))) is
+
+pub part_length : {A : Type 0} (rows columns : ℕ) (items : List A) (g : GridView A) (r from n : ℕ) → seen rows columns items ≡ g → length items ≡ rows * columns → r < g.rows → from + n ≤ g.columns
+    → length (take n (drop from (grid_row g.lines r))) ≡ n
+part_length {A} rows columns items g r from n is len row_in fits =
+    let wide : length (grid_row g.lines r) ≡ g.columns = (grid_is rows columns items g is len).wide r row_in in
+    let l : length (drop from (grid_row g.lines r)) ≡ length (grid_row g.lines r) - from = length-drop from (grid_row g.lines r) in
+    length-take-le n (drop from (grid_row g.lines r)) (omega (arith, wide, l))
+
+pub row_is : {A : Type 0} (rows columns : ℕ) (items : List A) (g : GridView A) (r : ℕ) → seen rows columns items ≡ g → r < g.rows → take columns (drop (r * columns) items) ≡ grid_row g.lines r
+row_is {A} rows columns items g r is row_in =
+    let row_in2 : r < rows = omega (arith, ap (λ (v : GridView A). v.rows) is) in
+    sym (row_of_rows rows columns items r row_in2) ∙ ap (λ (v : GridView A). grid_row v.lines r) is
+
+pub element_is : {A : Type 0} (rows columns : ℕ) (items : List A) (g : GridView A) (r c s : ℕ) (d : A) → seen rows columns items ≡ g → r < g.rows → c < g.columns → s ≡ r * g.columns + c → get_or items s d ≡ grid_at d g.lines r c
+element_is {A} rows columns items g r c s d is row_in column_in s_is =
+    let column_in2 : c < columns = omega (arith, ap (λ (v : GridView A). v.columns) is) in
+    ap (λ k. get_or items k d) (place_is rows columns items g r c s is s_is) ∙ sym (get_or-drop (r * columns) items c d) ∙ sym (get_or-take columns (drop (r * columns) items) c d column_in2) ∙ ap (λ line. get_or line c d) (row_is rows columns items g r is row_in)
+
+-- what is left where a part of the elements was lent
+pub mid_is_run : {A : Type 0} (xs items ys run : List A) (a s k : ℕ) → xs ≡ items → ys ≡ run → a ≡ s → k ≡ length run → put_mid a k xs ys ≡ line_with_run items s run
+mid_is_run xs items ys run a s k xs_is ys_is a_is k_is =
+    (λ i. put_mid (a_is i) (k_is i) (xs_is i) (ys_is i)) ∙ sym (append_assoc (take s items) run (drop (length run) (drop s items)))
+    ∙ ap (λ rest. (take s items ++ run) ++ rest) (drop-drop (length run) s items)
+
+-- one element put is a run of one
+pub one_is_run : {A : Type 0} (line : List A) (c : ℕ) (x : A) → c < length line → set line c x ≡ line_with_run line c (x ∷ [])
+one_is_run line c x h =
+    let e : suc c ≡ c + 1 = omega arith in
+    set_split line c x h ∙ sym (append_assoc (take c line) (x ∷ []) (drop (suc c) line)) ∙ ap (λ n. (take c line ++ x ∷ []) ++ drop n line) e
+
+pub one_is_put : {A : Type 0} (rows columns : ℕ) (items new : List A) (g : GridView A) (r c s : ℕ) (x : A) → seen rows columns items ≡ g → length items ≡ rows * columns
+    → r < g.rows → c < g.columns → s ≡ r * g.columns + c → new ≡ set items s x → seen rows columns new ≡ record g { lines = grid_with g.lines r c x }
+one_is_put {A} rows columns items new g r c s x is len row_in column_in s_is e =
+    let row_in2 : r < rows = omega (arith, ap (λ (v : GridView A). v.rows) is) in
+    let column_in2 : c < columns = omega (arith, ap (λ (v : GridView A). v.columns) is) in
+    let end : r * columns + columns ≤ rows * columns = next_row columns r rows row_in2 in
+    let wide : length (grid_row g.lines r) ≡ g.columns = (grid_is rows columns items g is len).wide r row_in in
+    run_is_put rows columns items (x ∷ []) new g r c is len row_in (omega arith) (e ∙ ap (λ k. set items k x) (place_is rows columns items g r c s is s_is) ∙ one_is_run items (r * columns + c) x (omega (arith, len, end)))
+    ∙ (λ i. record g { lines = set g.lines r (sym (one_is_run (grid_row g.lines r) c x (omega (arith, wide))) i) })
+
+-- the same element everywhere
+pub constant_grid : {A : Type 0} (rows columns : ℕ) (x : A) → rows_of rows columns (replicate (rows * columns) x) ≡ grid_of rows columns (λ _ _. x)
+constant_grid {A} rows columns x =
+    let items : List A = replicate (rows * columns) x in
+    let high : length (rows_of rows columns items) ≡ rows = length-map-range_with_len _ 0 rows in
+    let high2 : length (grid_of rows columns (λ (_ _ : ℕ). x)) ≡ rows = length-map-range_with_len _ 0 rows in
+    same_lists _ _ (high ∙ sym high2) (λ r d h.
+    let row_in : r < rows = omega (arith, high) in
+    let end : r * columns + columns ≤ rows * columns = next_row columns r rows row_in in
+    get_or-map-range_with_len (λ i. take columns (drop (i * columns) items)) 0 rows r r d row_in (omega arith)
+    ∙ ap (take columns) (drop-replicate (r * columns) (rows * columns) x) ∙ take-replicate columns (rows * columns - r * columns) x (omega arith) ∙ same_everywhere x columns
+    ∙ sym (get_or-map-range_with_len (λ (_ : ℕ). map (λ (_ : ℕ). x) (range_with_len 0 columns)) 0 rows r r d row_in (omega arith)))
+  where
+    same_everywhere : {A : Type 0} (x : A) (n : ℕ) → replicate n x ≡ map (λ (_ : ℕ). x) (range_with_len 0 n)
+    same_everywhere {A} x n =
+        let wide : length (replicate n x) ≡ n = length-replicate n x in
+        let wide2 : length (map (λ (_ : ℕ). x) (range_with_len 0 n)) ≡ n = length-map-range_with_len _ 0 n in
+        same_lists _ _ (wide ∙ sym wide2) (λ k d h.
+        let k_in : k < n = omega (arith, wide) in
+        get_or-replicate n k x d k_in ∙ sym (get_or-map-range_with_len (λ (_ : ℕ). x) 0 n k k d k_in (omega arith)))
+
+-- loops over a slice: what is done, and what is left
+pub one_filled : {A : Type 0} (old : List A) (n : ℕ) (x : A) → n < length old → set (replicate n x ++ drop n old) n x ≡ replicate (n + 1) x ++ drop (n + 1) old
+one_filled old n x h =
+    let z : n - n ≡ 0 = omega arith in
+    set-append_right (replicate n x) (drop n old) n n x (length-replicate n x) (omega arith)
+    ∙ (λ i. replicate n x ++ set (drop_more old n x h i) (z i) x)
+    ∙ sym (append_assoc (replicate n x) (x ∷ []) (drop (n + 1) old)) ∙ ap (λ xs. xs ++ drop (n + 1) old) (replicate_more n x)
+
+enumerate_more : {A : Type 0} (from : ℕ) (xs : List A) (x : A) → enumerate_from from (xs ++ x ∷ []) ≡ enumerate_from from xs ++ (from + length xs, x) ∷ []
+enumerate_more from [] x = let z : from ≡ from + 0 = omega arith in ap (λ n. (n, x) ∷ []) z
+enumerate_more from (y ∷ xs) x =
+    let z : from + 1 + length xs ≡ from + suc (length xs) = omega arith in
+    ap (λ ys. (from, y) ∷ ys) (enumerate_more (from + 1) xs x ∙ ap (λ n. enumerate_from (from + 1) xs ++ (n, x) ∷ []) z)
+
+pub length-changed_run : {A : Type 0} (f : ℕ → A → A) (from : ℕ) (run : List A) → length (changed_run f from run) ≡ length run
+length-changed_run f from run = length-map (enumerate_from from run) (λ p. f p.0 p.1) ∙ length-enumerate_from from run
+
+pub one_changed : {A : Type 0} (f : ℕ → A → A) (from : ℕ) (old : List A) (n : ℕ) (x y : A) → n < length old → x ≡ get_or (changed_run f from (take n old) ++ drop n old) n x → y ≡ f (from + n) x
+    → set (changed_run f from (take n old) ++ drop n old) n y ≡ changed_run f from (take (n + 1) old) ++ drop (n + 1) old
+one_changed {A} f from old n x y h read is =
+    let done : List A = changed_run f from (take n old) in
+    let short : length (take n old) ≡ n = length-take-le n old (omega arith) in
+    let len : length done ≡ n = length-changed_run f from (take n old) ∙ short in
+    let z : n - n ≡ 0 = omega arith in
+    let n0 : n + 0 ≡ n = omega arith in
+    let at : x ≡ get_or old n x = read ∙ get_or-append_right done (drop n old) n n x len (omega arith) ∙ ap (λ k. get_or (drop n old) k x) z ∙ get_or-drop n old 0 x ∙ ap (λ k. get_or old k x) n0 in
+    let more : changed_run f from (take (n + 1) old) ≡ done ++ f (from + n) x ∷ [] =
+    ap (changed_run f from) (take_more old n x h) ∙ ap (λ v. changed_run f from (take n old ++ v ∷ [])) (sym at)
+    ∙ ap (map (λ p. f p.0 p.1)) (enumerate_more from (take n old) x) ∙ map_push (λ (p : ℕ × A). f p.0 p.1) (enumerate_from from (take n old)) (from + length (take n old), x)
+    ∙ ap (λ k. done ++ f (from + k) x ∷ []) short in
+    set-append_right done (drop n old) n n y len (omega arith)
+    ∙ (λ i. done ++ set (drop_more old n x h i) (z i) y)
+    ∙ sym (append_assoc done (y ∷ []) (drop (n + 1) old)) ∙ ap (λ v. (done ++ v ∷ []) ++ drop (n + 1) old) is ∙ ap (λ xs. xs ++ drop (n + 1) old) (sym more)
+
+-- the same where a part of the vector was lent
+pub lent_run_is_put : {A Z : Type 0} (rows columns : ℕ) (v : Vec A Z) (xs ys run : List A) (g : GridView A) (r c s k : ℕ) → seen rows columns v.items ≡ g → length v.items ≡ rows * columns
+    → r < g.rows → c + length run ≤ g.columns → xs ≡ v.items → ys ≡ run → s ≡ r * g.columns + c → k ≡ length run
+    → seen rows columns (with_items v (put_mid s k xs ys)).items ≡ record g { lines = grid_with_run g.lines r c run }
+lent_run_is_put {A} rows columns v xs ys run g r c s k is len row_in fits xs_is ys_is s_is k_is =
+    let row_in2 : r < rows = omega (arith, ap (λ (v : GridView A). v.rows) is) in
+    let fits2 : c + length run ≤ columns = omega (arith, ap (λ (v : GridView A). v.columns) is) in
+    let end : r * columns + columns ≤ rows * columns = next_row columns r rows row_in2 in
+    let e : put_mid s k xs ys ≡ line_with_run v.items (r * columns + c) run = mid_is_run xs v.items ys run s (r * columns + c) k xs_is ys_is (place_is rows columns v.items g r c s is s_is) k_is in
+    let kept : length (put_mid s k xs ys) ≡ v.len = ap length e ∙ length-line_with_run v.items run (r * columns + c) (omega (arith, len, end)) ∙ sym v.ok.0 in
+    run_is_put rows columns v.items run _ g r c is len row_in fits (with_items_is v (put_mid s k xs ys) kept ∙ e)
+
+pub place_in : {A : Type 0} (rows columns : ℕ) (items : List A) (g : GridView A) (r c s : ℕ) → seen rows columns items ≡ g → length items ≡ rows * columns → r < g.rows → c < g.columns → s ≡ r * g.columns + c → s < length items
+place_in {A} rows columns items g r c s is len row_in column_in s_is =
+    let row_in2 : r < rows = omega (arith, ap (λ (v : GridView A). v.rows) is) in
+    let column_in2 : c < columns = omega (arith, ap (λ (v : GridView A). v.columns) is) in
+    let e : r * columns + c < rows * columns = earlier_row columns r c rows row_in2 column_in2 in
+    omega (arith, e, len, place_is rows columns items g r c s is s_is)

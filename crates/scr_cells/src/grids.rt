@@ -34,9 +34,7 @@ impl<T: Copy> Grid<T> {
     pub fn new(alloc: Global, rows: u32, columns: u32, element: T) -> Result<Grid<T>, NoMemory>
         ensures { IfOk result (λ grid. grid ≡ record { rows = rows; columns = columns; lines = grid_of rows columns (λ _ _. element) }) }
     {
-        let count = rows as usize * columns as usize;
-        let mut items = Vec::with_capacity(alloc, count)?;
-        items.resize(count, element)?;
+        let items = constant(alloc, rows as usize * columns as usize, element)?;
         Ok(Grid {
             rows,
             columns,
@@ -159,6 +157,15 @@ impl<T: Copy> Grid<T> {
     {
         row as usize * self.columns as usize + column as usize
     }
+}
+
+// So many times the same element.
+fn constant<T: Copy>(alloc: Global, count: usize, element: T) -> Result<Vec<T>, NoMemory>
+    ensures { IfOk result (λ items. items.items ≡ replicate count element) }
+{
+    let mut items = Vec::with_capacity(alloc, count)?;
+    items.resize(count, element)?;
+    Ok(items)
 }
 
 // One element in every place of a slice.
