@@ -1,6 +1,6 @@
 -- Grids: rows of elements, from the top, each of them its elements from the left. The words of pictures, of surfaces and of
 -- what a terminal shows.
-use Rattle.std.specs.Prelude.{ℕ, ◌≡◌, ◌+◌, ◌*◌, ◌<◌, List, [], ◌++◌, length, take, drop, map, slice_index_or, slice_set, refl}
+use Rattle.std.specs.Prelude.{ℕ, Bool, ◌≡◌, ◌+◌, ◌-◌, ◌*◌, ◌<◌, ◌≤◌, ◌==◌, ◌&&◌, leb, ltb, if◌then◌else◌, List, [], ◌++◌, length, take, drop, map, slice_index_or, slice_set, refl}
 use Rattle.std.specs.List.{range_with_len, enumerate_from}
 use Rattle.std.specs.Coded.{Coded, code_by, coded×, coded_ℕ, coded_list}
 
@@ -48,6 +48,25 @@ grid_of rows columns f = map (λ r. map (f r) (range_with_len 0 columns)) (range
 pub record IsGrid {A : Type 0} (rows columns : ℕ) (lines : List (List A)) : Type 0 where
   pub high : length lines ≡ rows
   pub wide : (r : ℕ) → r < rows → length (grid_row lines r) ≡ columns
+
+-- the grid that has in some places what one formula gives, and in every other place what another does
+abbrev pub grid_filled : {A : Type 0} → ℕ → ℕ → (ℕ → ℕ → Bool) → (ℕ → ℕ → A) → (ℕ → ℕ → A) → List (List A)
+grid_filled rows columns inside f g = grid_of rows columns (λ r c. if inside r c then f r c else g r c)
+
+-- the places of a row from one column up to another
+abbrev pub is_in_run : ℕ → ℕ → ℕ → ℕ → ℕ → Bool
+is_in_run row from end r c = r == row && leb from c && ltb c end
+
+-- what a reader may hold against these words. A grid is its places; a formula's grid has what the formula gives; a run that
+-- is put in a row changes the places of the run and no other
+pub record GridLaws (A : Type 0) : Type 0 where
+  pub places : (other : A) (rows columns : ℕ) (lines : List (List A)) → IsGrid rows columns lines → lines ≡ grid_of rows columns (grid_at other lines)
+  pub formula : (other : A) (rows columns : ℕ) (f : ℕ → ℕ → A) (r c : ℕ) → r < rows → c < columns → grid_at other (grid_of rows columns f) r c ≡ f r c
+  pub sized : (rows columns : ℕ) (f : ℕ → ℕ → A) → IsGrid rows columns (grid_of rows columns f)
+  pub run : (other : A) (rows columns : ℕ) (lines : List (List A)) (row from : ℕ) (run : List A) → IsGrid rows columns lines → row < rows → from + length run ≤ columns
+    → grid_with_run lines row from run ≡ grid_filled rows columns (is_in_run row from (from + length run)) (λ _ c. slice_index_or run (c - from) other) (grid_at other lines)
+  pub place : (other : A) (rows columns : ℕ) (lines : List (List A)) (row column : ℕ) (value : A) → IsGrid rows columns lines → row < rows → column < columns
+    → grid_with lines row column value ≡ grid_filled rows columns (is_in_run row column (column + 1)) (λ _ _. value) (grid_at other lines)
 
 -- rows that stand one after another
 abbrev pub rows_of : {A : Type 0} → ℕ → ℕ → List A → List (List A)

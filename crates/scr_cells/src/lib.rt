@@ -7,6 +7,7 @@
 mod attributes;
 mod cells;
 mod grids;
+mod laws;
 mod looks;
 mod out_of_memory;
 mod pictures;
@@ -17,6 +18,7 @@ mod tests;
 pub use attributes::Attrs;
 pub use cells::Cell;
 pub use grids::Grid;
+pub use laws::grid_laws;
 pub use looks::Look;
 pub use out_of_memory::NoMemory;
 pub use pictures::Picture;
