@@ -1,0 +1,5 @@
+pub mod BorderLaws
+pub mod ChangeLaws
+pub mod CopyLaws
+pub mod FilledLaws
+pub mod RunLaws

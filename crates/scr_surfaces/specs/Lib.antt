@@ -1,0 +1,4 @@
+pub mod Code
+pub mod Drawings
+pub mod Formulas
+pub mod SurfaceViews
