@@ -42,4 +42,3 @@ filled_is old new area f h =
     ap2 (cell_of new) (sym y) (sym x) ∙ h.inside (r - area.top) (c - area.left) (omega arith) (omega arith))
     (λ t. h.outside r c l k t)) in
     λ i. record { rows = h.same_rows i; columns = h.same_columns i; lines = (h.surface.whole ∙ lines) i }
-

@@ -18,14 +18,14 @@ old_at : (g : GridView CellView) (r c : ℕ) → cell_of (surface_of g) r c ≡ 
 unfolding cell_of
 old_at g r c = refl
 
-whole_of : GridLaws CellView → (rows columns : ℕ) (lines : List (List CellView)) (f : ℕ → ℕ → CellView) → lines ≡ grid_of rows columns f
+pub whole_of : GridLaws CellView → (rows columns : ℕ) (lines : List (List CellView)) (f : ℕ → ℕ → CellView) → lines ≡ grid_of rows columns f
     → lines ≡ grid_of rows columns (cell_of (record { rows = rows; columns = columns; lines = lines }))
 unfolding cell_of
 whole_of laws rows columns lines f e =
     let P : List (List CellView) → Type 0 = λ ls. ls ≡ grid_of rows columns (grid_at blank_cell ls) in
     subst P (sym e) (laws.places blank_cell rows columns (grid_of rows columns f) (laws.sized rows columns f))
 
-lines_at : GridLaws CellView → (g : GridView CellView) (lines : List (List CellView)) (f : ℕ → ℕ → CellView) → lines ≡ grid_of g.rows g.columns f → (r c : ℕ) → r < g.rows → c < g.columns
+pub lines_at : GridLaws CellView → (g : GridView CellView) (lines : List (List CellView)) (f : ℕ → ℕ → CellView) → lines ≡ grid_of g.rows g.columns f → (r c : ℕ) → r < g.rows → c < g.columns
     → cell_of (record { rows = g.rows; columns = g.columns; lines = lines }) r c ≡ f r c
 unfolding cell_of
 lines_at laws g lines f e r c h k = ap (λ ls. grid_at blank_cell ls r c) e ∙ laws.formula blank_cell g.rows g.columns f r c h k

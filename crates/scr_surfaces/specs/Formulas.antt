@@ -77,6 +77,10 @@ laid overlay cell under = if overlay then over cell under else cell
 abbrev pub part_laid : Bool → Area → (ℕ → ℕ → CellView) → (ℕ → ℕ → CellView) → ℕ → ℕ → CellView
 part_laid overlay part cells at r c = if is_inside part r c then laid overlay (cells (r - part.top) (c - part.left)) (at r c) else at r c
 
+-- the part of an area that a block takes from a row and a column on
+abbrev pub part_of : ℕ → ℕ → GridView CellView → Area
+part_of top left block = record { top = top; left = left; rows = block.rows; columns = block.columns }
+
 -- the cell of a block in a row and a column
 abbrev pub block_at : GridView CellView → ℕ → ℕ → CellView
 block_at block r c = grid_at blank_cell block.lines r c

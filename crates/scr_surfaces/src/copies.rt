@@ -2,7 +2,7 @@
 ghost use Rattle.std.specs.Prelude.{◌≡◌, ◌+◌, ◌≤◌, IfOk};
 ghost use Rattle.scr_cells.specs.Grids.{grid_of};
 ghost use Rattle.scr_surfaces.specs.SurfaceViews.{IsPart, IsSurface, filled, inside_at};
-ghost use Rattle.scr_surfaces.specs.Formulas.{block_at, part_laid};
+ghost use Rattle.scr_surfaces.specs.Formulas.{block_at, part_laid, part_of};
 
 use crate::areas::Area;
 use crate::surfaces::Surface;
@@ -23,20 +23,18 @@ impl Surface {
         Ok(block)
     }
 
-    // A block of cells over a part of an area; with overlay a blank leaves its place.
-    pub(crate) fn lay(&mut self, area: Area, part: Area, block: &Grid<Cell>, overlay: bool)
+    // A block of cells over the part of an area from a row and a column on; with overlay a blank leaves its place.
+    pub(crate) fn lay(&mut self, area: Area, top: u32, left: u32, block: &Grid<Cell>, overlay: bool)
         requires area { IsPart self.old area }
-        requires below { part.top + part.rows ≤ area.rows }
-        requires right { part.left + part.columns ≤ area.columns }
-        requires rows { block.now.rows ≡ part.rows }
-        requires columns { block.now.columns ≡ part.columns }
+        requires below { top + block.now.rows ≤ area.rows }
+        requires right { left + block.now.columns ≤ area.columns }
         requires surface { IsSurface self.old }
-        ensures { self.new ≡ filled self.old area (part_laid overlay part (block_at block.now) (inside_at self.old area)) }
+        ensures { self.new ≡ filled self.old area (part_laid overlay (part_of top left block.now) (block_at block.now) (inside_at self.old area)) }
     {
-        let left = area.left + part.left;
-        let right = left + part.columns;
-        for row in 0..part.rows {
-            let row_there = area.top + (part.top + row);
+        let left = area.left + left;
+        let right = left + block.columns();
+        for row in 0..block.rows() {
+            let row_there = area.top + (top + row);
             self.lay_row(row_there, left, right, block.row(row), overlay);
         }
     }

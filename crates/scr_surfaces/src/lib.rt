@@ -9,10 +9,12 @@ mod borders;
 mod changes;
 mod copies;
 mod drawings;
+mod laws;
 mod rows;
 mod surfaces;
 
 pub use areas::Area;
 pub use borders::Border;
 pub use drawings::Drawing;
+pub use laws::surface_laws;
 pub use surfaces::Surface;

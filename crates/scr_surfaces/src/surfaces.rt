@@ -40,7 +40,7 @@ impl Surface {
 
     /// How many rows and columns there are.
     pub fn size(&self) -> (u32, u32)
-        ensures value { result ≡ record { 0 = self.now.rows; 1 = self.now.columns } }
+        ensures value { result ≡ (self.now.rows, self.now.columns) }
         ensures surface { IsSurface self.now }
     {
         (self.grid.rows(), self.grid.columns())
@@ -98,10 +98,11 @@ impl Surface {
             Drawing::Exchanged { old, new } => self.exchange(area, old, new),
             Drawing::Edges(border) => self.draw_border(area, border),
             Drawing::Laid {
-                part,
+                top,
+                left,
                 block,
                 overlay,
-            } => self.lay(area, part, block, overlay),
+            } => self.lay(area, top, left, block, overlay),
         }
     }
 }

@@ -1,6 +1,6 @@
 use Rattle.std.proofs.Common.{◌≡◌, ◌+◌, ◌-◌, ◌∙◌, arith, ap, drop, take}
 use Rattle.scr_cells.specs.Grids.{grid_row}
-use Rattle.scr_surfaces.specs.SurfaceViews.{SurfaceView, IsSurface}
+use Rattle.scr_surfaces.specs.SurfaceViews.{SurfaceView}
 use Rattle.scr_surfaces.proofs.RunLaws.{line_is, surface_is}
 use Rattle.scr_surfaces.proofs.surfaces.Surface.line.Goals as goal
 

@@ -1,4 +1,4 @@
-use Rattle.std.proofs.Common.{◌≡◌, ◌+◌, ◌-◌, arith, length, replicate}
+use Rattle.std.proofs.Common.{◌≡◌, ◌-◌, arith, length, replicate}
 use Rattle.std.proofs.lemmas.List.{get_or-replicate, length-replicate}
 use Rattle.scr_surfaces.proofs.RunLaws.{run_of}
 use Rattle.scr_surfaces.proofs.surfaces.Surface.put_row.Goals as goal
