@@ -18,7 +18,7 @@ mod tests;
 pub use attributes::Attrs;
 pub use cells::Cell;
 pub use grids::Grid;
-pub use laws::grid_laws;
+pub use laws::{attribute_laws, grid_laws};
 pub use looks::Look;
 pub use out_of_memory::NoMemory;
 pub use pictures::Picture;
