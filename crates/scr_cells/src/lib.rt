@@ -6,6 +6,8 @@
 
 mod attributes;
 mod cells;
+mod grids;
+mod laws;
 mod looks;
 mod out_of_memory;
 mod pictures;
@@ -15,6 +17,8 @@ mod tests;
 
 pub use attributes::Attrs;
 pub use cells::{Cell, is_character};
+pub use grids::Grid;
+pub use laws::{attribute_laws, grid_laws};
 pub use looks::Look;
 pub use out_of_memory::NoMemory;
 pub use pictures::Picture;

@@ -1,0 +1,34 @@
+-- What a drawing does: the cell of each place of the area after it, from the cells of the area before.
+use Rattle.std.specs.Prelude.{ℕ, ◌+◌, ◌<◌, ◌≤◌}
+use Rattle.scr_cells.specs.CellViews.{CellView}
+use Rattle.scr_surfaces.specs.declared.drawings.Drawing.{Drawing}
+use Rattle.scr_surfaces.specs.declared.drawings.Drawing.TheVariants.{Run, Rows, Below, Column, Opened, Closed, Up, Down, Exchanged, Edges, Laid}
+use Rattle.scr_surfaces.specs.Formulas.{all_exchanged, below_put, block_at, bordered, column_put, part_laid, part_of, row_closed, row_opened, rows_down, rows_put, rows_up, run_put}
+
+-- in an area of so many rows and columns
+abbrev pub drawn : Drawing → ℕ → ℕ → (ℕ → ℕ → CellView) → ℕ → ℕ → CellView
+drawn (Run row from end cell) rows columns at = run_put row from end cell at
+drawn (Rows first end cell) rows columns at = rows_put first end cell at
+drawn (Below row column cell) rows columns at = below_put row column cell at
+drawn (Column column first end cell) rows columns at = column_put column first end cell at
+drawn (Opened row column cell) rows columns at = row_opened row column cell at
+drawn (Closed row column cell) rows columns at = row_closed columns row column cell at
+drawn (Up first end count cell) rows columns at = rows_up first end count cell at
+drawn (Down first end count cell) rows columns at = rows_down first end count cell at
+drawn (Exchanged old new) rows columns at = all_exchanged old new at
+drawn (Edges border) rows columns at = bordered rows columns border at
+drawn (Laid top left block overlay) rows columns at = part_laid overlay (part_of top left block.now) (block_at block.now) at
+
+-- the places that a drawing names are in an area of so many rows and columns
+abbrev pub IsFitting : Drawing → ℕ → ℕ → Type 0
+IsFitting (Run row from end cell) rows columns = (row < rows) × (from ≤ end) × (end ≤ columns)
+IsFitting (Rows first end cell) rows columns = (first ≤ end) × (end ≤ rows)
+IsFitting (Below row column cell) rows columns = (row < rows) × (column < columns)
+IsFitting (Column column first end cell) rows columns = (column < columns) × (first ≤ end) × (end ≤ rows)
+IsFitting (Opened row column cell) rows columns = (row < rows) × (column < columns)
+IsFitting (Closed row column cell) rows columns = (row < rows) × (column < columns)
+IsFitting (Up first end count cell) rows columns = (first ≤ end) × (end ≤ rows)
+IsFitting (Down first end count cell) rows columns = (first ≤ end) × (end ≤ rows)
+IsFitting (Exchanged old new) rows columns = Unit {0}
+IsFitting (Edges border) rows columns = Unit {0}
+IsFitting (Laid top left block overlay) rows columns = (top + block.now.rows ≤ rows) × (left + block.now.columns ≤ columns)

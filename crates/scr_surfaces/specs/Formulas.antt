@@ -1,0 +1,86 @@
+-- What drawings put into the places of an area: for each row and column a formula over the cells of the area before.
+-- X/Open Curses Issue 7, the pages named.
+use Rattle.std.specs.Prelude.{bit_and, bit_or, Bool, ℕ, ◌+◌, ◌-◌, ltb, leb, ◌==◌, ◌&&◌, ◌||◌, if◌then◌else◌}
+use Rattle.scr_cells.specs.CellViews.{CellView, blank_cell}
+use Rattle.scr_cells.specs.Grids.{GridView, grid_at}
+use Rattle.scr_surfaces.specs.declared.areas.Area.{Area}
+use Rattle.scr_surfaces.specs.declared.borders.Border.{Border}
+use Rattle.scr_surfaces.specs.SurfaceViews.{is_inside}
+
+-- in one row the places from one column up to another have this cell
+abbrev pub run_put : ℕ → ℕ → ℕ → CellView → (ℕ → ℕ → CellView) → ℕ → ℕ → CellView
+run_put row from end cell at r c = if r == row && leb from c && ltb c end then cell else at r c
+
+-- the rows from one up to another have this cell everywhere
+abbrev pub rows_put : ℕ → ℕ → CellView → (ℕ → ℕ → CellView) → ℕ → ℕ → CellView
+rows_put first end cell at r c = if leb first r && ltb r end then cell else at r c
+
+-- in one row the places from one column on move right by one, and the cell takes the place: insch()
+abbrev pub row_opened : ℕ → ℕ → CellView → (ℕ → ℕ → CellView) → ℕ → ℕ → CellView
+row_opened y x cell at r c = if r == y && leb x c then (if c == x then cell else at r (c - 1)) else at r c
+
+-- in a row of so many columns the places after one column move left by one, and the cell takes the last place: delch()
+abbrev pub row_closed : ℕ → ℕ → ℕ → CellView → (ℕ → ℕ → CellView) → ℕ → ℕ → CellView
+row_closed columns y x cell at r c = if r == y && leb x c then (if ltb (c + 1) columns then at r (c + 1) else cell) else at r c
+
+-- the rows from one up to another move up by n among themselves, and the rows left free have this cell: scrl(), insdelln()
+abbrev pub rows_up : ℕ → ℕ → ℕ → CellView → (ℕ → ℕ → CellView) → ℕ → ℕ → CellView
+rows_up first end n cell at r c = if leb first r && ltb r end then (if ltb (r + n) end then at (r + n) c else cell) else at r c
+
+-- the same down
+abbrev pub rows_down : ℕ → ℕ → ℕ → CellView → (ℕ → ℕ → CellView) → ℕ → ℕ → CellView
+rows_down first end n cell at r c = if leb first r && ltb r end then (if leb (first + n) r then at (r - n) c else cell) else at r c
+
+-- the places from one place to the end of its row, and the rows below, have this cell: clrtobot()
+abbrev pub below_put : ℕ → ℕ → CellView → (ℕ → ℕ → CellView) → ℕ → ℕ → CellView
+below_put y x cell at r c = if (r == y && leb x c) || ltb y r then cell else at r c
+
+-- in one column the places from one row up to another have this cell: vline()
+abbrev pub column_put : ℕ → ℕ → ℕ → CellView → (ℕ → ℕ → CellView) → ℕ → ℕ → CellView
+column_put column first end cell at r c = if c == column && leb first r && ltb r end then cell else at r c
+
+-- a background in place of another: in each cell the byte of the old one becomes that of the new one, the attributes of the
+-- old one are taken off, and those of the new one put on: bkgd()
+abbrev pub exchanged : CellView → CellView → CellView → CellView
+exchanged old new cell =
+    record {
+      byte = if cell.byte == old.byte then new.byte else cell.byte;
+      attrs = bit_or (bit_and cell.attrs (255 - old.attrs)) new.attrs;
+    }
+
+abbrev pub all_exchanged : CellView → CellView → (ℕ → ℕ → CellView) → ℕ → ℕ → CellView
+all_exchanged old new at r c = exchanged old new (at r c)
+
+-- the edges and corners of an area of so many rows and columns have the border's cells, and the other places stay; where
+-- edges meet, as corners do with edges, and in an area of one row or column, the cell that comes later in the border counts: border()
+abbrev pub bordered : ℕ → ℕ → Border → (ℕ → ℕ → CellView) → ℕ → ℕ → CellView
+bordered rows columns border at r c =
+    if r + 1 == rows && c + 1 == columns then border.bottom_right
+    else if r + 1 == rows && c == 0 then border.bottom_left
+    else if r == 0 && c + 1 == columns then border.top_right
+    else if r == 0 && c == 0 then border.top_left
+    else if r + 1 == rows then border.bottom
+    else if r == 0 then border.top
+    else if c + 1 == columns then border.right
+    else if c == 0 then border.left
+    else at r c
+
+-- a cell takes the place of another, but for a blank, which leaves it, whatever the blank's attributes: overlay()
+abbrev pub over : CellView → CellView → CellView
+over cell under = if cell.byte == 32 then under else cell
+
+-- with overlay so, and else always: copywin()
+abbrev pub laid : Bool → CellView → CellView → CellView
+laid overlay cell under = if overlay then over cell under else cell
+
+-- a block of cells laid over a part of an area; every other place stays
+abbrev pub part_laid : Bool → Area → (ℕ → ℕ → CellView) → (ℕ → ℕ → CellView) → ℕ → ℕ → CellView
+part_laid overlay part cells at r c = if is_inside part r c then laid overlay (cells (r - part.top) (c - part.left)) (at r c) else at r c
+
+-- the part of an area that a block takes from a row and a column on
+abbrev pub part_of : ℕ → ℕ → GridView CellView → Area
+part_of top left block = record { top = top; left = left; rows = block.rows; columns = block.columns }
+
+-- the cell of a block in a row and a column
+abbrev pub block_at : GridView CellView → ℕ → ℕ → CellView
+block_at block r c = grid_at blank_cell block.lines r c

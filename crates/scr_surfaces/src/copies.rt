@@ -1,0 +1,41 @@
+//! Blocks of cells that are read from an area, and laid over a part of one.
+ghost use Rattle.std.specs.Prelude.{◌≡◌, ◌+◌, ◌≤◌, IfOk};
+ghost use Rattle.scr_cells.specs.Grids.{grid_of};
+ghost use Rattle.scr_surfaces.specs.SurfaceViews.{IsPart, IsSurface, filled, inside_at};
+ghost use Rattle.scr_surfaces.specs.Formulas.{block_at, part_laid, part_of};
+
+use crate::areas::Area;
+use crate::surfaces::Surface;
+use scr_cells::{Cell, Grid, NoMemory, grid_laws};
+use std::alloc::Global;
+
+impl Surface {
+    /// The cells of an area, as a block of their own. Fails only when memory runs out.
+    pub fn block(&self, alloc: Global, area: Area) -> Result<Grid<Cell>, NoMemory>
+        requires { IsPart self.now area }
+        ensures { IfOk result (λ block. block ≡ record { rows = area.rows; columns = area.columns; lines = grid_of area.rows area.columns (inside_at self.now area) }) }
+    {
+        grid_laws::<Cell>();
+        let mut block = Grid::new(alloc, area.rows, area.columns, Cell::blank())?;
+        for row in 0..area.rows {
+            block.lay(row, 0, self.line(area, row));
+        }
+        Ok(block)
+    }
+
+    // A block of cells over the part of an area from a row and a column on; with overlay a blank leaves its place.
+    pub(crate) fn lay(&mut self, area: Area, top: u32, left: u32, block: &Grid<Cell>, overlay: bool)
+        requires area { IsPart self.old area }
+        requires below { top + block.now.rows ≤ area.rows }
+        requires right { left + block.now.columns ≤ area.columns }
+        requires surface { IsSurface self.old }
+        ensures { self.new ≡ filled self.old area (part_laid overlay (part_of top left block.now) (block_at block.now) (inside_at self.old area)) }
+    {
+        let left = area.left + left;
+        let right = left + block.columns();
+        for row in 0..block.rows() {
+            let row_there = area.top + (top + row);
+            self.lay_row(row_there, left, right, block.row(row), overlay);
+        }
+    }
+}

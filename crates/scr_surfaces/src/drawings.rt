@@ -1,0 +1,76 @@
+//! What can be drawn in an area.
+use crate::borders::Border;
+use scr_cells::{Cell, Grid};
+
+/// What is drawn in an area. Rows and columns are those of the area, counted from 0; every place that is not named keeps its
+/// cell.
+#[derive(Clone, Copy)]
+pub enum Drawing<'a> {
+    /// The cell in columns `from..end` of a row.
+    Run {
+        row: u32,
+        from: u32,
+        end: u32,
+        cell: Cell,
+    },
+    /// The cell everywhere in rows `first..end`.
+    Rows {
+        first: u32,
+        end: u32,
+        cell: Cell,
+    },
+    /// The cell from a place to the end of its row, and everywhere in the rows below (X/Open Curses Issue 7, clrtobot()).
+    Below {
+        row: u32,
+        column: u32,
+        cell: Cell,
+    },
+    /// The cell in rows `first..end` of a column (vline()).
+    Column {
+        column: u32,
+        first: u32,
+        end: u32,
+        cell: Cell,
+    },
+    /// The places of a row from a column on move right by one, the last one is lost, and the cell takes the place (insch()).
+    Opened {
+        row: u32,
+        column: u32,
+        cell: Cell,
+    },
+    /// The places of a row right of a column move left by one, and the cell takes the last place (delch()).
+    Closed {
+        row: u32,
+        column: u32,
+        cell: Cell,
+    },
+    /// Rows `first..end` move up by `count` among themselves, and the rows left free get the cell (scrl(), insdelln()).
+    Up {
+        first: u32,
+        end: u32,
+        count: u32,
+        cell: Cell,
+    },
+    /// Rows `first..end` move down by `count` among themselves, and the rows left free get the cell.
+    Down {
+        first: u32,
+        end: u32,
+        count: u32,
+        cell: Cell,
+    },
+    /// Everywhere a new background in place of an old one (bkgd()).
+    Exchanged {
+        old: Cell,
+        new: Cell,
+    },
+    /// A border along the edges (border()).
+    Edges(Border),
+    /// A block of cells over the places from a row and a column on, as many as it has; with `overlay` a byte 32 of the block
+    /// leaves its place (copywin()).
+    Laid {
+        top: u32,
+        left: u32,
+        block: &'a Grid<Cell>,
+        overlay: bool,
+    },
+}

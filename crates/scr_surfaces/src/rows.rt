@@ -1,0 +1,109 @@
+//! Runs of cells in one row of a surface: the steps that every drawing is made of.
+ghost use Rattle.std.specs.Prelude.{ℕ, ◌≡◌, ◌+◌, ◌-◌, ◌<◌, ◌≤◌, length, slice_index_or};
+ghost use Rattle.scr_cells.specs.CellViews.{blank_cell};
+ghost use Rattle.scr_surfaces.specs.SurfaceViews.{cell_of};
+ghost use Rattle.scr_surfaces.specs.Formulas.{exchanged, laid, over};
+ghost use Rattle.scr_surfaces.specs.Code.Steps.{RunIs};
+
+use crate::surfaces::Surface;
+use bitflags::Flags;
+use scr_cells::{Cell, grid_laws};
+
+impl Surface {
+    // The cell in columns `from..end` of a row.
+    pub(crate) fn put_row(&mut self, row: u32, from: u32, end: u32, cell: Cell)
+        requires row { row < self.old.rows }
+        requires order { from ≤ end }
+        requires end { end ≤ self.old.columns }
+        ensures { RunIs self.old self.new row from end (λ c. cell) }
+    {
+        grid_laws::<Cell>();
+        self.grid.fill(row, from, end, cell);
+    }
+
+    // A new background in place of an old one in columns `from..end` of a row.
+    pub(crate) fn exchange_row(&mut self, row: u32, from: u32, end: u32, old: Cell, new: Cell)
+        requires row { row < self.old.rows }
+        requires order { from ≤ end }
+        requires end { end ≤ self.old.columns }
+        ensures { RunIs self.old self.new row from end (λ c. exchanged old new (cell_of self.old row c)) }
+    {
+        grid_laws::<Cell>();
+        self.grid
+            .change(row, from, end, |_, cell| exchanged_cell(cell, old, new));
+    }
+
+    // Cells over those in columns `from..end` of a row; with overlay a blank leaves its place.
+    pub(crate) fn lay_row(&mut self, row: u32, from: u32, end: u32, cells: &[Cell], overlay: bool)
+        requires row { row < self.old.rows }
+        requires end { end ≤ self.old.columns }
+        requires width { from + length cells.now ≡ end }
+        ensures { RunIs self.old self.new row from end (λ c. laid overlay (slice_index_or cells.now (c - from) blank_cell) (cell_of self.old row c)) }
+    {
+        if overlay {
+            self.overlay_row(row, from, end, cells);
+        } else {
+            self.overwrite_row(row, from, end, cells);
+        }
+    }
+
+    // Cells in place of those in columns `from..end` of a row.
+    fn overwrite_row(&mut self, row: u32, from: u32, end: u32, cells: &[Cell])
+        requires row { row < self.old.rows }
+        requires end { end ≤ self.old.columns }
+        requires width { from + length cells.now ≡ end }
+        ensures { RunIs self.old self.new row from end (λ c. slice_index_or cells.now (c - from) blank_cell) }
+    {
+        let _end = end;
+        grid_laws::<Cell>();
+        self.grid.lay(row, from, cells);
+    }
+
+    // Cells over those in columns `from..end` of a row, but for the blanks among them.
+    fn overlay_row(&mut self, row: u32, from: u32, end: u32, cells: &[Cell])
+        requires row { row < self.old.rows }
+        requires end { end ≤ self.old.columns }
+        requires width { from + length cells.now ≡ end }
+        ensures { RunIs self.old self.new row from end (λ c. over (slice_index_or cells.now (c - from) blank_cell) (cell_of self.old row c)) }
+    {
+        grid_laws::<Cell>();
+        let laid = |column: u32, under: Cell| -> Cell
+            requires { (from ≤ column) × (column < from + length cells.now) }
+            ensures { result ≡ over (slice_index_or cells.entry.now (column - from) blank_cell) under }
+        { over(cells[(column - from) as usize], under) };
+        self.grid.change(row, from, end, laid);
+    }
+
+    // Columns `start..end` of a row in a row from column `to` on, also where the two overlap.
+    pub(crate) fn move_row(&mut self, source: u32, start: u32, end: u32, row: u32, to: u32)
+        requires source { source < self.old.rows }
+        requires row { row < self.old.rows }
+        requires order { start ≤ end }
+        requires end { end ≤ self.old.columns }
+        requires to { to + (end - start) ≤ self.old.columns }
+        ensures { RunIs self.old self.new row to (to + (end - start)) (λ c. cell_of self.old source (start + (c - to))) }
+    {
+        grid_laws::<Cell>();
+        self.grid.copy(source, start, end, row, to);
+    }
+}
+
+// A cell laid over another: a blank leaves it.
+fn over(cell: Cell, under: Cell) -> Cell
+    ensures { result ≡ over cell under }
+{
+    if cell.byte() == 32 { under } else { cell }
+}
+
+// A cell with a new background in place of an old one.
+fn exchanged_cell(cell: Cell, old: Cell, new: Cell) -> Cell
+    ensures { result ≡ exchanged old new cell }
+{
+    let byte = if cell.byte() == old.byte() {
+        new.byte()
+    } else {
+        cell.byte()
+    };
+    let attrs = cell.attrs().difference(old.attrs()).union(new.attrs());
+    Cell::new(byte, attrs).unwrap_or(Cell::blank())
+}
