@@ -2,7 +2,7 @@
 use Rattle.std.specs.Prelude.{ℕ, ◌+◌, ◌<◌, ◌≤◌}
 use Rattle.scr_cells.specs.CellViews.{CellView}
 use Rattle.scr_surfaces.specs.declared.drawings.Drawing.{Drawing}
-use Rattle.scr_surfaces.specs.declared.drawings.Drawing.TheVariants.{Run, Rows, Below, Column, Opened, Closed, Up, Down, Exchanged, Edges, Laid}
+use Rattle.scr_surfaces.specs.declared.drawings.Drawing.TheVariants.{Run, Rows, Below, Column, Opened, Closed, Up, Down, Exchanged, Edges}
 use Rattle.scr_surfaces.specs.Formulas.{all_exchanged, below_put, block_at, bordered, column_put, part_laid, part_of, row_closed, row_opened, rows_down, rows_put, rows_up, run_put}
 
 -- in an area of so many rows and columns
@@ -17,7 +17,6 @@ drawn (Up first end count cell) rows columns at = rows_up first end count cell a
 drawn (Down first end count cell) rows columns at = rows_down first end count cell at
 drawn (Exchanged old new) rows columns at = all_exchanged old new at
 drawn (Edges border) rows columns at = bordered rows columns border at
-drawn (Laid top left block overlay) rows columns at = part_laid overlay (part_of top left block.now) (block_at block.now) at
 
 -- the places that a drawing names are in an area of so many rows and columns
 abbrev pub IsFitting : Drawing → ℕ → ℕ → Type 0
@@ -31,4 +30,3 @@ IsFitting (Up first end count cell) rows columns = (first ≤ end) × (end ≤ r
 IsFitting (Down first end count cell) rows columns = (first ≤ end) × (end ≤ rows)
 IsFitting (Exchanged old new) rows columns = Unit {0}
 IsFitting (Edges border) rows columns = Unit {0}
-IsFitting (Laid top left block overlay) rows columns = (top + block.now.rows ≤ rows) × (left + block.now.columns ≤ columns)

@@ -23,8 +23,21 @@ impl Surface {
         Ok(block)
     }
 
-    // A block of cells over the part of an area from a row and a column on; with overlay a blank leaves its place.
-    pub(crate) fn lay(&mut self, area: Area, top: u32, left: u32, block: &Grid<Cell>, overlay: bool)
+    /// Lays a block of cells over the places of an area from a row and a column on, as many as the block has; with `overlay` a
+    /// byte 32 of the block leaves its place (X/Open Curses Issue 7, copywin()). Every other place stays.
+    pub fn lay(&mut self, area: Area, top: u32, left: u32, block: &Grid<Cell>, overlay: bool)
+        requires area { IsPart self.old area }
+        requires below { top + block.now.rows ≤ area.rows }
+        requires right { left + block.now.columns ≤ area.columns }
+        ensures { self.new ≡ filled self.old area (part_laid overlay (part_of top left block.now) (block_at block.now) (inside_at self.old area)) }
+    {
+        // The laying is proved from what holds of every surface.
+        let _ = self.size();
+        self.lay_block(area, top, left, block, overlay);
+    }
+
+    // The same, of what is known to be a surface.
+    fn lay_block(&mut self, area: Area, top: u32, left: u32, block: &Grid<Cell>, overlay: bool)
         requires area { IsPart self.old area }
         requires below { top + block.now.rows ≤ area.rows }
         requires right { left + block.now.columns ≤ area.columns }

@@ -1,11 +1,11 @@
 //! What can be drawn in an area.
 use crate::borders::Border;
-use scr_cells::{Cell, Grid};
+use scr_cells::Cell;
 
 /// What is drawn in an area. Rows and columns are those of the area, counted from 0; every place that is not named keeps its
 /// cell.
 #[derive(Clone, Copy)]
-pub enum Drawing<'a> {
+pub enum Drawing {
     /// The cell in columns `from..end` of a row.
     Run {
         row: u32,
@@ -65,12 +65,4 @@ pub enum Drawing<'a> {
     },
     /// A border along the edges (border()).
     Edges(Border),
-    /// A block of cells over the places from a row and a column on, as many as it has; with `overlay` a byte 32 of the block
-    /// leaves its place (copywin()).
-    Laid {
-        top: u32,
-        left: u32,
-        block: &'a Grid<Cell>,
-        overlay: bool,
-    },
 }

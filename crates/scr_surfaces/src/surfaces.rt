@@ -97,12 +97,6 @@ impl Surface {
             } => self.move_down(area, first, end, count, cell),
             Drawing::Exchanged { old, new } => self.exchange(area, old, new),
             Drawing::Edges(border) => self.draw_border(area, border),
-            Drawing::Laid {
-                top,
-                left,
-                block,
-                overlay,
-            } => self.lay(area, top, left, block, overlay),
         }
     }
 }

@@ -10,10 +10,10 @@ use Rattle.std.proofs.lemmas.List.{get_or-map, map-append, length-append}
 use Rattle.std.proofs.Math.ListN.{get_or-append}
 use Rattle.std.proofs.Math.Seq.{get_or-append_seam}
 use Rattle.std.proofs.lemmas.Bool.Decides.{nat_tests}
-use Rattle.scr_windows.specs.declared.areas.Area.{Area}
+use Rattle.scr_surfaces.specs.declared.areas.Area.{Area}
 use Rattle.scr_windows.specs.declared.frames.Frame.{Frame}
 use Rattle.scr_windows.specs.declared.frames.State.{State}
-use Rattle.scr_windows.specs.SurfaceViews.{SurfaceView, IsSurface, blank_surface}
+use Rattle.scr_surfaces.specs.SurfaceViews.{SurfaceView, IsSurface, blank_surface}
 use Rattle.scr_windows.specs.DeskViews.{no_attributes, WindowView, DeskView, IsWindow, IsPlaced, IsChild, IsInsideOnScreen, AreFrames, IsDesk, Placed, window_at, HasOwn, no_window, no_frame, fresh_window}
 use Rattle.scr_windows.specs.declared.sheets.Sheet.{Sheet}
 use Rattle.scr_windows.specs.Sheets.{size_on}
@@ -21,7 +21,8 @@ use Rattle.std.proofs.lemmas.List.Quantifiers.{all_pairs_push}
 use Rattle.scr_windows.proofs.SheetLaws.{has_sheet, size_last, size_more}
 use Rattle.scr_windows.specs.Making.{IsRootPlace, with_root, root_frame, screen_area, IsChildPlace, child_frame, with_child, part_of}
 use Rattle.scr_windows.proofs.DeskLaws.{Reads, reads_window, here_too, placed, length_map, frame_of}
-use Rattle.scr_windows.proofs.MakingLaws.{fresh_is_window, blank_is_surface, screen_is_size}
+use Rattle.scr_windows.proofs.MakingLaws.{fresh_is_window, screen_is_size}
+use Rattle.scr_surfaces.specs.SurfaceLaws.{SurfaceLaws}
 
 less_or_last : (k n : ℕ) → k < n + 1 → (k < n) ⊎ (k ≡ n)
 less_or_last k n h = grind arith
@@ -197,8 +198,8 @@ placed_still rows columns sheets last frame p =
 abbrev next_sheet : DeskView → ℕ → ℕ → Sheet
 next_sheet d rows columns = record { number = d.made + 1; surface = blank_surface rows columns }
 
-pub root_is_desk : (d : DeskView) (rows columns : ℕ) (origin : Option (ℕ × ℕ)) → IsDesk d → length d.windows < 1000 → d.made < 4294967295 → IsRootPlace d rows columns origin → IsDesk (with_root d rows columns origin)
-root_is_desk d rows columns origin h few made on =
+pub root_is_desk : SurfaceLaws → (d : DeskView) (rows columns : ℕ) (origin : Option (ℕ × ℕ)) → IsDesk d → length d.windows < 1000 → d.made < 4294967295 → IsRootPlace d rows columns origin → IsDesk (with_root d rows columns origin)
+root_is_desk laws d rows columns origin h few made on =
     let frame : Frame = root_frame d rows columns origin in
     let frames : List Frame = map frame_of d.windows in
     let many : length frames ≡ length d.windows = length_map frame_of d.windows in
@@ -216,7 +217,7 @@ root_is_desk d rows columns origin h few made on =
     record {
       size = h.size;
       made = omega arith;
-      surfaces = All-push (λ (sheet : Sheet). IsSurface sheet.surface) d.surfaces next h.surfaces (blank_is_surface rows columns on.size);
+      surfaces = All-push (λ (sheet : Sheet). IsSurface sheet.surface) d.surfaces next h.surfaces (laws.blank rows columns on.size);
       sheets = all_pairs_push (λ (s : Sheet) (t : Sheet). s.number < t.number) d.surfaces next h.sheets (λ k e b. omega (arith, h.given k e b));
       given = All-push (λ (sheet : Sheet). sheet.number ≤ d.made + 1) d.surfaces next (λ k e b. omega (arith, h.given k e b)) (omega arith);
       windows = All-push IsWindow d.windows _ h.windows (fresh_is_window frame no_attributes blank_cell on.size.some_rows on.size.some_columns);
@@ -232,15 +233,15 @@ root_is_desk d rows columns origin h few made on =
           refl refl tt));
     }
 
-pub root_added : (d old : DeskView) → d ≡ old → (rows columns : ℕ) (origin : Option (ℕ × ℕ)) (surface : SurfaceView) (new : WindowView) (ss : List Sheet) (ws : List WindowView) → IsDesk d → IsRootPlace old rows columns origin
+pub root_added : SurfaceLaws → (d old : DeskView) → d ≡ old → (rows columns : ℕ) (origin : Option (ℕ × ℕ)) (surface : SurfaceView) (new : WindowView) (ss : List Sheet) (ws : List WindowView) → IsDesk d → IsRootPlace old rows columns origin
     → surface ≡ blank_surface rows columns → new ≡ fresh_window (root_frame d rows columns origin) no_attributes blank_cell
     → ss ≡ d.surfaces ++ record { number = d.made + 1; surface = surface } ∷ [] → ws ≡ d.windows ++ new ∷ [] → length d.windows < 1000 → d.made < 4294967295 → IsDesk (record d { surfaces = ss; windows = ws; made = d.made + 1 })
-root_added d old is rows columns origin surface new ss ws h on surface_is new_is ss_is ws_is few made =
+root_added laws d old is rows columns origin surface new ss ws h on surface_is new_is ss_is ws_is few made =
     let I : DeskView → Type 0 = λ v. IsRootPlace v rows columns origin in
     let whole : record d { surfaces = ss; windows = ws; made = d.made + 1 } ≡ with_root d rows columns origin
     = (λ j. record d { surfaces = (ss_is ∙ ap (λ v. d.surfaces ++ record { number = d.made + 1; surface = v } ∷ []) surface_is) j; windows = (ws_is ∙ ap (λ v. d.windows ++ v ∷ []) new_is) j; made = d.made + 1 }) in
     let P : DeskView → Type 0 = λ v. IsDesk v in
-    subst P (sym whole) (root_is_desk d rows columns origin h few made (subst I (sym is) on))
+    subst P (sym whole) (root_is_desk laws d rows columns origin h few made (subst I (sym is) on))
 
 -- a part of the screen
 pub screen_place : (d : DeskView) (screen part : Area) (rows columns row column : ℕ) → IsSize d.rows d.columns → screen ≡ screen_area d → part_of screen rows columns row column ≡ Some part → IsRootPlace d part.rows part.columns (Some (row, column))

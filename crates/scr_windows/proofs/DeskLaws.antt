@@ -1,26 +1,26 @@
 -- Changes that keep a desk one.
-use Rattle.std.proofs.Common.{◌≡◌, ℕ, ◌-◌, ◌<◌, ◌≤◌, sym, subst, ◌∙◌, ap, refl, arith, List, [], ◌∷◌, zero, suc, length, map, get_or, Bool, cond, true}
+use Rattle.std.proofs.Common.{◌≡◌, ℕ, ◌<◌, ◌≤◌, sym, subst, ◌∙◌, ap, refl, arith, List, [], ◌∷◌, zero, suc, length, map, get_or, Bool, true}
 use Rattle.std.specs.Prelude.{slice_set}
 use Rattle.std.specs.List.{range_with_len}
 use Rattle.std.proofs.Math.Seq.{map-set_same}
 use Rattle.std.proofs.lemmas.List.Elements.{All-set}
-use Rattle.std.proofs.lemmas.List.{get_or-map}
-use Rattle.std.proofs.lemmas.List.FromFn.{get_or-map-range_with_len, length-map-range_with_len}
-use Rattle.scr_cells.specs.CellViews.{CellView, blank_cell}
-use Rattle.scr_windows.specs.declared.areas.Area.{Area}
+use Rattle.std.proofs.lemmas.List.{get_or-map, get_or-set_same, length-set}
+use Rattle.std.proofs.lemmas.List.FromFn.{length-map-range_with_len}
+use Rattle.scr_cells.specs.CellViews.{CellView}
+use Rattle.scr_surfaces.specs.declared.areas.Area.{Area}
 use Rattle.scr_windows.specs.declared.frames.Frame.{Frame}
 use Rattle.scr_windows.specs.declared.frames.State.{State}
-use Rattle.scr_windows.specs.SurfaceViews.{SurfaceView, IsSurface, IsPart, cell_of, grid, filled, inside_at, is_inside}
+use Rattle.scr_surfaces.specs.SurfaceViews.{SurfaceView, IsSurface, IsPart, filled, inside_at}
 use Rattle.scr_windows.specs.DeskViews.{WindowView, DeskView, IsState, IsWindow, IsPlaced, AreFrames, IsDesk, window_at, AreAscending, surface_at, no_window, no_frame, Placed}
 use Rattle.scr_windows.specs.declared.sheets.Sheet.{Sheet}
 use Rattle.scr_windows.specs.Sheets.{HasSheet, no_sheet, size_on, with_surface}
 use Rattle.scr_windows.proofs.SheetLaws.{all_put, has_sheet, sheets_put, sizes_put, surface_found, surface_put}
-use Rattle.scr_windows.specs.declared.drawings.Drawing.{Drawing}
-use Rattle.scr_windows.specs.Drawings.{drawn, lines_drawn}
-use Rattle.scr_windows.specs.Calls.{fill, with_window, marked, marked_lines, write}
+use Rattle.scr_surfaces.specs.declared.drawings.Drawing.{Drawing}
+use Rattle.scr_surfaces.specs.Drawings.{drawn}
+use Rattle.scr_surfaces.specs.SurfaceLaws.{SurfaceLaws}
+use Rattle.scr_windows.specs.Calls.{IsKept, lines_drawn, fill, with_window, marked, marked_lines, write}
 use Rattle.scr_windows.specs.Reading.{at, row_at, contents}
-use Rattle.scr_windows.specs.Lending.{LentView, lines_in}
-use Rattle.scr_windows.proofs.GridLaws.{grid_same}
+use Rattle.scr_windows.specs.Lending.{lines_in}
 
 pub length_map : {X Y : Type 0} (f : X → Y) (xs : List X) → length (map f xs) ≡ length xs
 length_map f [] = refl
@@ -34,24 +34,6 @@ frame_number frame = frame.number
 
 abbrev pub number_of : WindowView → ℕ
 number_of w = w.frame.number
-
--- a filled surface is one, of the same size
-pub cell_of_grid : (rows columns : ℕ) (f : ℕ → ℕ → CellView) (r c : ℕ) → r < rows → c < columns → cell_of (record { rows = rows; columns = columns; lines = grid rows columns f }) r c ≡ f r c
-unfolding cell_of grid
-cell_of_grid rows columns f r c h k =
-    let row : get_or (map (λ i. map (f i) (range_with_len 0 columns)) (range_with_len 0 rows)) r [] ≡ map (f r) (range_with_len 0 columns) = get_or-map-range_with_len _ 0 rows r r [] h (omega arith) in
-    ap (λ line. get_or line c blank_cell) row ∙ get_or-map-range_with_len (f r) 0 columns c c blank_cell k (omega arith)
-
-pub filled_is_surface : (s : SurfaceView) (area : Area) (f : ℕ → ℕ → CellView) → IsSurface s → IsSurface (filled s area f)
-unfolding filled
-filled_is_surface s area f h = record {
-  size = h.size;
-  whole = grid_same s.rows s.columns _ _ (λ r c b k. sym (cell_of_grid s.rows s.columns (λ r c. cond (is_inside area r c) (f (r - area.top) (c - area.left)) (cell_of s r c)) r c b k));
-}
-
-pub filled_size : (s : SurfaceView) (area : Area) (f : ℕ → ℕ → CellView) → ◌≡◌ {A = ℕ × ℕ} ((filled s area f).rows, (filled s area f).columns) (s.rows, s.columns)
-unfolding filled
-filled_size s area f = refl
 
 pub placed : (d : DeskView) (i : ℕ) → IsDesk d → i < length d.windows → Placed d i
 placed d i h l =
@@ -85,20 +67,20 @@ with_window_is_desk d i w h l same is = record {
 }
 
 -- the surface of a window is filled
-pub fill_is_desk : (d : DeskView) (i : ℕ) (f : (ℕ → ℕ → CellView) → ℕ → ℕ → CellView) → IsDesk d → i < length d.windows → IsDesk (fill d i f)
-fill_is_desk d i f h l =
+pub fill_is_desk : SurfaceLaws → (d : DeskView) (i : ℕ) (f : (ℕ → ℕ → CellView) → ℕ → ℕ → CellView) → IsDesk d → i < length d.windows → IsDesk (fill d i f)
+fill_is_desk laws d i f h l =
     let p = placed d i h l in
     let k : ℕ = (window_at d i).frame.surface in
     let s : SurfaceView = surface_at d k in
     let a : Area = (window_at d i).frame.area in
     let new : SurfaceView = filled s a (f (inside_at s a)) in
-    let sizes : (n : ℕ) → size_on (with_surface k new d.surfaces) n ≡ size_on d.surfaces n = sizes_put d.surfaces k new p.surface (filled_size s a (f (inside_at s a))) in
+    let sizes : (n : ℕ) → size_on (with_surface k new d.surfaces) n ≡ size_on d.surfaces n = sizes_put d.surfaces k new p.surface (λ j. (laws.filled_rows s a (f (inside_at s a)) j, laws.filled_columns s a (f (inside_at s a)) j)) in
     let P : (ℕ → ℕ × ℕ) → Type 0 = λ zs. AreFrames d.rows d.columns zs d.made (map frame_of d.windows) in
     let same : size_on (with_surface k new d.surfaces) ≡ size_on d.surfaces = (λ j n. sizes n j) in
     record {
       size = h.size;
       made = h.made;
-      surfaces = all_put (λ (sheet : Sheet). IsSurface sheet.surface) d.surfaces k new (λ sheet _. filled_is_surface s a (f (inside_at s a)) p.whole) h.surfaces;
+      surfaces = all_put (λ (sheet : Sheet). IsSurface sheet.surface) d.surfaces k new (λ sheet _. laws.filled_surface s a (f (inside_at s a)) p.whole) h.surfaces;
       sheets = sheets_put d.surfaces k new h.sheets;
       given = all_put (λ (sheet : Sheet). sheet.number ≤ d.made) d.surfaces k new (λ sheet b. b) h.given;
       windows = h.windows;
@@ -169,7 +151,7 @@ pub record Draws (d old : DeskView) (i : ℕ) (w : WindowView) (frame : Frame) :
   pub window : Reads d.windows i w
   pub frame_is : frame ≡ w.frame
 
-frame_path : (d old : DeskView) (i : ℕ) (w : WindowView) (frame : Frame) → Draws d old i w frame → frame ≡ (window_at d i).frame
+pub frame_path : (d old : DeskView) (i : ℕ) (w : WindowView) (frame : Frame) → Draws d old i w frame → frame ≡ (window_at d i).frame
 frame_path d old i w frame h = h.frame_is ∙ ap frame_of (reads_window d i w h.window (here_too d old i h.is h.here))
 
 -- the surface of the window is there
@@ -199,7 +181,7 @@ can_find d old i w frame items h is =
 sheet_path : (d : DeskView) (number k : ℕ) (sheet : Sheet) → Finds d number k sheet → sheet ≡ get_or d.surfaces k no_sheet
 sheet_path d number k sheet f = f.sheet_is ∙ get_or_any d.surfaces k sheet no_sheet f.within
 
-surface_path : (d old : DeskView) (i k : ℕ) (w : WindowView) (frame : Frame) (sheet : Sheet) → Draws d old i w frame → Finds d frame.surface k sheet → sheet.surface ≡ surface_at d (window_at d i).frame.surface
+pub surface_path : (d old : DeskView) (i k : ℕ) (w : WindowView) (frame : Frame) (sheet : Sheet) → Draws d old i w frame → Finds d frame.surface k sheet → sheet.surface ≡ surface_at d (window_at d i).frame.surface
 surface_path d old i k w frame sheet h f =
     ap (λ (s : Sheet). s.surface) (sheet_path d frame.surface k sheet f) ∙ surface_found d.surfaces frame.surface k h.desk.sheets f.within f.number_is ∙ ap (λ (g : Frame). surface_at d g.surface) (frame_path d old i w frame h)
 
@@ -218,6 +200,7 @@ draws_whole d old i k w frame sheet h f =
 pub written_path : (d old : DeskView) (i k : ℕ) (w m : WindowView) (frame : Frame) (sheet new : Sheet) (t : SurfaceView) (first end : ℕ) (f : (ℕ → ℕ → CellView) → ℕ → ℕ → CellView)
     → Draws d old i w frame → Finds d frame.surface k sheet → m ≡ marked first end true w → t ≡ filled sheet.surface frame.area (f (inside_at sheet.surface frame.area)) → new ≡ record sheet { surface = t }
     → record d { surfaces = slice_set d.surfaces k new; windows = slice_set d.windows i m } ≡ write d i first end f
+unfolding write
 written_path d old i k w m frame sheet new t first end f h r marks cells new_is =
     let here : i < length d.windows = here_too d old i h.is h.here in
     let at : w ≡ window_at d i = reads_window d i w h.window here in
@@ -233,14 +216,22 @@ written_path d old i k w m frame sheet new t first end f h r marks cells new_is 
     = put ∙ (λ j. with_surface (frames j).surface (cells_is j) d.surfaces) in
     (λ j. record d { surfaces = sheets j; windows = slice_set d.windows i (windows_is j) })
 
-pub drawn_is_desk : (d old : DeskView) (i k : ℕ) (w m : WindowView) (frame : Frame) (sheet new : Sheet) (t : SurfaceView) (first end : ℕ) (f : (ℕ → ℕ → CellView) → ℕ → ℕ → CellView)
+pub drawn_is_desk : SurfaceLaws → (d old : DeskView) (i k : ℕ) (w m : WindowView) (frame : Frame) (sheet new : Sheet) (t : SurfaceView) (first end : ℕ) (f : (ℕ → ℕ → CellView) → ℕ → ℕ → CellView)
     → Draws d old i w frame → Finds d frame.surface k sheet → m ≡ marked first end true w → t ≡ filled sheet.surface frame.area (f (inside_at sheet.surface frame.area)) → new ≡ record sheet { surface = t }
     → IsDesk (record d { surfaces = slice_set d.surfaces k new; windows = slice_set d.windows i m })
-drawn_is_desk d old i k w m frame sheet new t first end f h r marks cells new_is =
+unfolding write
+drawn_is_desk laws d old i k w m frame sheet new t first end f h r marks cells new_is =
     let here : i < length d.windows = here_too d old i h.is h.here in
     let P : DeskView → Type 0 = λ v. IsDesk v in
     subst P (sym (written_path d old i k w m frame sheet new t first end f h r marks cells new_is))
-    (with_window_is_desk (fill d i f) i (marked first end true (window_at d i)) (fill_is_desk d i f h.desk here) here refl (marked_is_window first end true _ (placed d i h.desk here).window))
+    (with_window_is_desk (fill d i f) i (marked first end true (window_at d i)) (fill_is_desk laws d i f h.desk here) here refl (marked_is_window first end true _ (placed d i h.desk here).window))
+
+-- what is written stays where it was
+pub write_keeps : (d : DeskView) (i first end : ℕ) (f : (ℕ → ℕ → CellView) → ℕ → ℕ → CellView) → i < length d.windows → IsKept d (write d i first end f) i
+unfolding write
+write_keeps d i first end f l =
+    let at : get_or (slice_set d.windows i (marked first end true (window_at d i))) i no_window ≡ marked first end true (window_at d i) = get_or-set_same d.windows i (marked first end true (window_at d i)) no_window l in
+    record { here = omega (arith, l, length-set d.windows i (marked first end true (window_at d i))); frame = ap frame_of at; state = ap (λ (w : WindowView). w.state) at }
 
 -- a drawing is the definition
 pub drawing_path : (d old : DeskView) (i k : ℕ) (w m : WindowView) (frame : Frame) (sheet new : Sheet) (t : SurfaceView) (lines : ℕ × ℕ) (drawing : Drawing) → Draws d old i w frame → Finds d frame.surface k sheet → lines ≡ lines_drawn drawing frame.area.rows
@@ -284,7 +275,6 @@ pub placed_by : (d old : DeskView) (i : ℕ) → d ≡ old → IsDesk d → i < 
 placed_by d old i is h l =
     let P : DeskView → Type 0 = λ v. Placed v i in
     subst P is (placed d i h (here_too d old i is l))
-
 
 -- the windows of a desk stand by ascending numbers
 pub desk_ascends : (d : DeskView) → IsDesk d → AreAscending d.windows

@@ -1,6 +1,4 @@
 pub mod AncestorLaws
-pub mod BorderLaws
-pub mod ChangeLaws
 pub mod ChildLaws
 pub mod CopyLaws
 pub mod DeskLaws
@@ -13,7 +11,7 @@ pub mod MovingLaws
 pub mod NumberLaws
 pub mod ReadingLaws
 pub mod RemovingLaws
-pub mod RunLaws
 pub mod SheetLaws
 pub mod ShiftLaws
 pub mod SyncLaws
+pub mod WrittenLaws

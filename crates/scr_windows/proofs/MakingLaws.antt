@@ -1,5 +1,5 @@
 -- Desks that are made.
-use Rattle.std.proofs.Common.{◌≡◌, ℕ, ◌+◌, ◌*◌, ◌<◌, ◌≤◌, sym, ap, refl, arith, [], ◌∷◌, suc, zero, length, replicate, get_or, true}
+use Rattle.std.proofs.Common.{◌≡◌, ℕ, ◌*◌, ◌<◌, ◌≤◌, ap, refl, arith, [], ◌∷◌, suc, zero, length, replicate, get_or, true}
 use Rattle.std.specs.Prelude.{All, MatchOption}
 use Rattle.std.proofs.lemmas.Nat.{mul-le}
 use Rattle.scr_cells.specs.CellViews.{CellView, blank_cell}
@@ -7,25 +7,13 @@ use Rattle.scr_cells.specs.PictureViews.{IsSize}
 use Rattle.scr_windows.specs.declared.frames.Frame.{Frame}
 use Rattle.scr_windows.specs.declared.sheets.Sheet.{Sheet}
 use Rattle.scr_windows.specs.Sheets.{size_on}
-use Rattle.scr_windows.specs.SurfaceViews.{IsSurface, IsSurfaceSize, grid, lines_of, blank_surface}
+use Rattle.scr_surfaces.specs.SurfaceViews.{IsSurface, IsSurfaceSize, blank_surface}
+use Rattle.scr_surfaces.specs.SurfaceLaws.{SurfaceLaws}
 use Rattle.scr_windows.specs.DeskViews.{HasOwn, IsWindow, IsPlaced, IsChild, IsDesk, no_frame, fresh_window, first_frame, first_desk, no_attributes}
-use Rattle.scr_windows.proofs.GridLaws.{lines_are, grid_same}
-use Rattle.scr_windows.proofs.DeskLaws.{cell_of_grid}
 
 length_replicate : {X : Type 0} (n : ℕ) (x : X) → length (replicate n x) ≡ n
 length_replicate zero x = refl
 length_replicate (suc n) x = ap suc (length_replicate n x)
-
-get_replicate : {X : Type 0} (n k : ℕ) (x : X) → get_or (replicate n x) k x ≡ x
-get_replicate zero k x = refl
-get_replicate (suc n) zero x = refl
-get_replicate (suc n) (suc k) x = get_replicate n k x
-
-pub blank_lines : (rows columns : ℕ) → lines_of rows columns (replicate (rows * columns) blank_cell) ≡ grid rows columns (λ r c. blank_cell)
-blank_lines rows columns = lines_are rows columns (replicate (rows * columns) blank_cell) (λ r c. blank_cell) (length_replicate (rows * columns) blank_cell) (λ r c h k. get_replicate (rows * columns) (r * columns + c) blank_cell)
-
-pub blank_is_surface : (rows columns : ℕ) → IsSurfaceSize rows columns → IsSurface (blank_surface rows columns)
-blank_is_surface rows columns h = record { size = h; whole = grid_same rows columns _ _ (λ r c b k. sym (cell_of_grid rows columns (λ r c. blank_cell) r c b k)) }
 
 pub fresh_is_window : (frame : Frame) (attrs : _) (background : CellView) → 1 ≤ frame.area.rows → 1 ≤ frame.area.columns → IsWindow (fresh_window frame attrs background)
 fresh_is_window frame attrs background h k = record {
@@ -42,11 +30,11 @@ screen_is_size rows columns h =
     let few : rows * columns ≤ 500 * 500 = mul-le rows columns 500 500 h.few_rows h.few_columns in
     record { some_rows = h.some_rows; some_columns = h.some_columns; few_rows = omega (arith, h.few_rows); few_columns = omega (arith, h.few_columns); few_places = omega (arith, few) }
 
-pub first_is_desk : (rows columns : ℕ) → IsSize rows columns → IsDesk (first_desk rows columns)
-first_is_desk rows columns h = record {
+pub first_is_desk : SurfaceLaws → (rows columns : ℕ) → IsSize rows columns → IsDesk (first_desk rows columns)
+first_is_desk laws rows columns h = record {
   size = h;
   made = omega arith;
-  surfaces = all_one (λ (sheet : Sheet). IsSurface sheet.surface) (record { number = 0; surface = blank_surface rows columns }) (blank_is_surface rows columns (screen_is_size rows columns h));
+  surfaces = all_one (λ (sheet : Sheet). IsSurface sheet.surface) (record { number = 0; surface = blank_surface rows columns }) (laws.blank rows columns (screen_is_size rows columns h));
   sheets = λ i j d l m. absurd (omega (arith, l, m));
   given = all_one (λ (sheet : Sheet). sheet.number ≤ 0) (record { number = 0; surface = blank_surface rows columns }) (omega arith);
   windows = all_one IsWindow (fresh_window (first_frame rows columns) no_attributes blank_cell) (fresh_is_window (first_frame rows columns) no_attributes blank_cell h.some_rows h.some_columns);

@@ -1,12 +1,12 @@
 -- Where the one of a number stands among things by ascending numbers: windows and surfaces.
-use Rattle.std.proofs.Common.{◌≡◌, ◌≢◌, ◌⊎◌, inl, inr, ℕ, ◌+◌, ◌<◌, ◌≤◌, sym, subst, ap, ◌∙◌, refl, arith, List, [], ◌∷◌, zero, suc, length, map, get_or, Option, None, Some, Bool, true, false, cond, ltb, ◌==◌}
-use Rattle.std.specs.Prelude.{filter, not}
+use Rattle.std.proofs.Common.{◌≡◌, ◌≢◌, ◌⊎◌, inl, inr, ℕ, ◌<◌, ◌≤◌, sym, subst, ap, ◌∙◌, refl, arith, List, [], ◌∷◌, zero, suc, length, map, get_or, None, Some, Bool, true, false, cond, ltb, ◌==◌}
+use Rattle.std.specs.Prelude.{filter}
 use Rattle.std.specs.List.{AllPairs, position, position_or_len}
-use Rattle.std.specs.List.Sorted.{IsNonDecreasingBy, IsPartitionedBy, IsPartitionPoint}
+use Rattle.std.specs.List.Sorted.{IsPartitionedBy, IsPartitionPoint}
 use Rattle.std.proofs.lemmas.Bool.Decides.{nat_tests}
 use Rattle.std.proofs.lemmas.List.Sorted.{IsPartitionedBy-ltb}
 use Rattle.std.proofs.lemmas.List.Sums.{position_or_len_is}
-use Rattle.std.proofs.lemmas.List.{get_or-map, get_or_default}
+use Rattle.std.proofs.lemmas.List.{get_or_default}
 
 -- numbers ascend
 abbrev pub Rises : {X : Type 0} → (X → ℕ) → List X → Type 0

@@ -1,19 +1,18 @@
 -- A window less keeps a desk one.
-use Rattle.std.proofs.Common.{◌≡◌, ◌≢◌, ℕ, ◌+◌, ◌<◌, ◌≤◌, sym, subst, ◌∙◌, ap, refl, arith, List, [], ◌∷◌, zero, suc, length, map, get_or, Option, None, Some, Bool, true, false, cond, ◌==◌}
-use Rattle.std.specs.Prelude.{All, MatchOption, Ok, filter, not}
-use Rattle.std.specs.List.{list_any, count_by, position}
-use Rattle.std.proofs.lemmas.Bool.Decides.{nat_tests}
+use Rattle.std.proofs.Common.{◌≡◌, ◌≢◌, ℕ, ◌<◌, ◌≤◌, sym, subst, ◌∙◌, ap, refl, arith, List, [], ◌∷◌, zero, suc, length, map, get_or, Option, None, Some, Bool, true, false, cond, ◌==◌}
+use Rattle.std.specs.Prelude.{All, MatchOption, filter, not}
+use Rattle.std.specs.List.{list_any}
 use Rattle.std.proofs.lemmas.List.{get_or_default}
 use Rattle.std.proofs.lemmas.List.Elements.{All-map, All-filter, filter_passes}
 use Rattle.std.proofs.lemmas.List.Folds.{list_any_at}
 use Rattle.std.proofs.lemmas.List.Kept.{AllPairs-filter}
 use Rattle.scr_windows.specs.declared.frames.Frame.{Frame}
 use Rattle.scr_windows.specs.declared.sheets.Sheet.{Sheet}
-use Rattle.scr_windows.specs.SurfaceViews.{IsSurface}
+use Rattle.scr_surfaces.specs.SurfaceViews.{IsSurface}
 use Rattle.scr_windows.specs.Sheets.{size_on, without_surface}
 use Rattle.scr_windows.specs.DeskViews.{WindowView, DeskView, HasOwn, IsWindow, IsPlaced, IsChild, AreFrames, IsDesk, no_frame}
 use Rattle.scr_windows.specs.Removing.{is_number, has_children, others, deleted}
-use Rattle.scr_windows.proofs.DeskLaws.{length_map, frame_of}
+use Rattle.scr_windows.proofs.DeskLaws.{frame_of}
 use Rattle.scr_windows.proofs.NumberLaws.{is_not, differs, kept_in_filter, map-filter}
 use Rattle.scr_windows.proofs.SheetLaws.{size_less}
 
@@ -118,7 +117,7 @@ frames_less rows columns number made sheets frames h alone = record {
         both (λ (g : Frame). other_frame number g ≡ true) (λ (g : Frame). other_frame number g ≡ true → Q g) Q (filter (other_frame number) frames) (λ g t q. q t)
         (filter_passes (other_frame number) frames)
         (All-filter (other_frame number) (λ (g : Frame). other_frame number g ≡ true → Q g) frames
-            (both (λ (g : Frame). other_frame number g ≡ true → g.surface ≢ number) P (λ (g : Frame). other_frame number g ≡ true → Q g) frames (λ (g : Frame) a p t. f g (a t) p) apart all))
+        (both (λ (g : Frame). other_frame number g ≡ true → g.surface ≢ number) P (λ (g : Frame). other_frame number g ≡ true → Q g) frames (λ (g : Frame) a p t. f g (a t) p) apart all))
 
 -- no window passes a test
 none_passes : {X : Type 0} (p : X → Bool) (xs : List X) → list_any p xs ≡ false → All (λ x. p x ≡ false) xs

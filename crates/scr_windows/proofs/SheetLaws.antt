@@ -1,10 +1,9 @@
 -- The surfaces of a desk, by their numbers.
-use Rattle.std.proofs.Common.{◌≡◌, ◌≢◌, ◌⊎◌, inl, inr, ℕ, ◌+◌, ◌<◌, ◌≤◌, sym, subst, ap, ◌∙◌, refl, arith, List, [], ◌∷◌, ◌++◌, zero, suc, length, map, get_or, Bool, true, false, cond, ◌==◌, All}
-use Rattle.std.specs.Prelude.{filter, not, slice_set}
-use Rattle.std.specs.List.{AllPairs}
+use Rattle.std.proofs.Common.{◌≡◌, ◌≢◌, ◌⊎◌, inl, inr, ℕ, ◌<◌, ◌≤◌, sym, subst, ap, ◌∙◌, refl, arith, List, [], ◌∷◌, ◌++◌, zero, suc, length, get_or, Bool, true, false, cond, ◌==◌, All}
+use Rattle.std.specs.Prelude.{not, slice_set}
 use Rattle.std.proofs.lemmas.List.{get_or-map}
 use Rattle.scr_windows.specs.declared.sheets.Sheet.{Sheet}
-use Rattle.scr_windows.specs.SurfaceViews.{SurfaceView}
+use Rattle.scr_surfaces.specs.SurfaceViews.{SurfaceView}
 use Rattle.scr_windows.specs.Sheets.{AreSheets, HasSheet, no_sheet, no_surface, surface_on, with_surface, without_surface, size_on}
 use Rattle.scr_windows.proofs.NumberLaws.{is_it, is_not, equal, differs}
 

@@ -1,5 +1,5 @@
 -- What the calls that add bytes do. X/Open Curses Issue 7, addch(), addnstr(), insch(), hline(), vline().
-use Rattle.std.specs.Prelude.{ℕ, List, [], ◌∷◌, Result, Ok, Err, ◌+◌, ◌-◌, ◌*◌, ◌/◌, ◌==◌, ◌||◌, ◌&&◌, ltb, leb, min, bit_or, bit_xor, if◌then◌else◌}
+use Rattle.std.specs.Prelude.{ℕ, List, [], ◌∷◌, Result, Ok, Err, ◌+◌, ◌-◌, ◌*◌, ◌/◌, ◌==◌, ◌||◌, ltb, leb, min, bit_or, bit_xor, if◌then◌else◌}
 use Rattle.std.specs.List.{list_any}
 use Rattle.scr_cells.specs.CellViews.{CellView, is_character}
 use Rattle.scr_cells.specs.declared.attributes.Attrs.{Attrs}
@@ -9,7 +9,7 @@ use Rattle.scr_windows.specs.declared.faults.Added.{Added}
 use Rattle.scr_windows.specs.declared.faults.Added.TheVariants.{Done, Stayed}
 use Rattle.scr_windows.specs.declared.frames.State.{State}
 use Rattle.scr_windows.specs.DeskViews.{WindowView, DeskView, window_at, no_attributes}
-use Rattle.scr_windows.specs.Formulas.{column_put, run_put, row_opened, rows_up}
+use Rattle.scr_surfaces.specs.Formulas.{column_put, run_put, row_opened, rows_up}
 use Rattle.scr_windows.specs.Calls.{place_of, on_window, write}
 use Rattle.scr_windows.specs.Settings.{with_state, cursor_at}
 

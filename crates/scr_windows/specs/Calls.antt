@@ -1,13 +1,15 @@
 -- What each call does to a desk: the desk after and the answer. A refused call leaves the desk. X/Open Curses Issue 7,
 -- the pages named; what is not named stays.
-use Rattle.std.specs.Prelude.{ℕ, Bool, true, false, ◌≡◌, List, length, map, Option, None, Some, slice_index_or, slice_set, Result, Ok, Err, ◌==◌, ◌&&◌, ltb, leb, if◌then◌else◌}
+use Rattle.std.specs.Prelude.{ℕ, Bool, true, false, ◌≡◌, ◌+◌, ◌<◌, List, length, map, Option, None, Some, slice_index_or, slice_set, Result, Ok, Err, ◌==◌, ◌&&◌, ltb, leb, if◌then◌else◌}
 use Rattle.std.specs.List.{position, range_with_len}
 use Rattle.scr_cells.specs.CellViews.{CellView}
 use Rattle.scr_windows.specs.declared.frames.Frame.{Frame}
 use Rattle.scr_windows.specs.declared.frames.Pen.{Pen}
 use Rattle.scr_windows.specs.declared.faults.WinFault.{WinFault}
 use Rattle.scr_windows.specs.declared.faults.WinFault.TheVariants.{NoWindow}
-use Rattle.scr_windows.specs.SurfaceViews.{SurfaceView, filled, inside_at}
+use Rattle.scr_surfaces.specs.declared.drawings.Drawing.{Drawing}
+use Rattle.scr_surfaces.specs.declared.drawings.Drawing.TheVariants.{Run, Rows, Below, Column, Opened, Closed, Up, Down, Exchanged, Edges}
+use Rattle.scr_surfaces.specs.SurfaceViews.{SurfaceView, filled, inside_at}
 use Rattle.scr_windows.specs.Sheets.{with_surface}
 use Rattle.scr_windows.specs.DeskViews.{WindowView, DeskView, window_at, surface_at, Placed}
 
@@ -57,6 +59,25 @@ marked_lines first end mark marks = map (λ r. if leb first r && ltb r end then 
 abbrev pub marked : ℕ → ℕ → Bool → WindowView → WindowView
 marked first end mark window = record window { touched = marked_lines first end mark window.touched }
 
+-- a window that is still there, in its frame and with what was set in it
+pub record IsKept (old new : DeskView) (i : ℕ) : Type 0 where
+  pub here : i < length new.windows
+  pub frame : (window_at new i).frame ≡ (window_at old i).frame
+  pub state : (window_at new i).state ≡ (window_at old i).state
+
 -- a call that writes places of some lines of a window, and touches these lines
-abbrev pub write : DeskView → ℕ → ℕ → ℕ → ((ℕ → ℕ → CellView) → ℕ → ℕ → CellView) → DeskView
+unfoldable pub write : DeskView → ℕ → ℕ → ℕ → ((ℕ → ℕ → CellView) → ℕ → ℕ → CellView) → DeskView
 write desk i first end f = with_window (fill desk i f) i (marked first end true (window_at desk i))
+
+-- the first line that a drawing writes in a window of so many rows, and the line behind the last
+abbrev pub lines_drawn : Drawing → ℕ → ℕ × ℕ
+lines_drawn (Run row from end cell) rows = (row, row + 1)
+lines_drawn (Rows first end cell) rows = (first, end)
+lines_drawn (Below row column cell) rows = (row, rows)
+lines_drawn (Column column first end cell) rows = (first, end)
+lines_drawn (Opened row column cell) rows = (row, row + 1)
+lines_drawn (Closed row column cell) rows = (row, row + 1)
+lines_drawn (Up first end count cell) rows = (first, end)
+lines_drawn (Down first end count cell) rows = (first, end)
+lines_drawn (Exchanged old new) rows = (0, rows)
+lines_drawn (Edges border) rows = (0, rows)

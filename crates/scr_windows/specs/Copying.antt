@@ -1,21 +1,12 @@
 -- What the calls that copy cells do. X/Open Curses Issue 7, copywin(), overlay(), overwrite().
-use Rattle.std.specs.Prelude.{ℕ, Bool, List, length, Option, None, Some, Result, Ok, Err, slice_index_or, ◌≡◌, ◌+◌, ◌-◌, ◌*◌, ◌<◌, ◌==◌, ◌||◌, ◌&&◌, leb, min, max, if◌then◌else◌}
-use Rattle.scr_cells.specs.CellViews.{CellView, blank_cell}
-use Rattle.scr_windows.specs.declared.areas.Area.{Area}
+use Rattle.std.specs.Prelude.{ℕ, Bool, Option, None, Some, Result, Ok, Err, ◌+◌, ◌-◌, ◌==◌, ◌||◌, ◌&&◌, leb, min, max, if◌then◌else◌}
+use Rattle.scr_surfaces.specs.declared.areas.Area.{Area}
 use Rattle.scr_windows.specs.declared.faults.WinFault.{WinFault}
 use Rattle.scr_windows.specs.declared.faults.WinFault.TheVariants.{IsPad, OutOfWindow}
-use Rattle.scr_windows.specs.SurfaceViews.{is_inside}
+use Rattle.scr_surfaces.specs.Formulas.{part_laid}
 use Rattle.scr_windows.specs.DeskViews.{DeskView, window_at}
 use Rattle.scr_windows.specs.Calls.{place_of, on_window, write}
 use Rattle.scr_windows.specs.Reading.{at}
-
--- a cell takes the place of another; with overlay a blank leaves the other, whatever the blank's attributes
-abbrev pub laid : Bool → CellView → CellView → CellView
-laid overlay cell under = if overlay && cell.byte == 32 then under else cell
-
--- a rectangle of cells laid over a part of a window; every other place stays
-abbrev pub part_laid : Bool → Area → (ℕ → ℕ → CellView) → (ℕ → ℕ → CellView) → ℕ → ℕ → CellView
-part_laid overlay part cells at r c = if is_inside part r c then laid overlay (cells (r - part.top) (c - part.left)) (at r c) else at r c
 
 -- the cells of one window before, from a row and a column on, laid over a part of another, whose lines there are touched
 abbrev pub copied : DeskView → ℕ → ℕ → ℕ → ℕ → Area → Bool → DeskView
@@ -57,12 +48,3 @@ abbrev pub overlay_call : DeskView → ℕ → ℕ → Bool → DeskView × Resu
 overlay_call desk source target overlay =
     on_window desk (place_of desk source) (λ i. on_window desk (place_of desk target) (λ j.
     over_screen desk i j (window_at desk i).frame.origin (window_at desk j).frame.origin overlay))
-
--- a rectangle of so many rows and columns, row after row
-pub record IsBlock (cells : List CellView) (rows columns : ℕ) (f : ℕ → ℕ → CellView) : Type 0 where
-  pub many : length cells ≡ rows * columns
-  pub each : (r c : ℕ) → r < rows → c < columns → slice_index_or cells (r * columns + c) blank_cell ≡ f r c
-
--- the same rectangle read from the cells
-abbrev pub block_at : List CellView → ℕ → ℕ → ℕ → CellView
-block_at cells columns r c = slice_index_or cells (r * columns + c) blank_cell

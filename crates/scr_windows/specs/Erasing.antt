@@ -3,7 +3,7 @@ use Rattle.std.specs.Prelude.{ℕ, ℤ, pos, negsuc, true, Result, Ok, Err, ◌+
 use Rattle.scr_windows.specs.declared.faults.WinFault.{WinFault}
 use Rattle.scr_windows.specs.declared.faults.WinFault.TheVariants.{NoScroll}
 use Rattle.scr_windows.specs.DeskViews.{WindowView, DeskView, window_at}
-use Rattle.scr_windows.specs.Formulas.{run_put, rows_put, below_put, row_closed, rows_up, rows_down}
+use Rattle.scr_surfaces.specs.Formulas.{run_put, rows_put, below_put, row_closed, rows_up, rows_down}
 use Rattle.scr_windows.specs.Calls.{place_of, on_window, write}
 use Rattle.scr_windows.specs.Settings.{with_state, cursor_at}
 

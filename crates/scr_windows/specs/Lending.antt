@@ -1,9 +1,9 @@
 -- A window that is lent for reading. X/Open Curses Issue 7, 'Screens, Windows and Terminals'.
-use Rattle.std.specs.Prelude.{ℕ, List, map, length, ◌≡◌}
+use Rattle.std.specs.Prelude.{List, map, length, ◌≡◌}
 use Rattle.std.specs.List.{range_with_len}
 use Rattle.scr_cells.specs.CellViews.{CellView}
-use Rattle.scr_windows.specs.declared.areas.Area.{Area}
-use Rattle.scr_windows.specs.SurfaceViews.{SurfaceView, inside_at}
+use Rattle.scr_surfaces.specs.declared.areas.Area.{Area}
+use Rattle.scr_surfaces.specs.SurfaceViews.{SurfaceView, inside_at}
 use Rattle.scr_windows.specs.DeskViews.{WindowView, IsWindow}
 
 -- the window, and its lines from the top, each of them its cells from the left

@@ -3,17 +3,13 @@ pub mod Borders
 pub mod Calls
 pub mod Copying
 pub mod DeskViews
-pub mod Drawings
 pub mod Erasing
-pub mod Formulas
 pub mod Lending
 pub mod Making
 pub mod Moving
 pub mod Reading
 pub mod Removing
-pub mod Runs
 pub mod Settings
 pub mod Sheets
-pub mod SurfaceViews
 pub mod Syncing
 pub mod Touching

@@ -1,13 +1,13 @@
 -- What the calls that make windows do. X/Open Curses Issue 7, newwin(), derwin(), subwin(), newpad(), subpad().
 use Rattle.std.specs.Prelude.{ℕ, Bool, [], ◌∷◌, ◌++◌, length, Option, None, Some, Result, Ok, Err, IsOk, ◌≡◌, ◌⊎◌, ◌+◌, ◌-◌, ◌≤◌, ◌==◌, ◌&&◌, ◌||◌, ◌*◌, leb, ltb, MatchOption, if◌then◌else◌}
-use Rattle.scr_windows.specs.declared.areas.Area.{Area}
+use Rattle.scr_surfaces.specs.declared.areas.Area.{Area}
 use Rattle.scr_windows.specs.declared.frames.Frame.{Frame}
 use Rattle.scr_windows.specs.declared.faults.Win.{Win}
 use Rattle.scr_windows.specs.declared.faults.WinFault.{WinFault}
 use Rattle.scr_windows.specs.declared.faults.WinFault.TheVariants.{IsPad, NotPad, OutOfWindow, OffScreen, NotInParent, TooBig, TooMany, NoMemory}
 use Rattle.scr_windows.specs.DeskViews.{DeskView, IsInsideOnScreen, fresh_window, no_attributes, window_at}
 use Rattle.scr_cells.specs.CellViews.{blank_cell}
-use Rattle.scr_windows.specs.SurfaceViews.{IsSurfaceSize, blank_surface}
+use Rattle.scr_surfaces.specs.SurfaceViews.{IsSurfaceSize, blank_surface}
 use Rattle.scr_windows.specs.Calls.{place_of, on_window}
 
 -- a call that takes memory does what it should, or memory ran out where nothing else was refused, and the desk stays

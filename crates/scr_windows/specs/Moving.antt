@@ -1,7 +1,7 @@
 -- What the calls that move windows do. X/Open Curses Issue 7, mvwin(), mvderwin().
 use Rattle.std.specs.Prelude.{ℕ, Bool, true, false, zero, suc, ◌≡◌, ◌<◌, ◌≤◌, List, length, map, Option, None, Some, Result, Ok, Err, slice_index_or, ◌+◌, ◌-◌, ◌==◌, ◌&&◌, ◌||◌, leb, MatchOption, if◌then◌else◌}
 use Rattle.std.specs.List.{list_any, range_with_len}
-use Rattle.scr_windows.specs.declared.areas.Area.{Area}
+use Rattle.scr_surfaces.specs.declared.areas.Area.{Area}
 use Rattle.scr_windows.specs.declared.frames.Frame.{Frame}
 use Rattle.scr_windows.specs.declared.moving.Shift.{Shift}
 use Rattle.scr_windows.specs.declared.moving.Shift.TheVariants.{Screen, Surface}

@@ -7,7 +7,7 @@ use Rattle.scr_windows.specs.declared.faults.WinFault.TheVariants.{OutOfWindow, 
 use Rattle.scr_windows.specs.declared.frames.State.{State}
 use Rattle.scr_windows.specs.DeskViews.{WindowView, DeskView, window_at}
 use Rattle.scr_windows.specs.Calls.{place_of, on_window, with_window, write}
-use Rattle.scr_windows.specs.Formulas.{all_exchanged}
+use Rattle.scr_surfaces.specs.Formulas.{all_exchanged}
 
 -- the desk with something set in one window
 abbrev pub with_state : DeskView → ℕ → State → DeskView

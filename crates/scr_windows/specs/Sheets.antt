@@ -1,9 +1,9 @@
 -- The surfaces of a desk, by the numbers of the windows that were made with them. X/Open Curses Issue 7, 'Screens, Windows and
 -- Terminals'.
-use Rattle.std.specs.Prelude.{ℕ, Bool, ◌≡◌, ◌<◌, ◌==◌, List, [], ◌∷◌, length, map, filter, not, slice_index_or, if◌then◌else◌}
+use Rattle.std.specs.Prelude.{ℕ, ◌≡◌, ◌<◌, ◌==◌, List, [], ◌∷◌, length, map, filter, not, slice_index_or, if◌then◌else◌}
 use Rattle.std.specs.List.{AllPairs}
 use Rattle.scr_windows.specs.declared.sheets.Sheet.{Sheet}
-use Rattle.scr_windows.specs.SurfaceViews.{SurfaceView}
+use Rattle.scr_surfaces.specs.SurfaceViews.{SurfaceView}
 
 -- what stands for a surface where there is none
 abbrev pub no_surface : SurfaceView

@@ -4,11 +4,11 @@ ghost use Rattle.scr_windows.specs.DeskViews.{window_at, no_attributes};
 ghost use Rattle.scr_windows.specs.Adding.{written, gone_to, line_begun, run_added, character_added, either_stayed, shown_added, byte_added, text_added, add_byte_call, add_text_call, insert_byte_call, line_across_call, line_down_call};
 
 use crate::desks::Desk;
-use crate::drawings::Drawing;
 use crate::faults::{Added, Win, WinFault};
 use crate::frames::State;
 use bitflags::Flags;
 use scr_cells::{Attrs, Cell, is_character};
+use scr_surfaces::Drawing;
 
 impl Desk {
     /// Adds a byte at the cursor, with attributes beside those of the window and of its background.
@@ -56,7 +56,14 @@ impl Desk {
             return Err(WinFault::NotAscii);
         }
         let (row, column) = pen.state.cursor;
-        self.draw(pen.place, &Drawing::Opened { row, column, cell: written(byte, attrs, pen.state) });
+        self.draw(
+            pen.place,
+            &Drawing::Opened {
+                row,
+                column,
+                cell: written(byte, attrs, pen.state),
+            },
+        );
         Ok(())
     }
 
@@ -75,7 +82,15 @@ impl Desk {
         if n > 0 {
             let end = column + n.min(pen.area.columns - column);
             let cell = written(byte, Attrs(0), pen.state);
-            self.draw(pen.place, &Drawing::Run { row, from: column, end, cell });
+            self.draw(
+                pen.place,
+                &Drawing::Run {
+                    row,
+                    from: column,
+                    end,
+                    cell,
+                },
+            );
         }
         Ok(())
     }
@@ -95,7 +110,15 @@ impl Desk {
         if n > 0 {
             let end = row + n.min(pen.area.rows - row);
             let cell = written(byte, Attrs(0), pen.state);
-            self.draw(pen.place, &Drawing::Column { column, first: row, end, cell });
+            self.draw(
+                pen.place,
+                &Drawing::Column {
+                    column,
+                    first: row,
+                    end,
+                    cell,
+                },
+            );
         }
         Ok(())
     }
@@ -169,7 +192,15 @@ impl Desk {
     {
         let pen = self.pen_at(place);
         let (row, column) = pen.state.cursor;
-        self.draw(place, &Drawing::Run { row, from: column, end: end.min(pen.area.columns), cell });
+        self.draw(
+            place,
+            &Drawing::Run {
+                row,
+                from: column,
+                end: end.min(pen.area.columns),
+                cell,
+            },
+        );
         if end < pen.area.columns {
             self.go_to(place, row, end)
         } else {
@@ -203,7 +234,15 @@ impl Desk {
             if !pen.state.scroll_ok {
                 return Added::Stayed;
             }
-            self.draw(place, &Drawing::Up { first: top, end: bottom + 1, n: 1, cell: pen.state.background });
+            self.draw(
+                place,
+                &Drawing::Up {
+                    first: top,
+                    end: bottom + 1,
+                    count: 1,
+                    cell: pen.state.background,
+                },
+            );
             self.go_to(place, row, 0)
         } else if row + 1 == pen.area.rows {
             Added::Stayed

@@ -2,40 +2,15 @@ ghost use Rattle.std.specs.Prelude.{◌≡◌, ◌<◌, length, slice_index_or, 
 ghost use Rattle.std.specs.List.{list_all};
 ghost use Rattle.scr_cells.specs.CellViews.{is_character};
 ghost use Rattle.scr_windows.specs.DeskViews.{no_attributes};
-ghost use Rattle.scr_windows.specs.SurfaceViews.{IsPart, IsSurface, filled, inside_at};
-ghost use Rattle.scr_windows.specs.Runs.{Changes};
 ghost use Rattle.scr_windows.specs.Adding.{written};
-ghost use Rattle.scr_windows.specs.Borders.{edge_cell, border_of, bordered, border_call, sides_put};
+ghost use Rattle.scr_windows.specs.Borders.{edge_cell, border_of, border_call};
 
 use crate::adding::written;
-use crate::areas::Area;
 use crate::desks::Desk;
-use crate::drawings::Drawing;
 use crate::faults::{Win, WinFault};
 use crate::frames::State;
-use crate::surfaces::Surface;
 use scr_cells::{Attrs, Cell, is_character};
-
-/// What is written along the edges of a window, in the order in which it is written.
-#[derive(Clone, Copy)]
-pub struct Border {
-    /// The first column.
-    pub left: Cell,
-    /// The last column.
-    pub right: Cell,
-    /// The first row.
-    pub top: Cell,
-    /// The last row.
-    pub bottom: Cell,
-    /// The first place of the first row.
-    pub top_left: Cell,
-    /// The last place of the first row.
-    pub top_right: Cell,
-    /// The first place of the last row.
-    pub bottom_left: Cell,
-    /// The last place of the last row.
-    pub bottom_right: Cell,
-}
+use scr_surfaces::{Border, Drawing};
 
 impl Desk {
     /// Writes bytes 32 to 126 along the edges of a window: those of the left, right, top and bottom edge, then those of the
@@ -50,42 +25,8 @@ impl Desk {
         if !are_characters(&bytes) {
             return Err(WinFault::NotAscii);
         }
-        self.draw(pen.place, &Drawing::Bordered(border_of(&bytes, &pen.state)));
+        self.draw(pen.place, &Drawing::Edges(border_of(&bytes, &pen.state)));
         Ok(())
-    }
-}
-
-impl Surface {
-    // Writes a border in an area. Every place outside the area stays.
-    pub(crate) fn draw_border(&mut self, area: Area, border: Border)
-        requires part { IsPart self.old area }
-        requires surface { IsSurface self.old }
-        ensures { self.new ≡ filled self.old area (bordered area.rows area.columns border (inside_at self.old area)) }
-    {
-        let (top, left) = (area.top, area.left);
-        let bottom = top + area.rows - 1;
-        let right = left + area.columns - 1;
-        self.draw_sides(area, border.left, border.right);
-        self.put_row(top, left, right + 1, border.top);
-        self.put_row(bottom, left, right + 1, border.bottom);
-        self.put_row(top, left, left + 1, border.top_left);
-        self.put_row(top, right, right + 1, border.top_right);
-        self.put_row(bottom, left, left + 1, border.bottom_left);
-        self.put_row(bottom, right, right + 1, border.bottom_right);
-    }
-
-    // Puts cells in the first and the last column of an area.
-    fn draw_sides(&mut self, area: Area, left: Cell, right: Cell)
-        requires part { IsPart self.old area }
-        requires surface { IsSurface self.old }
-        ensures { Changes self.old self.new area (sides_put area.columns area.rows left right) }
-    {
-        let first = area.left;
-        let last = first + area.columns - 1;
-        for row in 0..area.rows {
-            self.put_row(area.top + row, first, first + 1, left);
-            self.put_row(area.top + row, last, last + 1, right);
-        }
     }
 }
 

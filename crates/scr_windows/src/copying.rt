@@ -1,18 +1,18 @@
 ghost use Rattle.std.specs.Prelude.{◌≡◌, ◌+◌, ◌*◌, ◌<◌, ◌≤◌, length, true, false, MatchResult, Ok};
-ghost use Rattle.scr_windows.specs.SurfaceViews.{IsPart, IsSurface, filled, inside_at};
-ghost use Rattle.scr_windows.specs.DeskViews.{window_at};
+ghost use Rattle.scr_surfaces.specs.SurfaceViews.{inside_at};
+ghost use Rattle.scr_surfaces.specs.Formulas.{block_at, part_laid, part_of};
 ghost use Rattle.scr_windows.specs.Calls.{write};
-ghost use Rattle.scr_windows.specs.Reading.{at};
+ghost use Rattle.scr_cells.specs.Grids.{grid_of};
+ghost use Rattle.scr_windows.specs.DeskViews.{surface_at, window_at};
 ghost use Rattle.scr_windows.specs.Making.{Allocated};
-ghost use Rattle.scr_windows.specs.Copying.{IsBlock, block_at, copied, copy_call, has_part, overlay_call, part_laid};
+ghost use Rattle.scr_windows.specs.Copying.{copied, copy_call, has_part, overlay_call};
 ghost use Rattle.scr_windows.specs.declared.faults.WinFault.TheVariants.{NoMemory};
 
-use crate::areas::Area;
 use crate::desks::Desk;
 use crate::faults::{Win, WinFault};
 use crate::sheets::index_of_sheet;
-use crate::surfaces::Surface;
-use scr_cells::Cell;
+use scr_cells::{Cell, Grid, grid_laws};
+use scr_surfaces::{Area, surface_laws};
 use std::alloc::Global;
 
 impl Desk {
@@ -140,8 +140,10 @@ impl Desk {
         requires edge { part.left + part.columns ≤ (window_at self.old target).frame.area.columns }
         ensures { Allocated self.old (copied self.old source target row column part overlay, Ok tt) (self.new, result) }
     {
-        let cells = self.block(alloc, source, row, column, part)?;
-        self.lay(target, part, &cells, overlay);
+        let block = self.block(alloc, source, row, column, part)?;
+        self.lay(target, part.top, part.left, &block, overlay);
+        surface_laws();
+        grid_laws::<Cell>();
         Ok(())
     }
 
@@ -154,13 +156,13 @@ impl Desk {
         row: u32,
         column: u32,
         part: Area,
-    ) -> Result<Vec<Cell>, WinFault>
+    ) -> Result<Grid<Cell>, WinFault>
         requires place { place < length self.now.windows }
         requires some_rows { 1 ≤ part.rows }
         requires some_columns { 1 ≤ part.columns }
         requires below { row + part.rows ≤ (window_at self.now place).frame.area.rows }
         requires right { column + part.columns ≤ (window_at self.now place).frame.area.columns }
-        ensures { MatchResult result (λ cells. IsBlock cells.items part.rows part.columns (λ r c. at self.now place (row + r) (column + c))) (λ fault. fault ≡ NoMemory) }
+        ensures { MatchResult result (λ block. block ≡ record { rows = part.rows; columns = part.columns; lines = grid_of part.rows part.columns (inside_at (surface_at self.now (window_at self.now place).frame.surface) (record { top = (window_at self.now place).frame.area.top + row; left = (window_at self.now place).frame.area.left + column; rows = part.rows; columns = part.columns })) }) (λ fault. fault ≡ NoMemory) }
     {
         let frame = self.window_at(place).frame();
         let area = Area {
@@ -170,55 +172,24 @@ impl Desk {
             columns: part.columns,
         };
         let sheet = index_of_sheet(&self.surfaces, frame.surface);
-        self.surfaces[sheet].surface.block(alloc, area)
+        Ok(self.surfaces[sheet].surface.block(alloc, area)?)
     }
 
-    // Lays a block of cells over a part of the window at a place, and touches the lines.
-    fn lay(&mut self, place: usize, part: Area, cells: &[Cell], overlay: bool)
+    // Lays a block of cells over the window at a place from a row and a column on, and touches the lines.
+    fn lay(&mut self, place: usize, top: u32, left: u32, block: &Grid<Cell>, overlay: bool)
         requires here { place < length self.old.windows }
-        requires below { part.top + part.rows ≤ (window_at self.old place).frame.area.rows }
-        requires right { part.left + part.columns ≤ (window_at self.old place).frame.area.columns }
-        requires many { length cells.now ≡ part.rows * part.columns }
-        ensures { self.new ≡ write self.old place part.top (part.top + part.rows) (part_laid overlay part (block_at cells.now part.columns)) }
+        requires below { top + block.now.rows ≤ (window_at self.old place).frame.area.rows }
+        requires right { left + block.now.columns ≤ (window_at self.old place).frame.area.columns }
+        ensures { self.new ≡ write self.old place top (top + block.now.rows) (part_laid overlay (part_of top left block.now) (block_at block.now)) }
     {
         let window = &mut self.windows[place];
         let frame = window.frame();
-        window.mark(part.top, part.top + part.rows, true);
+        window.mark(top, top + block.rows(), true);
         let sheet = index_of_sheet(&self.surfaces, frame.surface);
-        self.surfaces[sheet].surface.lay(frame.area, part, cells, overlay);
-    }
-}
-
-impl Surface {
-    // The cells of an area, row after row. Refused for want of memory alone.
-    fn block(&self, alloc: Global, area: Area) -> Result<Vec<Cell>, WinFault>
-        requires part { IsPart self.now area }
-        requires surface { IsSurface self.now }
-        ensures { MatchResult result (λ cells. IsBlock cells.items area.rows area.columns (inside_at self.now area)) (λ fault. fault ≡ NoMemory) }
-    {
-        let mut cells = Vec::with_capacity(alloc, area.rows as usize * area.columns as usize)?;
-        for row in 0..area.rows {
-            cells.extend_from_slice(self.line(area, row))?;
-        }
-        Ok(cells)
-    }
-
-    // Lays a block of cells over a part of an area; with overlay a blank leaves its place.
-    fn lay(&mut self, area: Area, part: Area, cells: &[Cell], overlay: bool)
-        requires area { IsPart self.old area }
-        requires below { part.top + part.rows ≤ area.rows }
-        requires right { part.left + part.columns ≤ area.columns }
-        requires many { length cells.now ≡ part.rows * part.columns }
-        requires surface { IsSurface self.old }
-        ensures { self.new ≡ filled self.old area (part_laid overlay part (block_at cells.now part.columns) (inside_at self.old area)) }
-    {
-        let columns = part.columns as usize;
-        let left = area.left + part.left;
-        for row in 0..part.rows {
-            let start = row as usize * columns;
-            let line = &cells[start..start + columns];
-            self.lay_row(area.top + (part.top + row), left, line, overlay);
-        }
+        surface_laws();
+        self.surfaces[sheet]
+            .surface
+            .lay(frame.area, top, left, block, overlay);
     }
 }
 

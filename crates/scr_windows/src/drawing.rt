@@ -1,25 +1,47 @@
 //! Drawing in the window at a place among the desk's, which touches the lines that are written.
-ghost use Rattle.std.specs.Prelude.{◌≡◌, ◌<◌, length};
+//!
+//! What each drawing does is a matter of `scr_surfaces`.
+ghost use Rattle.std.specs.Prelude.{◌≡◌, ◌+◌, ◌<◌, ◌≤◌, length};
+ghost use Rattle.scr_surfaces.specs.Drawings.{IsFitting, drawn};
 ghost use Rattle.scr_windows.specs.DeskViews.{window_at};
-ghost use Rattle.scr_windows.specs.Drawings.{IsFitting, drawn, lines_drawn};
-ghost use Rattle.scr_windows.specs.Calls.{write};
+ghost use Rattle.scr_windows.specs.Calls.{IsKept, lines_drawn, write};
 
 use crate::desks::Desk;
-use crate::drawings::Drawing;
 use crate::sheets::index_of_sheet;
+use scr_surfaces::{Drawing, surface_laws};
 
 impl Desk {
     // Draws in the window at a place, and touches the lines that are written.
     pub(crate) fn draw(&mut self, place: usize, drawing: &Drawing)
         requires here { place < length self.old.windows }
         requires fits { IsFitting drawing.now (window_at self.old place).frame.area.rows (window_at self.old place).frame.area.columns }
-        ensures { self.new ≡ write self.old place (lines_drawn drawing.now (window_at self.old place).frame.area.rows).0 (lines_drawn drawing.now (window_at self.old place).frame.area.rows).1 (drawn drawing.now (window_at self.old place).frame.area.rows (window_at self.old place).frame.area.columns) }
+        ensures drawn { self.new ≡ write self.old place (lines_drawn drawing.now (window_at self.old place).frame.area.rows).0 (lines_drawn drawing.now (window_at self.old place).frame.area.rows).1 (drawn drawing.now (window_at self.old place).frame.area.rows (window_at self.old place).frame.area.columns) }
+        ensures kept { IsKept self.old self.new place }
     {
         let window = &mut self.windows[place];
         let frame = window.frame();
-        let (first, end) = drawing.lines(frame.area.rows);
+        let (first, end) = lines_of(drawing, frame.area.rows);
         window.mark(first, end, true);
         let sheet = index_of_sheet(&self.surfaces, frame.surface);
+        surface_laws();
         self.surfaces[sheet].surface.draw(frame.area, drawing);
+    }
+}
+
+// The first line that a drawing writes in a window of so many rows, and the line behind the last.
+fn lines_of(drawing: &Drawing, rows: u32) -> (u32, u32)
+    requires { (lines_drawn drawing.now rows).1 ≤ rows }
+    ensures { result ≡ lines_drawn drawing.now rows }
+{
+    match *drawing {
+        Drawing::Run { row, .. } | Drawing::Opened { row, .. } | Drawing::Closed { row, .. } => {
+            (row, row + 1)
+        }
+        Drawing::Rows { first, end, .. }
+        | Drawing::Column { first, end, .. }
+        | Drawing::Up { first, end, .. }
+        | Drawing::Down { first, end, .. } => (first, end),
+        Drawing::Below { row, .. } => (row, rows),
+        Drawing::Exchanged { .. } | Drawing::Edges(_) => (0, rows),
     }
 }

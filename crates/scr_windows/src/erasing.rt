@@ -2,8 +2,8 @@ ghost use Rattle.std.specs.Prelude.{◌≡◌};
 ghost use Rattle.scr_windows.specs.Erasing.{clear_to_eol_call, clear_to_bottom_call, erase_call, clear_call};
 
 use crate::desks::Desk;
-use crate::drawings::Drawing;
 use crate::faults::{Win, WinFault};
+use scr_surfaces::Drawing;
 
 impl Desk {
     /// Erases the places from the cursor to the end of its line.
@@ -14,7 +14,15 @@ impl Desk {
     {
         let pen = self.pen(win)?;
         let (row, column) = pen.state.cursor;
-        self.draw(pen.place, &Drawing::Run { row, from: column, end: pen.area.columns, cell: pen.state.background });
+        self.draw(
+            pen.place,
+            &Drawing::Run {
+                row,
+                from: column,
+                end: pen.area.columns,
+                cell: pen.state.background,
+            },
+        );
         Ok(())
     }
 
@@ -26,7 +34,14 @@ impl Desk {
     {
         let pen = self.pen(win)?;
         let (row, column) = pen.state.cursor;
-        self.draw(pen.place, &Drawing::Below { row, column, cell: pen.state.background });
+        self.draw(
+            pen.place,
+            &Drawing::Below {
+                row,
+                column,
+                cell: pen.state.background,
+            },
+        );
         Ok(())
     }
 
@@ -38,7 +53,14 @@ impl Desk {
     {
         let pen = self.pen(win)?;
         let mut state = pen.state;
-        self.draw(pen.place, &Drawing::Rows { first: 0, end: pen.area.rows, cell: state.background });
+        self.draw(
+            pen.place,
+            &Drawing::Rows {
+                first: 0,
+                end: pen.area.rows,
+                cell: state.background,
+            },
+        );
         state.cursor = (0, 0);
         self.set_state(pen.place, state);
         Ok(())
@@ -52,7 +74,14 @@ impl Desk {
     {
         let pen = self.pen(win)?;
         let mut state = pen.state;
-        self.draw(pen.place, &Drawing::Rows { first: 0, end: pen.area.rows, cell: state.background });
+        self.draw(
+            pen.place,
+            &Drawing::Rows {
+                first: 0,
+                end: pen.area.rows,
+                cell: state.background,
+            },
+        );
         state.cursor = (0, 0);
         state.clear_ok = true;
         self.set_state(pen.place, state);

@@ -73,6 +73,17 @@ impl From<AllocError> for WinFault {
     }
 }
 
+impl From<scr_cells::NoMemory> for WinFault {
+    ghost use Rattle.std.specs.Prelude.{◌≡◌};
+    ghost use Rattle.scr_windows.specs.declared.faults.WinFault.TheVariants.{NoMemory};
+
+    ghost from_gives = { λ _ e. e ≡ NoMemory };
+
+    fn from(_e: scr_cells::NoMemory) -> WinFault {
+        WinFault::NoMemory
+    }
+}
+
 impl<T: Drop> From<AllocFailed<T>> for WinFault {
     ghost use Rattle.std.specs.Prelude.{◌≡◌};
     ghost use Rattle.scr_windows.specs.declared.faults.WinFault.TheVariants.{NoMemory};

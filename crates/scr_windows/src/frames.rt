@@ -1,5 +1,5 @@
-use crate::areas::Area;
 use scr_cells::{Attrs, Cell};
+use scr_surfaces::Area;
 
 /// What of a window no drawing changes.
 #[derive(Clone, Copy)]

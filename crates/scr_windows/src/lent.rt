@@ -3,13 +3,13 @@
 //! What changes a window is in the files of the calls. The definitions are in `specs/Lending.antt`.
 ghost use Rattle.std.specs.Prelude.{◌≡◌, ◌<◌, [], false, length, option_map, slice_index_or};
 ghost use Rattle.scr_windows.specs.Lending.{IsLent, lines_in};
-ghost use Rattle.scr_windows.specs.SurfaceViews.{IsPart, IsSurface};
+ghost use Rattle.scr_surfaces.specs.SurfaceViews.{IsPart};
 ghost use Rattle.scr_windows.specs.DeskViews.{IsWindow};
 
 use crate::faults::Win;
-use crate::surfaces::Surface;
 use crate::windows::Window;
 use scr_cells::{Attrs, Cell};
+use scr_surfaces::Surface;
 use std::marker::Model;
 
 /// A window that its desk lends for reading.
@@ -22,7 +22,7 @@ pub struct WindowRef<'a> {
 }
 
 impl<'a> Model for WindowRef<'a> {
-    ghost use Rattle.scr_windows.specs.SurfaceViews.{IsPart, IsSurface};
+    ghost use Rattle.scr_surfaces.specs.SurfaceViews.{IsPart};
     ghost use Rattle.scr_windows.specs.DeskViews.{IsWindow};
     ghost use Rattle.scr_windows.specs.Lending.{LentView, lines_in};
 
@@ -30,14 +30,13 @@ impl<'a> Model for WindowRef<'a> {
 
     ghost view = { λ a. record { window = a.window.now; lines = lines_in a.surface.now a.window.now.frame.area } };
 
-    ghost invariant = { λ a. IsWindow a.window.now × IsSurface a.surface.now × IsPart a.surface.now a.window.now.frame.area };
+    ghost invariant = { λ a. IsWindow a.window.now × IsPart a.surface.now a.window.now.frame.area };
 }
 
 impl<'a> WindowRef<'a> {
     // A window and the surface that it is on.
     pub(crate) fn new(window: &'a Window, surface: &'a Surface) -> WindowRef<'a>
         requires window { IsWindow window.now }
-        requires surface { IsSurface surface.now }
         requires part { IsPart surface.now window.now.frame.area }
         ensures { result ≡ record { window = window.now; lines = lines_in surface.now window.now.frame.area } }
     {

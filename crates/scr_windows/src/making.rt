@@ -4,15 +4,14 @@ ghost use Rattle.scr_cells.specs.PictureViews.{IsSize};
 ghost use Rattle.scr_windows.specs.DeskViews.{first_desk};
 ghost use Rattle.scr_windows.specs.Making.{Allocated, IsRootPlace, screen_area, root_made, new_window_call, new_pad_call};
 
-use crate::areas::Area;
 use crate::desks::Desk;
 use crate::faults::{Win, WinFault};
 use crate::frames::Frame;
-use crate::subwindows::{MOST, part_of};
 use crate::sheets::Sheet;
-use crate::surfaces::Surface;
+use crate::subwindows::{MOST, part_of};
 use crate::windows::Window;
 use scr_cells::{Attrs, Cell, Size};
+use scr_surfaces::{Area, Surface, surface_laws};
 use std::alloc::Global;
 
 // How many cells a pad may have.
@@ -39,6 +38,7 @@ impl Desk {
             parent: None,
             origin: Some((0, 0)),
         };
+        surface_laws();
         let mut surfaces = Vec::new(alloc);
         let surface = Surface::blank(alloc, rows, columns)?;
         surfaces.push(Sheet { number: 0, surface })?;
@@ -131,6 +131,7 @@ impl Desk {
             parent: None,
             origin,
         };
+        surface_laws();
         let surface = Surface::blank(alloc, rows, columns)?;
         let window = Window::fresh(alloc, frame, Attrs(0), Cell::blank())?;
         self.windows.reserve(1)?;

@@ -2,11 +2,11 @@ ghost use Rattle.std.specs.Prelude.{◌≡◌, ◌+◌, ◌-◌, ◌<◌, ◌≤
 ghost use Rattle.scr_windows.specs.DeskViews.{WindowView, window_at};
 ghost use Rattle.scr_windows.specs.Moving.{IsNear, IsNearFrame, IsNearShift, IsShift, area_shifted, descends, family_frame, family_shifted, link_of, move_derived_call, move_window_call, moved, origin_shifted, place_shifted, shifted, with_family_shifted};
 
-use crate::areas::Area;
 use crate::desks::Desk;
 use crate::faults::{Win, WinFault};
 use crate::frames::Frame;
 use crate::windows::Window;
+use scr_surfaces::Area;
 
 /// How a window and its descendants move: what is at the first place comes to the second.
 #[derive(Clone, Copy)]

@@ -26,7 +26,8 @@ impl Desk {
         requires alone { has_children number self.old.windows ≡ false }
         ensures { self.new ≡ deleted self.old number }
     {
-        self.windows.retain(|window| window.frame().number != number);
+        self.windows
+            .retain(|window| window.frame().number != number);
         self.surfaces.retain(|sheet| sheet.number != number);
     }
 }

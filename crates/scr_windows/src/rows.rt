@@ -2,8 +2,8 @@ ghost use Rattle.std.specs.Prelude.{◌≡◌};
 ghost use Rattle.scr_windows.specs.Erasing.{delete_byte_call, insert_delete_lines_call, scroll_call};
 
 use crate::desks::Desk;
-use crate::drawings::Drawing;
 use crate::faults::{Win, WinFault};
+use scr_surfaces::Drawing;
 
 impl Desk {
     /// Deletes the byte at the cursor: what stands right of it in the line moves left by one, and the
@@ -15,7 +15,14 @@ impl Desk {
     {
         let pen = self.pen(win)?;
         let (row, column) = pen.state.cursor;
-        self.draw(pen.place, &Drawing::Closed { row, column, cell: pen.state.background });
+        self.draw(
+            pen.place,
+            &Drawing::Closed {
+                row,
+                column,
+                cell: pen.state.background,
+            },
+        );
         Ok(())
     }
 
@@ -32,9 +39,25 @@ impl Desk {
         let rows = pen.area.rows;
         let many = n.unsigned_abs();
         if n > 0 {
-            self.draw(pen.place, &Drawing::Down { first: row, end: rows, n: many, cell: pen.state.background });
+            self.draw(
+                pen.place,
+                &Drawing::Down {
+                    first: row,
+                    end: rows,
+                    count: many,
+                    cell: pen.state.background,
+                },
+            );
         } else if n < 0 {
-            self.draw(pen.place, &Drawing::Up { first: row, end: rows, n: many, cell: pen.state.background });
+            self.draw(
+                pen.place,
+                &Drawing::Up {
+                    first: row,
+                    end: rows,
+                    count: many,
+                    cell: pen.state.background,
+                },
+            );
         }
         Ok(())
     }
@@ -53,9 +76,25 @@ impl Desk {
         let (top, bottom) = pen.state.region;
         let many = n.unsigned_abs();
         if n > 0 {
-            self.draw(pen.place, &Drawing::Up { first: top, end: bottom + 1, n: many, cell: pen.state.background });
+            self.draw(
+                pen.place,
+                &Drawing::Up {
+                    first: top,
+                    end: bottom + 1,
+                    count: many,
+                    cell: pen.state.background,
+                },
+            );
         } else if n < 0 {
-            self.draw(pen.place, &Drawing::Down { first: top, end: bottom + 1, n: many, cell: pen.state.background });
+            self.draw(
+                pen.place,
+                &Drawing::Down {
+                    first: top,
+                    end: bottom + 1,
+                    count: many,
+                    cell: pen.state.background,
+                },
+            );
         }
         Ok(())
     }

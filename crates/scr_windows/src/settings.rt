@@ -2,10 +2,10 @@ ghost use Rattle.std.specs.Prelude.{◌≡◌};
 ghost use Rattle.scr_windows.specs.Settings.{move_cursor_call, set_region_call, scroll_ok_call, clear_ok_call, leave_ok_call, attr_on_call, attr_off_call, attr_set_call, set_background_call, change_background_call};
 
 use crate::desks::Desk;
-use crate::drawings::Drawing;
 use crate::faults::{Win, WinFault};
 use bitflags::Flags;
 use scr_cells::{Attrs, Cell};
+use scr_surfaces::Drawing;
 
 impl Desk {
     /// Moves the cursor of a window to a row and a column.
@@ -132,7 +132,13 @@ impl Desk {
     {
         let pen = self.pen(win)?;
         let mut state = pen.state;
-        self.draw(pen.place, &Drawing::Exchanged { old: state.background, new: cell });
+        self.draw(
+            pen.place,
+            &Drawing::Exchanged {
+                old: state.background,
+                new: cell,
+            },
+        );
         state.background = cell;
         self.set_state(pen.place, state);
         Ok(())

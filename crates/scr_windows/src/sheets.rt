@@ -4,7 +4,7 @@
 ghost use Rattle.std.specs.Prelude.{◌≡◌, ◌<◌, length, slice_index_or};
 ghost use Rattle.scr_windows.specs.Sheets.{AreSheets, HasSheet, no_sheet};
 
-use crate::surfaces::Surface;
+use scr_surfaces::Surface;
 
 /// A surface with the number of the window that was made with it.
 #[derive(Drop)]

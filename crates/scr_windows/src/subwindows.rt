@@ -2,11 +2,11 @@ ghost use Rattle.std.specs.Prelude.{◌≡◌, ◌+◌, ◌<◌, ◌≤◌, leng
 ghost use Rattle.scr_windows.specs.DeskViews.{window_at};
 ghost use Rattle.scr_windows.specs.Making.{Allocated, IsChildPlace, part_of, child_made, derived, derive_call, sub_call, sub_pad_call};
 
-use crate::areas::Area;
 use crate::desks::Desk;
 use crate::faults::{Win, WinFault};
 use crate::frames::Frame;
 use crate::windows::Window;
+use scr_surfaces::Area;
 use std::alloc::Global;
 
 /// How many windows there may be.

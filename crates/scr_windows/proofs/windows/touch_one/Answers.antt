@@ -1,4 +1,4 @@
-use Rattle.std.proofs.Common.{true, refl, arith}
+use Rattle.std.proofs.Common.{true, arith}
 use Rattle.scr_windows.proofs.GridLaws.{mark_put, no_mark_put}
 use Rattle.scr_windows.proofs.windows.touch_one.Goals as goal
 

@@ -1,5 +1,5 @@
 use Rattle.std.proofs.Common.{refl}
-use Rattle.scr_windows.specs.Drawings.{drawn}
+use Rattle.scr_surfaces.specs.Drawings.{drawn}
 use Rattle.scr_windows.proofs.DeskLaws.{can_find, draws_part, drawing_path, drawn_is_desk, found}
 use Rattle.scr_windows.proofs.desks.Desk.draw.Goals as goal
 
@@ -11,10 +11,10 @@ draw-requires-clause-part c = draws_part _ _ c.args.place _ _ _ _ (record { is =
 
 pub invariant_of-self : goal.invariant_of-self
 invariant_of-self c =
-    drawn_is_desk _ _ c.args.place _ _ _ _ _ _ _ c.lines-first.result.0 c.lines-first.result.1 (drawn c.args.drawing.now c.frame-frame.result.area.rows c.frame-frame.result.area.columns) (record { is = c.self.view_is; desk = c.self.invariant; here = c.requires.here; window = c.index_mut-window.ensures.value; frame_is = c.frame-frame.ensures })
+    drawn_is_desk c.surface_laws.ensures _ _ c.args.place _ _ _ _ _ _ _ c.lines_of-first.result.0 c.lines_of-first.result.1 (drawn c.args.drawing.now c.frame-frame.result.area.rows c.frame-frame.result.area.columns) (record { is = c.self.view_is; desk = c.self.invariant; here = c.requires.here; window = c.index_mut-window.ensures.value; frame_is = c.frame-frame.ensures })
     (found _ _ _ _ _ c.deref.ensures.value c.index_of_sheet-sheet.ensures.within c.index_of_sheet-sheet.ensures.number c.index_mut.ensures.value) c.mark.ensures c.draw.ensures refl
 
-pub returns : goal.returns
-returns c =
-    drawing_path _ _ c.args.place _ _ _ _ _ _ _ c.lines-first.result c.args.drawing.now (record { is = c.self.view_is; desk = c.self.invariant; here = c.requires.here; window = c.index_mut-window.ensures.value; frame_is = c.frame-frame.ensures })
-    (found _ _ _ _ _ c.deref.ensures.value c.index_of_sheet-sheet.ensures.within c.index_of_sheet-sheet.ensures.number c.index_mut.ensures.value) c.lines-first.ensures c.mark.ensures c.draw.ensures refl
+pub returns-clause-drawn : goal.returns-clause-drawn
+returns-clause-drawn c =
+    drawing_path _ _ c.args.place _ _ _ _ _ _ _ c.lines_of-first.result c.args.drawing.now (record { is = c.self.view_is; desk = c.self.invariant; here = c.requires.here; window = c.index_mut-window.ensures.value; frame_is = c.frame-frame.ensures })
+    (found _ _ _ _ _ c.deref.ensures.value c.index_of_sheet-sheet.ensures.within c.index_of_sheet-sheet.ensures.number c.index_mut.ensures.value) c.lines_of-first.ensures c.mark.ensures c.draw.ensures refl

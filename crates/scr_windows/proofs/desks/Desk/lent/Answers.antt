@@ -1,14 +1,11 @@
 use Rattle.std.proofs.Common.{◌∙◌, subst}
 use Rattle.scr_windows.specs.declared.frames.Frame.{Frame}
-use Rattle.scr_windows.specs.SurfaceViews.{IsPart}
-use Rattle.scr_windows.proofs.DeskLaws.{can_find, draws_contents, draws_part, draws_whole, found}
+use Rattle.scr_surfaces.specs.SurfaceViews.{IsPart}
+use Rattle.scr_windows.proofs.DeskLaws.{can_find, draws_contents, draws_part, found}
 use Rattle.scr_windows.proofs.desks.Desk.lent.Goals as goal
 
 pub index_of_sheet-sheet-requires-clause-there : goal.index_of_sheet-sheet-requires-clause-there
 index_of_sheet-sheet-requires-clause-there c = can_find _ _ c.args.place _ _ _ (record { is = c.self.view_is; desk = c.self.invariant; here = c.requires; window = c.index-window.ensures; frame_is = c.frame.ensures }) c.deref.ensures.value
-
-pub new-requires-clause-surface : goal.new-requires-clause-surface
-new-requires-clause-surface c = draws_whole _ _ c.args.place _ _ _ _ (record { is = c.self.view_is; desk = c.self.invariant; here = c.requires; window = c.index-window.ensures; frame_is = c.frame.ensures }) (found _ _ _ _ _ c.deref.ensures.value c.index_of_sheet-sheet.ensures.within c.index_of_sheet-sheet.ensures.number c.index.ensures)
 
 pub new-requires-clause-part : goal.new-requires-clause-part
 new-requires-clause-part c =

@@ -1,7 +1,7 @@
 use Rattle.std.proofs.Common.{◌≡◌, ◌∙◌, ap, sym, subst, ◌∷◌, []}
 use Rattle.std.proofs.lemmas.Slice.{pushed}
 use Rattle.scr_cells.specs.CellViews.{blank_cell}
-use Rattle.scr_windows.specs.SurfaceViews.{blank_surface}
+use Rattle.scr_surfaces.specs.SurfaceViews.{blank_surface}
 use Rattle.scr_windows.specs.DeskViews.{DeskView, IsDesk, fresh_window, first_frame, no_attributes}
 use Rattle.scr_windows.proofs.MakingLaws.{first_is_desk}
 use Rattle.scr_windows.proofs.desks.Desk.new.Goals as goal
@@ -16,4 +16,4 @@ invariant_of-result c =
     let P : DeskView → Type 0 = λ d. IsDesk d in
     let is : record { rows = rows; columns = columns; surfaces = c.push.new.self.items; windows = c.push-2.new.self.items; made = 0 } ≡ record { rows = rows; columns = columns; surfaces = record { number = 0; surface = blank_surface rows columns } ∷ []; windows = fresh_window (first_frame rows columns) no_attributes blank_cell ∷ []; made = 0 }
     = (λ i. record { rows = rows; columns = columns; surfaces = surfaces i; windows = windows i; made = 0 }) in
-    subst P (sym is) (first_is_desk rows columns c.args.size.in_range)
+    subst P (sym is) (first_is_desk c.surface_laws.ensures rows columns c.args.size.in_range)

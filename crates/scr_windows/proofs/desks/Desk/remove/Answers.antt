@@ -1,6 +1,5 @@
-use Rattle.std.proofs.Common.{rules, ◌∙◌, ap}
+use Rattle.std.proofs.Common.{rules}
 use Rattle.std.proofs.lemmas.Fn.{filter_same}
-use Rattle.scr_windows.specs.Removing.{deleted}
 use Rattle.scr_windows.proofs.RemovingLaws.{window_removed, removed_path}
 use Rattle.scr_windows.proofs.desks.Desk.remove.Goals as goal
 

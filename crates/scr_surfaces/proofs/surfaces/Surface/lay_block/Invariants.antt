@@ -1,6 +1,6 @@
 use Rattle.scr_surfaces.specs.Code.Steps.{Changes}
 use Rattle.scr_surfaces.specs.Formulas.{block_at, part_laid, part_of}
-use Rattle.scr_surfaces.proofs.surfaces.Surface.lay.Given as goal
+use Rattle.scr_surfaces.proofs.surfaces.Surface.lay_block.Given as goal
 
 -- the block's rows up to one are laid
 abbrev pub invariant-loop-row : goal.invariant-loop-row

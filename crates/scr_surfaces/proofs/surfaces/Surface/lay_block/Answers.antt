@@ -5,7 +5,7 @@ use Rattle.scr_surfaces.specs.Formulas.{block_at, part_laid, part_of}
 use Rattle.scr_surfaces.proofs.FilledLaws.{filled_is}
 use Rattle.scr_surfaces.proofs.ChangeLaws.{run_at}
 use Rattle.scr_surfaces.proofs.CopyLaws.{lay_more}
-use Rattle.scr_surfaces.proofs.surfaces.Surface.lay.Goals as goal
+use Rattle.scr_surfaces.proofs.surfaces.Surface.lay_block.Goals as goal
 
 pub loop-row-preserved : goal.loop-row-preserved
 loop-row-preserved c =

@@ -1,7 +1,0 @@
-use Rattle.std.proofs.Common.{◌-◌}
-use Rattle.scr_windows.specs.Runs.{Changes}
-use Rattle.scr_windows.proofs.ChangeLaws.{rows_partly_down}
-use Rattle.scr_windows.proofs.surfaces.Surface.move_down.Given as goal
-
-abbrev pub invariant-loop-done : goal.invariant-loop-done
-invariant-loop-done l = Changes l.fn.self l.self l.area (rows_partly_down l.first (l.end - l.done) l.end l.n l.cell)
