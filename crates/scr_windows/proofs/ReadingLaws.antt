@@ -15,6 +15,7 @@ inside_test r c rows columns h k = grind (arith, nat_tests)
 
 pub cell_answer : (d : DeskView) (win row column place : ℕ) (area : Area) (cells : List CellView) (cell : CellView) → place_of d win ≡ Ok place → area ≡ (window_at d place).frame.area
     → row < area.rows → column < area.columns → cells ≡ row_at d place row → cell ≡ get_or cells column cell → Ok cell ≡ cell_at_answer d win row column
+unfolding cell_at_answer
 cell_answer d win row column place area cells cell place_is area_is row_in column_in cells_is cell_is =
     let inside : (ltb row (window_at d place).frame.area.rows && ltb column (window_at d place).frame.area.columns) ≡ true
     = inside_test row column (window_at d place).frame.area.rows (window_at d place).frame.area.columns (omega (arith, row_in, ap (λ (a : Area). a.rows) area_is)) (omega (arith, column_in, ap (λ (a : Area). a.columns) area_is)) in

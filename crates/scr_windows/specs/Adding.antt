@@ -76,7 +76,7 @@ byte_added desk i byte attrs =
     else character_added desk i byte attrs
 
 -- addch()
-abbrev pub add_byte_call : DeskView → ℕ → ℕ → Attrs → DeskView × Result Added WinFault
+unfoldable pub add_byte_call : DeskView → ℕ → ℕ → Attrs → DeskView × Result Added WinFault
 add_byte_call desk win byte attrs = on_window desk (place_of desk win) (λ i.
     if leb 128 byte then (desk, Err NotAscii) else ((byte_added desk i byte attrs).0, Ok (byte_added desk i byte attrs).1))
 
@@ -89,19 +89,19 @@ text_added desk i (byte ∷ bytes) =
     (rest.0, either_stayed first.1 rest.1)
 
 -- addnstr()
-abbrev pub add_text_call : DeskView → ℕ → List ℕ → DeskView × Result Added WinFault
+unfoldable pub add_text_call : DeskView → ℕ → List ℕ → DeskView × Result Added WinFault
 add_text_call desk win bytes = on_window desk (place_of desk win) (λ i.
     if list_any (λ byte. leb 128 byte) bytes then (desk, Err NotAscii) else ((text_added desk i bytes).0, Ok (text_added desk i bytes).1))
 
 -- insch()
-abbrev pub insert_byte_call : DeskView → ℕ → ℕ → Attrs → DeskView × Result (Unit {0}) WinFault
+unfoldable pub insert_byte_call : DeskView → ℕ → ℕ → Attrs → DeskView × Result (Unit {0}) WinFault
 insert_byte_call desk win byte attrs = on_window desk (place_of desk win) (λ i.
     let s : State = (window_at desk i).state in
     if is_character byte then (write desk i s.cursor.0 (s.cursor.0 + 1) (row_opened s.cursor.0 s.cursor.1 (written byte attrs s)), Ok tt)
     else (desk, Err NotAscii))
 
 -- hline(): places from the cursor on, at most to the edge
-abbrev pub line_across_call : DeskView → ℕ → ℕ → ℕ → DeskView × Result (Unit {0}) WinFault
+unfoldable pub line_across_call : DeskView → ℕ → ℕ → ℕ → DeskView × Result (Unit {0}) WinFault
 line_across_call desk win byte n = on_window desk (place_of desk win) (λ i.
     let w : WindowView = window_at desk i in
     let y : ℕ = w.state.cursor.0 in
@@ -111,7 +111,7 @@ line_across_call desk win byte n = on_window desk (place_of desk win) (λ i.
     else (desk, Err NotAscii))
 
 -- vline(): places from the cursor down, at most to the edge
-abbrev pub line_down_call : DeskView → ℕ → ℕ → ℕ → DeskView × Result (Unit {0}) WinFault
+unfoldable pub line_down_call : DeskView → ℕ → ℕ → ℕ → DeskView × Result (Unit {0}) WinFault
 line_down_call desk win byte n = on_window desk (place_of desk win) (λ i.
     let w : WindowView = window_at desk i in
     let y : ℕ = w.state.cursor.0 in

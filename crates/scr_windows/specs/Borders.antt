@@ -31,7 +31,7 @@ border_of bytes state =
     }
 
 -- border(): all lines are touched, since each has a place of the left and the right edge
-abbrev pub border_call : DeskView → ℕ → List ℕ → DeskView × Result (Unit {0}) WinFault
+unfoldable pub border_call : DeskView → ℕ → List ℕ → DeskView × Result (Unit {0}) WinFault
 border_call desk win bytes = on_window desk (place_of desk win) (λ i.
     let w : WindowView = window_at desk i in
     if list_all is_character bytes then (write desk i 0 w.frame.area.rows (bordered w.frame.area.rows w.frame.area.columns (border_of bytes w.state)), Ok tt)

@@ -17,7 +17,7 @@ abbrev pub has_part : Area → ℕ → ℕ → Area → Bool
 has_part area row column part = leb (row + part.rows) area.rows && leb (column + part.columns) area.columns
 
 -- copywin(): the target's part is given by its first and its last row and column
-abbrev pub copy_call : DeskView → ℕ → ℕ → ℕ → ℕ → ℕ → ℕ → ℕ → ℕ → Bool → DeskView × Result (Unit {0}) WinFault
+unfoldable pub copy_call : DeskView → ℕ → ℕ → ℕ → ℕ → ℕ → ℕ → ℕ → ℕ → Bool → DeskView × Result (Unit {0}) WinFault
 copy_call desk source target row column top left bottom right overlay =
     on_window desk (place_of desk source) (λ i. on_window desk (place_of desk target) (λ j.
     let part : Area = record { top = top; left = left; rows = bottom + 1 - top; columns = right + 1 - left } in
@@ -44,7 +44,7 @@ over_screen desk i j (Some source) None overlay = (desk, Err IsPad)
 over_screen desk i j (Some source) (Some target) overlay = (laid_over desk i j source target overlay, Ok tt)
 
 -- overlay(), and overwrite() without overlay
-abbrev pub overlay_call : DeskView → ℕ → ℕ → Bool → DeskView × Result (Unit {0}) WinFault
+unfoldable pub overlay_call : DeskView → ℕ → ℕ → Bool → DeskView × Result (Unit {0}) WinFault
 overlay_call desk source target overlay =
     on_window desk (place_of desk source) (λ i. on_window desk (place_of desk target) (λ j.
     over_screen desk i j (window_at desk i).frame.origin (window_at desk j).frame.origin overlay))

@@ -8,7 +8,7 @@ use Rattle.scr_windows.specs.Calls.{place_of, on_window, write}
 use Rattle.scr_windows.specs.Settings.{with_state, cursor_at}
 
 -- delch(): the places of the cursor's line from the cursor on get what stands right of them, and the last the background
-abbrev pub delete_byte_call : DeskView → ℕ → DeskView × Result (Unit {0}) WinFault
+unfoldable pub delete_byte_call : DeskView → ℕ → DeskView × Result (Unit {0}) WinFault
 delete_byte_call desk win = on_window desk (place_of desk win) (λ i.
     let w : WindowView = window_at desk i in
     (write desk i w.state.cursor.0 (w.state.cursor.0 + 1) (row_closed w.frame.area.columns w.state.cursor.0 w.state.cursor.1 w.state.background), Ok tt))
@@ -19,7 +19,7 @@ abbrev pub lines_moved : DeskView → ℕ → WindowView → ℤ → DeskView
 lines_moved desk i w (pos n) = if n == 0 then desk else write desk i w.state.cursor.0 w.frame.area.rows (rows_down w.state.cursor.0 w.frame.area.rows n w.state.background)
 lines_moved desk i w (negsuc m) = write desk i w.state.cursor.0 w.frame.area.rows (rows_up w.state.cursor.0 w.frame.area.rows (m + 1) w.state.background)
 
-abbrev pub insert_delete_lines_call : DeskView → ℕ → ℤ → DeskView × Result (Unit {0}) WinFault
+unfoldable pub insert_delete_lines_call : DeskView → ℕ → ℤ → DeskView × Result (Unit {0}) WinFault
 insert_delete_lines_call desk win n = on_window desk (place_of desk win) (λ i. (lines_moved desk i (window_at desk i) n, Ok tt))
 
 -- scrl(): the lines of the region move up by n and the lines left free get the background, or down where n is below 0;
@@ -28,18 +28,18 @@ abbrev pub scrolled : DeskView → ℕ → WindowView → ℤ → DeskView
 scrolled desk i w (pos n) = if n == 0 then desk else write desk i w.state.region.0 (w.state.region.1 + 1) (rows_up w.state.region.0 (w.state.region.1 + 1) n w.state.background)
 scrolled desk i w (negsuc m) = write desk i w.state.region.0 (w.state.region.1 + 1) (rows_down w.state.region.0 (w.state.region.1 + 1) (m + 1) w.state.background)
 
-abbrev pub scroll_call : DeskView → ℕ → ℤ → DeskView × Result (Unit {0}) WinFault
+unfoldable pub scroll_call : DeskView → ℕ → ℤ → DeskView × Result (Unit {0}) WinFault
 scroll_call desk win n = on_window desk (place_of desk win) (λ i.
     if (window_at desk i).state.scroll_ok then (scrolled desk i (window_at desk i) n, Ok tt) else (desk, Err NoScroll))
 
 -- clrtoeol(), clrtobot(), erase(), clear(): the places from the cursor to the end of its line, those and all lines below,
 -- and all places, get the background; the last two put the cursor to the first place, and the last wishes for a repaint
-abbrev pub clear_to_eol_call : DeskView → ℕ → DeskView × Result (Unit {0}) WinFault
+unfoldable pub clear_to_eol_call : DeskView → ℕ → DeskView × Result (Unit {0}) WinFault
 clear_to_eol_call desk win = on_window desk (place_of desk win) (λ i.
     let w : WindowView = window_at desk i in
     (write desk i w.state.cursor.0 (w.state.cursor.0 + 1) (run_put w.state.cursor.0 w.state.cursor.1 w.frame.area.columns w.state.background), Ok tt))
 
-abbrev pub clear_to_bottom_call : DeskView → ℕ → DeskView × Result (Unit {0}) WinFault
+unfoldable pub clear_to_bottom_call : DeskView → ℕ → DeskView × Result (Unit {0}) WinFault
 clear_to_bottom_call desk win = on_window desk (place_of desk win) (λ i.
     let w : WindowView = window_at desk i in
     (write desk i w.state.cursor.0 w.frame.area.rows (below_put w.state.cursor.0 w.state.cursor.1 w.state.background), Ok tt))
@@ -47,10 +47,10 @@ clear_to_bottom_call desk win = on_window desk (place_of desk win) (λ i.
 abbrev pub erased : DeskView → ℕ → WindowView → DeskView
 erased desk i w = with_state (write desk i 0 w.frame.area.rows (rows_put 0 w.frame.area.rows w.state.background)) i (cursor_at (0, 0) w.state)
 
-abbrev pub erase_call : DeskView → ℕ → DeskView × Result (Unit {0}) WinFault
+unfoldable pub erase_call : DeskView → ℕ → DeskView × Result (Unit {0}) WinFault
 erase_call desk win = on_window desk (place_of desk win) (λ i. (erased desk i (window_at desk i), Ok tt))
 
-abbrev pub clear_call : DeskView → ℕ → DeskView × Result (Unit {0}) WinFault
+unfoldable pub clear_call : DeskView → ℕ → DeskView × Result (Unit {0}) WinFault
 clear_call desk win = on_window desk (place_of desk win) (λ i.
     let w : WindowView = window_at desk i in
     (with_state (write desk i 0 w.frame.area.rows (rows_put 0 w.frame.area.rows w.state.background)) i (record (cursor_at (0, 0) w.state) { clear_ok = true }), Ok tt))

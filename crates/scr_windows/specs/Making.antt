@@ -54,7 +54,7 @@ derived desk i None rows columns row column = (desk, Err IsPad)
 derived desk i (Some origin) rows columns row column =
     child_in desk i (part_of (window_at desk i).frame.area rows columns row column) (Some (origin.0 + row, origin.1 + column))
 
-abbrev pub derive_call : DeskView → ℕ → ℕ → ℕ → ℕ → ℕ → DeskView × Result Win WinFault
+unfoldable pub derive_call : DeskView → ℕ → ℕ → ℕ → ℕ → ℕ → DeskView × Result Win WinFault
 derive_call desk win rows columns row column = on_window desk (place_of desk win) (λ i. derived desk i (window_at desk i).frame.origin rows columns row column)
 
 -- subwin(): the place is one on the screen
@@ -65,7 +65,7 @@ subdivided desk i (Some origin) rows columns row column =
     derived desk i (Some origin) rows columns (row - origin.0) (column - origin.1)
     else (desk, Err NotInParent)
 
-abbrev pub sub_call : DeskView → ℕ → ℕ → ℕ → ℕ → ℕ → DeskView × Result Win WinFault
+unfoldable pub sub_call : DeskView → ℕ → ℕ → ℕ → ℕ → ℕ → DeskView × Result Win WinFault
 sub_call desk win rows columns row column = on_window desk (place_of desk win) (λ i. subdivided desk i (window_at desk i).frame.origin rows columns row column)
 
 -- a part of a window's area, and the place of its first row and column on the screen
@@ -84,7 +84,7 @@ abbrev pub pad_divided : DeskView → ℕ → Option (ℕ × ℕ) → ℕ → �
 pad_divided desk i None rows columns row column = child_in desk i (part_of (window_at desk i).frame.area rows columns row column) None
 pad_divided desk i (Some origin) rows columns row column = (desk, Err NotPad)
 
-abbrev pub sub_pad_call : DeskView → ℕ → ℕ → ℕ → ℕ → ℕ → DeskView × Result Win WinFault
+unfoldable pub sub_pad_call : DeskView → ℕ → ℕ → ℕ → ℕ → ℕ → DeskView × Result Win WinFault
 sub_pad_call desk win rows columns row column = on_window desk (place_of desk win) (λ i. pad_divided desk i (window_at desk i).frame.origin rows columns row column)
 
 -- the frame of the next window that has a surface of its own
@@ -112,11 +112,11 @@ abbrev pub window_in : DeskView → Option Area → ℕ → ℕ → DeskView × 
 window_in desk None row column = (desk, Err OffScreen)
 window_in desk (Some area) row column = root_made desk area.rows area.columns (Some (row, column))
 
-abbrev pub new_window_call : DeskView → ℕ → ℕ → ℕ → ℕ → DeskView × Result Win WinFault
+unfoldable pub new_window_call : DeskView → ℕ → ℕ → ℕ → ℕ → DeskView × Result Win WinFault
 new_window_call desk rows columns row column = window_in desk (part_of (screen_area desk) rows columns row column) row column
 
 -- newpad()
-abbrev pub new_pad_call : DeskView → ℕ → ℕ → DeskView × Result Win WinFault
+unfoldable pub new_pad_call : DeskView → ℕ → ℕ → DeskView × Result Win WinFault
 new_pad_call desk rows columns =
     if rows == 0 || columns == 0 then (desk, Err OutOfWindow)
     else if ltb 1000000 (rows * columns) then (desk, Err TooBig)

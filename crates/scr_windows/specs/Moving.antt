@@ -52,7 +52,7 @@ window_moved desk i (Some origin) None row column =
     (moved desk i (Screen origin (row, column)), Ok tt)
     else (desk, Err OffScreen)
 
-abbrev pub move_window_call : DeskView → ℕ → ℕ → ℕ → DeskView × Result (Unit {0}) WinFault
+unfoldable pub move_window_call : DeskView → ℕ → ℕ → ℕ → DeskView × Result (Unit {0}) WinFault
 move_window_call desk win row column = on_window desk (place_of desk win) (λ i. window_moved desk i (window_at desk i).frame.origin (window_at desk i).frame.parent row column)
 
 -- the first place of the window's part of its surface comes to a row and a column of the parent's part
@@ -69,7 +69,7 @@ derived_moved desk i None parent row column = (desk, Err IsPad)
 derived_moved desk i (Some origin) None row column = (desk, Err NotInParent)
 derived_moved desk i (Some origin) (Some parent) row column = on_window desk (place_of desk parent) (λ k. moved_in desk i (window_at desk k).frame.area row column)
 
-abbrev pub move_derived_call : DeskView → ℕ → ℕ → ℕ → DeskView × Result (Unit {0}) WinFault
+unfoldable pub move_derived_call : DeskView → ℕ → ℕ → ℕ → DeskView × Result (Unit {0}) WinFault
 move_derived_call desk win row column = on_window desk (place_of desk win) (λ i. derived_moved desk i (window_at desk i).frame.origin (window_at desk i).frame.parent row column)
 
 -- what a shift of the window at a place asks for: a window without a parent stays on the screen; a subwindow stays in its parent

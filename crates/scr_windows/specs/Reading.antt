@@ -23,7 +23,7 @@ abbrev pub contents : DeskView → ℕ → LentView
 contents desk i = record { window = window_at desk i; lines = lines_in (surface_at desk (window_at desk i).frame.surface) (window_at desk i).frame.area }
 
 -- the window at an index among those that there are
-abbrev pub nth_answer : DeskView → ℕ → Option Win
+unfoldable pub nth_answer : DeskView → ℕ → Option Win
 nth_answer desk i = if ltb i (length desk.windows) then Some (record { 0 = (window_at desk i).frame.number }) else None
 
 -- an answer about a window, which refuses a window that is not there
@@ -32,36 +32,36 @@ about_window (Err fault) f = Err fault
 about_window (Ok i) f = f i
 
 -- inch() at a place
-abbrev pub cell_at_answer : DeskView → ℕ → ℕ → ℕ → Result CellView WinFault
+unfoldable pub cell_at_answer : DeskView → ℕ → ℕ → ℕ → Result CellView WinFault
 cell_at_answer desk win row column = about_window (place_of desk win) (λ i.
     if ltb row (window_at desk i).frame.area.rows && ltb column (window_at desk i).frame.area.columns then Ok (at desk i row column) else Err OutOfWindow)
 
 -- getyx(), getmaxyx(), getbegyx()
-abbrev pub cursor_answer : DeskView → ℕ → Result (ℕ × ℕ) WinFault
+unfoldable pub cursor_answer : DeskView → ℕ → Result (ℕ × ℕ) WinFault
 cursor_answer desk win = about_window (place_of desk win) (λ i. Ok (window_at desk i).state.cursor)
 
-abbrev pub size_answer : DeskView → ℕ → Result (ℕ × ℕ) WinFault
+unfoldable pub size_answer : DeskView → ℕ → Result (ℕ × ℕ) WinFault
 size_answer desk win = about_window (place_of desk win) (λ i. Ok ((window_at desk i).frame.area.rows, (window_at desk i).frame.area.columns))
 
 abbrev pub place_on_screen : Option (ℕ × ℕ) → Result (ℕ × ℕ) WinFault
 place_on_screen None = Err IsPad
 place_on_screen (Some place) = Ok place
 
-abbrev pub origin_answer : DeskView → ℕ → Result (ℕ × ℕ) WinFault
+unfoldable pub origin_answer : DeskView → ℕ → Result (ℕ × ℕ) WinFault
 origin_answer desk win = about_window (place_of desk win) (λ i. place_on_screen (window_at desk i).frame.origin)
 
 -- is_linetouched(), is_wintouched()
-abbrev pub line_touched_answer : DeskView → ℕ → ℕ → Result Bool WinFault
+unfoldable pub line_touched_answer : DeskView → ℕ → ℕ → Result Bool WinFault
 line_touched_answer desk win row = about_window (place_of desk win) (λ i.
     if ltb row (window_at desk i).frame.area.rows then Ok (slice_index_or (window_at desk i).touched row false) else Err OutOfWindow)
 
-abbrev pub window_touched_answer : DeskView → ℕ → Result Bool WinFault
+unfoldable pub window_touched_answer : DeskView → ℕ → Result Bool WinFault
 window_touched_answer desk win = about_window (place_of desk win) (λ i. Ok (list_any (λ mark. mark) (window_at desk i).touched))
 
 -- a window that is lent
-abbrev pub window_answer : DeskView → ℕ → Result LentView WinFault
+unfoldable pub window_answer : DeskView → ℕ → Result LentView WinFault
 window_answer desk win = about_window (place_of desk win) (λ i. Ok (contents desk i))
 
 -- a row that is lent
-abbrev pub row_answer : DeskView → ℕ → ℕ → Result (List CellView) WinFault
+unfoldable pub row_answer : DeskView → ℕ → ℕ → Result (List CellView) WinFault
 row_answer desk win row = about_window (place_of desk win) (λ i. if ltb row (window_at desk i).frame.area.rows then Ok (row_at desk i row) else Err OutOfWindow)

@@ -25,5 +25,5 @@ abbrev pub deleted : DeskView → ℕ → DeskView
 deleted desk number = record desk { surfaces = without_surface number desk.surfaces; windows = others number desk.windows }
 
 -- delwin()
-abbrev pub delete_call : DeskView → ℕ → DeskView × Result (Unit {0}) WinFault
+unfoldable pub delete_call : DeskView → ℕ → DeskView × Result (Unit {0}) WinFault
 delete_call desk win = on_window desk (place_of desk win) (λ i. if has_children win desk.windows then (desk, Err HasChildren) else (deleted desk win, Ok tt))

@@ -43,12 +43,12 @@ touched_up places desk i =
       windows = map (λ k. if list_any (λ place. place == k) places then with_touched (touched_at (window_at desk i)) (window_at desk k) else window_at desk k) (range_with_len 0 (length desk.windows));
     }
 
-abbrev pub sync_up_call : DeskView → ℕ → DeskView × Result (Unit {0}) WinFault
+unfoldable pub sync_up_call : DeskView → ℕ → DeskView × Result (Unit {0}) WinFault
 sync_up_call desk win = on_window desk (place_of desk win) (λ i. (touched_up (ancestors desk i) desk i, Ok tt))
 
 -- wsyncdown(): the window's lines that share a surface row with a touched line of an ancestor are touched
 abbrev pub touched_down : List ℕ → DeskView → ℕ → DeskView
 touched_down places desk i = with_window desk i (with_touched (λ row. list_any (λ k. touched_at (window_at desk k) row) places) (window_at desk i))
 
-abbrev pub sync_down_call : DeskView → ℕ → DeskView × Result (Unit {0}) WinFault
+unfoldable pub sync_down_call : DeskView → ℕ → DeskView × Result (Unit {0}) WinFault
 sync_down_call desk win = on_window desk (place_of desk win) (λ i. (touched_down (ancestors desk i) desk i, Ok tt))

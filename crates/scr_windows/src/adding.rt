@@ -20,6 +20,7 @@ impl Desk {
     /// be begun, and the cursor stayed.
     ///
     /// Refused: NoWindow; NotAscii for a byte from 128 on. X/Open Curses Issue 7, addch().
+    #[tactic(auto, unfolding(crate::specs::Adding::add_byte_call))]
     pub fn add_byte(&mut self, win: Win, byte: u8, attrs: Attrs) -> Result<Added, WinFault>
         ensures { (self.new, result) ≡ add_byte_call self.old win.0 byte attrs }
     {
@@ -34,6 +35,7 @@ impl Desk {
     /// of them answered so.
     ///
     /// Refused: NoWindow; NotAscii where any byte is 128 or more. X/Open Curses Issue 7, addnstr().
+    #[tactic(auto, unfolding(crate::specs::Adding::add_text_call))]
     pub fn add_text(&mut self, win: Win, text: &[u8]) -> Result<Added, WinFault>
         ensures { (self.new, result) ≡ add_text_call self.old win.0 text.now }
     {
@@ -48,6 +50,7 @@ impl Desk {
     /// is lost. The cursor stays.
     ///
     /// Refused: NoWindow; NotAscii for another byte. X/Open Curses Issue 7, insch().
+    #[tactic(auto, unfolding(crate::specs::Adding::insert_byte_call))]
     pub fn insert_byte(&mut self, win: Win, byte: u8, attrs: Attrs) -> Result<(), WinFault>
         ensures { (self.new, result) ≡ insert_byte_call self.old win.0 byte attrs }
     {
@@ -71,6 +74,7 @@ impl Desk {
     /// The cursor stays.
     ///
     /// Refused: NoWindow; NotAscii for another byte. X/Open Curses Issue 7, hline().
+    #[tactic(auto, unfolding(crate::specs::Adding::line_across_call))]
     pub fn line_across(&mut self, win: Win, byte: u8, n: u32) -> Result<(), WinFault>
         ensures { (self.new, result) ≡ line_across_call self.old win.0 byte n }
     {
@@ -99,6 +103,7 @@ impl Desk {
     /// edge. The cursor stays.
     ///
     /// Refused: NoWindow; NotAscii for another byte. X/Open Curses Issue 7, vline().
+    #[tactic(auto, unfolding(crate::specs::Adding::line_down_call))]
     pub fn line_down(&mut self, win: Win, byte: u8, n: u32) -> Result<(), WinFault>
         ensures { (self.new, result) ≡ line_down_call self.old win.0 byte n }
     {

@@ -18,6 +18,7 @@ impl Desk {
     /// A blank is written as the background's byte. The cursor stays, and all lines are touched.
     ///
     /// Refused: NoWindow; NotAscii where any of them is another byte. X/Open Curses Issue 7, border().
+    #[tactic(auto, unfolding(crate::specs::Borders::border_call))]
     pub fn border(&mut self, win: Win, bytes: [u8; 8]) -> Result<(), WinFault>
         ensures { (self.new, result) ≡ border_call self.old win.0 bytes }
     {

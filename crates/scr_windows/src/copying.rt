@@ -25,6 +25,7 @@ impl Desk {
     /// Refused: NoWindow; OutOfWindow where the rectangle is not wholly in the target, the part copied
     /// not wholly in the source, or the corners are the wrong way round; NoMemory. X/Open Curses Issue 7,
     /// copywin().
+    #[tactic(auto, unfolding(crate::specs::Copying::copy_call))]
     pub fn copy(
         &mut self,
         alloc: Global,
@@ -78,6 +79,7 @@ impl Desk {
     }
 
     // Copies the part of the screen that two windows both cover.
+    #[tactic(auto, unfolding(crate::specs::Copying::overlay_call))]
     fn lay_over(
         &mut self,
         alloc: Global,

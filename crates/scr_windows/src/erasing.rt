@@ -9,6 +9,7 @@ impl Desk {
     /// Erases the places from the cursor to the end of its line.
     ///
     /// Refused: NoWindow. X/Open Curses Issue 7, clrtoeol().
+    #[tactic(auto, unfolding(crate::specs::Erasing::clear_to_eol_call))]
     pub fn clear_to_eol(&mut self, win: Win) -> Result<(), WinFault>
         ensures { (self.new, result) ≡ clear_to_eol_call self.old win.0 }
     {
@@ -29,6 +30,7 @@ impl Desk {
     /// Erases the places from the cursor to the end of its line, and all lines below.
     ///
     /// Refused: NoWindow. X/Open Curses Issue 7, clrtobot().
+    #[tactic(auto, unfolding(crate::specs::Erasing::clear_to_bottom_call))]
     pub fn clear_to_bottom(&mut self, win: Win) -> Result<(), WinFault>
         ensures { (self.new, result) ≡ clear_to_bottom_call self.old win.0 }
     {
@@ -48,6 +50,7 @@ impl Desk {
     /// Erases all places, and puts the cursor to the first.
     ///
     /// Refused: NoWindow. X/Open Curses Issue 7, erase().
+    #[tactic(auto, unfolding(crate::specs::Erasing::erase_call))]
     pub fn erase(&mut self, win: Win) -> Result<(), WinFault>
         ensures { (self.new, result) ≡ erase_call self.old win.0 }
     {
@@ -69,6 +72,7 @@ impl Desk {
     /// Erases all places, puts the cursor to the first, and wishes that the next update paints the whole screen.
     ///
     /// Refused: NoWindow. X/Open Curses Issue 7, clear().
+    #[tactic(auto, unfolding(crate::specs::Erasing::clear_call))]
     pub fn clear(&mut self, win: Win) -> Result<(), WinFault>
         ensures { (self.new, result) ≡ clear_call self.old win.0 }
     {

@@ -58,6 +58,7 @@ impl Desk {
     ///
     /// Refused: OffScreen where it is not wholly on the screen, or empty; TooMany; NoMemory. X/Open Curses
     /// Issue 7, newwin().
+    #[tactic(auto, unfolding(crate::specs::Making::new_window_call))]
     pub fn new_window(
         &mut self,
         alloc: Global,
@@ -79,6 +80,7 @@ impl Desk {
     ///
     /// Refused: OutOfWindow for 0 rows or columns; TooBig above 1,000,000 cells; TooMany; NoMemory. X/Open
     /// Curses Issue 7, newpad().
+    #[tactic(auto, unfolding(crate::specs::Making::new_pad_call))]
     pub fn new_pad(&mut self, alloc: Global, rows: u32, columns: u32) -> Result<Win, WinFault>
         ensures { Allocated self.old (new_pad_call self.old rows columns) (self.new, result) }
     {

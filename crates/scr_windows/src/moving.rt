@@ -22,6 +22,7 @@ impl Desk {
     ///
     /// Refused: NoWindow; IsPad; IsSub; OffScreen where it would not be wholly on the screen. X/Open Curses Issue 7,
     /// mvwin().
+    #[tactic(auto, unfolding(crate::specs::Moving::move_window_call))]
     pub fn move_window(&mut self, win: Win, row: u32, column: u32) -> Result<(), WinFault>
         ensures { (self.new, result) ≡ move_window_call self.old win.0 row column }
     {
@@ -47,6 +48,7 @@ impl Desk {
     ///
     /// Refused: NoWindow; IsPad; NotInParent where it would not be wholly in the parent, or has none. X/Open Curses
     /// Issue 7, mvderwin().
+    #[tactic(auto, unfolding(crate::specs::Moving::move_derived_call))]
     pub fn move_derived(&mut self, win: Win, row: u32, column: u32) -> Result<(), WinFault>
         ensures { (self.new, result) ≡ move_derived_call self.old win.0 row column }
     {

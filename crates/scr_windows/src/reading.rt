@@ -30,6 +30,7 @@ impl Desk {
     }
 
     /// The window at an index among those that there are, by ascending numbers from index 0 on; `None` behind the last.
+    #[tactic(auto, unfolding(crate::specs::Reading::nth_answer))]
     pub fn nth(&self, index: usize) -> Option<Win>
         ensures { result ≡ nth_answer self.now index }
     {
@@ -43,6 +44,7 @@ impl Desk {
     /// Lends a window for reading.
     ///
     /// Refused: NoWindow.
+    #[tactic(auto, unfolding(crate::specs::Reading::window_answer))]
     pub fn window(&self, win: Win) -> Result<WindowRef<'_>, WinFault>
         ensures { result ≡ window_answer self.now win.0 }
     {
@@ -63,6 +65,7 @@ impl Desk {
     /// The cell in a row and a column of a window.
     ///
     /// Refused: NoWindow; OutOfWindow for a place outside the window. X/Open Curses Issue 7, inch().
+    #[tactic(auto, unfolding(crate::specs::Reading::cell_at_answer))]
     pub fn cell_at(&self, win: Win, row: u32, column: u32) -> Result<Cell, WinFault>
         ensures { result ≡ cell_at_answer self.now win.0 row column }
     {
@@ -77,6 +80,7 @@ impl Desk {
     /// The row and the column of the cursor of a window.
     ///
     /// Refused: NoWindow. X/Open Curses Issue 7, getyx().
+    #[tactic(auto, unfolding(crate::specs::Reading::cursor_answer))]
     pub fn cursor(&self, win: Win) -> Result<(u32, u32), WinFault>
         ensures { result ≡ cursor_answer self.now win.0 }
     {
@@ -86,6 +90,7 @@ impl Desk {
     /// How many rows and columns a window has.
     ///
     /// Refused: NoWindow. X/Open Curses Issue 7, getmaxyx().
+    #[tactic(auto, unfolding(crate::specs::Reading::size_answer))]
     pub fn size(&self, win: Win) -> Result<(u32, u32), WinFault>
         ensures { result ≡ size_answer self.now win.0 }
     {
@@ -96,6 +101,7 @@ impl Desk {
     /// The place on the screen of a window's first row and column.
     ///
     /// Refused: NoWindow; IsPad. X/Open Curses Issue 7, getbegyx().
+    #[tactic(auto, unfolding(crate::specs::Reading::origin_answer))]
     pub fn origin(&self, win: Win) -> Result<(u32, u32), WinFault>
         ensures { result ≡ origin_answer self.now win.0 }
     {
@@ -109,6 +115,7 @@ impl Desk {
     /// Whether a line of a window is touched.
     ///
     /// Refused: NoWindow; OutOfWindow where the window has no such row. X/Open Curses Issue 7, is_linetouched().
+    #[tactic(auto, unfolding(crate::specs::Reading::line_touched_answer))]
     pub fn line_touched(&self, win: Win, row: u32) -> Result<bool, WinFault>
         ensures { result ≡ line_touched_answer self.now win.0 row }
     {
@@ -122,6 +129,7 @@ impl Desk {
     /// Whether some line of a window is touched.
     ///
     /// Refused: NoWindow. X/Open Curses Issue 7, is_wintouched().
+    #[tactic(auto, unfolding(crate::specs::Reading::window_touched_answer))]
     pub fn window_touched(&self, win: Win) -> Result<bool, WinFault>
         ensures { result ≡ window_touched_answer self.now win.0 }
     {
@@ -132,6 +140,7 @@ impl Desk {
     /// The cells of a row of a window from the left, lent. Curses has no such call.
     ///
     /// Refused: NoWindow; OutOfWindow where the window has no such row.
+    #[tactic(auto, unfolding(crate::specs::Reading::row_answer))]
     pub fn line(&self, win: Win, row: u32) -> Result<&[Cell], WinFault>
         ensures { MatchResult result (λ cells. row_answer self.now win.0 row ≡ Ok cells.now) (λ fault. row_answer self.now win.0 row ≡ Err fault) }
     {

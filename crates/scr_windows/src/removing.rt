@@ -10,6 +10,7 @@ impl Desk {
     /// used again.
     ///
     /// Refused: NoWindow; HasChildren where it has subwindows. X/Open Curses Issue 7, delwin().
+    #[tactic(auto, unfolding(crate::specs::Removing::delete_call))]
     pub fn delete(&mut self, win: Win) -> Result<(), WinFault>
         ensures { (self.new, result) ≡ delete_call self.old win.0 }
     {

@@ -10,6 +10,7 @@ impl Desk {
     /// background comes into the last column.
     ///
     /// Refused: NoWindow. X/Open Curses Issue 7, delch().
+    #[tactic(auto, unfolding(crate::specs::Erasing::delete_byte_call))]
     pub fn delete_byte(&mut self, win: Win) -> Result<(), WinFault>
         ensures { (self.new, result) ≡ delete_byte_call self.old win.0 }
     {
@@ -31,6 +32,7 @@ impl Desk {
     /// those left free. The cursor stays.
     ///
     /// Refused: NoWindow. X/Open Curses Issue 7, insdelln().
+    #[tactic(auto, unfolding(crate::specs::Erasing::insert_delete_lines_call))]
     pub fn insert_delete_lines(&mut self, win: Win, n: i32) -> Result<(), WinFault>
         ensures { (self.new, result) ≡ insert_delete_lines_call self.old win.0 n }
     {
@@ -66,6 +68,7 @@ impl Desk {
     /// into those left free.
     ///
     /// Refused: NoWindow; NoScroll. X/Open Curses Issue 7, scrl().
+    #[tactic(auto, unfolding(crate::specs::Erasing::scroll_call))]
     pub fn scroll(&mut self, win: Win, n: i32) -> Result<(), WinFault>
         ensures { (self.new, result) ≡ scroll_call self.old win.0 n }
     {

@@ -11,6 +11,7 @@ impl Desk {
     /// Moves the cursor of a window to a row and a column.
     ///
     /// Refused: NoWindow; OutOfWindow for a place outside the window. X/Open Curses Issue 7, move().
+    #[tactic(auto, unfolding(crate::specs::Settings::move_cursor_call))]
     pub fn move_cursor(&mut self, win: Win, row: u32, column: u32) -> Result<(), WinFault>
         ensures { (self.new, result) ≡ move_cursor_call self.old win.0 row column }
     {
@@ -27,6 +28,7 @@ impl Desk {
     ///
     /// Refused: NoWindow; BadRegion where the first is below the last or the last is not in the window. X/Open
     /// Curses Issue 7, setscrreg().
+    #[tactic(auto, unfolding(crate::specs::Settings::set_region_call))]
     pub fn set_region(&mut self, win: Win, top: u32, bottom: u32) -> Result<(), WinFault>
         ensures { (self.new, result) ≡ set_region_call self.old win.0 top bottom }
     {
@@ -42,6 +44,7 @@ impl Desk {
     /// Says whether the region of a window may scroll.
     ///
     /// Refused: NoWindow. X/Open Curses Issue 7, scrollok().
+    #[tactic(auto, unfolding(crate::specs::Settings::scroll_ok_call))]
     pub fn scroll_ok(&mut self, win: Win, on: bool) -> Result<(), WinFault>
         ensures { (self.new, result) ≡ scroll_ok_call self.old win.0 on }
     {
@@ -54,6 +57,7 @@ impl Desk {
     /// Says whether the next update with a window paints the whole screen.
     ///
     /// Refused: NoWindow. X/Open Curses Issue 7, clearok().
+    #[tactic(auto, unfolding(crate::specs::Settings::clear_ok_call))]
     pub fn clear_ok(&mut self, win: Win, on: bool) -> Result<(), WinFault>
         ensures { (self.new, result) ≡ clear_ok_call self.old win.0 on }
     {
@@ -66,6 +70,7 @@ impl Desk {
     /// Says whether the terminal's cursor may stay where an update leaves it.
     ///
     /// Refused: NoWindow. X/Open Curses Issue 7, leaveok().
+    #[tactic(auto, unfolding(crate::specs::Settings::leave_ok_call))]
     pub fn leave_ok(&mut self, win: Win, on: bool) -> Result<(), WinFault>
         ensures { (self.new, result) ≡ leave_ok_call self.old win.0 on }
     {
@@ -78,6 +83,7 @@ impl Desk {
     /// Adds attributes to those that bytes are written with.
     ///
     /// Refused: NoWindow. X/Open Curses Issue 7, attron().
+    #[tactic(auto, unfolding(crate::specs::Settings::attr_on_call))]
     pub fn attr_on(&mut self, win: Win, attrs: Attrs) -> Result<(), WinFault>
         ensures { (self.new, result) ≡ attr_on_call self.old win.0 attrs }
     {
@@ -90,6 +96,7 @@ impl Desk {
     /// Takes attributes off those that bytes are written with.
     ///
     /// Refused: NoWindow. X/Open Curses Issue 7, attroff().
+    #[tactic(auto, unfolding(crate::specs::Settings::attr_off_call))]
     pub fn attr_off(&mut self, win: Win, attrs: Attrs) -> Result<(), WinFault>
         ensures { (self.new, result) ≡ attr_off_call self.old win.0 attrs }
     {
@@ -102,6 +109,7 @@ impl Desk {
     /// Sets the attributes that bytes are written with.
     ///
     /// Refused: NoWindow. X/Open Curses Issue 7, attrset().
+    #[tactic(auto, unfolding(crate::specs::Settings::attr_set_call))]
     pub fn attr_set(&mut self, win: Win, attrs: Attrs) -> Result<(), WinFault>
         ensures { (self.new, result) ≡ attr_set_call self.old win.0 attrs }
     {
@@ -114,6 +122,7 @@ impl Desk {
     /// Sets the background of a window, and changes no cell.
     ///
     /// Refused: NoWindow. X/Open Curses Issue 7, bkgdset().
+    #[tactic(auto, unfolding(crate::specs::Settings::set_background_call))]
     pub fn set_background(&mut self, win: Win, cell: Cell) -> Result<(), WinFault>
         ensures { (self.new, result) ≡ set_background_call self.old win.0 cell }
     {
@@ -127,6 +136,7 @@ impl Desk {
     /// the new one's, the old attributes are taken off and the new ones put on.
     ///
     /// Refused: NoWindow. X/Open Curses Issue 7, bkgd().
+    #[tactic(auto, unfolding(crate::specs::Settings::change_background_call))]
     pub fn change_background(&mut self, win: Win, cell: Cell) -> Result<(), WinFault>
         ensures { (self.new, result) ≡ change_background_call self.old win.0 cell }
     {

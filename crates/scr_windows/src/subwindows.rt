@@ -18,6 +18,7 @@ impl Desk {
     ///
     /// Refused: NoWindow; IsPad; NotInParent where it is not wholly in the parent, or empty; TooMany;
     /// NoMemory. X/Open Curses Issue 7, derwin().
+    #[tactic(auto, unfolding(crate::specs::Making::derive_call))]
     pub fn derive(
         &mut self,
         alloc: Global,
@@ -37,6 +38,7 @@ impl Desk {
     ///
     /// Refused: NoWindow; IsPad; NotInParent where it is not wholly in the parent, or empty; TooMany;
     /// NoMemory. X/Open Curses Issue 7, subwin().
+    #[tactic(auto, unfolding(crate::specs::Making::sub_call))]
     pub fn sub(
         &mut self,
         alloc: Global,
@@ -62,6 +64,7 @@ impl Desk {
     ///
     /// Refused: NoWindow; NotPad; NotInParent where it is not wholly in the parent, or empty; TooMany;
     /// NoMemory. X/Open Curses Issue 7, subpad().
+    #[tactic(auto, unfolding(crate::specs::Making::sub_pad_call))]
     pub fn sub_pad(
         &mut self,
         alloc: Global,

@@ -12,6 +12,7 @@ impl Desk {
     /// line of the window.
     ///
     /// Refused: NoWindow. X/Open Curses Issue 7, wsyncup().
+    #[tactic(auto, unfolding(crate::specs::Syncing::sync_up_call))]
     pub fn sync_up(&mut self, win: Win) -> Result<(), WinFault>
         ensures { (self.new, result) ≡ sync_up_call self.old win.0 }
     {
@@ -24,6 +25,7 @@ impl Desk {
     /// ancestors.
     ///
     /// Refused: NoWindow. X/Open Curses Issue 7, wsyncdown().
+    #[tactic(auto, unfolding(crate::specs::Syncing::sync_down_call))]
     pub fn sync_down(&mut self, win: Win) -> Result<(), WinFault>
         ensures { (self.new, result) ≡ sync_down_call self.old win.0 }
     {

@@ -8,6 +8,7 @@ impl Desk {
     /// Touches all lines of a window.
     ///
     /// Refused: NoWindow. X/Open Curses Issue 7, touchwin().
+    #[tactic(auto, unfolding(crate::specs::Touching::touch_all_call))]
     pub fn touch_window(&mut self, win: Win) -> Result<(), WinFault>
         ensures { (self.new, result) ≡ touch_all_call self.old win.0 true }
     {
@@ -19,6 +20,7 @@ impl Desk {
     /// Makes all lines of a window untouched.
     ///
     /// Refused: NoWindow. X/Open Curses Issue 7, untouchwin().
+    #[tactic(auto, unfolding(crate::specs::Touching::touch_all_call))]
     pub fn untouch(&mut self, win: Win) -> Result<(), WinFault>
         ensures { (self.new, result) ≡ touch_all_call self.old win.0 false }
     {
@@ -31,6 +33,7 @@ impl Desk {
     ///
     /// Refused: NoWindow; OutOfWindow where the window has fewer than `first + n` lines. X/Open Curses Issue 7,
     /// wtouchln().
+    #[tactic(auto, unfolding(crate::specs::Touching::touch_lines_call))]
     pub fn touch_lines(
         &mut self,
         win: Win,
@@ -52,6 +55,7 @@ impl Desk {
     /// is answered and taken back.
     ///
     /// Refused: NoWindow; OutOfWindow where the window has fewer than `first + n` lines. curs_refresh(3X), wnoutrefresh().
+    #[tactic(auto, unfolding(crate::specs::Touching::take_lines_call))]
     pub fn take_lines(&mut self, win: Win, first: u32, n: u32) -> Result<bool, WinFault>
         ensures { (self.new, result) ≡ take_lines_call self.old win.0 first n }
     {

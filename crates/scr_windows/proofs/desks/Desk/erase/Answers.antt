@@ -1,6 +1,8 @@
 use Rattle.scr_surfaces.specs.Formulas.{rows_put}
+use Rattle.scr_windows.specs.Erasing.{erase_call}
 use Rattle.scr_windows.proofs.WrittenLaws.{rewritten}
 use Rattle.scr_windows.proofs.desks.Desk.erase.Goals as goal
 
 pub returns : goal.returns
+unfolding erase_call
 returns c = rewritten c.args.self.now _ _ c.args.win.0 c.in_ok-pen.pen (λ s rows. rows_put 0 rows s.background) (λ s. record s { cursor = (0, 0) }) c.in_ok-pen.ensures c.draw.ensures.drawn c.set_state.ensures
