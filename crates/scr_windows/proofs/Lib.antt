@@ -5,6 +5,7 @@ pub mod DeskLaws
 pub mod FamilyLaws
 pub mod FrameLaws
 pub mod GridLaws
+pub mod LawLaws
 pub mod LendingLaws
 pub mod MakingLaws
 pub mod MovingLaws

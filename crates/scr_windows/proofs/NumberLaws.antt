@@ -95,6 +95,13 @@ absent_at {X} n xs number i d up h other =
           greater number _ (omega (arith, over, up')))
     ]
 
+-- where one of ascending numbers stands, it is found
+pub position_of : {X : Type 0} (n : X → ℕ) (xs : List X) (number k : ℕ) (d : X) → Rises n xs → k < length xs → n (get_or xs k d) ≡ number → position (λ x. n x == number) xs ≡ Some k
+position_of {X} n xs number k d up l e =
+    let p : X → Bool = λ x. n x == number in
+    let first : position_or_len p xs ≡ k = position_or_len_is p xs k d (omega arith) (λ j b. (let less = up j k d b l in is_not number (n (get_or xs j d)) (λ same. (let z : ⊥ = omega (arith, less, same, e) in z)))) (λ _. is_it number _ e) in
+    some (position_or_len p xs) (length xs) k first l
+
 -- where one has the number, the search ends at it
 pub ends_there : {X : Type 0} (n : X → ℕ) (xs : List X) (number i k : ℕ) (d : X) → Rises n xs → IsEnd n number xs i → k < length xs → n (get_or xs k d) ≡ number → (i < length xs) × (n (get_or xs i d) ≡ number)
 ends_there n xs number i k d up h l e = elim (less_or_from i k) [

@@ -2,7 +2,7 @@
 use Rattle.std.proofs.Common.{◌≡◌, ◌≢◌, ℕ, ◌<◌, ◌≤◌, sym, subst, ◌∙◌, ap, refl, arith, List, [], ◌∷◌, zero, suc, length, map, get_or, Option, None, Some, Bool, true, false, cond, ◌==◌}
 use Rattle.std.specs.Prelude.{All, MatchOption, filter, not}
 use Rattle.std.specs.List.{list_any}
-use Rattle.std.proofs.lemmas.List.{get_or_default}
+use Rattle.std.proofs.lemmas.List.{get_or-map, get_or_default}
 use Rattle.std.proofs.lemmas.List.Elements.{All-map, All-filter, filter_passes}
 use Rattle.std.proofs.lemmas.List.Folds.{list_any_at}
 use Rattle.std.proofs.lemmas.List.Kept.{AllPairs-filter}
@@ -10,9 +10,9 @@ use Rattle.scr_windows.specs.declared.frames.Frame.{Frame}
 use Rattle.scr_windows.specs.declared.sheets.Sheet.{Sheet}
 use Rattle.scr_surfaces.specs.SurfaceViews.{IsSurface}
 use Rattle.scr_windows.specs.Sheets.{size_on, without_surface}
-use Rattle.scr_windows.specs.DeskViews.{WindowView, DeskView, HasOwn, IsWindow, IsPlaced, IsChild, AreFrames, IsDesk, no_frame}
+use Rattle.scr_windows.specs.DeskViews.{WindowView, DeskView, HasOwn, IsWindow, IsPlaced, IsChild, AreFrames, IsDesk, no_frame, no_window, window_at}
 use Rattle.scr_windows.specs.Removing.{is_number, has_children, others, deleted}
-use Rattle.scr_windows.proofs.DeskLaws.{frame_of}
+use Rattle.scr_windows.proofs.DeskLaws.{frame_of, length_map}
 use Rattle.scr_windows.proofs.NumberLaws.{is_not, differs, kept_in_filter, map-filter}
 use Rattle.scr_windows.proofs.SheetLaws.{size_less}
 
@@ -156,3 +156,14 @@ pub removed_path : (d old : DeskView) → d ≡ old → (number : ℕ) (ss : Lis
 removed_path d old is number ss ws ss_is ws_is =
     let here : record d { surfaces = ss; windows = ws } ≡ deleted d number = (λ j. record d { surfaces = ss_is j; windows = ws_is j }) in
     here ∙ ap (λ v. deleted v number) is
+
+-- a window of another number than one without subwindows is on another surface
+pub alone_desk : (d : DeskView) (number : ℕ) → IsDesk d → has_children number d.windows ≡ false → (k : ℕ) → k < length d.windows → (window_at d k).frame.number ≢ number → (window_at d k).frame.surface ≢ number
+alone_desk d number h alone k l other on =
+    let frames : List Frame = map frame_of d.windows in
+    let many : length frames ≡ length d.windows = length_map frame_of d.windows in
+    let at : get_or frames k no_frame ≡ (window_at d k).frame = get_or-map frame_of d.windows k no_window no_frame l in
+    let none : All (λ (w : WindowView). is_number number w.frame.parent ≡ false) d.windows = none_passes _ d.windows alone in
+    let free : All (λ (f : Frame). is_number number f.parent ≡ false) frames = All-map (λ (f : Frame). is_number number f.parent ≡ false) frame_of d.windows none in
+    other (ap (λ (f : Frame). f.number) (sym at)
+    ∙ alone_on frames number h.frames.roots h.frames.parents free (suc (get_or frames k no_frame).number) k (omega (arith, many)) (omega arith) (ap (λ (f : Frame). f.surface) at ∙ on))

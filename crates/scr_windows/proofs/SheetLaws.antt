@@ -15,7 +15,7 @@ abbrev pub put_on : ℕ → SurfaceView → Sheet → Sheet
 put_on number surface sheet = cond (sheet.number == number) (record sheet { surface = surface }) sheet
 
 -- a number is one or another
-is_or_not : (a b : ℕ) → ((a == b) ≡ true) ⊎ ((a == b) ≡ false)
+pub is_or_not : (a b : ℕ) → ((a == b) ≡ true) ⊎ ((a == b) ≡ false)
 is_or_not a b = split (a == b)
   where
     split : (t : Bool) → (t ≡ true) ⊎ (t ≡ false)
@@ -162,7 +162,7 @@ size_last (sheet ∷ sheets) last h =
     ∙ size_last sheets last (λ k d l. h (suc k) d (omega (arith, l)))
 
 -- a surface less
-surface_less : (sheets : List Sheet) (number other : ℕ) → other ≢ number → surface_on (without_surface number sheets) other ≡ surface_on sheets other
+pub surface_less : (sheets : List Sheet) (number other : ℕ) → other ≢ number → surface_on (without_surface number sheets) other ≡ surface_on sheets other
 surface_less [] number other h = refl
 surface_less (s ∷ ss) number other h = one (s.number == number) refl (surface_less ss number other h)
   where

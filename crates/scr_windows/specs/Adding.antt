@@ -39,18 +39,31 @@ line_begun desk i =
     else if y + 1 == w.frame.area.rows then (desk, Stayed)
     else gone_to desk i (y + 1, 0)
 
--- places of the cursor's line from the cursor up to a column get a cell, and the cursor goes to that column; where it is
--- outside the window, the line that follows is begun
-unfoldable pub run_added : DeskView → ℕ → ℕ → CellView → DeskView × Added
-run_added desk i end cell =
+-- a byte 32 to 126: it is written at the cursor, which goes right; after the last column the next line is begun
+unfoldable pub character_added : DeskView → ℕ → ℕ → Attrs → DeskView × Added
+character_added desk i byte attrs =
     let w : WindowView = window_at desk i in
     let y : ℕ = w.state.cursor.0 in
-    let put : DeskView = write desk i y (y + 1) (run_put y w.state.cursor.1 (min end w.frame.area.columns) cell) in
-    if ltb end w.frame.area.columns then gone_to put i (y, end) else line_begun put i
+    let x : ℕ = w.state.cursor.1 in
+    let put : DeskView = write desk i y (y + 1) (run_put y x (x + 1) (written byte attrs w.state)) in
+    if ltb (x + 1) w.frame.area.columns then gone_to put i (y, x + 1) else line_begun put i
 
--- a byte 32 to 126 is written at the cursor
-abbrev pub character_added : DeskView → ℕ → ℕ → Attrs → DeskView × Added
-character_added desk i byte attrs = run_added desk i ((window_at desk i).state.cursor.1 + 1) (written byte attrs (window_at desk i).state)
+-- newline: the rest of the line gets the background, and the next line is begun
+unfoldable pub newline_added : DeskView → ℕ → DeskView × Added
+newline_added desk i =
+    let w : WindowView = window_at desk i in
+    let y : ℕ = w.state.cursor.0 in
+    line_begun (write desk i y (y + 1) (run_put y w.state.cursor.1 w.frame.area.columns w.state.background)) i
+
+-- tab: the places up to the next column that is a multiple of 8 get the background, and the cursor goes there; a newline
+-- where the line has no such column
+unfoldable pub tab_added : DeskView → ℕ → DeskView × Added
+tab_added desk i =
+    let w : WindowView = window_at desk i in
+    let y : ℕ = w.state.cursor.0 in
+    let x : ℕ = w.state.cursor.1 in
+    let stop : ℕ = (x / 8 + 1) * 8 in
+    if ltb stop w.frame.area.columns then gone_to (write desk i y (y + 1) (run_put y x stop w.state.background)) i (y, stop) else newline_added desk i
 
 -- Stayed where either is
 abbrev pub either_stayed : Added → Added → Added
@@ -68,8 +81,8 @@ shown_added desk i byte attrs =
 unfoldable pub byte_added : DeskView → ℕ → ℕ → Attrs → DeskView × Added
 byte_added desk i byte attrs =
     let s : State = (window_at desk i).state in
-    if byte == 10 then run_added desk i (window_at desk i).frame.area.columns s.background
-    else if byte == 9 then run_added desk i ((s.cursor.1 / 8 + 1) * 8) s.background
+    if byte == 10 then newline_added desk i
+    else if byte == 9 then tab_added desk i
     else if byte == 8 then gone_to desk i (s.cursor.0, s.cursor.1 - 1)
     else if byte == 13 then gone_to desk i (s.cursor.0, 0)
     else if ltb byte 32 || byte == 127 then shown_added desk i byte attrs

@@ -4,6 +4,7 @@ pub mod Calls
 pub mod Copying
 pub mod DeskViews
 pub mod Erasing
+pub mod Laws
 pub mod Lending
 pub mod Making
 pub mod Moving

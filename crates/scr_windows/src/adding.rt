@@ -1,7 +1,7 @@
 ghost use Rattle.std.specs.Prelude.{◌≡◌, ◌+◌, ◌<◌, ◌≤◌, ◌⊎◌, length, leb, false};
 ghost use Rattle.std.specs.List.{list_any};
 ghost use Rattle.scr_windows.specs.DeskViews.{window_at, no_attributes};
-ghost use Rattle.scr_windows.specs.Adding.{written, gone_to, line_begun, run_added, character_added, either_stayed, shown_added, byte_added, text_added, add_byte_call, add_text_call, insert_byte_call, line_across_call, line_down_call};
+ghost use Rattle.scr_windows.specs.Adding.{written, gone_to, line_begun, character_added, newline_added, tab_added, either_stayed, shown_added, byte_added, text_added, add_byte_call, add_text_call, insert_byte_call, line_across_call, line_down_call};
 
 use crate::desks::Desk;
 use crate::faults::{Added, Win, WinFault};
@@ -153,8 +153,8 @@ impl Desk {
         let pen = self.pen_at(place);
         let (row, column) = pen.state.cursor;
         match byte {
-            10 => self.add_run(place, pen.area.columns, pen.state.background),
-            9 => self.add_run(place, (column / 8 + 1) * 8, pen.state.background),
+            10 => self.add_newline(place),
+            9 => self.add_tab(place),
             8 => self.go_to(place, row, column.saturating_sub(1)),
             13 => self.go_to(place, row, 0),
             0..32 | 127 => self.add_shown(place, byte, attrs),
@@ -175,6 +175,7 @@ impl Desk {
     }
 
     // Writes a byte 32 to 126 at the cursor.
+    #[tactic(auto, unfolding(crate::specs::Adding::character_added))]
     fn add_character(&mut self, place: usize, byte: u8, attrs: Attrs) -> Added
         requires here { place < length self.old.windows }
         requires from { 32 ≤ byte }
@@ -183,26 +184,15 @@ impl Desk {
         ensures there { place < length self.new.windows }
     {
         let pen = self.pen_at(place);
-        let cell = written(byte, attrs, pen.state);
-        self.add_run(place, pen.state.cursor.1 + 1, cell)
-    }
-
-    // Puts a cell in the places from the cursor up to a column, and goes there or begins the next line.
-    #[tactic(auto, unfolding(crate::specs::Adding::run_added))]
-    fn add_run(&mut self, place: usize, end: u32, cell: Cell) -> Added
-        requires here { place < length self.old.windows }
-        requires order { (window_at self.old place).state.cursor.1 ≤ end }
-        ensures added { (self.new, result) ≡ run_added self.old place end cell }
-        ensures there { place < length self.new.windows }
-    {
-        let pen = self.pen_at(place);
         let (row, column) = pen.state.cursor;
+        let end = column + 1;
+        let cell = written(byte, attrs, pen.state);
         self.draw(
             place,
             &Drawing::Run {
                 row,
                 from: column,
-                end: end.min(pen.area.columns),
+                end,
                 cell,
             },
         );
@@ -211,6 +201,55 @@ impl Desk {
         } else {
             self.begin_line(place)
         }
+    }
+
+    // Erases to the end of the cursor's line, and begins the next one.
+    #[tactic(auto, unfolding(crate::specs::Adding::newline_added))]
+    fn add_newline(&mut self, place: usize) -> Added
+        requires here { place < length self.old.windows }
+        ensures added { (self.new, result) ≡ newline_added self.old place }
+        ensures there { place < length self.new.windows }
+    {
+        let pen = self.pen_at(place);
+        let (row, column) = pen.state.cursor;
+        let end = pen.area.columns;
+        let cell = pen.state.background;
+        self.draw(
+            place,
+            &Drawing::Run {
+                row,
+                from: column,
+                end,
+                cell,
+            },
+        );
+        self.begin_line(place)
+    }
+
+    // Erases to the next column that is a multiple of 8, and goes there; a newline where the line has none.
+    #[tactic(auto, unfolding(crate::specs::Adding::tab_added))]
+    fn add_tab(&mut self, place: usize) -> Added
+        requires here { place < length self.old.windows }
+        ensures added { (self.new, result) ≡ tab_added self.old place }
+        ensures there { place < length self.new.windows }
+    {
+        let pen = self.pen_at(place);
+        let (row, column) = pen.state.cursor;
+        let end = (column / 8 + 1) * 8;
+        if end >= pen.area.columns {
+            return self.add_newline(place);
+        }
+        let cell = pen.state.background;
+        self.draw(
+            place,
+            &Drawing::Run {
+                row,
+                from: column,
+                end,
+                cell,
+            },
+        );
+        self.go_to(place, row, end)
     }
 
     // Puts the cursor to a row and a column inside.

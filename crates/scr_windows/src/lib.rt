@@ -9,6 +9,7 @@ mod drawing;
 mod erasing;
 mod faults;
 mod frames;
+mod laws;
 mod lent;
 mod making;
 mod moving;
@@ -24,4 +25,7 @@ mod windows;
 
 pub use desks::Desk;
 pub use faults::{Added, Win, WinFault};
+pub use laws::{
+    deleting_keeps_others, moving_changes_no_cell, subwindows_share_cells, writing_stays_inside,
+};
 pub use lent::WindowRef;

@@ -1,0 +1,28 @@
+//! Laws of desks, each the contract of a function that does nothing. A caller cites a law by calling its function.
+//!
+//! They are stated in `specs/Laws.antt`.
+ghost use Rattle.scr_windows.specs.Laws.{DeletingKeepsOthers, MovingChangesNoCell, SubwindowsShareCells, WritingStaysInside};
+
+use scr_surfaces::surface_laws;
+
+/// Deleting a window keeps every other window and its cells. X/Open Curses Issue 7, delwin().
+pub fn deleting_keeps_others()
+    ensures { DeletingKeepsOthers }
+{}
+
+/// A subwindow's cells are its parent's, shifted. X/Open Curses Issue 7, derwin().
+pub fn subwindows_share_cells()
+    ensures { SubwindowsShareCells }
+{}
+
+/// Writing in a window leaves every place outside it.
+pub fn writing_stays_inside()
+    ensures { WritingStaysInside }
+{
+    surface_laws();
+}
+
+/// Moving a window changes no cell. X/Open Curses Issue 7, mvwin().
+pub fn moving_changes_no_cell()
+    ensures { MovingChangesNoCell }
+{}
