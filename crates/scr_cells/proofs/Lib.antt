@@ -1,2 +1,3 @@
 pub mod GridLaws
 pub mod PlaceLaws
+pub mod TurnLaws
