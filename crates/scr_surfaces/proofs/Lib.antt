@@ -4,3 +4,4 @@ pub mod CopyLaws
 pub mod FilledLaws
 pub mod PlaceLaws
 pub mod RunLaws
+pub mod TurnLaws

@@ -11,6 +11,7 @@ mod copies;
 mod drawings;
 mod laws;
 mod rows;
+mod scrolling;
 mod surfaces;
 
 pub use areas::Area;
