@@ -30,7 +30,7 @@ run_at {old} {new} {row} {from} {end} {value} from2 end2 e f run =
     let Q : ℕ → Type 0 = λ x. RunIs old new row from2 x value in
     subst Q f (subst P e run)
 
-pub whole_row : (old mid new : SurfaceView) (area : Area) (f g : (ℕ → ℕ → CellView) → ℕ → ℕ → CellView) (row : ℕ) (value : ℕ → CellView)
+whole_row : (old mid new : SurfaceView) (area : Area) (f g : (ℕ → ℕ → CellView) → ℕ → ℕ → CellView) (row : ℕ) (value : ℕ → CellView)
     → IsPart old area → Changes old mid area f → RunIs mid new (area.top + row) area.left (area.left + area.columns) value → row < area.rows
     → ((r c : ℕ) → r < area.rows → c < area.columns → cond (r == row) (value (area.left + c)) (f (inside_at old area) r c) ≡ g (inside_at old area) r c)
     → Changes old new area g

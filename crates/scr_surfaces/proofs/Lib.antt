@@ -4,4 +4,3 @@ pub mod CopyLaws
 pub mod FilledLaws
 pub mod PlaceLaws
 pub mod RunLaws
-pub mod TurnLaws

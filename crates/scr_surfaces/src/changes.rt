@@ -1,7 +1,7 @@
-//! The drawings that fill places of an area, and move those of a row. Each is a private function, and every place outside the area stays.
+//! The drawings that fill and move places of an area. Each is a private function, and every place outside the area stays.
 ghost use Rattle.std.specs.Prelude.{ℕ, ◌≡◌, ◌+◌, ◌-◌, ◌<◌, ◌≤◌};
 ghost use Rattle.scr_surfaces.specs.SurfaceViews.{IsPart, IsSurface, filled, inside_at};
-ghost use Rattle.scr_surfaces.specs.Formulas.{run_put, rows_put, below_put, column_put, all_exchanged, row_opened, row_closed};
+ghost use Rattle.scr_surfaces.specs.Formulas.{run_put, rows_put, below_put, column_put, all_exchanged, row_opened, row_closed, rows_up, rows_down};
 
 use crate::areas::Area;
 use crate::surfaces::Surface;
@@ -76,6 +76,47 @@ impl Surface {
         let end = area.left + area.columns;
         self.move_row(row, column + 1, end, row, column);
         self.put_row(row, end - 1, end, cell);
+    }
+
+    // Moves the rows of the area from one up to another up by n among themselves, and puts a cell in
+    // those left free.
+    pub(crate) fn move_up(&mut self, area: Area, first: u32, end: u32, n: u32, cell: Cell)
+        requires part { IsPart self.old area }
+        requires order { first ≤ end }
+        requires end { end ≤ area.rows }
+        requires surface { IsSurface self.old }
+        ensures { self.new ≡ filled self.old area (rows_up first end n cell (inside_at self.old area)) }
+    {
+        let left = area.left;
+        let right = area.left + area.columns;
+        for row in first..end {
+            if n < end - row {
+                self.move_row(area.top + row + n, left, right, area.top + row, left);
+            } else {
+                self.put_row(area.top + row, left, right, cell);
+            }
+        }
+    }
+
+    // Moves the rows of the area from one up to another down by n among themselves, and puts a cell in
+    // those left free.
+    pub(crate) fn move_down(&mut self, area: Area, first: u32, end: u32, n: u32, cell: Cell)
+        requires part { IsPart self.old area }
+        requires order { first ≤ end }
+        requires end { end ≤ area.rows }
+        requires surface { IsSurface self.old }
+        ensures { self.new ≡ filled self.old area (rows_down first end n cell (inside_at self.old area)) }
+    {
+        let left = area.left;
+        let right = area.left + area.columns;
+        for done in 0..end - first {
+            let row = end - 1 - done;
+            if n <= row - first {
+                self.move_row(area.top + row - n, left, right, area.top + row, left);
+            } else {
+                self.put_row(area.top + row, left, right, cell);
+            }
+        }
     }
 
     // Puts a cell in the places of a column of the area from one row up to another.

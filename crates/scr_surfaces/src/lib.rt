@@ -11,7 +11,6 @@ mod copies;
 mod drawings;
 mod laws;
 mod rows;
-mod scrolling;
 mod surfaces;
 
 pub use areas::Area;

@@ -3,7 +3,7 @@ ghost use Rattle.std.specs.Prelude.{ℕ, ◌≡◌, ◌+◌, ◌-◌, ◌<◌, �
 ghost use Rattle.scr_cells.specs.CellViews.{blank_cell};
 ghost use Rattle.scr_surfaces.specs.SurfaceViews.{cell_of};
 ghost use Rattle.scr_surfaces.specs.Formulas.{exchanged, laid, over};
-ghost use Rattle.scr_surfaces.specs.Code.Steps.{RunIs, TurnIs};
+ghost use Rattle.scr_surfaces.specs.Code.Steps.{RunIs};
 
 use crate::surfaces::Surface;
 use bitflags::Flags;
@@ -85,16 +85,6 @@ impl Surface {
     {
         grid_laws::<Cell>();
         self.grid.copy(source, start, end, row, to);
-    }
-
-    // Rows `first..end` turned up by `count`: the first of them come below the others.
-    pub(crate) fn turn_rows(&mut self, first: u32, end: u32, count: u32)
-        requires order { first + count ≤ end }
-        requires end { end ≤ self.old.rows }
-        ensures { TurnIs self.old self.new first end count }
-    {
-        grid_laws::<Cell>();
-        self.grid.turn_rows(first, end, count);
     }
 }
 

@@ -1,7 +1,6 @@
 -- What the steps of a drawing do to a surface: words of private functions.
-use Rattle.std.specs.Prelude.{ℕ, ◌≡◌, ◌≢◌, ◌+◌, ◌<◌, ◌≤◌, ◌==◌, ◌&&◌, leb, ltb, false, if◌then◌else◌}
+use Rattle.std.specs.Prelude.{ℕ, ◌≡◌, ◌≢◌, ◌+◌, ◌<◌, ◌≤◌, ◌==◌, ltb, false, if◌then◌else◌}
 use Rattle.scr_cells.specs.CellViews.{CellView}
-use Rattle.scr_cells.specs.Grids.{turned_row}
 use Rattle.scr_surfaces.specs.declared.areas.Area.{Area}
 use Rattle.scr_surfaces.specs.SurfaceViews.{SurfaceView, IsSurface, cell_of, inside_at, is_inside}
 
@@ -27,14 +26,3 @@ pub record Changes (old new : SurfaceView) (area : Area) (f : (ℕ → ℕ → C
 abbrev pub sides_put : ℕ → ℕ → CellView → CellView → (ℕ → ℕ → CellView) → ℕ → ℕ → CellView
 sides_put columns row left right at r c =
     if ltb r row then (if c + 1 == columns then right else if c == 0 then left else at r c) else at r c
-
--- rows from one up to another are turned up by so many
-pub record TurnIs (old new : SurfaceView) (first end count : ℕ) : Type 0 where
-  pub same_rows : new.rows ≡ old.rows
-  pub same_columns : new.columns ≡ old.columns
-  pub surface : IsSurface new
-  pub places : (r c : ℕ) → r < old.rows → c < old.columns → cell_of new r c ≡ cell_of old (turned_row first end count r) c
-
--- rows of an area are turned, and those from one up to another are put
-abbrev pub turned_put : ℕ → ℕ → ℕ → ℕ → ℕ → CellView → (ℕ → ℕ → CellView) → ℕ → ℕ → CellView
-turned_put first end count from row cell at r c = if leb from r && ltb r row then cell else at (turned_row first end count r) c

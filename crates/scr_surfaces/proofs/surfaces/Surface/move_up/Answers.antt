@@ -3,8 +3,8 @@ use Rattle.scr_surfaces.specs.Code.Steps.{Changes}
 use Rattle.scr_surfaces.proofs.FilledLaws.{filled_is}
 use Rattle.scr_surfaces.specs.Formulas.{rows_up}
 use Rattle.scr_surfaces.proofs.ChangeLaws.{rows_partly_up, one_row_up, one_row_free_up}
-use Rattle.scr_surfaces.proofs.surfaces.Surface.carry_up.Goals.{then-n-end, else-n-end}
-use Rattle.scr_surfaces.proofs.surfaces.Surface.carry_up.Goals as goal
+use Rattle.scr_surfaces.proofs.surfaces.Surface.move_up.Goals.{then-n-end, else-n-end}
+use Rattle.scr_surfaces.proofs.surfaces.Surface.move_up.Goals as goal
 
 pub loop-row-preserved : goal.loop-row-preserved
 loop-row-preserved c = elim c.if-n-end.branch [

@@ -1,7 +1,7 @@
 use Rattle.std.proofs.Common.{◌-◌}
 use Rattle.scr_surfaces.specs.Code.Steps.{Changes}
 use Rattle.scr_surfaces.proofs.ChangeLaws.{rows_partly_down}
-use Rattle.scr_surfaces.proofs.surfaces.Surface.carry_down.Given as goal
+use Rattle.scr_surfaces.proofs.surfaces.Surface.move_down.Given as goal
 
 abbrev pub invariant-loop-done : goal.invariant-loop-done
 invariant-loop-done l = Changes l.fn.self l.self l.area (rows_partly_down l.first (l.end - l.done) l.end l.n l.cell)

@@ -3,8 +3,8 @@ use Rattle.scr_surfaces.specs.Code.Steps.{Changes}
 use Rattle.scr_surfaces.proofs.FilledLaws.{filled_is}
 use Rattle.scr_surfaces.specs.Formulas.{rows_down}
 use Rattle.scr_surfaces.proofs.ChangeLaws.{rows_partly_down, one_row_down, one_row_free_down}
-use Rattle.scr_surfaces.proofs.surfaces.Surface.carry_down.Goals.{then-n-row, else-n-row}
-use Rattle.scr_surfaces.proofs.surfaces.Surface.carry_down.Goals as goal
+use Rattle.scr_surfaces.proofs.surfaces.Surface.move_down.Goals.{then-n-row, else-n-row}
+use Rattle.scr_surfaces.proofs.surfaces.Surface.move_down.Goals as goal
 
 pub loop-done-preserved : goal.loop-done-preserved
 loop-done-preserved c =

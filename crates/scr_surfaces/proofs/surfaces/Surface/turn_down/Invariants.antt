@@ -1,6 +1,0 @@
-use Rattle.std.proofs.Common.{◌-◌}
-use Rattle.scr_surfaces.specs.Code.Steps.{Changes, turned_put}
-use Rattle.scr_surfaces.proofs.surfaces.Surface.turn_down.Given as goal
-
-abbrev pub invariant-loop-row : goal.invariant-loop-row
-invariant-loop-row l = Changes l.fn.self l.self l.area (turned_put l.first l.end (l.end - l.first - l.n) l.first l.row l.cell)
