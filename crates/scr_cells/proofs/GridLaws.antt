@@ -29,7 +29,7 @@ same_or_apart a b = grind arith
 pub row_of_rows : {A : Type 0} (rows columns : ℕ) (items : List A) (r : ℕ) → r < rows → grid_row (rows_of rows columns items) r ≡ take columns (drop (r * columns) items)
 row_of_rows rows columns items r h = get_or-map-range_with_len (λ i. take columns (drop (i * columns) items)) 0 rows r r [] h (omega arith)
 
-pub row_length : {A : Type 0} (rows columns : ℕ) (items : List A) (r : ℕ) → length items ≡ rows * columns → r < rows → length (take columns (drop (r * columns) items)) ≡ columns
+row_length : {A : Type 0} (rows columns : ℕ) (items : List A) (r : ℕ) → length items ≡ rows * columns → r < rows → length (take columns (drop (r * columns) items)) ≡ columns
 row_length rows columns items r len h =
     let e : r * columns + columns ≤ rows * columns = next_row columns r rows h in
     let l : length (drop (r * columns) items) ≡ length items - r * columns = length-drop (r * columns) items in
@@ -156,7 +156,7 @@ grid_is {A} rows columns items g is len =
     subst P is (rows_are_grid rows columns items len)
 
 -- where a place of the grid stands among the elements
-pub place_is : {A : Type 0} (rows columns : ℕ) (items : List A) (g : GridView A) (r c s : ℕ) → seen rows columns items ≡ g → s ≡ r * g.columns + c → s ≡ r * columns + c
+place_is : {A : Type 0} (rows columns : ℕ) (items : List A) (g : GridView A) (r c s : ℕ) → seen rows columns items ≡ g → s ≡ r * g.columns + c → s ≡ r * columns + c
 place_is rows columns items g r c s is s_is = s_is ∙ ap (λ n. r * n + c) (sym (ap (λ (v : GridView _). v.columns) is))
 
 -- what a method leaves that puts a run in a row

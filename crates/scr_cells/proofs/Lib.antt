@@ -1,3 +1,2 @@
 pub mod GridLaws
 pub mod PlaceLaws
-pub mod TurnLaws

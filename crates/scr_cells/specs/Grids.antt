@@ -44,13 +44,6 @@ changed_run f from run = map (λ p. f p.0 p.1) (enumerate_from from run)
 abbrev pub grid_of : {A : Type 0} → ℕ → ℕ → (ℕ → ℕ → A) → List (List A)
 grid_of rows columns f = map (λ r. map (f r) (range_with_len 0 columns)) (range_with_len 0 rows)
 
--- the rows from one up to another turn up by so many, as a loop does: the first of them come below the others
-abbrev pub turned_row : ℕ → ℕ → ℕ → ℕ → ℕ
-turned_row first end count r = if leb first r && ltb r end then (if ltb (r + count) end then r + count else r + count - (end - first)) else r
-
-abbrev pub grid_turned : {A : Type 0} → ℕ → ℕ → ℕ → ℕ → List (List A) → List (List A)
-grid_turned rows first end count lines = map (λ r. grid_row lines (turned_row first end count r)) (range_with_len 0 rows)
-
 -- so many rows of so many columns
 pub record IsGrid {A : Type 0} (rows columns : ℕ) (lines : List (List A)) : Type 0 where
   pub high : length lines ≡ rows
@@ -71,9 +64,9 @@ pub record GridLaws (A : Type 0) : Type 0 where
   pub formula : (other : A) (rows columns : ℕ) (f : ℕ → ℕ → A) (r c : ℕ) → r < rows → c < columns → grid_at other (grid_of rows columns f) r c ≡ f r c
   pub sized : (rows columns : ℕ) (f : ℕ → ℕ → A) → IsGrid rows columns (grid_of rows columns f)
   pub run : (other : A) (rows columns : ℕ) (lines : List (List A)) (row from : ℕ) (run : List A) → IsGrid rows columns lines → row < rows → from + length run ≤ columns
-      → grid_with_run lines row from run ≡ grid_filled rows columns (is_in_run row from (from + length run)) (λ _ c. slice_index_or run (c - from) other) (grid_at other lines)
+    → grid_with_run lines row from run ≡ grid_filled rows columns (is_in_run row from (from + length run)) (λ _ c. slice_index_or run (c - from) other) (grid_at other lines)
   pub place : (other : A) (rows columns : ℕ) (lines : List (List A)) (row column : ℕ) (value : A) → IsGrid rows columns lines → row < rows → column < columns
-      → grid_with lines row column value ≡ grid_filled rows columns (is_in_run row column (column + 1)) (λ _ _. value) (grid_at other lines)
+    → grid_with lines row column value ≡ grid_filled rows columns (is_in_run row column (column + 1)) (λ _ _. value) (grid_at other lines)
 
 -- rows that stand one after another
 abbrev pub rows_of : {A : Type 0} → ℕ → ℕ → List A → List (List A)

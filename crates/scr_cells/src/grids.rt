@@ -1,7 +1,7 @@
 //! Rows of elements of one type: what pictures, surfaces and emulated screens are made of. The rows stand in one vector, and
 //! where a row begins in it is reckoned here alone.
-ghost use Rattle.std.specs.Prelude.{ℕ, ◌≡◌, ◌+◌, ◌-◌, ◌*◌, ◌<◌, ◌≤◌, ◌++◌, length, take, drop, map, replicate, slice_range, slice_index_or, IfOk, ◌^◌};
-ghost use Rattle.scr_cells.specs.Grids.{IsGrid, changed_run, grid_at, grid_of, grid_row, grid_turned, grid_with, grid_with_run, line_with_run};
+ghost use Rattle.std.specs.Prelude.{ℕ, ◌≡◌, ◌+◌, ◌-◌, ◌*◌, ◌<◌, ◌≤◌, length, take, drop, map, replicate, slice_range, slice_index_or, IfOk, ◌^◌};
+ghost use Rattle.scr_cells.specs.Grids.{IsGrid, changed_run, grid_at, grid_of, grid_row, grid_with, grid_with_run, line_with_run};
 
 use crate::NoMemory;
 use std::alloc::Global;
@@ -149,20 +149,10 @@ impl<T: Copy> Grid<T> {
         change_all(&mut self.items[start..start + count], from, change);
     }
 
-    /// Turns rows `first..end` up by `count`: the first `count` of them come below the others. Nothing else changes.
-    pub fn turn_rows(&mut self, first: u32, end: u32, count: u32)
-        requires order { first + count ≤ end }
-        requires end { end ≤ self.old.rows }
-        ensures { self.new ≡ record self.old { lines = grid_turned self.old.rows first end count self.old.lines } }
-    {
-        let start = self.place(first, 0);
-        let stop = self.place(end, 0);
-        let many = count as usize * self.columns as usize;
-        turn_all(&mut self.items[start..stop], many);
-    }
-
     // Where the element of a row and a column stands.
     fn place(&self, row: u32, column: u32) -> usize
+        requires row { row < self.now.rows }
+        requires column { column ≤ self.now.columns }
         ensures { result ≡ row * self.now.columns + column }
     {
         row as usize * self.columns as usize + column as usize
@@ -193,14 +183,6 @@ fn copy_all<T: Copy>(elements: &mut [T], run: &[T])
     ensures { elements.new ≡ run.now }
 {
     elements.copy_from_slice(run);
-}
-
-// Turns the elements of a slice: the first of them come behind the others.
-fn turn_all<T: Copy>(elements: &mut [T], count: usize)
-    requires { count ≤ length elements.old }
-    ensures { elements.new ≡ drop count elements.old ++ take count elements.old }
-{
-    elements.rotate_left(count);
 }
 
 // What a function makes of each element of a slice and its column, the first of them in the column `from`.
