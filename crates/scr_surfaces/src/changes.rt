@@ -89,12 +89,12 @@ impl Surface {
     {
         let left = area.left;
         let right = area.left + area.columns;
-        for row in first..end {
-            if n < end - row {
-                self.move_row(area.top + row + n, left, right, area.top + row, left);
-            } else {
-                self.put_row(area.top + row, left, right, cell);
-            }
+        let free = first + (end - first).saturating_sub(n);
+        for row in first..free {
+            self.move_row(area.top + row + n, left, right, area.top + row, left);
+        }
+        for below in free..end {
+            self.put_row(area.top + below, left, right, cell);
         }
     }
 
@@ -109,13 +109,13 @@ impl Surface {
     {
         let left = area.left;
         let right = area.left + area.columns;
-        for done in 0..end - first {
+        let moved = (end - first).saturating_sub(n);
+        for done in 0..moved {
             let row = end - 1 - done;
-            if n <= row - first {
-                self.move_row(area.top + row - n, left, right, area.top + row, left);
-            } else {
-                self.put_row(area.top + row, left, right, cell);
-            }
+            self.move_row(area.top + row - n, left, right, area.top + row, left);
+        }
+        for put in moved..end - first {
+            self.put_row(area.top + (end - 1 - put), left, right, cell);
         }
     }
 
