@@ -1,27 +1,15 @@
-use Rattle.std.proofs.Common.{◌≡◌, ℕ, ◌+◌, ◌-◌, arith, subst, sym}
+use Rattle.std.proofs.Common.{◌≡◌, ℕ, ◌-◌, arith, refl, subst}
 use Rattle.scr_surfaces.specs.Code.Steps.{Changes}
 use Rattle.scr_surfaces.specs.Formulas.{rows_down}
-use Rattle.scr_surfaces.proofs.ChangeLaws.{rows_partly_down, one_row_down, one_row_free_down}
+use Rattle.scr_surfaces.proofs.ChangeLaws.{row_down_there, row_free_down_there, rows_partly_down}
 use Rattle.scr_surfaces.proofs.FilledLaws.{filled_is}
 use Rattle.scr_surfaces.proofs.surfaces.Surface.move_down.Goals as goal
 
 pub loop-done-preserved : goal.loop-done-preserved
-loop-done-preserved c =
-    let row = c.args.end - 1 - c.loop-done.done in
-    let here : row + 1 ≡ c.args.end - c.loop-done.done = omega arith in
-    let next : row ≡ c.args.end - (c.loop-done.done + 1) = omega arith in
-    let P : ℕ → Type 0 = λ x. Changes c.args.self.now c.loop-done.self c.args.area (rows_partly_down c.args.first x c.args.end c.args.n c.args.cell) in
-    let Q : ℕ → Type 0 = λ x. Changes c.args.self.now c.move_row.new.self c.args.area (rows_partly_down c.args.first x c.args.end c.args.n c.args.cell) in
-    subst Q next (one_row_down _ _ _ c.args.area c.args.first row c.args.end c.args.n c.args.cell c.requires.part (omega arith) (omega arith) c.requires.end (omega arith) (subst P (sym here) c.loop-done.invariant) c.move_row.ensures)
+loop-done-preserved c = row_down_there _ _ _ c.args.area c.args.first c.args.end c.args.n c.loop-done.done _ c.args.cell c.requires.part refl (omega arith) c.requires.order c.requires.end (omega arith) c.loop-done.invariant c.move_row.ensures
 
 pub loop-put-preserved : goal.loop-put-preserved
-loop-put-preserved c =
-    let row = c.args.end - 1 - c.loop-put.put in
-    let here : row + 1 ≡ c.args.end - c.loop-put.put = omega arith in
-    let next : row ≡ c.args.end - (c.loop-put.put + 1) = omega arith in
-    let P : ℕ → Type 0 = λ x. Changes c.args.self.now c.loop-put.self c.args.area (rows_partly_down c.args.first x c.args.end c.args.n c.args.cell) in
-    let Q : ℕ → Type 0 = λ x. Changes c.args.self.now c.put_row.new.self c.args.area (rows_partly_down c.args.first x c.args.end c.args.n c.args.cell) in
-    subst Q next (one_row_free_down _ _ _ c.args.area c.args.first row c.args.end c.args.n c.args.cell c.requires.part (omega arith) (omega arith) c.requires.end (omega arith) (subst P (sym here) c.loop-put.invariant) c.put_row.ensures)
+loop-put-preserved c = row_free_down_there _ _ _ c.args.area c.args.first c.args.end c.args.n c.loop-put.put _ c.args.cell c.requires.part refl (omega arith) c.requires.order c.requires.end (omega arith) c.loop-put.invariant c.put_row.ensures
 
 pub returns : goal.returns
 returns c =
