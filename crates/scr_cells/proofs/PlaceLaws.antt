@@ -60,8 +60,8 @@ run_is_formula {A} other rows columns lines row from run is row_in fits =
     grid_is_formula rows columns (set lines row line) _ new (λ r c d h k.
     get_or_default (grid_row (set lines row line) r) c d other (omega (arith, new.wide r h)) ∙ elim (same_or_not r row) [
       | inl e ↦ ap (λ i. get_or (get_or (set lines row line) i []) c other) e ∙ ap (λ xs. get_or xs c other) (get_or-set_same lines row line [] (omega (arith, is.high)))
-        ∙ get_or-line_with_run (grid_row lines row) run from c other room ∙ ap (λ i. cond (leb from c && ltb c (from + length run)) (get_or run (c - from) other) (get_or (grid_row lines i) c other)) (sym e)
-        ∙ in_row (leb from c && ltb c (from + length run)) row r (leb from c) (ltb c (from + length run)) (get_or run (c - from) other) (grid_at other lines r c) e refl
+          ∙ get_or-line_with_run (grid_row lines row) run from c other room ∙ ap (λ i. cond (leb from c && ltb c (from + length run)) (get_or run (c - from) other) (get_or (grid_row lines i) c other)) (sym e)
+          ∙ in_row (leb from c && ltb c (from + length run)) row r (leb from c) (ltb c (from + length run)) (get_or run (c - from) other) (grid_at other lines r c) e refl
       | inr n ↦ ap (λ xs. get_or xs c other) (get_or-set_other lines row r line [] n) ∙ other_row row r (leb from c) (ltb c (from + length run)) (get_or run (c - from) other) (grid_at other lines r c) n
     ])
   where

@@ -64,9 +64,9 @@ pub record GridLaws (A : Type 0) : Type 0 where
   pub formula : (other : A) (rows columns : ℕ) (f : ℕ → ℕ → A) (r c : ℕ) → r < rows → c < columns → grid_at other (grid_of rows columns f) r c ≡ f r c
   pub sized : (rows columns : ℕ) (f : ℕ → ℕ → A) → IsGrid rows columns (grid_of rows columns f)
   pub run : (other : A) (rows columns : ℕ) (lines : List (List A)) (row from : ℕ) (run : List A) → IsGrid rows columns lines → row < rows → from + length run ≤ columns
-    → grid_with_run lines row from run ≡ grid_filled rows columns (is_in_run row from (from + length run)) (λ _ c. slice_index_or run (c - from) other) (grid_at other lines)
+      → grid_with_run lines row from run ≡ grid_filled rows columns (is_in_run row from (from + length run)) (λ _ c. slice_index_or run (c - from) other) (grid_at other lines)
   pub place : (other : A) (rows columns : ℕ) (lines : List (List A)) (row column : ℕ) (value : A) → IsGrid rows columns lines → row < rows → column < columns
-    → grid_with lines row column value ≡ grid_filled rows columns (is_in_run row column (column + 1)) (λ _ _. value) (grid_at other lines)
+      → grid_with lines row column value ≡ grid_filled rows columns (is_in_run row column (column + 1)) (λ _ _. value) (grid_at other lines)
 
 -- rows that stand one after another
 abbrev pub rows_of : {A : Type 0} → ℕ → ℕ → List A → List (List A)

@@ -30,7 +30,7 @@ impl<T> Model for Grid<T> {
 }
 
 impl<T: Copy> Grid<T> {
-    /// The same element in every place. Fails only when memory runs out.
+    /// A grid of so many rows and columns with the same element everywhere. Fails only when memory runs out.
     pub fn new(alloc: Global, rows: u32, columns: u32, element: T) -> Result<Grid<T>, NoMemory>
         ensures { IfOk result (λ grid. grid ≡ record { rows = rows; columns = columns; lines = grid_of rows columns (λ _ _. element) }) }
     {
@@ -89,7 +89,7 @@ impl<T: Copy> Grid<T> {
         self.items[self.place(row, column)]
     }
 
-    /// Puts an element in a row and a column. Nothing else changes.
+    /// Puts an element in one place. Nothing else changes.
     pub fn put(&mut self, row: u32, column: u32, element: T)
         requires row { row < self.old.rows }
         requires column { column < self.old.columns }
@@ -99,7 +99,7 @@ impl<T: Copy> Grid<T> {
         self.items[place] = element;
     }
 
-    /// Puts an element in columns `from..end` of a row. Nothing else changes.
+    /// Fills columns `from..end` of a row with an element. Nothing else changes.
     pub fn fill(&mut self, row: u32, from: u32, end: u32, element: T)
         requires row { row < self.old.rows }
         requires order { from ≤ end }
@@ -111,7 +111,7 @@ impl<T: Copy> Grid<T> {
         fill_all(&mut self.items[start..start + count], element);
     }
 
-    /// Puts a run of elements in a row from a column on. Nothing else changes.
+    /// Writes a run of elements into a row from column `from` on. Nothing else changes.
     pub fn lay(&mut self, row: u32, from: u32, run: &[T])
         requires row { row < self.old.rows }
         requires end { from + length run.now ≤ self.old.columns }
@@ -135,8 +135,7 @@ impl<T: Copy> Grid<T> {
         copy_run(&mut self.items, from, place, (end - start) as usize);
     }
 
-    /// Puts in each of the columns `from..end` of a row what `change` makes of the column and the element there. Nothing else
-    /// changes.
+    /// Replaces each element in columns `from..end` of a row by `change` of its column and itself. Nothing else changes.
     pub fn change<F: Fn(u32, T) -> T>(&mut self, row: u32, from: u32, end: u32, change: F)
         requires row { row < self.old.rows }
         requires order { from ≤ end }
@@ -204,13 +203,23 @@ fn copy_run<T: Copy>(elements: &mut [T], from: usize, to: usize, count: usize)
     requires target { to + count ≤ length elements.old }
     ensures { elements.new ≡ line_with_run elements.old to (take count (drop from elements.old)) }
 {
-    if from + count <= to {
-        let (source, target) = elements.split_at_mut(to);
-        target[..count].copy_from_slice(&source[from..from + count]);
-    } else if to + count <= from {
+    if to + count <= from {
         let (target, source) = elements.split_at_mut(from);
         target[to..to + count].copy_from_slice(&source[..count]);
+    } else if from + count <= to {
+        let (source, target) = elements.split_at_mut(to);
+        target[..count].copy_from_slice(&source[from..from + count]);
     } else {
-        elements.copy_within(from..from + count, to);
+        copy_overlapping(elements, from, to, count);
     }
+}
+
+// The same where the two overlap.
+#[inline(never)]
+fn copy_overlapping<T: Copy>(elements: &mut [T], from: usize, to: usize, count: usize)
+    requires source { from + count ≤ length elements.old }
+    requires target { to + count ≤ length elements.old }
+    ensures { elements.new ≡ line_with_run elements.old to (take count (drop from elements.old)) }
+{
+    elements.copy_within(from..from + count, to);
 }

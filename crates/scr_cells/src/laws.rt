@@ -8,13 +8,11 @@ use crate::Attrs;
 /// The laws of grids: what the words of the contracts of `Grid` say of each place.
 pub fn grid_laws<T: Copy>()
     ensures { GridLaws T }
-{
-}
+{}
 
 /// `Attrs::EACH` lists the attributes in the order in which a terminal is told them, and `Attrs::EVERY` has them all
 /// (X/Open Curses Issue 7, 'Attributes').
 pub fn attribute_laws()
     ensures each { map (λ attribute. attribute.0) Attrs.EACH ≡ all_attributes }
     ensures every { Attrs.EVERY.0 ≡ every_attribute }
-{
-}
+{}

@@ -226,3 +226,65 @@ exchange_all before after area old new h = record {
   where
     all : (cell other : CellView) (r rows : ℕ) → r < rows → cond (ltb r rows) other cell ≡ other
     all cell other r rows b = grind (arith, nat_tests)
+
+-- the same rows, counted on the surface
+pub row_up_there : (old mid new : SurfaceView) (area : Area) (first end n there : ℕ) (cell : CellView) → IsPart old area → area.top + first ≤ there → there < area.top + end → end ≤ area.rows → n < area.top + end - there
+    → Changes old mid area (rows_partly_up first (there - area.top) end n cell)
+    → RunIs mid new there area.left (area.left + (area.left + area.columns - area.left)) (λ c. cell_of mid (there + n) (area.left + (c - area.left)))
+    → Changes old new area (rows_partly_up first (there + 1 - area.top) end n cell)
+row_up_there old mid new area first end n there cell part le row_in end_in few h run =
+    let row : ℕ = there - area.top in
+    let here : there ≡ area.top + row = omega arith in
+    let next : row + 1 ≡ there + 1 - area.top = omega arith in
+    let P : ℕ → Type 0 = λ x. RunIs mid new x area.left (area.left + (area.left + area.columns - area.left)) (λ c. cell_of mid (x + n) (area.left + (c - area.left))) in
+    let Q : ℕ → Type 0 = λ x. Changes old new area (rows_partly_up first x end n cell) in
+    subst Q next (one_row_up old mid new area first row end n cell part (omega arith) (omega arith) end_in (omega arith) h (subst P here run))
+
+pub row_free_up_there : (old mid new : SurfaceView) (area : Area) (first end n there : ℕ) (cell : CellView) → IsPart old area → area.top + first ≤ there → there < area.top + end → end ≤ area.rows → area.top + end - there ≤ n
+    → Changes old mid area (rows_partly_up first (there - area.top) end n cell)
+    → RunIs mid new there area.left (area.left + area.columns) (λ _. cell)
+    → Changes old new area (rows_partly_up first (there + 1 - area.top) end n cell)
+row_free_up_there old mid new area first end n there cell part le row_in end_in many h run =
+    let row : ℕ = there - area.top in
+    let here : there ≡ area.top + row = omega arith in
+    let next : row + 1 ≡ there + 1 - area.top = omega arith in
+    let P : ℕ → Type 0 = λ x. RunIs mid new x area.left (area.left + area.columns) (λ _. cell) in
+    let Q : ℕ → Type 0 = λ x. Changes old new area (rows_partly_up first x end n cell) in
+    subst Q next (one_row_free_up old mid new area first row end n cell part (omega arith) (omega arith) end_in (omega arith) h (subst P here run))
+
+pub row_down_there : (old mid new : SurfaceView) (area : Area) (first end n done there : ℕ) (cell : CellView) → IsPart old area → there ≡ area.top + end - 1 - done → done < end - first → first ≤ end → end ≤ area.rows → n + done < end - first
+    → Changes old mid area (rows_partly_down first (end - done) end n cell)
+    → RunIs mid new there area.left (area.left + (area.left + area.columns - area.left)) (λ c. cell_of mid (there - n) (area.left + (c - area.left)))
+    → Changes old new area (rows_partly_down first (end - (done + 1)) end n cell)
+row_down_there old mid new area first end n done there cell part is row_in order end_in few h run =
+    let row : ℕ = end - 1 - done in
+    let here : there ≡ area.top + row = omega arith in
+    let now : end - done ≡ row + 1 = omega arith in
+    let next : row ≡ end - (done + 1) = omega arith in
+    let P : ℕ → Type 0 = λ x. RunIs mid new x area.left (area.left + (area.left + area.columns - area.left)) (λ c. cell_of mid (x - n) (area.left + (c - area.left))) in
+    let R : ℕ → Type 0 = λ x. Changes old mid area (rows_partly_down first x end n cell) in
+    let Q : ℕ → Type 0 = λ x. Changes old new area (rows_partly_down first x end n cell) in
+    subst Q next (one_row_down old mid new area first row end n cell part (omega arith) (omega arith) end_in (omega arith) (subst R now h) (subst P here run))
+
+pub row_free_down_there : (old mid new : SurfaceView) (area : Area) (first end n done there : ℕ) (cell : CellView) → IsPart old area → there ≡ area.top + end - 1 - done → done < end - first → first ≤ end → end ≤ area.rows → end - first ≤ n + done
+    → Changes old mid area (rows_partly_down first (end - done) end n cell)
+    → RunIs mid new there area.left (area.left + area.columns) (λ _. cell)
+    → Changes old new area (rows_partly_down first (end - (done + 1)) end n cell)
+row_free_down_there old mid new area first end n done there cell part is row_in order end_in many h run =
+    let row : ℕ = end - 1 - done in
+    let here : there ≡ area.top + row = omega arith in
+    let now : end - done ≡ row + 1 = omega arith in
+    let next : row ≡ end - (done + 1) = omega arith in
+    let P : ℕ → Type 0 = λ x. RunIs mid new x area.left (area.left + area.columns) (λ _. cell) in
+    let R : ℕ → Type 0 = λ x. Changes old mid area (rows_partly_down first x end n cell) in
+    let Q : ℕ → Type 0 = λ x. Changes old new area (rows_partly_down first x end n cell) in
+    subst Q next (one_row_free_down old mid new area first row end n cell part (omega arith) (omega arith) end_in (omega arith) (subst R now h) (subst P here run))
+
+pub up_begun : (old : SurfaceView) (area : Area) (first end n there : ℕ) (cell : CellView) → IsSurface old → there ≡ area.top + first → Changes old old area (rows_partly_up first (there - area.top) end n cell)
+up_begun old area first end n there cell surface is =
+    let e : first ≡ there - area.top = omega arith in
+    let P : ℕ → Type 0 = λ x. Changes old old area (rows_partly_up first x end n cell) in
+    subst P e (unchanged old area _ surface (λ r c b k. none (inside_at old area) first end n cell r c))
+  where
+    none : (at : ℕ → ℕ → CellView) (first end n : ℕ) (cell : CellView) (r c : ℕ) → at r c ≡ rows_partly_up first first end n cell at r c
+    none at first end n cell r c = grind (arith, nat_tests)

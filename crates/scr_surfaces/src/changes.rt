@@ -80,6 +80,7 @@ impl Surface {
 
     // Moves the rows of the area from one up to another up by n among themselves, and puts a cell in
     // those left free.
+    #[inline(never)]
     pub(crate) fn move_up(&mut self, area: Area, first: u32, end: u32, n: u32, cell: Cell)
         requires part { IsPart self.old area }
         requires order { first ≤ end }
@@ -89,17 +90,19 @@ impl Surface {
     {
         let left = area.left;
         let right = area.left + area.columns;
-        for row in first..end {
-            if n < end - row {
-                self.move_row(area.top + row + n, left, right, area.top + row, left);
-            } else {
-                self.put_row(area.top + row, left, right, cell);
-            }
+        let top = area.top + first;
+        let free = top + (end - first).saturating_sub(n);
+        for row in top..free {
+            self.move_row(row + n, left, right, row, left);
+        }
+        for below in free..area.top + end {
+            self.put_row(below, left, right, cell);
         }
     }
 
     // Moves the rows of the area from one up to another down by n among themselves, and puts a cell in
     // those left free.
+    #[inline(never)]
     pub(crate) fn move_down(&mut self, area: Area, first: u32, end: u32, n: u32, cell: Cell)
         requires part { IsPart self.old area }
         requires order { first ≤ end }
@@ -109,13 +112,14 @@ impl Surface {
     {
         let left = area.left;
         let right = area.left + area.columns;
-        for done in 0..end - first {
-            let row = end - 1 - done;
-            if n <= row - first {
-                self.move_row(area.top + row - n, left, right, area.top + row, left);
-            } else {
-                self.put_row(area.top + row, left, right, cell);
-            }
+        let bottom = area.top + end;
+        let moved = (end - first).saturating_sub(n);
+        for done in 0..moved {
+            let row = bottom - 1 - done;
+            self.move_row(row - n, left, right, row, left);
+        }
+        for put in moved..end - first {
+            self.put_row(bottom - 1 - put, left, right, cell);
         }
     }
 

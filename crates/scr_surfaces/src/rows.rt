@@ -54,7 +54,6 @@ impl Surface {
         requires width { from + length cells.now ≡ end }
         ensures { RunIs self.old self.new row from end (λ c. slice_index_or cells.now (c - from) blank_cell) }
     {
-        let _end = end;
         grid_laws::<Cell>();
         self.grid.lay(row, from, cells);
     }

@@ -1,25 +1,18 @@
-use Rattle.std.proofs.Common.{◌≡◌, ℕ, ◌+◌, ◌-◌, arith, sym, subst}
+use Rattle.std.proofs.Common.{◌≡◌, ℕ, ◌-◌, arith, refl, subst}
 use Rattle.scr_surfaces.specs.Code.Steps.{Changes}
-use Rattle.scr_surfaces.proofs.FilledLaws.{filled_is}
 use Rattle.scr_surfaces.specs.Formulas.{rows_down}
-use Rattle.scr_surfaces.proofs.ChangeLaws.{rows_partly_down, one_row_down, one_row_free_down}
-use Rattle.scr_surfaces.proofs.surfaces.Surface.move_down.Goals.{then-n-row, else-n-row}
+use Rattle.scr_surfaces.proofs.ChangeLaws.{row_down_there, row_free_down_there, rows_partly_down}
+use Rattle.scr_surfaces.proofs.FilledLaws.{filled_is}
 use Rattle.scr_surfaces.proofs.surfaces.Surface.move_down.Goals as goal
 
 pub loop-done-preserved : goal.loop-done-preserved
-loop-done-preserved c =
-    let row = c.args.end - 1 - c.loop-done.done in
-    let here : row + 1 ≡ c.args.end - c.loop-done.done = omega arith in
-    let next : row ≡ c.args.end - (c.loop-done.done + 1) = omega arith in
-    let P : ℕ → Type 0 = λ x. Changes c.args.self.now c.loop-done.self c.args.area (rows_partly_down c.args.first x c.args.end c.args.n c.args.cell) in
-    let Q : ℕ → Type 0 = λ x. Changes c.args.self.now c.if-n-row.self c.args.area (rows_partly_down c.args.first x c.args.end c.args.n c.args.cell) in
-    subst Q next (elim c.if-n-row.branch [
-      | then-n-row w ↦ rw w.self-is (one_row_down _ _ _ c.args.area c.args.first row c.args.end c.args.n c.args.cell c.requires.part (omega arith) (omega arith) c.requires.end (omega arith) (subst P (sym here) c.loop-done.invariant) w.move_row.ensures)
-      | else-n-row w ↦ rw w.self-is (one_row_free_down _ _ _ c.args.area c.args.first row c.args.end c.args.n c.args.cell c.requires.part (omega arith) (omega arith) c.requires.end (omega arith) (subst P (sym here) c.loop-done.invariant) w.put_row.ensures)
-    ])
+loop-done-preserved c = row_down_there _ _ _ c.args.area c.args.first c.args.end c.args.n c.loop-done.done _ c.args.cell c.requires.part refl (omega arith) c.requires.order c.requires.end (omega arith) c.loop-done.invariant c.move_row.ensures
+
+pub loop-put-preserved : goal.loop-put-preserved
+loop-put-preserved c = row_free_down_there _ _ _ c.args.area c.args.first c.args.end c.args.n c.loop-put.put _ c.args.cell c.requires.part refl (omega arith) c.requires.order c.requires.end (omega arith) c.loop-put.invariant c.put_row.ensures
 
 pub returns : goal.returns
 returns c =
-    let done : c.args.end - c.loop-done.done ≡ c.args.first = omega arith in
-    let P : ℕ → Type 0 = λ row. Changes c.args.self.now c.loop-done.self c.args.area (rows_partly_down c.args.first row c.args.end c.args.n c.args.cell) in
-    filled_is _ _ _ (rows_down c.args.first c.args.end c.args.n c.args.cell) (subst P done c.loop-done.invariant)
+    let done : c.args.end - c.loop-put.put ≡ c.args.first = omega arith in
+    let P : ℕ → Type 0 = λ row. Changes c.args.self.now c.loop-put.self c.args.area (rows_partly_down c.args.first row c.args.end c.args.n c.args.cell) in
+    filled_is _ _ _ (rows_down c.args.first c.args.end c.args.n c.args.cell) (subst P done c.loop-put.invariant)
