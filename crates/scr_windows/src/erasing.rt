@@ -77,18 +77,18 @@ impl Desk {
         ensures { (self.new, result) ≡ clear_call self.old win.0 }
     {
         let pen = self.pen(win)?;
-        let mut state = pen.state;
+        let mut cleared = pen.state;
         self.draw(
             pen.place,
             &Drawing::Rows {
                 first: 0,
                 end: pen.area.rows,
-                cell: state.background,
+                cell: cleared.background,
             },
         );
-        state.cursor = (0, 0);
-        state.clear_ok = true;
-        self.set_state(pen.place, state);
+        cleared.cursor = (0, 0);
+        cleared.clear_ok = true;
+        self.set_state(pen.place, cleared);
         Ok(())
     }
 }
