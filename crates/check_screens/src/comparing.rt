@@ -96,17 +96,17 @@ pub fn add_difference(
 ) -> Result<(), Trouble> {
     let Difference(number, what) = *difference;
     let win = win(number);
-    add_word(":", came)?;
     match what {
-        What::Window => add_about("size", number, came)?,
-        What::Cursor => add_about("cursor", number, came)?,
-        What::Origin => add_about("origin", number, came)?,
+        What::Window => add_word("size", came)?,
+        What::Cursor => add_word("cursor", came)?,
+        What::Origin => add_word("origin", came)?,
         What::Row(row) | What::Touched(row) => {
             add_word("row", came)?;
             add_number(i64::from(narrow(row)), came)?;
-            add_about("", number, came)?;
         }
     }
+    add_word("of window", came)?;
+    add_number(i64::from(narrow(number)), came)?;
     add_word("wanted", came)?;
     if let Ok(window) = plain.window(number) {
         add_wanted(plain, window, what, came)?;
@@ -119,12 +119,6 @@ pub fn add_difference(
         What::Row(row) => add_cells(desk.line(win, narrow(row)).unwrap_or(&[]), came),
         What::Touched(row) => add_touched(desk.line_touched(win, narrow(row)) == Ok(true), came),
     }
-}
-
-fn add_about(what: &str, number: u64, came: &mut Vec<u8>) -> Result<(), Trouble> {
-    add_word(what, came)?;
-    add_word("of window", came)?;
-    add_number(i64::from(narrow(number)), came)
 }
 
 // Adds what the plain desk has.

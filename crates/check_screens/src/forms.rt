@@ -5,19 +5,20 @@ use crate::names::{Erasing, Making, Name, Reading, Setting, Touching, Writing};
 /// How a call is written.
 ///
 /// The word is the name of the library's call. The letters: `w` a window, `f` the first window of a family, `r` and `c` a
-/// row and a column or so many of them, `s` a small one, `d` and `e` a row and a column that mostly follow the two
-/// before, `i` a count with a sign, `b` a byte, `g` a byte 32 to 126, `a` a set of attributes, `o` 0 or 1, `t` a text.
-/// The number says how often the call is among the generated ones.
+/// row and a column, or so many of them, `i` a count with a sign, `b` a byte, `g` a byte 32 to 126, `a` a set of
+/// attributes, `o` 0 or 1, `t` a text. The others are numbers too, and say how generated calls choose them: `h` and `k` up
+/// to half of the rows and columns, `y` and `x` up to what the screen has more of them than the window, `s` a small one,
+/// `d` and `e` not before the number two before. The number says how often the call is among the generated ones.
 pub type Form = (&'static str, &'static str, u64, Name);
 
 static MAKING: [Form; 8] = [
-    ("new_window", "rcrc", 3, Name::Make(Making::NewWindow)),
+    ("new_window", "hkrc", 4, Name::Make(Making::NewWindow)),
     ("new_pad", "rc", 2, Name::Make(Making::NewPad)),
-    ("derive", "wrcrc", 6, Name::Make(Making::Derive)),
-    ("sub", "wrcrc", 4, Name::Make(Making::Sub)),
-    ("sub_pad", "wrcrc", 4, Name::Make(Making::SubPad)),
-    ("delete", "w", 6, Name::Make(Making::Delete)),
-    ("move_window", "frc", 8, Name::Make(Making::MoveWindow)),
+    ("derive", "whkrc", 12, Name::Make(Making::Derive)),
+    ("sub", "whkrc", 4, Name::Make(Making::Sub)),
+    ("sub_pad", "whkrc", 4, Name::Make(Making::SubPad)),
+    ("delete", "w", 8, Name::Make(Making::Delete)),
+    ("move_window", "fyx", 14, Name::Make(Making::MoveWindow)),
     ("move_derived", "wrc", 6, Name::Make(Making::MoveDerived)),
 ];
 
@@ -61,7 +62,7 @@ static TOUCHING: [Form; 8] = [
     ("overlay", "ww", 4, Name::Touch(Touching::Overlay)),
     ("overwrite", "ww", 4, Name::Touch(Touching::Overwrite)),
     ("touch_window", "w", 2, Name::Touch(Touching::TouchWindow)),
-    ("untouch", "w", 6, Name::Touch(Touching::Untouch)),
+    ("untouch", "w", 12, Name::Touch(Touching::Untouch)),
     ("touch_lines", "wrro", 5, Name::Touch(Touching::TouchLines)),
     ("sync_up", "w", 4, Name::Touch(Touching::SyncUp)),
     ("sync_down", "w", 4, Name::Touch(Touching::SyncDown)),

@@ -20,6 +20,9 @@ const ROWS: u32 = 5;
 
 const COLUMNS: u32 = 20;
 
+// How many calls are made on one desk.
+const CALLS: u32 = 400;
+
 /// The library's desk and the plain one.
 #[derive(Drop)]
 struct Both {
@@ -28,30 +31,40 @@ struct Both {
     plain: Plain,
 }
 
-/// The line `calls COUNT SEED`: adds `agree`, or the first call after which the desks differ.
+/// The line `calls COUNT SEED`: adds `agree`, or the first call after which the desks differ. The desks are made anew
+/// after every 400 calls, so that windows do not pile up.
 pub fn check_generated(
     alloc: Global,
     words: &mut Words<'_>,
     came: &mut Vec<u8>,
 ) -> Result<(), Trouble> {
     let (count, seed) = (words.number()?, words.number()?);
-    let size = Size::new(ROWS, COLUMNS).ok_or(Trouble::Bad("no size"))?;
-    let Ok(desk) = Desk::new(alloc, size) else {
-        return add_word("NoMemory", came);
-    };
-    let plain = Plain::new(alloc, u64::from(ROWS), u64::from(COLUMNS));
-    let mut both = Both {
-        alloc,
-        desk,
-        plain: plain.map_err(|_| Trouble::NoMemory)?,
-    };
     let mut random = Random::new(seed);
-    for number in 1..=u64::from(count) {
-        if !both.step(number, &mut random, came)? {
+    let mut desks = None;
+    for number in 0..count {
+        if number % CALLS == 0 {
+            desks = new_desks(alloc)?;
+        }
+        let Some(both) = desks.as_mut() else {
+            return add_word("NoMemory", came);
+        };
+        if !both.step(u64::from(number), &mut random, came)? {
             return Ok(());
         }
     }
     add_word("agree", came)
+}
+
+// Blank desks, or none where the library's was refused memory.
+fn new_desks(alloc: Global) -> Result<Option<Both>, Trouble> {
+    let size = Size::new(ROWS, COLUMNS).ok_or(Trouble::Bad("no size"))?;
+    let Ok(desk) = Desk::new(alloc, size) else {
+        return Ok(None);
+    };
+    match Plain::new(alloc, u64::from(ROWS), u64::from(COLUMNS)) {
+        Ok(plain) => Ok(Some(Both { alloc, desk, plain })),
+        Err(_) => Err(Trouble::NoMemory),
+    }
 }
 
 impl Both {
@@ -147,7 +160,7 @@ fn tell_answers(
     came: &mut Vec<u8>,
 ) -> Result<(), Trouble> {
     add_call(number, call, came)?;
-    add_word(": the answer: wanted", came)?;
+    add_word("answer wanted", came)?;
     add_answer(wanted, came)?;
     add_word("came", came)?;
     add_answer(answered, came)
@@ -164,5 +177,6 @@ fn add_call(number: u64, call: &Call, came: &mut Vec<u8>) -> Result<(), Trouble>
             _ => add_number(*number, came)?,
         }
     }
+    came.push(b':')?;
     Ok(())
 }

@@ -59,6 +59,8 @@ fn next_numbers(plain: &Plain, random: &mut Random, letters: &str) -> [i64; MOST
             b'w' => next_window(plain, random),
             b'f' => next_root(plain, random),
             b'i' => random.signed(),
+            b'y' => signed(random.about(plain.rows.saturating_sub(size.0))),
+            b'x' => signed(random.about(plain.columns.saturating_sub(size.1))),
             letter => signed(next_number(random, letter, size, before)),
         };
         if place < 2
@@ -80,6 +82,8 @@ fn next_number(random: &mut Random, letter: u8, size: (u64, u64), before: i64) -
     match letter {
         b'r' => random.about(size.0),
         b'c' => random.about(size.1),
+        b'h' => random.about((size.0 / 2).saturating_add(1)),
+        b'k' => random.about((size.1 / 2).saturating_add(1)),
         b's' => random.about(2),
         b'd' => before.saturating_add(random.below(3)),
         b'e' => before.saturating_add(random.below(7)),
@@ -91,9 +95,12 @@ fn next_number(random: &mut Random, letter: u8, size: (u64, u64), before: i64) -
     }
 }
 
-// A window's number: most often of one that is there.
+// A window's number: most often of one that is there, and often of one of the last four.
 fn next_window(plain: &Plain, random: &mut Random) -> i64 {
-    let place = random.below(plain.windows.len() as u64);
+    let count = plain.windows.len() as u64;
+    let last = count.saturating_sub(random.below(4).saturating_add(1));
+    let any = random.below(count);
+    let place = if random.below(2) == 0 { last } else { any };
     let number = match plain.windows.get(place as usize) {
         Some(window) if random.below(16) > 0 => window.number,
         _ => random.below(plain.made.saturating_add(2)),
@@ -114,6 +121,9 @@ fn next_root(plain: &Plain, random: &mut Random) -> i64 {
             && let Some(first) = plain.parent_of(Some(parent))
             && first > 0
             && plain.parent_of(Some(first)).is_none()
+            && plain
+                .window(first)
+                .is_ok_and(|window| window.origin.is_some())
         {
             root = signed(first);
         }
