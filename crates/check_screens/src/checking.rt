@@ -83,7 +83,11 @@ impl<'a> Checker<'a> {
             }
             self.call(words)?;
         }
-        Ok(agrees(&self.wanted, &self.came))
+        let agree = agrees(&self.wanted, &self.came);
+        if !agree && self.wanted.is_empty() {
+            add_word("no refusal", &mut self.wanted)?;
+        }
+        Ok(agree)
     }
 
     // Makes a call, and reads what is wanted of it.

@@ -52,8 +52,8 @@ fn check(rt: &HostRuntime) -> Result<bool, Trouble> {
     match ended {
         Ok(true) => {
             let agree = checker.agree();
-            let _ = println!(rt; "{agree} lines agree");
-            Ok(true)
+            let written = println!(rt; "{agree} lines agree");
+            Ok(written.is_ok())
         }
         Ok(false) => {
             let _ = print!(rt; "line {line}: wanted");
