@@ -12,8 +12,6 @@ mod looks;
 mod out_of_memory;
 mod pictures;
 mod sizes;
-#[cfg(test)]
-mod tests;
 
 pub use attributes::Attrs;
 pub use cells::{Cell, is_character};

@@ -3,8 +3,6 @@
 
 mod painting;
 mod scratch_laws;
-#[cfg(test)]
-mod tests;
 
 pub use painting::scratch;
 pub use scratch_laws::{scratch_bytes_show, scratch_shows};

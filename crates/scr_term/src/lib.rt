@@ -7,14 +7,10 @@ mod ecma_laws;
 mod ecma_parameters;
 mod ecma_readings;
 mod ecma_screens;
-#[cfg(test)]
-mod ecma_tests;
 mod operation_laws;
 mod operations;
 mod profiles;
 mod rendering;
-#[cfg(test)]
-mod tests;
 
 pub use ecma_laws::{one_division, pieces_do_not_matter, screens_follow_texts};
 pub use ecma_screens::{EcmaScreen, Undefined};

@@ -2,20 +2,10 @@
 //! terminal's bytes instead.
 #![tactic(auto)]
 
-mod commands;
-mod cuts;
-mod printing;
-mod run;
-mod showing;
-mod stage;
-mod surfaces;
-#[cfg(test)]
-mod tests;
-
 use clap::error::ErrorKind;
 use clap::{Arg, ArgAction, Command};
 use program_input::{InputFault, read_input};
-use run::{DemoFault, refusals, run};
+pub use screen_scripts::{DemoFault, refusals, run};
 use std::alloc::Global;
 use std::env::Env;
 use std::io;

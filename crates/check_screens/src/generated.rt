@@ -1,0 +1,182 @@
+//! Generated calls on the library's desk and on the plain one, compared after each.
+
+use crate::answers::{add_answer, add_number, add_text, add_word};
+use crate::calls::{Answered, Call, MOST_NUMBERS};
+use crate::comparing::{Difference, add_difference, first_difference};
+use crate::desk_calls::call_desk;
+use crate::forms::find;
+use crate::generating::{TEXT, next_call, next_form};
+use crate::names::Name;
+use crate::plain::Plain;
+use crate::random::Random;
+use crate::troubles::Trouble;
+use crate::words::Words;
+use scr_cells::Size;
+use scr_windows::{Desk, WinFault};
+use std::alloc::Global;
+
+// A tab stops once within a screen of so many columns, and more than once.
+const ROWS: u32 = 5;
+
+const COLUMNS: u32 = 20;
+
+// How many calls are made on one desk.
+const CALLS: u32 = 400;
+
+/// The library's desk and the plain one.
+#[derive(Drop)]
+struct Both {
+    alloc: Global,
+    desk: Desk,
+    plain: Plain,
+}
+
+/// The line `calls COUNT SEED`: adds `agree`, or the first call after which the desks differ. The desks are made anew
+/// after every 400 calls, so that windows do not pile up.
+pub fn check_generated(
+    alloc: Global,
+    words: &mut Words<'_>,
+    came: &mut Vec<u8>,
+) -> Result<(), Trouble> {
+    let (count, seed) = (words.number()?, words.number()?);
+    let mut random = Random::new(seed);
+    let mut desks = None;
+    for number in 0..count {
+        if number % CALLS == 0 {
+            desks = new_desks(alloc)?;
+        }
+        let Some(both) = desks.as_mut() else {
+            return add_word("NoMemory", came);
+        };
+        if !both.step(u64::from(number), &mut random, came)? {
+            return Ok(());
+        }
+    }
+    add_word("agree", came)
+}
+
+// Blank desks, or none where the library's was refused memory.
+fn new_desks(alloc: Global) -> Result<Option<Both>, Trouble> {
+    let size = Size::new(ROWS, COLUMNS).ok_or(Trouble::Bad("no size"))?;
+    let Ok(desk) = Desk::new(alloc, size) else {
+        return Ok(None);
+    };
+    match Plain::new(alloc, u64::from(ROWS), u64::from(COLUMNS)) {
+        Ok(plain) => Ok(Some(Both { alloc, desk, plain })),
+        Err(_) => Err(Trouble::NoMemory),
+    }
+}
+
+impl Both {
+    // Makes a call on both, and now and then calls that show what it set.
+    fn step(
+        &mut self,
+        number: u64,
+        random: &mut Random,
+        came: &mut Vec<u8>,
+    ) -> Result<bool, Trouble> {
+        let mut text = [0; TEXT];
+        let form = next_form(random).ok_or(Trouble::Bad("no form"))?;
+        let call = next_call(&self.plain, random, form, &mut text);
+        if !self.make(number, &call, came)? {
+            return Ok(false);
+        }
+        if is_setting(&call) && random.below(3) == 0 {
+            return self.probe(number, call.numbers[0], came);
+        }
+        Ok(true)
+    }
+
+    // Makes calls that show the region and whether it may scroll, the attributes and the background of a window.
+    fn probe(&mut self, number: u64, win: i64, came: &mut Vec<u8>) -> Result<bool, Trouble> {
+        let mut numbers = [0; MOST_NUMBERS];
+        numbers[0] = win;
+        for (word, argument) in [("scroll", 1), ("add_byte", 32), ("clear_to_eol", 0)] {
+            numbers[1] = argument;
+            let form = find(word.as_bytes()).ok_or(Trouble::Bad("no form"))?;
+            let call = Call {
+                form,
+                numbers,
+                text: &[],
+            };
+            if !self.make(number, &call, came)? {
+                return Ok(false);
+            }
+        }
+        Ok(true)
+    }
+
+    // Makes a call on both and compares them. Where memory runs out on the library's desk, nothing may have changed,
+    // and the call is made again.
+    fn make(&mut self, number: u64, call: &Call, came: &mut Vec<u8>) -> Result<bool, Trouble> {
+        let mut answered = call_desk(self.alloc, &mut self.desk, call);
+        if answered == Err(WinFault::NoMemory) {
+            if let Some(difference) = first_difference(&self.desk, &self.plain) {
+                self.tell(number, call, &difference, came)?;
+                return Ok(false);
+            }
+            answered = call_desk(self.alloc, &mut self.desk, call);
+        }
+        let wanted = self.plain.call(self.alloc, call);
+        if wanted == Err(WinFault::NoMemory) {
+            return Err(Trouble::NoMemory);
+        }
+        if answered != wanted {
+            tell_answers(number, call, wanted, answered, came)?;
+            return Ok(false);
+        }
+        match first_difference(&self.desk, &self.plain) {
+            Some(difference) => {
+                self.tell(number, call, &difference, came)?;
+                Ok(false)
+            }
+            None => Ok(true),
+        }
+    }
+
+    // Says after which call the desks differ, and where.
+    fn tell(
+        &self,
+        number: u64,
+        call: &Call,
+        difference: &Difference,
+        came: &mut Vec<u8>,
+    ) -> Result<(), Trouble> {
+        add_call(number, call, came)?;
+        add_difference(&self.desk, &self.plain, difference, came)
+    }
+}
+
+// Whether a call makes a window or sets something.
+fn is_setting(call: &Call) -> bool {
+    matches!(call.name(), Name::Make(_) | Name::Set(_))
+}
+
+fn tell_answers(
+    number: u64,
+    call: &Call,
+    wanted: Answered,
+    answered: Answered,
+    came: &mut Vec<u8>,
+) -> Result<(), Trouble> {
+    add_call(number, call, came)?;
+    add_word("answer wanted", came)?;
+    add_answer(wanted, came)?;
+    add_word("came", came)?;
+    add_answer(answered, came)
+}
+
+// Adds a call as a line of a script says it, with its number.
+fn add_call(number: u64, call: &Call, came: &mut Vec<u8>) -> Result<(), Trouble> {
+    add_word("call", came)?;
+    add_number(i64::try_from(number).unwrap_or(0), came)?;
+    add_word(call.form.0, came)?;
+    for (letter, number) in call.form.1.as_bytes().iter().zip(call.numbers.iter()) {
+        match *letter {
+            b't' => add_text(call.text, came)?,
+            _ => add_number(*number, came)?,
+        }
+    }
+    came.push(b':')?;
+    Ok(())
+}

@@ -1,0 +1,138 @@
+//! What the lines of a script work on: one desk, one picture, one profile and one screen, each from the line that makes
+//! it on.
+
+use crate::answers::add_answer;
+use crate::calls::{Answer, Answered, Call, MOST_NUMBERS};
+use crate::desk_calls::call_desk;
+use crate::forms::{Form, find};
+use crate::texts::read_text;
+use crate::troubles::Trouble;
+use crate::words::{Words, byte, integer};
+use scr_cells::Picture;
+use scr_term::{EcmaScreen, Profile};
+use scr_windows::{Desk, Win};
+use std::alloc::Global;
+
+/// The state of a script.
+#[derive(Drop)]
+pub struct Stage {
+    pub alloc: Global,
+    pub desk: Option<Desk>,
+    /// The greatest number of a window that was made on the desk.
+    pub made: u32,
+    pub picture: Option<Picture>,
+    pub profile: Option<Profile>,
+    pub screen: Option<EcmaScreen>,
+    /// Room for texts of a line.
+    pub text: Vec<u8>,
+    pub other_text: Vec<u8>,
+}
+
+impl Stage {
+    /// Nothing is there.
+    pub fn new(alloc: Global) -> Stage {
+        Stage {
+            alloc,
+            desk: None,
+            made: 0,
+            picture: None,
+            profile: None,
+            screen: None,
+            text: Vec::new(alloc),
+            other_text: Vec::new(alloc),
+        }
+    }
+
+    /// Makes the call of a line, and adds what it answers, in words.
+    pub fn answer(&mut self, words: &mut Words<'_>, came: &mut Vec<u8>) -> Result<(), Trouble> {
+        let word = words.next();
+        if let Some(form) = find(word) {
+            return self.call(form, words, came);
+        }
+        let made = self.answer_of_desk(word, words, came)?
+            || self.answer_of_cells(word, words, came)?
+            || self.answer_of_picture(word, words, came)?
+            || self.answer_of_terminal(word, words, came)?
+            || self.answer_of_screen(word, words, came)?
+            || self.answer_of_script(word, words, came)?;
+        if made {
+            Ok(())
+        } else {
+            Err(Trouble::Bad("no such call"))
+        }
+    }
+
+    // Makes a call on the desk.
+    fn call(
+        &mut self,
+        form: Form,
+        words: &mut Words<'_>,
+        came: &mut Vec<u8>,
+    ) -> Result<(), Trouble> {
+        let numbers = read_arguments(form, words, &mut self.text)?;
+        let call = Call {
+            form,
+            numbers,
+            text: &self.text,
+        };
+        let desk = self.desk.as_mut().ok_or(Trouble::Bad("no desk"))?;
+        let answered = call_desk(self.alloc, desk, &call);
+        self.made = self.made.max(number_made(answered));
+        add_answer(answered, came)
+    }
+
+    /// Reads the text of a line.
+    pub fn read_text(&mut self, words: &mut Words<'_>) -> Result<(), Trouble> {
+        self.text.clear();
+        read_text(words.next(), &mut self.text)
+    }
+}
+
+// The number of the window that was made, or 0.
+fn number_made(answered: Answered) -> u32 {
+    match answered {
+        Ok(Answer::Made(Win(number))) => number,
+        _ => 0,
+    }
+}
+
+// Reads the arguments of a call: the numbers, and the text if it has one.
+fn read_arguments(
+    form: Form,
+    words: &mut Words<'_>,
+    text: &mut Vec<u8>,
+) -> Result<[i64; MOST_NUMBERS], Trouble> {
+    let mut numbers = [0; MOST_NUMBERS];
+    let mut place: usize = 0;
+    for letter in form.1.as_bytes() {
+        let number = match *letter {
+            b't' => {
+                text.clear();
+                read_text(words.next(), text)?;
+                0
+            }
+            letter => read_argument(letter, words.next())?,
+        };
+        if let Some(there) = numbers.get_mut(place) {
+            *there = number;
+        }
+        place = place.saturating_add(1);
+    }
+    Ok(numbers)
+}
+
+// Reads an argument that is a number.
+fn read_argument(letter: u8, word: &[u8]) -> Result<i64, Trouble> {
+    let (least, most) = match letter {
+        b'b' | b'g' | b'a' => return Ok(i64::from(byte(word)?)),
+        b'o' => (0, 1),
+        b'i' => (i64::from(i32::MIN), i64::from(i32::MAX)),
+        _ => (0, i64::from(u32::MAX)),
+    };
+    let number = integer(word)?;
+    if least <= number && number <= most {
+        Ok(number)
+    } else {
+        Err(Trouble::Bad("a number is out of range"))
+    }
+}

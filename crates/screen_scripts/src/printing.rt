@@ -1,0 +1,110 @@
+//! The lines that show a screen.
+ghost use Rattle.std.specs.Prelude.{◌≡◌, ◌==◌, ◌++◌, ◌<◌, OnOk};
+ghost use Rattle.std.specs.Fmt.{decimal};
+ghost use Rattle.std.specs.List.{list_all};
+ghost use Rattle.screen_scripts.specs.Printing.{attribute_line, character_line, cursor_line, refusal_line, row_lines, screen_lines, hexadecimal_digit as hexadecimal_digit_of};
+
+use scr_cells::{Look, NoMemory};
+use scr_term::{EcmaScreen, Spot};
+
+/// Adds the lines of a screen: each row, and the cursor.
+pub fn print_screen(screen: &EcmaScreen, text: &mut Vec<u8>) -> Result<(), NoMemory>
+    ensures { OnOk result (text.new.items ≡ text.old.items
+        ++ screen_lines screen.now.rows screen.now.columns screen.now.state.grid screen.now.state.spot) }
+{
+    for row in 0..screen.size().rows {
+        print_row(screen.row(row), text)?;
+    }
+    print_cursor(screen.spot(), text)
+}
+
+/// Adds the line of a refusal.
+pub fn print_refusal(name: &str, text: &mut Vec<u8>) -> Result<(), NoMemory>
+    ensures { OnOk result (text.new.items ≡ text.old.items ++ refusal_line name.now) }
+{
+    text.extend_from_slice(b"refused ")?;
+    text.extend_from_slice(name.as_bytes())?;
+    text.push(b'\n')?;
+    Ok(())
+}
+
+// Adds a row's characters, and its attributes where it has some.
+fn print_row(looks: &[Look], text: &mut Vec<u8>) -> Result<(), NoMemory>
+    ensures { OnOk result (text.new.items ≡ text.old.items ++ row_lines looks.now) }
+{
+    print_characters(looks, text)?;
+    print_attributes(looks, text)
+}
+
+// Adds the characters of a row between two bars.
+fn print_characters(looks: &[Look], text: &mut Vec<u8>) -> Result<(), NoMemory>
+    ensures { OnOk result (text.new.items ≡ text.old.items ++ character_line looks.now) }
+{
+    text.push(b'|')?;
+    for look in looks {
+        text.push(look.byte())?;
+    }
+    text.extend_from_slice(b"|\n")?;
+    Ok(())
+}
+
+// Adds the attributes of a row between two colons, or nothing where it has none.
+fn print_attributes(looks: &[Look], text: &mut Vec<u8>) -> Result<(), NoMemory>
+    ensures { OnOk result (text.new.items ≡ text.old.items ++ attribute_line looks.now) }
+{
+    if are_plain(looks) {
+        return Ok(());
+    }
+    text.push(b':')?;
+    for look in looks {
+        let attrs = look.attrs().0;
+        text.push(hexadecimal_digit(attrs / 16))?;
+        text.push(hexadecimal_digit(attrs % 16))?;
+    }
+    text.extend_from_slice(b":\n")?;
+    Ok(())
+}
+
+// Whether no place has an attribute.
+fn are_plain(looks: &[Look]) -> bool
+    ensures { result ≡ list_all (λ look. look.attrs == 0) looks.now }
+{
+    looks.iter().all(|look| look.attrs().0 == 0)
+}
+
+// The digit of a number below 16.
+fn hexadecimal_digit(n: u8) -> u8
+    requires { n < 16 }
+    ensures { result ≡ hexadecimal_digit_of n }
+{
+    if n < 10 { b'0' + n } else { b'a' + (n - 10) }
+}
+
+// Adds the line that says where the cursor is.
+fn print_cursor(spot: Spot, text: &mut Vec<u8>) -> Result<(), NoMemory>
+    ensures { OnOk result (text.new.items ≡ text.old.items ++ cursor_line spot) }
+{
+    text.extend_from_slice(b"cursor ")?;
+    match spot {
+        Spot::At(row, column) => {
+            print_number(row, text)?;
+            text.push(b' ')?;
+            print_number(column, text)?;
+        }
+        Spot::Margin(row) => {
+            print_number(row, text)?;
+            text.extend_from_slice(b" margin")?;
+        }
+    }
+    text.push(b'\n')?;
+    Ok(())
+}
+
+// Adds a number in decimal digits.
+fn print_number(n: u32, text: &mut Vec<u8>) -> Result<(), NoMemory>
+    ensures { OnOk result (text.new.items ≡ text.old.items ++ decimal n) }
+{
+    let mut digits = itoa::Buffer::new();
+    text.extend_from_slice(digits.format(n).as_bytes())?;
+    Ok(())
+}

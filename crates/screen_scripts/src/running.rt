@@ -1,0 +1,170 @@
+//! A script from its text to what is written of it.
+ghost use Rattle.std.specs.Prelude.{◌≡◌, ℕ, None, Some, IfOk, IfSome, OnOk, IsErrOf};
+ghost use Rattle.std.specs.Io.KnownBytes.{Appends, Keeps};
+ghost use Rattle.screen_scripts.specs.Stories.{line_outcome, story_of};
+ghost use Rattle.screen_scripts.specs.StageViews.{events_of};
+ghost use Rattle.screen_scripts.specs.Printing.{output_of, refusals_of};
+ghost use Rattle.screen_scripts.specs.Showing.{IsReady, Writes, AddsRefusals, GrewByBeginning};
+
+use crate::cuts::cut_line;
+use crate::printing::print_refusal;
+use crate::showing::show;
+use crate::stage::{Effect, LineFault, act_on};
+use scr_cells::{NoMemory, Picture};
+use scr_term::EcmaScreen;
+use std::alloc::Global;
+use std::io::{ErrorKind, Write};
+use thiserror::Error;
+
+/// Why a run ended before the script did.
+#[derive(Debug, Drop, PartialEq, Eq, Error)]
+pub enum DemoFault {
+    /// A line is no command, or not one that may stand there; lines count from 1, and the number stays
+    /// at 4,294,967,295 from there on.
+    #[error("line {0}: bad command")]
+    BadCommand(u32),
+    /// The output failed.
+    #[error("write failed")]
+    Write(ErrorKind),
+    /// Memory ran out.
+    #[error("out of memory")]
+    NoMemory,
+}
+
+/// Runs a script: writes the lines that a terminal shows at each update and the refusals, or raw, the
+/// bytes that are sent to the terminal.
+///
+/// Refused at the first bad line, where what came before it is written; where a write or a flush of
+/// `out` fails, or a write takes nothing; and where memory runs out. Whatever it answers, what was written
+/// is a beginning of the script's output.
+pub fn run<W: Write>(alloc: Global, script: &[u8], raw: bool, out: &mut W) -> Result<(), DemoFault>
+    ensures whole { OnOk result ((story_of script.now).bad_line ≡ None) }
+    ensures written { OnOk result (Appends (W.contents out.old) (W.contents out.new) (output_of raw (story_of script.now).events)) }
+    ensures bad { (n : ℕ) → IsErrOf result (DemoFault.BadCommand n) → (story_of script.now).bad_line ≡ Some n }
+    ensures before_bad { (n : ℕ) → IsErrOf result (DemoFault.BadCommand n)
+        → Appends (W.contents out.old) (W.contents out.new) (output_of raw (story_of script.now).events) }
+    ensures beginning { GrewByBeginning (W.contents out.old) (W.contents out.new) (output_of raw (story_of script.now).events) }
+{
+    let mut surface = None;
+    let mut terminal = None;
+    let mut rest = script;
+    let mut number: u32 = 1;
+    while !rest.is_empty() {
+        let (line, after) = cut_line(rest);
+        match line_text(alloc, raw, line, &mut surface, &mut terminal) {
+            Ok(text) => write_text(&text, out)?,
+            Err(LineFault::Bad) => {
+                flush(out)?;
+                return Err(DemoFault::BadCommand(number));
+            }
+            Err(LineFault::NoMemory) => return Err(DemoFault::NoMemory),
+        }
+        rest = after;
+        number = number.saturating_add(1);
+    }
+    flush(out)
+}
+
+// Writes a text, whole; where a write fails or takes nothing, what was taken is a beginning of it.
+fn write_text<W: Write>(text: &[u8], out: &mut W) -> Result<(), DemoFault>
+    ensures written { OnOk result (Appends (W.contents out.old) (W.contents out.new) text.now) }
+    ensures beginning { GrewByBeginning (W.contents out.old) (W.contents out.new) text.now }
+    ensures fault { (n : ℕ) → IsErrOf result (DemoFault.BadCommand n) → ⊥ }
+{
+    let mut taken = 0;
+    while taken < text.len() {
+        match out.write(&text[taken..]) {
+            Ok(0) => return Err(DemoFault::Write(ErrorKind::WriteZero)),
+            Ok(count) => taken += count,
+            Err(error) => return Err(DemoFault::Write(error.kind())),
+        }
+    }
+    Ok(())
+}
+
+// Has what was written reach its end.
+fn flush<W: Write>(out: &mut W) -> Result<(), DemoFault>
+    ensures kept { Keeps (W.contents out.old) (W.contents out.new) }
+    ensures fault { (n : ℕ) → IsErrOf result (DemoFault.BadCommand n) → ⊥ }
+{
+    match out.flush() {
+        Ok(()) => Ok(()),
+        Err(error) => Err(DemoFault::Write(error.kind())),
+    }
+}
+
+// Does what a line says, and gives what is written of it.
+fn line_text(
+    alloc: Global,
+    raw: bool,
+    line: &[u8],
+    surface: &mut Option<Picture>,
+    terminal: &mut Option<EcmaScreen>,
+) -> Result<Vec<u8>, LineFault>
+    requires { IsReady surface.old terminal.old }
+    ensures text { IfOk result (λ text. Writes raw surface.old line.now text.items surface.new) }
+    ensures ready { OnOk result (IsReady surface.new terminal.new) }
+    ensures bad { IsErrOf result LineFault.Bad → line_outcome surface.old line.now ≡ None }
+{
+    let effect = act_on(alloc, surface, line)?;
+    let text = effect_text(alloc, raw, effect, surface, terminal)?;
+    Ok(text)
+}
+
+// What is written of what came of a line that left this surface.
+fn effect_text(
+    alloc: Global,
+    raw: bool,
+    effect: Effect,
+    surface: &Option<Picture>,
+    terminal: &mut Option<EcmaScreen>,
+) -> Result<Vec<u8>, NoMemory>
+    requires { IsReady surface.now terminal.old }
+    ensures text { IfOk result (λ text. IfSome surface.now (λ s. text.items ≡ output_of raw (events_of effect s))) }
+    ensures ready { OnOk result (IsReady surface.now terminal.new) }
+{
+    match (effect, surface) {
+        (Effect::Refused(refusal), _) if !raw => {
+            let mut text = Vec::new(alloc);
+            print_refusal(refusal.name(), &mut text)?;
+            Ok(text)
+        }
+        (Effect::Shown, Some(surface)) => show(alloc, raw, surface, terminal),
+        _ => Ok(Vec::new(alloc)),
+    }
+}
+
+/// The lines of a script's refusals, in order, up to the first bad line. Refused for want of memory
+/// alone.
+pub fn refusals(alloc: Global, script: &[u8]) -> Result<Vec<u8>, NoMemory>
+    ensures { IfOk result (λ text. text.items ≡ refusals_of (story_of script.now).events) }
+{
+    let mut text = Vec::new(alloc);
+    let mut surface = None;
+    let mut rest = script;
+    while !rest.is_empty() {
+        let (line, after) = cut_line(rest);
+        match add_refusal(alloc, line, &mut surface, &mut text) {
+            Ok(()) => rest = after,
+            Err(LineFault::Bad) => break,
+            Err(LineFault::NoMemory) => return Err(NoMemory),
+        }
+    }
+    Ok(text)
+}
+
+// Does what a line says, and adds the line of its refusal, if any.
+fn add_refusal(
+    alloc: Global,
+    line: &[u8],
+    surface: &mut Option<Picture>,
+    text: &mut Vec<u8>,
+) -> Result<(), LineFault>
+    ensures ok { OnOk result (AddsRefusals surface.old line.now text.old.items text.new.items surface.new) }
+    ensures bad { IsErrOf result LineFault.Bad → (line_outcome surface.old line.now ≡ None) × (text.new.items ≡ text.old.items) }
+{
+    if let Effect::Refused(refusal) = act_on(alloc, surface, line)? {
+        print_refusal(refusal.name(), text)?;
+    }
+    Ok(())
+}

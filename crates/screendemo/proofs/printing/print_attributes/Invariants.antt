@@ -1,7 +1,0 @@
-use Rattle.std.proofs.Common.{◌≡◌, ◌++◌, ◌∷◌, take}
-use Rattle.std.specs.List.{flat_map}
-use Rattle.screendemo.specs.Printing.{attribute_digits}
-use Rattle.screendemo.proofs.printing.print_attributes.Given as goal
-
-abbrev pub invariant-loop-look : goal.invariant-loop-look
-invariant-loop-look l = l.text.items ≡ l.fn.text.items ++ 58 ∷ flat_map attribute_digits (take l.look-index l.looks)

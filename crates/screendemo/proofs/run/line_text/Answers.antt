@@ -1,6 +1,0 @@
-use Rattle.screendemo.proofs.RunLaws.{ready_on}
-use Rattle.screendemo.proofs.run.line_text.Goals as goal
-
-pub effect_text-requires : goal.effect_text-requires
-effect_text-requires c =
-    ready_on c.args.surface.now c.act_on.new.surface c.args.line.now c.in_ok-effect.effect c.args.terminal.now c.in_ok-effect.ensures.ok c.requires

@@ -1,4 +1,0 @@
-use Rattle.screendemo.proofs.showing.show.Goals as goal
-
-pub shown_lines-requires-clause-terminal : goal.shown_lines-requires-clause-terminal
-shown_lines-requires-clause-terminal c = c.requires.terminal c.in-Some.screen c.in-Some.is
