@@ -1,6 +1,6 @@
 //! The library's calls that can want memory, each made once more where it did.
 
-use crate::dump::mark_of;
+use crate::dump::{mark_of, mark_of_entry};
 use crate::fault::CheckFault;
 use std::alloc::Global;
 use terminfo_files::{Compiled, Listing, TicFault};
@@ -9,8 +9,8 @@ use ti_caps::{Bytes, CapFault, Entry, Slot};
 use ti_param::{NoMemory, ParamFault, Program, RunFault, Vars};
 use ti_source::{Printed, Resolver, Source, SourceFault};
 
-/// What a call that was refused has changed, though it may not.
-const CHANGED: CheckFault = CheckFault::Line("a call that wanted memory has changed something");
+/// A refused call has changed what it was lent.
+const CHANGED: CheckFault = CheckFault::Line("a refused call has changed something");
 
 pub fn strip_padding(alloc: Global, text: &[u8]) -> Result<Vec<u8>, NoMemory> {
     match ti_param::strip_padding(alloc, text) {
@@ -51,11 +51,21 @@ pub fn new_entry(alloc: Global, names: &[u8]) -> Result<Entry, CapFault> {
     }
 }
 
-pub fn set_text(entry: &mut Entry, slot: Slot, text: Option<&[u8]>) -> Result<(), CapFault> {
-    match entry.set_text(slot, text) {
-        Err(CapFault::NoMemory) => entry.set_text(slot, text),
-        other => other,
+/// Sets a text. A refused call must not have changed the entry.
+pub fn set_text(
+    entry: &mut Entry,
+    slot: Slot,
+    text: Option<&[u8]>,
+) -> Result<Result<(), CapFault>, CheckFault> {
+    let before = mark_of_entry(entry);
+    let set = entry.set_text(slot, text);
+    if set.is_err() && mark_of_entry(entry) != before {
+        return Err(CHANGED);
     }
+    if set == Err(CapFault::NoMemory) {
+        return Ok(entry.set_text(slot, text));
+    }
+    Ok(set)
 }
 
 pub fn read_source(alloc: Global, text: &[u8]) -> Result<Source, SourceFault> {

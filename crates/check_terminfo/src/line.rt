@@ -43,6 +43,7 @@ enum Place {
     Count(u32),
 }
 
+#[derive(Drop)]
 struct Reader {
     alloc: Global,
     place: Place,

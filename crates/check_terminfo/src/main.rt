@@ -28,7 +28,6 @@ mod fault;
 mod files;
 mod inputs;
 mod line;
-mod numbers;
 mod programs;
 mod sources;
 mod table;

@@ -12,8 +12,6 @@ mod output;
 mod report;
 mod words;
 
-pub use terminfo_files::{Compiled, Listing, TicFault, compile, list};
-
 use clap::error::ErrorKind;
 use failure::Failure;
 use output::write_files;
@@ -22,6 +20,7 @@ use report::{left_out_lines, note_lines, size_lines};
 use std::io::Write;
 use std::process::ExitCode;
 use std::{env, fs, io};
+pub use terminfo_files::{Compiled, Listing, TicFault, compile, list};
 use words::Task;
 
 fn main(rt: HostRuntime) -> ExitCode {

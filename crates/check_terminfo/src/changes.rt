@@ -1,0 +1,90 @@
+//! The file with bytes changed, or cut short.
+
+use crate::again;
+use crate::answer::Answer;
+use crate::current::Current;
+use crate::fault::CheckFault;
+use crate::files::say_decoded;
+use crate::words::{size, small};
+use std::alloc::Global;
+use ti_binary::BinFault;
+
+// Sets a byte of a file.
+fn set(file: &mut Vec<u8>, place: usize, byte: u8) -> Result<(), CheckFault> {
+    match file.get_mut(place) {
+        Some(old) => {
+            *old = byte;
+            Ok(())
+        }
+        None => Err(CheckFault::Line("no such place in the file")),
+    }
+}
+
+fn byte(words: &[Vec<u8>], place: usize) -> Result<u8, CheckFault> {
+    u8::try_from(small(words, place)?).map_err(|_| CheckFault::Line("no byte"))
+}
+
+pub fn decode_changed(
+    current: &mut Current,
+    words: &[Vec<u8>],
+    answer: &mut Answer,
+) -> Result<(), CheckFault> {
+    let mut file = Vec::from_slice(current.alloc, current.file.as_slice())?;
+    for pair in 0..words.len() / 2 {
+        let place = size(words, pair.saturating_mul(2).saturating_add(1))?;
+        let byte = byte(words, pair.saturating_mul(2).saturating_add(2))?;
+        set(&mut file, place, byte)?;
+    }
+    say_decoded(current, file.as_slice(), answer)
+}
+
+/// How many beginnings of the file there are, which are all truncated; or the length of the first that is not.
+pub fn cut_everywhere(current: &Current, answer: &mut Answer) -> Result<(), CheckFault> {
+    let file = current.file.as_slice();
+    for length in 0..file.len() {
+        match again::decode(current.alloc, &file[..length]) {
+            Err(BinFault::Truncated) => {}
+            _ => {
+                answer.say(b"cut")?;
+                return answer.say_number(length);
+            }
+        }
+    }
+    answer.say_number(file.len())
+}
+
+/// Each byte in turn set to each of some: how many files that makes. What is read of one is written and read again.
+pub fn set_each(
+    current: &Current,
+    words: &[Vec<u8>],
+    answer: &mut Answer,
+) -> Result<(), CheckFault> {
+    let mut count = 0usize;
+    for place in 0..current.file.len() {
+        for at in 1..words.len() {
+            let mut file = Vec::from_slice(current.alloc, current.file.as_slice())?;
+            set(&mut file, place, byte(words, at)?)?;
+            read_twice(current.alloc, file.as_slice())?;
+            count = count.saturating_add(1);
+        }
+    }
+    answer.say_number(count)
+}
+
+// What is read of bytes is written as a file, of which the same is read and written.
+fn read_twice(alloc: Global, bytes: &[u8]) -> Result<(), CheckFault> {
+    let Ok((entry, _)) = again::decode(alloc, bytes) else {
+        return Ok(());
+    };
+    let Ok(file) = again::encode(alloc, &entry) else {
+        return Ok(());
+    };
+    let again = match again::decode(alloc, file.0.as_slice()) {
+        Ok((entry, 0)) => again::encode(alloc, &entry),
+        _ => return Err(CheckFault::Line("a file that was written is not read")),
+    };
+    match again {
+        Ok(again) if again.0 == file.0 => Ok(()),
+        _ => Err(CheckFault::Line("a file is written in two ways")),
+    }
+}
