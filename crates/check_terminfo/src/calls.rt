@@ -41,112 +41,241 @@ use crate::fault::CheckFault;
 use crate::words::text;
 use crate::{changes, cuts, entries, files, inputs, programs, sources, table};
 
+#[derive(Clone, Copy)]
+enum Call {
+    Find,
+    NameOf,
+    Table,
+    Named,
+    AreNames,
+    FirstName,
+    Entry,
+    Shown,
+    Names,
+    Unnamed,
+    Print,
+    Flag,
+    Number,
+    Text,
+    SetFlag,
+    SetNumber,
+    SetText,
+    Source,
+    Listed,
+    Notes,
+    TakeNotes,
+    Resolve,
+    Resolver,
+    String,
+    Decimal,
+    Padding,
+    Input,
+    InputOf,
+    Encode,
+    File,
+    Decode,
+    Compile,
+    List,
+    Changed,
+    FileCuts,
+    FileBytes,
+    Vars,
+    Program,
+    Measure,
+    ReadProgram,
+    Cuts,
+}
+
+static CALLS: [(&str, Call); 41] = [
+    ("find", Call::Find),
+    ("name-of", Call::NameOf),
+    ("table", Call::Table),
+    ("named", Call::Named),
+    ("are-names", Call::AreNames),
+    ("first-name", Call::FirstName),
+    ("entry", Call::Entry),
+    ("shown", Call::Shown),
+    ("names", Call::Names),
+    ("unnamed", Call::Unnamed),
+    ("print", Call::Print),
+    ("flag", Call::Flag),
+    ("number", Call::Number),
+    ("text", Call::Text),
+    ("set-flag", Call::SetFlag),
+    ("set-number", Call::SetNumber),
+    ("set-text", Call::SetText),
+    ("source", Call::Source),
+    ("listed", Call::Listed),
+    ("notes", Call::Notes),
+    ("take-notes", Call::TakeNotes),
+    ("resolve", Call::Resolve),
+    ("resolver", Call::Resolver),
+    ("string", Call::String),
+    ("decimal", Call::Decimal),
+    ("padding", Call::Padding),
+    ("input", Call::Input),
+    ("input-of", Call::InputOf),
+    ("encode", Call::Encode),
+    ("file", Call::File),
+    ("decode", Call::Decode),
+    ("compile", Call::Compile),
+    ("list", Call::List),
+    ("changed", Call::Changed),
+    ("file-cuts", Call::FileCuts),
+    ("file-bytes", Call::FileBytes),
+    ("vars", Call::Vars),
+    ("program", Call::Program),
+    ("measure", Call::Measure),
+    ("read-program", Call::ReadProgram),
+    ("cuts", Call::Cuts),
+];
+
+fn call_of(calls: &[(&str, Call)], name: &[u8]) -> Option<Call> {
+    for (known, call) in calls {
+        if known.as_bytes() == name {
+            return Some(*call);
+        }
+    }
+    None
+}
+
 /// Makes the call that some words name.
 pub fn perform(
     current: &mut Current,
     words: &[Vec<u8>],
     answer: &mut Answer,
 ) -> Result<(), CheckFault> {
-    if of_entries(current, words, answer)?
-        || of_sources(current, words, answer)?
-        || of_files(current, words, answer)?
-        || of_programs(current, words, answer)?
-        || of_table(current, words, answer)?
-    {
-        Ok(())
-    } else {
-        Err(CheckFault::Line("no such call"))
+    match call_of(&CALLS, text(words, 0)?) {
+        Some(call) => of_table(call, current, words, answer),
+        None => Err(CheckFault::Line("no such call")),
     }
 }
 
-fn of_table(current: &Current, words: &[Vec<u8>], answer: &mut Answer) -> Result<bool, CheckFault> {
-    match text(words, 0)? {
-        b"find" => table::find(current.alloc, words, answer)?,
-        b"name-of" => table::give_name(words, answer)?,
-        b"table" => table::names_from(words, answer)?,
-        b"named" => table::count_named(words, answer)?,
-        b"are-names" => table::are_good(words, answer)?,
-        b"first-name" => table::first(words, answer)?,
-        b"input" => inputs::read_pieces(current.alloc, words, answer)?,
-        b"input-of" => inputs::read_text(current.alloc, words, answer)?,
-        _ => return Ok(false),
-    }
-    Ok(true)
-}
-
-fn of_entries(
+fn of_table(
+    call: Call,
     current: &mut Current,
     words: &[Vec<u8>],
     answer: &mut Answer,
-) -> Result<bool, CheckFault> {
-    match text(words, 0)? {
-        b"entry" => entries::make(current, words, answer)?,
-        b"shown" => entries::show(current, answer)?,
-        b"names" => answer.say(current.entry()?.names())?,
-        b"unnamed" => answer.say_number(current.entry()?.unnamed())?,
-        b"flag" => entries::flag(current, words, answer)?,
-        b"number" => entries::number(current, words, answer)?,
-        b"text" => entries::give_text(current, words, answer)?,
-        b"set-flag" => entries::set_flag(current, words, answer)?,
-        b"set-number" => entries::set_number(current, words, answer)?,
-        b"set-text" => entries::set_text(current, words, answer)?,
-        b"print" => entries::print(current, answer)?,
-        _ => return Ok(false),
+) -> Result<(), CheckFault> {
+    match call {
+        Call::Find => table::find(current.alloc, words, answer),
+        Call::NameOf => table::give_name(words, answer),
+        Call::Table => table::names_from(words, answer),
+        Call::Named => table::count_named(words, answer),
+        Call::AreNames => table::are_good(words, answer),
+        Call::FirstName => table::first(words, answer),
+        _ => of_entry(call, current, words, answer),
     }
-    Ok(true)
+}
+
+fn of_entry(
+    call: Call,
+    current: &mut Current,
+    words: &[Vec<u8>],
+    answer: &mut Answer,
+) -> Result<(), CheckFault> {
+    match call {
+        Call::Entry => entries::make(current, words, answer),
+        Call::Shown => entries::show(current, answer),
+        Call::Names => answer.say(current.entry()?.names()),
+        Call::Unnamed => answer.say_number(current.entry()?.unnamed()),
+        Call::Print => entries::print(current, answer),
+        _ => of_slots(call, current, words, answer),
+    }
+}
+
+fn of_slots(
+    call: Call,
+    current: &mut Current,
+    words: &[Vec<u8>],
+    answer: &mut Answer,
+) -> Result<(), CheckFault> {
+    match call {
+        Call::Flag => entries::flag(current, words, answer),
+        Call::Number => entries::number(current, words, answer),
+        Call::Text => entries::give_text(current, words, answer),
+        Call::SetFlag => entries::set_flag(current, words, answer),
+        Call::SetNumber => entries::set_number(current, words, answer),
+        Call::SetText => entries::set_text(current, words, answer),
+        _ => of_sources(call, current, words, answer),
+    }
 }
 
 fn of_sources(
+    call: Call,
     current: &mut Current,
     words: &[Vec<u8>],
     answer: &mut Answer,
-) -> Result<bool, CheckFault> {
-    match text(words, 0)? {
-        b"source" => sources::read(current, words, answer)?,
-        b"listed" => sources::list_names(current, answer)?,
-        b"notes" => sources::notes(current, answer)?,
-        b"take-notes" => sources::take_notes(current, answer)?,
-        b"resolve" => sources::resolve(current, words, answer)?,
-        b"resolver" => sources::resolve_all(current, words, answer)?,
-        b"string" => sources::mean_string(current.alloc, words, answer)?,
-        b"decimal" => sources::mean_number(current.alloc, words, answer)?,
-        _ => return Ok(false),
+) -> Result<(), CheckFault> {
+    match call {
+        Call::Source => sources::read(current, words, answer),
+        Call::Listed => sources::list_names(current, answer),
+        Call::Notes => sources::notes(current, answer),
+        Call::TakeNotes => sources::take_notes(current, answer),
+        Call::Resolve => sources::resolve(current, words, answer),
+        Call::Resolver => sources::resolve_all(current, words, answer),
+        _ => of_meanings(call, current, words, answer),
     }
-    Ok(true)
+}
+
+fn of_meanings(
+    call: Call,
+    current: &mut Current,
+    words: &[Vec<u8>],
+    answer: &mut Answer,
+) -> Result<(), CheckFault> {
+    match call {
+        Call::String => sources::mean_string(current.alloc, words, answer),
+        Call::Decimal => sources::mean_number(current.alloc, words, answer),
+        Call::Padding => programs::strip(current.alloc, words, answer),
+        Call::Input => inputs::read_pieces(current.alloc, words, answer),
+        Call::InputOf => inputs::read_text(current.alloc, words, answer),
+        _ => of_files(call, current, words, answer),
+    }
 }
 
 fn of_files(
+    call: Call,
     current: &mut Current,
     words: &[Vec<u8>],
     answer: &mut Answer,
-) -> Result<bool, CheckFault> {
-    match text(words, 0)? {
-        b"encode" => files::encode(current, answer)?,
-        b"file" => files::take(current, words, answer)?,
-        b"decode" => files::decode(current, answer)?,
-        b"compile" => files::compile(current.alloc, words, answer)?,
-        b"list" => files::list(current, answer)?,
-        b"changed" => changes::decode_changed(current, words, answer)?,
-        b"file-cuts" => changes::cut_everywhere(current, answer)?,
-        b"file-bytes" => changes::set_each(current, words, answer)?,
-        _ => return Ok(false),
+) -> Result<(), CheckFault> {
+    match call {
+        Call::Encode => files::encode(current, answer),
+        Call::File => files::take(current, words, answer),
+        Call::Decode => files::decode(current, answer),
+        Call::Compile => files::compile(current.alloc, words, answer),
+        Call::List => files::list(current, answer),
+        _ => of_changes(call, current, words, answer),
     }
-    Ok(true)
+}
+
+fn of_changes(
+    call: Call,
+    current: &mut Current,
+    words: &[Vec<u8>],
+    answer: &mut Answer,
+) -> Result<(), CheckFault> {
+    match call {
+        Call::Changed => changes::decode_changed(current, words, answer),
+        Call::FileCuts => changes::cut_everywhere(current, answer),
+        Call::FileBytes => changes::set_each(current, words, answer),
+        _ => of_programs(call, current, words, answer),
+    }
 }
 
 fn of_programs(
+    call: Call,
     current: &mut Current,
     words: &[Vec<u8>],
     answer: &mut Answer,
-) -> Result<bool, CheckFault> {
-    match text(words, 0)? {
-        b"padding" => programs::strip(current.alloc, words, answer)?,
-        b"vars" => programs::forget(current, answer)?,
-        b"program" => programs::run(current, words, answer)?,
-        b"measure" => programs::measure(current.alloc, words, answer)?,
-        b"read-program" => programs::read(current.alloc, words, answer)?,
-        b"cuts" => cuts::cut_all(current.alloc, words, answer)?,
-        _ => return Ok(false),
+) -> Result<(), CheckFault> {
+    match call {
+        Call::Vars => programs::forget(current, answer),
+        Call::Program => programs::run(current, words, answer),
+        Call::Measure => programs::measure(current.alloc, words, answer),
+        Call::ReadProgram => programs::read(current.alloc, words, answer),
+        Call::Cuts => cuts::cut_all(current.alloc, words, answer),
+        _ => Err(CheckFault::Line("no such call")),
     }
-    Ok(true)
 }

@@ -8,6 +8,7 @@ use crate::files::say_decoded;
 use crate::words::{size, small};
 use std::alloc::Global;
 use ti_binary::BinFault;
+use ti_caps::Bytes;
 
 // Sets a byte of a file.
 fn set(file: &mut Vec<u8>, place: usize, byte: u8) -> Result<(), CheckFault> {
@@ -42,15 +43,19 @@ pub fn decode_changed(
 pub fn cut_everywhere(current: &Current, answer: &mut Answer) -> Result<(), CheckFault> {
     let file = current.file.as_slice();
     for length in 0..file.len() {
-        match again::decode(current.alloc, &file[..length]) {
-            Err(BinFault::Truncated) => {}
-            _ => {
-                answer.say(b"cut")?;
-                return answer.say_number(length);
-            }
+        if !is_truncated(current.alloc, file, length) {
+            answer.say(b"cut")?;
+            return answer.say_number(length);
         }
     }
     answer.say_number(file.len())
+}
+
+fn is_truncated(alloc: Global, file: &[u8], length: usize) -> bool {
+    match file.get(..length) {
+        Some(cut) => again::decode(alloc, cut).err() == Some(BinFault::Truncated),
+        None => false,
+    }
 }
 
 /// Each byte in turn set to each of some: how many files that makes. What is read of one is written and read again.
@@ -60,31 +65,36 @@ pub fn set_each(
     answer: &mut Answer,
 ) -> Result<(), CheckFault> {
     let mut count = 0usize;
-    for place in 0..current.file.len() {
-        for at in 1..words.len() {
-            let mut file = Vec::from_slice(current.alloc, current.file.as_slice())?;
-            set(&mut file, place, byte(words, at)?)?;
-            read_twice(current.alloc, file.as_slice())?;
-            count = count.saturating_add(1);
-        }
+    for at in 1..words.len() {
+        let byte = byte(words, at)?;
+        set_everywhere(current.alloc, current.file.as_slice(), byte)?;
+        count = count.saturating_add(current.file.len());
     }
     answer.say_number(count)
 }
 
+fn set_everywhere(alloc: Global, file: &[u8], byte: u8) -> Result<(), CheckFault> {
+    for place in 0..file.len() {
+        let mut changed = Vec::from_slice(alloc, file)?;
+        set(&mut changed, place, byte)?;
+        read_twice(alloc, changed.as_slice())?;
+    }
+    Ok(())
+}
+
+// The file that is written of what is read of bytes.
+fn written(alloc: Global, bytes: &[u8]) -> Option<Bytes> {
+    let (entry, _) = again::decode(alloc, bytes).ok()?;
+    again::encode(alloc, &entry).ok()
+}
+
 // What is read of bytes is written as a file, of which the same is read and written.
 fn read_twice(alloc: Global, bytes: &[u8]) -> Result<(), CheckFault> {
-    let Ok((entry, _)) = again::decode(alloc, bytes) else {
+    let Some(file) = written(alloc, bytes) else {
         return Ok(());
     };
-    let Ok(file) = again::encode(alloc, &entry) else {
-        return Ok(());
-    };
-    let again = match again::decode(alloc, file.0.as_slice()) {
-        Ok((entry, 0)) => again::encode(alloc, &entry),
-        _ => return Err(CheckFault::Line("a file that was written is not read")),
-    };
-    match again {
-        Ok(again) if again.0 == file.0 => Ok(()),
-        _ => Err(CheckFault::Line("a file is written in two ways")),
+    match written(alloc, file.0.as_slice()) {
+        Some(again) if again.0 == file.0 => Ok(()),
+        _ => Err(CheckFault::Line("a file that is read is written in two ways")),
     }
 }

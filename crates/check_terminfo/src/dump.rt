@@ -80,16 +80,20 @@ fn say_text(
 
 /// A number that other bytes most likely do not have. It takes no memory.
 pub fn mark_of(bytes: &[u8]) -> u64 {
-    mixed(14_695_981_039_346_656_037, bytes)
+    mixed(1, bytes)
 }
 
-// FNV-1a, and a byte for the end.
+// The bytes as digits of a great base, and one for the end.
 fn mixed(start: u64, bytes: &[u8]) -> u64 {
     let mut mark = start;
     for byte in bytes {
-        mark = (mark ^ u64::from(*byte)).wrapping_mul(1_099_511_628_211);
+        mark = next(mark, u64::from(*byte));
     }
-    (mark ^ 256).wrapping_mul(1_099_511_628_211)
+    next(mark, 256)
+}
+
+fn next(mark: u64, digit: u64) -> u64 {
+    mark.wrapping_mul(1_099_511_628_211).wrapping_add(digit)
 }
 
 /// The same of an entry.
@@ -97,12 +101,12 @@ pub fn mark_of_entry(entry: &Entry) -> u64 {
     let mut mark = mark_of(entry.names());
     for position in 0..512u16 {
         let slot = Slot(position);
-        let number = entry.number(slot).unwrap_or(40_000);
-        let [high, low] = number.to_be_bytes();
-        mark = mixed(mark, &[u8::from(entry.flag(slot)), high, low]);
-        if let Some(text) = entry.text(slot) {
-            mark = mixed(mark, text);
-        }
+        mark = next(mark, u64::from(entry.flag(slot)));
+        mark = next(mark, u64::from(entry.number(slot).unwrap_or(40_000)));
+        mark = match entry.text(slot) {
+            Some(text) => mixed(mark, text),
+            None => next(mark, 257),
+        };
     }
     mark
 }

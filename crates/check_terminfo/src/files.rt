@@ -8,7 +8,7 @@ use crate::fault::CheckFault;
 use crate::sources::say_note;
 use crate::words::text;
 use std::alloc::Global;
-use terminfo_files::{Files, Sizes};
+use terminfo_files::{Compiled, Files, Notes, Sizes};
 
 pub fn encode(current: &mut Current, answer: &mut Answer) -> Result<(), CheckFault> {
     match again::encode(current.alloc, current.entry()?) {
@@ -70,18 +70,25 @@ fn say_sizes(sizes: &Sizes, answer: &mut Answer) -> Result<(), CheckFault> {
     Ok(())
 }
 
+fn say_notes(alloc: Global, notes: &Notes, answer: &mut Answer) -> Result<(), CheckFault> {
+    for note in notes.0.as_slice() {
+        answer.say(b"note")?;
+        say_note(alloc, note, answer)?;
+    }
+    Ok(())
+}
+
+fn say_compiled(alloc: Global, compiled: &Compiled, answer: &mut Answer) -> Result<(), CheckFault> {
+    say_files(&compiled.files, answer)?;
+    say_sizes(&compiled.sizes, answer)?;
+    say_notes(alloc, &compiled.notes, answer)
+}
+
 pub fn compile(alloc: Global, words: &[Vec<u8>], answer: &mut Answer) -> Result<(), CheckFault> {
-    match again::compile(alloc, text(words, 1)?) {
-        Ok(compiled) => {
-            say_files(&compiled.files, answer)?;
-            say_sizes(&compiled.sizes, answer)?;
-            for note in compiled.notes.0.as_slice() {
-                answer.say(b"note")?;
-                say_note(alloc, note, answer)?;
-            }
-            Ok(())
-        }
-        Err(fault) => answer.refused(&fault),
+    let compiled = again::compile(alloc, text(words, 1)?);
+    match &compiled {
+        Ok(compiled) => say_compiled(alloc, compiled, answer),
+        Err(fault) => answer.refused(fault),
     }
 }
 
