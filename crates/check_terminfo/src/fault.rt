@@ -9,6 +9,9 @@ pub enum CheckFault {
     /// The line can't be read, or its call can't be made or has left something that it must not.
     #[error("{0}")]
     Line(&'static str),
+    /// A line does not agree, and was printed.
+    #[error("the script does not agree")]
+    Differs,
     /// The standard output failed.
     #[error("write failed")]
     Output,

@@ -85,32 +85,33 @@ fn agree(
     number: u32,
     text: &[u8],
 ) -> Result<(), CheckFault> {
-    match answer_of(rt.alloc(), current, text) {
-        Ok((line, answer)) => {
-            if answer.words == line.wanted {
-                return Ok(());
-            }
-            let wanted = words::shown(rt.alloc(), &line.wanted)?;
-            let came = words::shown(rt.alloc(), &answer.words)?;
-            let _ = println!(rt; "line {number}: wanted {wanted}, came {came}");
-            Err(CheckFault::Line("answers differ"))
+    match difference(rt.alloc(), current, text) {
+        Ok(None) => Ok(()),
+        Ok(Some(difference)) => {
+            println!(rt; "line {number}: {difference}").map_err(|_| CheckFault::Output)?;
+            Err(CheckFault::Differs)
         }
-        Err(CheckFault::NoMemory) => Err(CheckFault::NoMemory),
-        Err(fault) => {
-            let _ = println!(rt; "line {number}: {fault}");
-            Err(fault)
+        Err(CheckFault::Line(fault)) => {
+            println!(rt; "line {number}: {fault}").map_err(|_| CheckFault::Output)?;
+            Err(CheckFault::Differs)
         }
+        Err(fault) => Err(fault),
     }
 }
 
-// What a line says, and what its call answers.
-fn answer_of(
+// What was wanted and what came, where they are not the same.
+fn difference(
     alloc: Global,
     current: &mut Current,
     text: &[u8],
-) -> Result<(Line, Answer), CheckFault> {
+) -> Result<Option<String>, CheckFault> {
     let line = Line::read(alloc, text)?;
     let mut answer = Answer::new(alloc);
     calls::perform(current, &line.call, &mut answer)?;
-    Ok((line, answer))
+    if answer.words == line.wanted {
+        return Ok(None);
+    }
+    let wanted = words::shown(alloc, &line.wanted)?;
+    let came = words::shown(alloc, &answer.words)?;
+    Ok(Some(format!(in alloc; "wanted {wanted}, came {came}")?))
 }

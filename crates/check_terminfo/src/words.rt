@@ -69,18 +69,29 @@ pub fn shown(alloc: Global, words: &[Vec<u8>]) -> Result<String, AllocError> {
 
 fn show_bytes(alloc: Global, line: &mut String, bytes: &[u8]) -> Result<(), AllocError> {
     for byte in bytes {
-        match byte {
-            b'\n' => line.push_str("\\n")?,
-            b'\t' => line.push_str("\\t")?,
-            27 => line.push_str("\\e")?,
-            b'"' => line.push_str("\\\"")?,
-            b'\\' => line.push_str("\\\\")?,
-            32..=126 => line.push(char::from(*byte))?,
-            _ => {
-                let escape = format!(in alloc; "\\x{byte:02x}")?;
-                line.push_str(escape.as_str())?;
-            }
+        match short_escape(*byte) {
+            Some(escape) => line.push_str(escape)?,
+            None => show_byte(alloc, line, *byte)?,
         }
     }
     Ok(())
+}
+
+fn short_escape(byte: u8) -> Option<&'static str> {
+    match byte {
+        b'\n' => Some("\\n"),
+        b'\t' => Some("\\t"),
+        27 => Some("\\e"),
+        b'"' => Some("\\\""),
+        b'\\' => Some("\\\\"),
+        _ => None,
+    }
+}
+
+fn show_byte(alloc: Global, line: &mut String, byte: u8) -> Result<(), AllocError> {
+    if (32..=126).contains(&byte) {
+        return line.push(char::from(byte));
+    }
+    let escape = format!(in alloc; "\\x{byte:02x}")?;
+    line.push_str(escape.as_str())
 }
