@@ -12,6 +12,7 @@ use ti_source::{Printed, Resolver, Source, SourceFault};
 /// A refused call has changed what it was lent.
 const CHANGED: CheckFault = CheckFault::Line("a refused call has changed something");
 
+/// Strips padding.
 pub fn strip_padding(alloc: Global, text: &[u8]) -> Result<Vec<u8>, NoMemory> {
     match ti_param::strip_padding(alloc, text) {
         Err(NoMemory) => ti_param::strip_padding(alloc, text),
@@ -19,6 +20,7 @@ pub fn strip_padding(alloc: Global, text: &[u8]) -> Result<Vec<u8>, NoMemory> {
     }
 }
 
+/// Reads a program.
 pub fn read_program(alloc: Global, text: &[u8]) -> Result<Program, ParamFault> {
     match Program::read(alloc, text) {
         Err(ParamFault::NoMemory) => Program::read(alloc, text),
@@ -44,6 +46,7 @@ pub fn run_program(
     Ok(ran)
 }
 
+/// Makes an entry.
 pub fn new_entry(alloc: Global, names: &[u8]) -> Result<Entry, CapFault> {
     match Entry::new(alloc, names) {
         Err(CapFault::NoMemory) => Entry::new(alloc, names),
@@ -68,6 +71,7 @@ pub fn set_text(
     Ok(set)
 }
 
+/// Reads a source.
 pub fn read_source(alloc: Global, text: &[u8]) -> Result<Source, SourceFault> {
     match ti_source::read(alloc, text) {
         Err(SourceFault::NoMemory) => ti_source::read(alloc, text),
@@ -75,6 +79,7 @@ pub fn read_source(alloc: Global, text: &[u8]) -> Result<Source, SourceFault> {
     }
 }
 
+/// Resolves one name.
 pub fn resolve(alloc: Global, source: &Source, name: &[u8]) -> Result<Entry, SourceFault> {
     match ti_source::resolve(alloc, source, name) {
         Err(SourceFault::NoMemory) => ti_source::resolve(alloc, source, name),
@@ -94,6 +99,7 @@ pub fn resolve_next(
     }
 }
 
+/// Prints an entry as source.
 pub fn print(alloc: Global, entry: &Entry) -> Result<Printed, SourceFault> {
     match ti_source::print(alloc, entry) {
         Err(SourceFault::NoMemory) => ti_source::print(alloc, entry),
@@ -101,6 +107,7 @@ pub fn print(alloc: Global, entry: &Entry) -> Result<Printed, SourceFault> {
     }
 }
 
+/// Writes a compiled file.
 pub fn encode(alloc: Global, entry: &Entry) -> Result<Bytes, EncFault> {
     match ti_binary::encode(alloc, entry) {
         Err(EncFault::NoMemory) => ti_binary::encode(alloc, entry),
@@ -108,6 +115,7 @@ pub fn encode(alloc: Global, entry: &Entry) -> Result<Bytes, EncFault> {
     }
 }
 
+/// Reads a compiled file.
 pub fn decode(alloc: Global, bytes: &[u8]) -> Result<(Entry, usize), BinFault> {
     match ti_binary::decode(alloc, bytes) {
         Err(BinFault::NoMemory) => ti_binary::decode(alloc, bytes),
@@ -115,6 +123,7 @@ pub fn decode(alloc: Global, bytes: &[u8]) -> Result<(Entry, usize), BinFault> {
     }
 }
 
+/// Compiles a source.
 pub fn compile(alloc: Global, source: &[u8]) -> Result<Compiled, TicFault> {
     match terminfo_files::compile(alloc, source) {
         Err(TicFault::NoMemory) => terminfo_files::compile(alloc, source),
@@ -122,6 +131,7 @@ pub fn compile(alloc: Global, source: &[u8]) -> Result<Compiled, TicFault> {
     }
 }
 
+/// Lists a compiled file.
 pub fn list(alloc: Global, bytes: &[u8]) -> Result<Listing, TicFault> {
     match terminfo_files::list(alloc, bytes) {
         Err(TicFault::NoMemory) => terminfo_files::list(alloc, bytes),

@@ -5,7 +5,7 @@ use std::alloc::Global;
 use std::fmt::Display;
 
 /// The words of an answer.
-#[derive(Debug, Drop)]
+#[derive(Drop)]
 pub struct Answer {
     alloc: Global,
     /// The words so far.

@@ -22,9 +22,13 @@ fn set(file: &mut Vec<u8>, place: usize, byte: u8) -> Result<(), CheckFault> {
 }
 
 fn byte(words: &[Vec<u8>], place: usize) -> Result<u8, CheckFault> {
-    u8::try_from(small(words, place)?).map_err(|_| CheckFault::Line("no byte"))
+    match u8::try_from(small(words, place)?) {
+        Ok(byte) => Ok(byte),
+        Err(_) => Err(CheckFault::Line("no byte")),
+    }
 }
 
+/// `changed PLACE BYTE..`.
 pub fn decode_changed(
     current: &mut Current,
     words: &[Vec<u8>],

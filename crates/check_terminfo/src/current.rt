@@ -9,10 +9,15 @@ use ti_source::Source;
 /// What earlier lines have made.
 #[derive(Drop)]
 pub struct Current {
+    /// Where all is allocated.
     pub alloc: Global,
+    /// The entry that was made, resolved or decoded last.
     pub entry: Option<Entry>,
+    /// The source that was read last.
     pub source: Option<Source>,
+    /// The bytes of a compiled file.
     pub file: Vec<u8>,
+    /// The static variables of programs.
     pub vars: Vars,
 }
 
@@ -28,6 +33,7 @@ impl Current {
         }
     }
 
+    /// The entry, for a call that reads it.
     pub fn entry(&self) -> Result<&Entry, CheckFault> {
         match &self.entry {
             Some(entry) => Ok(entry),
@@ -35,6 +41,7 @@ impl Current {
         }
     }
 
+    /// The entry, for a call that changes it.
     pub fn entry_mut(&mut self) -> Result<&mut Entry, CheckFault> {
         match &mut self.entry {
             Some(entry) => Ok(entry),
@@ -42,6 +49,7 @@ impl Current {
         }
     }
 
+    /// The source.
     pub fn source(&self) -> Result<&Source, CheckFault> {
         match &self.source {
             Some(source) => Ok(source),

@@ -12,6 +12,7 @@ fn slot(words: &[Vec<u8>]) -> Result<Slot, CheckFault> {
     Ok(Slot(small(words, 1)?))
 }
 
+/// `entry NAMES`.
 pub fn make(
     current: &mut Current,
     words: &[Vec<u8>],
@@ -26,14 +27,17 @@ pub fn make(
     }
 }
 
+/// `shown`.
 pub fn show(current: &Current, answer: &mut Answer) -> Result<(), CheckFault> {
     say_entry(current.alloc, current.entry()?, answer)
 }
 
+/// `flag N`.
 pub fn flag(current: &Current, words: &[Vec<u8>], answer: &mut Answer) -> Result<(), CheckFault> {
     answer.say_whether(current.entry()?.flag(slot(words)?))
 }
 
+/// `number N`.
 pub fn number(current: &Current, words: &[Vec<u8>], answer: &mut Answer) -> Result<(), CheckFault> {
     match current.entry()?.number(slot(words)?) {
         Some(number) => answer.say_number(usize::from(number)),
@@ -41,6 +45,7 @@ pub fn number(current: &Current, words: &[Vec<u8>], answer: &mut Answer) -> Resu
     }
 }
 
+/// `text N`.
 pub fn give_text(
     current: &Current,
     words: &[Vec<u8>],
@@ -59,6 +64,7 @@ fn say_set(set: Result<(), CapFault>, answer: &mut Answer) -> Result<(), CheckFa
     }
 }
 
+/// `set-flag N yes`.
 pub fn set_flag(
     current: &mut Current,
     words: &[Vec<u8>],
@@ -69,6 +75,7 @@ pub fn set_flag(
     say_set(current.entry_mut()?.set_flag(slot, present), answer)
 }
 
+/// `set-number N NUMBER`; a number above 32,767, which the call does not take, is read as that.
 pub fn set_number(
     current: &mut Current,
     words: &[Vec<u8>],
@@ -83,6 +90,7 @@ pub fn set_number(
     say_set(current.entry_mut()?.set_number(slot, number), answer)
 }
 
+/// `set-text N TEXT`.
 pub fn set_text(
     current: &mut Current,
     words: &[Vec<u8>],
@@ -97,6 +105,7 @@ pub fn set_text(
     say_set(set, answer)
 }
 
+/// `print`.
 pub fn print(current: &Current, answer: &mut Answer) -> Result<(), CheckFault> {
     match again::print(current.alloc, current.entry()?) {
         Ok(printed) => {

@@ -10,6 +10,7 @@ use crate::words::text;
 use std::alloc::Global;
 use terminfo_files::{Compiled, Files, Notes, Sizes};
 
+/// `encode`.
 pub fn encode(current: &mut Current, answer: &mut Answer) -> Result<(), CheckFault> {
     match again::encode(current.alloc, current.entry()?) {
         Ok(file) => {
@@ -21,6 +22,7 @@ pub fn encode(current: &mut Current, answer: &mut Answer) -> Result<(), CheckFau
     }
 }
 
+/// `file BYTES`.
 pub fn take(
     current: &mut Current,
     words: &[Vec<u8>],
@@ -47,6 +49,7 @@ pub fn say_decoded(
     }
 }
 
+/// `decode`.
 pub fn decode(current: &mut Current, answer: &mut Answer) -> Result<(), CheckFault> {
     let file = Vec::from_slice(current.alloc, current.file.as_slice())?;
     say_decoded(current, file.as_slice(), answer)
@@ -84,6 +87,7 @@ fn say_compiled(alloc: Global, compiled: &Compiled, answer: &mut Answer) -> Resu
     say_notes(alloc, &compiled.notes, answer)
 }
 
+/// `compile SOURCE`.
 pub fn compile(alloc: Global, words: &[Vec<u8>], answer: &mut Answer) -> Result<(), CheckFault> {
     let compiled = again::compile(alloc, text(words, 1)?);
     match &compiled {
@@ -92,6 +96,7 @@ pub fn compile(alloc: Global, words: &[Vec<u8>], answer: &mut Answer) -> Result<
     }
 }
 
+/// `list`.
 pub fn list(current: &Current, answer: &mut Answer) -> Result<(), CheckFault> {
     match again::list(current.alloc, current.file.as_slice()) {
         Ok(listing) => {

@@ -57,6 +57,7 @@ fn read_again(alloc: Global, pieces: Pieces) -> Result<Vec<u8>, InputFault> {
     }
 }
 
+/// `input COUNT EACH [BEFORE FAULT]`.
 pub fn read_pieces(
     alloc: Global,
     words: &[Vec<u8>],
@@ -78,6 +79,7 @@ pub fn read_pieces(
     }
 }
 
+/// `input-of TEXT`.
 pub fn read_text(alloc: Global, words: &[Vec<u8>], answer: &mut Answer) -> Result<(), CheckFault> {
     let text = text(words, 1)?;
     let mut reader = text;

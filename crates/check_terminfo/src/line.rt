@@ -5,7 +5,7 @@ use std::alloc::Global;
 use std::mem;
 
 /// A line, cut into words.
-#[derive(Debug, Drop)]
+#[derive(Drop)]
 pub struct Line {
     /// The words before `=`.
     pub call: Vec<Vec<u8>>,

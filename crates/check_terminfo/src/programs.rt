@@ -11,6 +11,7 @@ use ti_param::{Program, RunFault, Vars};
 /// What stands in the text before a program writes to it.
 const BEFORE: &[u8] = b"before ";
 
+/// `padding TEXT`.
 pub fn strip(alloc: Global, words: &[Vec<u8>], answer: &mut Answer) -> Result<(), CheckFault> {
     match again::strip_padding(alloc, text(words, 1)?) {
         Ok(text) => answer.say(text.as_slice()),
@@ -18,11 +19,13 @@ pub fn strip(alloc: Global, words: &[Vec<u8>], answer: &mut Answer) -> Result<()
     }
 }
 
+/// `vars`.
 pub fn forget(current: &mut Current, answer: &mut Answer) -> Result<(), CheckFault> {
     current.vars = Vars::new();
     answer.say(b"ok")
 }
 
+/// `read-program TEXT`.
 pub fn read(alloc: Global, words: &[Vec<u8>], answer: &mut Answer) -> Result<(), CheckFault> {
     match again::read_program(alloc, text(words, 1)?) {
         Ok(_) => answer.say(b"ok"),
@@ -30,6 +33,7 @@ pub fn read(alloc: Global, words: &[Vec<u8>], answer: &mut Answer) -> Result<(),
     }
 }
 
+/// `measure TEXT`.
 pub fn measure(alloc: Global, words: &[Vec<u8>], answer: &mut Answer) -> Result<(), CheckFault> {
     match again::read_program(alloc, text(words, 1)?) {
         Ok(program) => {
@@ -52,6 +56,7 @@ fn params(words: &[Vec<u8>]) -> Result<[i32; 9], CheckFault> {
     Ok(params)
 }
 
+/// `program TEXT PARAMETER..`.
 pub fn run(
     current: &mut Current,
     words: &[Vec<u8>],

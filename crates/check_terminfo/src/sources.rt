@@ -10,6 +10,7 @@ use std::alloc::Global;
 use ti_caps::{Entry, Slot};
 use ti_source::{Cause, Note, Resolver, SourceFault};
 
+/// `source TEXT`. A source that is refused leaves none.
 pub fn read(
     current: &mut Current,
     words: &[Vec<u8>],
@@ -29,6 +30,7 @@ pub fn read(
     }
 }
 
+/// `listed`.
 pub fn list_names(current: &Current, answer: &mut Answer) -> Result<(), CheckFault> {
     let source = current.source()?;
     for i in 0..source.len() {
@@ -55,6 +57,7 @@ pub fn say_note(alloc: Global, note: &Note, answer: &mut Answer) -> Result<(), C
     answer.say(note.name.0.as_slice())
 }
 
+/// `notes`.
 pub fn notes(current: &Current, answer: &mut Answer) -> Result<(), CheckFault> {
     for note in current.source()?.notes() {
         say_note(current.alloc, note, answer)?;
@@ -62,6 +65,7 @@ pub fn notes(current: &Current, answer: &mut Answer) -> Result<(), CheckFault> {
     Ok(())
 }
 
+/// `take-notes`.
 pub fn take_notes(current: &mut Current, answer: &mut Answer) -> Result<(), CheckFault> {
     let Some(source) = current.source.take() else {
         return Err(CheckFault::Line("there is no source"));
@@ -84,6 +88,7 @@ fn say_resolved(
     }
 }
 
+/// `resolve NAME`. A refusal leaves no entry.
 pub fn resolve(
     current: &mut Current,
     words: &[Vec<u8>],
@@ -121,6 +126,7 @@ fn entry_of(alloc: Global, parts: [&[u8]; 3]) -> Result<Result<Entry, SourceFaul
     }
 }
 
+/// `string TEXT`.
 pub fn mean_string(
     alloc: Global,
     words: &[Vec<u8>],
@@ -135,6 +141,7 @@ pub fn mean_string(
     }
 }
 
+/// `decimal TEXT`.
 pub fn mean_number(
     alloc: Global,
     words: &[Vec<u8>],

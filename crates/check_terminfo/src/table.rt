@@ -23,6 +23,7 @@ fn kind(words: &[Vec<u8>], place: usize) -> Result<Kind, CheckFault> {
     }
 }
 
+/// `find NAME`.
 pub fn find(alloc: Global, words: &[Vec<u8>], answer: &mut Answer) -> Result<(), CheckFault> {
     match find_name(text(words, 1)?) {
         Some((kind, slot)) => {
@@ -34,6 +35,7 @@ pub fn find(alloc: Global, words: &[Vec<u8>], answer: &mut Answer) -> Result<(),
     }
 }
 
+/// `name-of KIND POSITION`.
 pub fn give_name(words: &[Vec<u8>], answer: &mut Answer) -> Result<(), CheckFault> {
     match name_of(kind(words, 1)?, Slot(small(words, 2)?)) {
         Some(name) => answer.say(name.as_bytes()),
@@ -63,6 +65,7 @@ pub fn names_from(words: &[Vec<u8>], answer: &mut Answer) -> Result<(), CheckFau
     answer.say_number(usize::from(position))
 }
 
+/// `named KIND`, among the positions from 0 to 65,534.
 pub fn count_named(words: &[Vec<u8>], answer: &mut Answer) -> Result<(), CheckFault> {
     let kind = kind(words, 1)?;
     let mut named = 0usize;
@@ -74,10 +77,12 @@ pub fn count_named(words: &[Vec<u8>], answer: &mut Answer) -> Result<(), CheckFa
     answer.say_number(named)
 }
 
+/// `are-names TEXT`.
 pub fn are_good(words: &[Vec<u8>], answer: &mut Answer) -> Result<(), CheckFault> {
     answer.say_whether(are_names(text(words, 1)?))
 }
 
+/// `first-name TEXT`.
 pub fn first(words: &[Vec<u8>], answer: &mut Answer) -> Result<(), CheckFault> {
     answer.say(first_name(text(words, 1)?))
 }

@@ -14,28 +14,37 @@ pub fn text(words: &[Vec<u8>], place: usize) -> Result<&[u8], CheckFault> {
 
 /// The number at a place.
 pub fn number(words: &[Vec<u8>], place: usize) -> Result<i64, CheckFault> {
-    let word = text(words, place)?;
-    match str::from_utf8(word) {
-        Ok(digits) => digits
-            .parse::<i64>()
-            .map_err(|_| CheckFault::Line("no number")),
+    let Ok(digits) = str::from_utf8(text(words, place)?) else {
+        return Err(CheckFault::Line("no number"));
+    };
+    match digits.parse::<i64>() {
+        Ok(number) => Ok(number),
         Err(_) => Err(CheckFault::Line("no number")),
     }
 }
 
 /// A number from 0 to 65,535.
 pub fn small(words: &[Vec<u8>], place: usize) -> Result<u16, CheckFault> {
-    u16::try_from(number(words, place)?).map_err(|_| CheckFault::Line("too great a number"))
+    match u16::try_from(number(words, place)?) {
+        Ok(number) => Ok(number),
+        Err(_) => Err(CheckFault::Line("not from 0 to 65535")),
+    }
 }
 
 /// A number from 0 on.
 pub fn size(words: &[Vec<u8>], place: usize) -> Result<usize, CheckFault> {
-    usize::try_from(number(words, place)?).map_err(|_| CheckFault::Line("a negative number"))
+    match usize::try_from(number(words, place)?) {
+        Ok(number) => Ok(number),
+        Err(_) => Err(CheckFault::Line("a negative number")),
+    }
 }
 
 /// A number of 32 bits with a sign.
 pub fn signed(words: &[Vec<u8>], place: usize) -> Result<i32, CheckFault> {
-    i32::try_from(number(words, place)?).map_err(|_| CheckFault::Line("too great a number"))
+    match i32::try_from(number(words, place)?) {
+        Ok(number) => Ok(number),
+        Err(_) => Err(CheckFault::Line("no number of 32 bits")),
+    }
 }
 
 /// `yes` or `no`.
