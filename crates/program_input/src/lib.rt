@@ -2,7 +2,5 @@
 #![tactic(auto)]
 
 mod inputs;
-#[cfg(test)]
-mod tests;
 
 pub use inputs::{InputFault, MOST_BYTES, MOST_READS, read_input};

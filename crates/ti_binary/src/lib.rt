@@ -3,8 +3,6 @@
 
 mod counts;
 mod decoder;
-#[cfg(test)]
-mod decoder_tests;
 mod encoder;
 mod faults;
 mod filler;
@@ -12,8 +10,6 @@ mod laws;
 mod parts;
 mod sections;
 mod shapes;
-#[cfg(test)]
-mod tests;
 mod texts;
 
 pub use decoder::decode;

@@ -12,8 +12,3 @@ pub use entry::Entry;
 pub use fault::CapFault;
 pub use names::{are_names, first_name};
 pub use table::{Kind, Slot, find_name, name_of, names_stand_once};
-
-#[cfg(test)]
-mod table_tests;
-#[cfg(test)]
-mod tests;

@@ -4,8 +4,6 @@
 
 mod builder;
 mod directives;
-#[cfg(test)]
-mod fault_tests;
 mod faults;
 mod laws;
 mod layouts;
@@ -17,8 +15,6 @@ mod programs;
 mod reader;
 mod stack;
 mod steps;
-#[cfg(test)]
-mod tests;
 mod tokens;
 mod variables;
 

@@ -27,8 +27,3 @@ pub use resolver::{
     Resolver, names_have_one_fault, names_resolve_once, resolve, resolved_names_have_no_fault,
 };
 pub use source::Source;
-
-#[cfg(test)]
-mod resolving_tests;
-#[cfg(test)]
-mod tests;

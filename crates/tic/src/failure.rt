@@ -1,7 +1,7 @@
 //! Why the program ends with another status than 0.
 
-use crate::fault::TicFault;
 use std::alloc::AllocError;
+use terminfo_files::TicFault;
 use thiserror::Error;
 
 /// Why the program ends with another status than 0, in the words that it prints.

@@ -7,29 +7,20 @@
 //! fault is printed there as `tic: ` and its text. The status is 0, 1 for a fault and 2 for wrong words.
 #![tactic(auto)]
 
-mod compiler;
 mod failure;
-mod fault;
-mod file_names;
-mod laws;
-mod lister;
 mod output;
 mod report;
-#[cfg(test)]
-mod tests;
 mod words;
-mod written;
 
 use clap::error::ErrorKind;
-use compiler::{Compiled, compile};
 use failure::Failure;
-use lister::list;
 use output::write_files;
 use program_input::{InputFault, read_input};
 use report::{left_out_lines, note_lines, size_lines};
 use std::io::Write;
 use std::process::ExitCode;
 use std::{env, fs, io};
+pub use terminfo_files::{Compiled, Listing, TicFault, compile, list};
 use words::Task;
 
 fn main(rt: HostRuntime) -> ExitCode {

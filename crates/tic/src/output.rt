@@ -1,11 +1,11 @@
 //! Compiled files as they are written below a folder.
 
 use crate::failure::Failure;
-use crate::written::Files;
 use std::alloc::Global;
 use std::io::ErrorKind;
 use std::path::{Path, PathBuf};
 use std::{fs, io, str};
+use terminfo_files::Files;
 
 // A path below a folder; a compiled file's path is ASCII.
 fn below<'a>(alloc: Global, directory: &str, path: &[u8]) -> Result<PathBuf, Failure<'a>> {

@@ -1,8 +1,7 @@
 //! What `tic` prints.
 
-use crate::compiler::Notes;
-use crate::written::Sizes;
 use std::alloc::{AllocError, Global};
+use terminfo_files::{Notes, Sizes};
 use ti_source::Cause;
 
 fn word_of(cause: Cause) -> &'static str {

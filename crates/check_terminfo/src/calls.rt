@@ -1,0 +1,281 @@
+//! The calls that a script can make. Where nothing else is said the answer is `ok`, or `refused` and the fault's text.
+//!
+//! | Call | What it answers |
+//! |---|---|
+//! | `find NAME` | the kind and position of a capability, or `none` |
+//! | `name-of KIND POSITION` | the name there, or `none` |
+//! | `table KIND POSITION NAMES` | the position behind these names, which stand there one after another |
+//! | `named KIND` | how many positions have a name |
+//! | `are-names TEXT`, `first-name TEXT` | `yes` or `no`; the first alternative |
+//! | `entry NAMES` | makes an entry, which the next calls are about |
+//! | `shown` | the entry: its names and what is present (`dump.rt`) |
+//! | `names`, `unnamed` | its names; how many present capabilities have no name |
+//! | `flag N`, `number N`, `text N` | what it has at a position |
+//! | `set-flag N yes`, `set-number N 80`, `set-text N TEXT` | sets that; without a last word it becomes absent |
+//! | `print` | its source text, and how many capabilities that leaves out |
+//! | `source TEXT` | how many entries a source has; it is what the next calls are about |
+//! | `listed`, `notes`, `take-notes` | the first name of each entry; the notes on it; the same, and the source is gone |
+//! | `resolve NAME` | the resolved entry, which is then the entry |
+//! | `resolver NAME..` | each resolved entry or refusal, by one resolver |
+//! | `string TEXT`, `decimal TEXT` | what a string or a number in a source means |
+//! | `encode` | the compiled file of the entry, which is then the file |
+//! | `file BYTES` | takes these bytes as the file, and answers how many there are |
+//! | `decode` | how many bytes follow, and the entry of the file, which is then the entry |
+//! | `changed PLACE BYTE..` | the same, of the file with bytes changed |
+//! | `file-cuts` | how many ways there are to cut the file short, each of which is `truncated` |
+//! | `file-bytes BYTE..` | how many files come of setting each byte in turn to each of these, read or refused |
+//! | `compile SOURCE` | each `file PATH BYTES`, each `size NAME BYTES`, each `note LINE CAUSE NAME` |
+//! | `list` | the text of the file, how many capabilities that leaves out, and how many bytes follow |
+//! | `padding TEXT` | the text without padding |
+//! | `vars` | sets the static variables to 0 |
+//! | `program TEXT PARAMETER..` | what the program writes; `length` and `bound` are compared with it |
+//! | `measure TEXT` | the bound and the depth of a program |
+//! | `read-program TEXT` | whether a text is a program |
+//! | `cuts TEXT..` | whether each text, cut at each place, is a program, or is refused for the cut or as the text is |
+//! | `input COUNT EACH [BEFORE FAULT]` | how many bytes are read of a reader that gives EACH at a time, of which the read behind BEFORE others is `interrupted` or `broken` |
+//! | `input-of TEXT` | what is read of a reader of these bytes |
+
+use crate::answer::Answer;
+use crate::current::Current;
+use crate::fault::CheckFault;
+use crate::words::text;
+use crate::{changes, cuts, entries, files, inputs, programs, sources, table};
+
+#[derive(Clone, Copy)]
+enum Call {
+    Find,
+    NameOf,
+    Table,
+    Named,
+    AreNames,
+    FirstName,
+    Entry,
+    Shown,
+    Names,
+    Unnamed,
+    Print,
+    Flag,
+    Number,
+    Text,
+    SetFlag,
+    SetNumber,
+    SetText,
+    Source,
+    Listed,
+    Notes,
+    TakeNotes,
+    Resolve,
+    Resolver,
+    String,
+    Decimal,
+    Padding,
+    Input,
+    InputOf,
+    Encode,
+    File,
+    Decode,
+    Compile,
+    List,
+    Changed,
+    FileCuts,
+    FileBytes,
+    Vars,
+    Program,
+    Measure,
+    ReadProgram,
+    Cuts,
+}
+
+static CALLS: [(&str, Call); 41] = [
+    ("find", Call::Find),
+    ("name-of", Call::NameOf),
+    ("table", Call::Table),
+    ("named", Call::Named),
+    ("are-names", Call::AreNames),
+    ("first-name", Call::FirstName),
+    ("entry", Call::Entry),
+    ("shown", Call::Shown),
+    ("names", Call::Names),
+    ("unnamed", Call::Unnamed),
+    ("print", Call::Print),
+    ("flag", Call::Flag),
+    ("number", Call::Number),
+    ("text", Call::Text),
+    ("set-flag", Call::SetFlag),
+    ("set-number", Call::SetNumber),
+    ("set-text", Call::SetText),
+    ("source", Call::Source),
+    ("listed", Call::Listed),
+    ("notes", Call::Notes),
+    ("take-notes", Call::TakeNotes),
+    ("resolve", Call::Resolve),
+    ("resolver", Call::Resolver),
+    ("string", Call::String),
+    ("decimal", Call::Decimal),
+    ("padding", Call::Padding),
+    ("input", Call::Input),
+    ("input-of", Call::InputOf),
+    ("encode", Call::Encode),
+    ("file", Call::File),
+    ("decode", Call::Decode),
+    ("compile", Call::Compile),
+    ("list", Call::List),
+    ("changed", Call::Changed),
+    ("file-cuts", Call::FileCuts),
+    ("file-bytes", Call::FileBytes),
+    ("vars", Call::Vars),
+    ("program", Call::Program),
+    ("measure", Call::Measure),
+    ("read-program", Call::ReadProgram),
+    ("cuts", Call::Cuts),
+];
+
+fn call_of(calls: &[(&str, Call)], name: &[u8]) -> Option<Call> {
+    for (known, call) in calls {
+        if known.as_bytes() == name {
+            return Some(*call);
+        }
+    }
+    None
+}
+
+/// Makes the call that some words name.
+pub fn perform(
+    current: &mut Current,
+    words: &[Vec<u8>],
+    answer: &mut Answer,
+) -> Result<(), CheckFault> {
+    match call_of(&CALLS, text(words, 0)?) {
+        Some(call) => of_table(call, current, words, answer),
+        None => Err(CheckFault::Line("no such call")),
+    }
+}
+
+fn of_table(
+    call: Call,
+    current: &mut Current,
+    words: &[Vec<u8>],
+    answer: &mut Answer,
+) -> Result<(), CheckFault> {
+    match call {
+        Call::Find => table::find(current.alloc, words, answer),
+        Call::NameOf => table::give_name(words, answer),
+        Call::Table => table::names_from(words, answer),
+        Call::Named => table::count_named(words, answer),
+        Call::AreNames => table::are_good(words, answer),
+        Call::FirstName => table::first(words, answer),
+        _ => of_entry(call, current, words, answer),
+    }
+}
+
+fn of_entry(
+    call: Call,
+    current: &mut Current,
+    words: &[Vec<u8>],
+    answer: &mut Answer,
+) -> Result<(), CheckFault> {
+    match call {
+        Call::Entry => entries::make(current, words, answer),
+        Call::Shown => entries::show(current, answer),
+        Call::Names => answer.say(current.entry()?.names()),
+        Call::Unnamed => answer.say_number(current.entry()?.unnamed()),
+        Call::Print => entries::print(current, answer),
+        _ => of_slots(call, current, words, answer),
+    }
+}
+
+fn of_slots(
+    call: Call,
+    current: &mut Current,
+    words: &[Vec<u8>],
+    answer: &mut Answer,
+) -> Result<(), CheckFault> {
+    match call {
+        Call::Flag => entries::flag(current, words, answer),
+        Call::Number => entries::number(current, words, answer),
+        Call::Text => entries::give_text(current, words, answer),
+        Call::SetFlag => entries::set_flag(current, words, answer),
+        Call::SetNumber => entries::set_number(current, words, answer),
+        Call::SetText => entries::set_text(current, words, answer),
+        _ => of_sources(call, current, words, answer),
+    }
+}
+
+fn of_sources(
+    call: Call,
+    current: &mut Current,
+    words: &[Vec<u8>],
+    answer: &mut Answer,
+) -> Result<(), CheckFault> {
+    match call {
+        Call::Source => sources::read(current, words, answer),
+        Call::Listed => sources::list_names(current, answer),
+        Call::Notes => sources::notes(current, answer),
+        Call::TakeNotes => sources::take_notes(current, answer),
+        Call::Resolve => sources::resolve(current, words, answer),
+        Call::Resolver => sources::resolve_all(current, words, answer),
+        _ => of_meanings(call, current, words, answer),
+    }
+}
+
+fn of_meanings(
+    call: Call,
+    current: &mut Current,
+    words: &[Vec<u8>],
+    answer: &mut Answer,
+) -> Result<(), CheckFault> {
+    match call {
+        Call::String => sources::mean_string(current.alloc, words, answer),
+        Call::Decimal => sources::mean_number(current.alloc, words, answer),
+        Call::Padding => programs::strip(current.alloc, words, answer),
+        Call::Input => inputs::read_pieces(current.alloc, words, answer),
+        Call::InputOf => inputs::read_text(current.alloc, words, answer),
+        _ => of_files(call, current, words, answer),
+    }
+}
+
+fn of_files(
+    call: Call,
+    current: &mut Current,
+    words: &[Vec<u8>],
+    answer: &mut Answer,
+) -> Result<(), CheckFault> {
+    match call {
+        Call::Encode => files::encode(current, answer),
+        Call::File => files::take(current, words, answer),
+        Call::Decode => files::decode(current, answer),
+        Call::Compile => files::compile(current.alloc, words, answer),
+        Call::List => files::list(current, answer),
+        _ => of_changes(call, current, words, answer),
+    }
+}
+
+fn of_changes(
+    call: Call,
+    current: &mut Current,
+    words: &[Vec<u8>],
+    answer: &mut Answer,
+) -> Result<(), CheckFault> {
+    match call {
+        Call::Changed => changes::decode_changed(current, words, answer),
+        Call::FileCuts => changes::cut_everywhere(current, answer),
+        Call::FileBytes => changes::set_each(current, words, answer),
+        _ => of_programs(call, current, words, answer),
+    }
+}
+
+fn of_programs(
+    call: Call,
+    current: &mut Current,
+    words: &[Vec<u8>],
+    answer: &mut Answer,
+) -> Result<(), CheckFault> {
+    match call {
+        Call::Vars => programs::forget(current, answer),
+        Call::Program => programs::run(current, words, answer),
+        Call::Measure => programs::measure(current.alloc, words, answer),
+        Call::ReadProgram => programs::read(current.alloc, words, answer),
+        Call::Cuts => cuts::cut_all(current.alloc, words, answer),
+        _ => Err(CheckFault::Line("no such call")),
+    }
+}

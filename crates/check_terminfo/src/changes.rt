@@ -1,0 +1,104 @@
+//! The file with bytes changed, or cut short.
+
+use crate::again;
+use crate::answer::Answer;
+use crate::current::Current;
+use crate::fault::CheckFault;
+use crate::files::say_decoded;
+use crate::words::{size, small};
+use std::alloc::Global;
+use ti_binary::BinFault;
+use ti_caps::Bytes;
+
+// Sets a byte of a file.
+fn set(file: &mut Vec<u8>, place: usize, byte: u8) -> Result<(), CheckFault> {
+    match file.get_mut(place) {
+        Some(old) => {
+            *old = byte;
+            Ok(())
+        }
+        None => Err(CheckFault::Line("no such place in the file")),
+    }
+}
+
+fn byte(words: &[Vec<u8>], place: usize) -> Result<u8, CheckFault> {
+    match u8::try_from(small(words, place)?) {
+        Ok(byte) => Ok(byte),
+        Err(_) => Err(CheckFault::Line("no byte")),
+    }
+}
+
+/// `changed PLACE BYTE..`.
+pub fn decode_changed(
+    current: &mut Current,
+    words: &[Vec<u8>],
+    answer: &mut Answer,
+) -> Result<(), CheckFault> {
+    let mut file = Vec::from_slice(current.alloc, current.file.as_slice())?;
+    for pair in 0..words.len() / 2 {
+        let place = size(words, pair.saturating_mul(2).saturating_add(1))?;
+        let byte = byte(words, pair.saturating_mul(2).saturating_add(2))?;
+        set(&mut file, place, byte)?;
+    }
+    say_decoded(current, file.as_slice(), answer)
+}
+
+/// How many beginnings of the file there are, which are all truncated; or the length of the first that is not.
+pub fn cut_everywhere(current: &Current, answer: &mut Answer) -> Result<(), CheckFault> {
+    let file = current.file.as_slice();
+    for length in 0..file.len() {
+        if !is_truncated(current.alloc, file, length) {
+            answer.say(b"cut")?;
+            return answer.say_number(length);
+        }
+    }
+    answer.say_number(file.len())
+}
+
+fn is_truncated(alloc: Global, file: &[u8], length: usize) -> bool {
+    match file.get(..length) {
+        Some(cut) => again::decode(alloc, cut).err() == Some(BinFault::Truncated),
+        None => false,
+    }
+}
+
+/// Each byte in turn set to each of some: how many files that makes. What is read of one is written and read again.
+pub fn set_each(
+    current: &Current,
+    words: &[Vec<u8>],
+    answer: &mut Answer,
+) -> Result<(), CheckFault> {
+    let mut count = 0usize;
+    for at in 1..words.len() {
+        let byte = byte(words, at)?;
+        set_everywhere(current.alloc, current.file.as_slice(), byte)?;
+        count = count.saturating_add(current.file.len());
+    }
+    answer.say_number(count)
+}
+
+fn set_everywhere(alloc: Global, file: &[u8], byte: u8) -> Result<(), CheckFault> {
+    for place in 0..file.len() {
+        let mut changed = Vec::from_slice(alloc, file)?;
+        set(&mut changed, place, byte)?;
+        read_twice(alloc, changed.as_slice())?;
+    }
+    Ok(())
+}
+
+// The file that is written of what is read of bytes.
+fn written(alloc: Global, bytes: &[u8]) -> Option<Bytes> {
+    let (entry, _) = again::decode(alloc, bytes).ok()?;
+    again::encode(alloc, &entry).ok()
+}
+
+// What is read of bytes is written as a file, of which the same is read and written.
+fn read_twice(alloc: Global, bytes: &[u8]) -> Result<(), CheckFault> {
+    let Some(file) = written(alloc, bytes) else {
+        return Ok(());
+    };
+    match written(alloc, file.0.as_slice()) {
+        Some(again) if again.0 == file.0 => Ok(()),
+        _ => Err(CheckFault::Line("a file that is read is written in two ways")),
+    }
+}

@@ -1,0 +1,97 @@
+//! Calls about reading an input, of readers that fail.
+
+use crate::answer::Answer;
+use crate::fault::CheckFault;
+use crate::words::{size, text};
+use program_input::{InputFault, read_input};
+use std::alloc::Global;
+use std::io;
+use std::io::{ErrorKind, Read};
+
+/// Gives so many bytes a read, and answers one read with an error.
+#[derive(Clone, Copy)]
+struct Pieces {
+    left: usize,
+    each: usize,
+    /// How many reads come before the one that fails, and how it fails.
+    fault: Option<(usize, ErrorKind)>,
+}
+
+impl Read for Pieces {
+    fn read(&mut self, buffer: &mut [u8]) -> io::Result<usize> {
+        if let Some((before, kind)) = self.fault {
+            if before == 0 {
+                self.fault = None;
+                return Err(io::Error::from(kind));
+            }
+            self.fault = Some((before.saturating_sub(1), kind));
+        }
+        let count = self.left.min(self.each).min(buffer.len());
+        buffer[..count].fill(b'x');
+        self.left = self.left.saturating_sub(count);
+        Ok(count)
+    }
+}
+
+fn fault(words: &[Vec<u8>]) -> Result<Option<(usize, ErrorKind)>, CheckFault> {
+    if words.len() < 4 {
+        return Ok(None);
+    }
+    let before = size(words, 3)?;
+    match text(words, 4)? {
+        b"interrupted" => Ok(Some((before, ErrorKind::Interrupted))),
+        b"broken" => Ok(Some((before, ErrorKind::BrokenPipe))),
+        _ => Err(CheckFault::Line("no such fault")),
+    }
+}
+
+// Reads all that a reader gives, anew where memory was refused.
+fn read_again(alloc: Global, pieces: Pieces) -> Result<Vec<u8>, InputFault> {
+    let mut reader = pieces;
+    match read_input(alloc, &mut reader) {
+        Err(InputFault::NoMemory) => {
+            let mut reader = pieces;
+            read_input(alloc, &mut reader)
+        }
+        other => other,
+    }
+}
+
+/// `input COUNT EACH [BEFORE FAULT]`.
+pub fn read_pieces(
+    alloc: Global,
+    words: &[Vec<u8>],
+    answer: &mut Answer,
+) -> Result<(), CheckFault> {
+    let pieces = Pieces {
+        left: size(words, 1)?,
+        each: size(words, 2)?,
+        fault: fault(words)?,
+    };
+    match read_again(alloc, pieces) {
+        Ok(bytes) => {
+            if bytes.as_slice().iter().any(|byte| *byte != b'x') {
+                return Err(CheckFault::Line("other bytes are read"));
+            }
+            answer.say_number(bytes.len())
+        }
+        Err(fault) => answer.refused(&fault),
+    }
+}
+
+/// `input-of TEXT`.
+pub fn read_text(alloc: Global, words: &[Vec<u8>], answer: &mut Answer) -> Result<(), CheckFault> {
+    let text = text(words, 1)?;
+    let mut reader = text;
+    let read = match read_input(alloc, &mut reader) {
+        Err(InputFault::NoMemory) => {
+            let mut reader = text;
+            read_input(alloc, &mut reader)
+        }
+        other => other,
+    };
+    match read {
+        Ok(bytes) => answer.say(bytes.as_slice()),
+        Err(fault) => answer.refused(&fault),
+    }
+}

@@ -1,0 +1,120 @@
+//! Runs a script of calls of the terminfo libraries, and compares what each answers with what is wanted.
+//!
+//! The script is the standard input. A line is a call, ` = ` and the answer, as words between blanks:
+//!
+//!     find cols = Number 0
+//!     program "%?%p1%tA%eB%;" 0 = "B"
+//!     source "a,\n\tuse=b,\n" = 1
+//!     resolve a = refused "unknown name"
+//!
+//! Quoted parts of a word stand for bytes: `\n`, `\t`, `\e`, `\"`, `\\` and `\xHH`, and `"ab"*3` for `ababab`. A line
+//! that is empty or begins with `#` is passed over. Calls hold what later lines go on with: an entry, a source, a
+//! file, the static variables. `calls.rt` lists them all.
+//!
+//! Prints how many lines agree; else the first line that differs, with what was wanted and what came, and ends with
+//! status 1. A library call that wants memory is made once more, after a look at what it must not have changed; where
+//! the program itself wants memory it says `out of memory` on standard error, status 1.
+#![tactic(auto)]
+
+mod again;
+mod answer;
+mod calls;
+mod changes;
+mod current;
+mod cuts;
+mod dump;
+mod entries;
+mod fault;
+mod files;
+mod inputs;
+mod line;
+mod programs;
+mod sources;
+mod table;
+mod words;
+
+use answer::Answer;
+use current::Current;
+use fault::CheckFault;
+use line::Line;
+use program_input::{InputFault, read_input};
+use std::alloc::Global;
+use std::process::ExitCode;
+
+fn main(rt: HostRuntime) -> ExitCode {
+    match run(&rt) {
+        Ok(()) => ExitCode::from(0),
+        Err(fault) => {
+            let _ = eprintln!(rt; "{fault}");
+            ExitCode::from(1)
+        }
+    }
+}
+
+fn run(rt: &HostRuntime) -> Result<(), CheckFault> {
+    let script = match read_input(rt.alloc(), &mut rt.stdin()) {
+        Ok(script) => script,
+        Err(InputFault::NoMemory) => return Err(CheckFault::NoMemory),
+        Err(InputFault::Failed) => return Err(CheckFault::Line("the script cannot be read")),
+    };
+    let mut current = Current::new(rt.alloc());
+    let mut agreed = 0u32;
+    let mut number = 0u32;
+    for text in script.as_slice().split(|byte| *byte == b'\n') {
+        number = number.saturating_add(1);
+        if is_call(text) {
+            agree(rt, &mut current, number, text)?;
+            agreed = agreed.saturating_add(1);
+        }
+    }
+    match println!(rt; "{agreed} lines agree") {
+        Ok(()) => Ok(()),
+        Err(_) => Err(CheckFault::Output),
+    }
+}
+
+// Whether a line is neither empty nor a comment.
+fn is_call(text: &[u8]) -> bool {
+    match text.first() {
+        Some(first) => *first != b'#',
+        None => false,
+    }
+}
+
+// Makes the call of a line, and compares its answer.
+fn agree(
+    rt: &HostRuntime,
+    current: &mut Current,
+    number: u32,
+    text: &[u8],
+) -> Result<(), CheckFault> {
+    match difference(rt.alloc(), current, text) {
+        Ok(None) => Ok(()),
+        Ok(Some(difference)) => {
+            let _ = println!(rt; "line {number}: {difference}");
+            Err(CheckFault::Differs)
+        }
+        Err(CheckFault::Line(fault)) => {
+            let _ = println!(rt; "line {number}: {fault}");
+            Err(CheckFault::Differs)
+        }
+        Err(fault) => Err(fault),
+    }
+}
+
+// What was wanted and what came, where they are not the same.
+fn difference(
+    alloc: Global,
+    current: &mut Current,
+    text: &[u8],
+) -> Result<Option<String>, CheckFault> {
+    let line = Line::read(alloc, text)?;
+    let mut answer = Answer::new(alloc);
+    calls::perform(current, &line.call, &mut answer)?;
+    if answer.words == line.wanted {
+        return Ok(None);
+    }
+    let wanted = words::shown(alloc, &line.wanted)?;
+    let came = words::shown(alloc, &answer.words)?;
+    Ok(Some(format!(in alloc; "wanted {wanted}, came {came}")?))
+}

@@ -1,0 +1,99 @@
+//! Calls about parameter strings.
+
+use crate::again;
+use crate::answer::Answer;
+use crate::current::Current;
+use crate::fault::CheckFault;
+use crate::words::{signed, text};
+use std::alloc::Global;
+use ti_param::{Program, RunFault, Vars};
+
+/// What stands in the text before a program writes to it.
+const BEFORE: &[u8] = b"before ";
+
+/// `padding TEXT`.
+pub fn strip(alloc: Global, words: &[Vec<u8>], answer: &mut Answer) -> Result<(), CheckFault> {
+    match again::strip_padding(alloc, text(words, 1)?) {
+        Ok(text) => answer.say(text.as_slice()),
+        Err(fault) => answer.refused(&fault),
+    }
+}
+
+/// `vars`.
+pub fn forget(current: &mut Current, answer: &mut Answer) -> Result<(), CheckFault> {
+    current.vars = Vars::new();
+    answer.say(b"ok")
+}
+
+/// `read-program TEXT`.
+pub fn read(alloc: Global, words: &[Vec<u8>], answer: &mut Answer) -> Result<(), CheckFault> {
+    match again::read_program(alloc, text(words, 1)?) {
+        Ok(_) => answer.say(b"ok"),
+        Err(fault) => answer.refused(&fault),
+    }
+}
+
+/// `measure TEXT`.
+pub fn measure(alloc: Global, words: &[Vec<u8>], answer: &mut Answer) -> Result<(), CheckFault> {
+    match again::read_program(alloc, text(words, 1)?) {
+        Ok(program) => {
+            answer.say_number(program.bound())?;
+            answer.say_number(program.depth())
+        }
+        Err(fault) => answer.refused(&fault),
+    }
+}
+
+// The parameters behind a program's text; those that are missing are 0.
+fn params(words: &[Vec<u8>]) -> Result<[i32; 9], CheckFault> {
+    let mut params = [0; 9];
+    for (i, param) in params.iter_mut().enumerate() {
+        let place = i.saturating_add(2);
+        if place < words.len() {
+            *param = signed(words, place)?;
+        }
+    }
+    Ok(params)
+}
+
+/// `program TEXT PARAMETER..`.
+pub fn run(
+    current: &mut Current,
+    words: &[Vec<u8>],
+    answer: &mut Answer,
+) -> Result<(), CheckFault> {
+    let params = params(words)?;
+    match again::read_program(current.alloc, text(words, 1)?) {
+        Ok(program) => write(current, &program, params, answer),
+        Err(fault) => answer.refused(&fault),
+    }
+}
+
+// Runs a program behind a text, which stays; it writes as many bytes as `length` says, and `bound` at most.
+fn write(
+    current: &mut Current,
+    program: &Program,
+    params: [i32; 9],
+    answer: &mut Answer,
+) -> Result<(), CheckFault> {
+    let mut out = Vec::from_slice(current.alloc, BEFORE)?;
+    let length = program.length(params, &current.vars);
+    let ran = again::run_program(program, params, &mut current.vars, &mut out)?;
+    match ran {
+        Ok(()) => {
+            let Some(written) = out.as_slice().strip_prefix(BEFORE) else {
+                return Err(CheckFault::Line("a run changes what stood before it"));
+            };
+            if length != Ok(written.len()) || written.len() > program.bound() {
+                return Err(CheckFault::Line("length or bound is wrong"));
+            }
+            answer.say(written)
+        }
+        Err(fault) => {
+            if length != Err(RunFault::StackFull) || program.depth() <= 20 {
+                return Err(CheckFault::Line("length or depth is wrong"));
+            }
+            answer.refused(&fault)
+        }
+    }
+}

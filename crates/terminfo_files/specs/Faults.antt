@@ -1,0 +1,29 @@
+-- Faults of the layers below as faults of the compiler: want of memory is always NoMemory.
+use Rattle.std.specs.Prelude.{◌≡◌}
+use Rattle.ti_binary.specs.declared.encoder.EncFault.{EncFault}
+use Rattle.ti_binary.specs.declared.encoder.EncFault.TheVariants as encoding
+use Rattle.ti_binary.specs.declared.faults.BinFault.{BinFault}
+use Rattle.ti_binary.specs.declared.faults.BinFault.TheVariants as decoding
+use Rattle.ti_source.specs.declared.fault.SourceFault.{SourceFault}
+use Rattle.ti_source.specs.declared.fault.SourceFault.TheVariants as source
+use Rattle.terminfo_files.specs.declared.fault.TicFault.{TicFault}
+use Rattle.terminfo_files.specs.declared.fault.TicFault.TheVariants.{Source, Encode, Decode, NoMemory}
+
+abbrev pub of_source : SourceFault → TicFault
+of_source source.NoMemory = NoMemory
+of_source fault = Source fault
+
+abbrev pub of_encoding : EncFault → TicFault
+of_encoding encoding.NoMemory = NoMemory
+of_encoding fault = Encode fault
+
+abbrev pub of_decoding : BinFault → TicFault
+of_decoding decoding.NoMemory = NoMemory
+of_decoding fault = Decode fault
+
+-- no fault but NoMemory speaks of want of memory
+abbrev pub IsPlain : TicFault → Type 0
+IsPlain (Source fault) = fault ≡ source.NoMemory → ⊥
+IsPlain (Encode fault) = fault ≡ encoding.NoMemory → ⊥
+IsPlain (Decode fault) = fault ≡ decoding.NoMemory → ⊥
+IsPlain _ = Unit {0}

@@ -1,0 +1,13 @@
+-- What is compiled of some entries.
+use Rattle.std.specs.Prelude.{List, [], ◌∷◌, ◌++◌, map}
+use Rattle.std.specs.List.{flat_map}
+use Rattle.ti_caps.specs.Description.{Description}
+use Rattle.terminfo_files.specs.declared.written.Written.{Written}
+use Rattle.terminfo_files.specs.Compiling.{files_of, size_of}
+
+-- the files and sizes of these, and with those of one more
+abbrev pub written_of : List Description → Written
+written_of ds = record { files = flat_map files_of ds; sizes = map size_of ds }
+
+abbrev pub with_entry : Description → Written → Written
+with_entry d written = record { files = written.files ++ files_of d; sizes = written.sizes ++ size_of d ∷ [] }

@@ -1,0 +1,66 @@
+//! The names and paths of compiled files (term(5), 'Storage Location').
+
+ghost use Rattle.std.specs.Prelude.{◌≡◌, IfOk, map};
+ghost use Rattle.std.specs.List.{list_all, list_any};
+ghost use Rattle.ti_caps.specs.Names.{has_no_blank, reference_names};
+ghost use Rattle.terminfo_files.specs.FileNames.{is_dots, is_file_name, is_slash, path_of};
+
+use std::alloc::{AllocError, Global};
+use ti_caps::Bytes;
+
+fn has_no_blank(name: &[u8]) -> bool
+    ensures { result ≡ has_no_blank name.now }
+{
+    name.iter().all(|b| *b != b' ')
+}
+
+/// The alternatives without a blank, in their order.
+pub(crate) fn reference_names(alloc: Global, names: &[u8]) -> Result<Vec<&[u8]>, AllocError>
+    ensures { IfOk result (λ found. map (λ name. name.now) found.items ≡ reference_names names.now) }
+{
+    names
+        .split(|b| *b == b'|')
+        .filter(|name| has_no_blank(name))
+        .collect(alloc)
+}
+
+fn has_slash(name: &[u8]) -> bool
+    ensures { result ≡ list_any is_slash name.now }
+{
+    name.iter().any(|b| *b == b'/')
+}
+
+fn is_dots(name: &[u8]) -> bool
+    ensures { result ≡ is_dots name.now }
+{
+    matches!(name, [b'.'] | [b'.', b'.'])
+}
+
+/// Whether a file can have this name: no `/` is in it, and it is neither `.` nor `..`.
+pub(crate) fn is_file_name(name: &[u8]) -> bool
+    ensures { result ≡ is_file_name name.now }
+{
+    !has_slash(name) && !is_dots(name)
+}
+
+/// Whether files can have all these names.
+pub(crate) fn are_file_names(names: &[&[u8]]) -> bool
+    ensures { result ≡ list_all is_file_name (map (λ name. name.now) names.now) }
+{
+    for name in names {
+        if !is_file_name(name) {
+            return false;
+        }
+    }
+    true
+}
+
+/// The path of a name's file: `t1` has `t/t1`.
+pub(crate) fn path_of(alloc: Global, name: &[u8]) -> Result<Bytes, AllocError>
+    ensures { IfOk result (λ path. path ≡ path_of name.now) }
+{
+    let mut path = Vec::from_slice(alloc, &name[..name.len().min(1)])?;
+    path.push(b'/')?;
+    path.extend_from_slice(name)?;
+    Ok(Bytes(path))
+}

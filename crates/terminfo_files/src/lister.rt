@@ -1,0 +1,46 @@
+//! Listing a compiled file (tic(1), infocmp(1)).
+
+ghost use Rattle.std.specs.Prelude.{◌≡◌, ◌⊎◌, IfErr, IfOk, IsOkUnless, None, Some};
+ghost use Rattle.ti_binary.specs.declared.faults.BinFault.{BinFault};
+ghost use Rattle.ti_binary.specs.Files.{Reads, refusal};
+ghost use Rattle.ti_caps.specs.Description.{Description, unnamed_count};
+ghost use Rattle.ti_source.specs.Print.{printed};
+ghost use Rattle.ti_source.specs.ReadBack.{ReadsBack};
+ghost use Rattle.terminfo_files.specs.Faults.{IsPlain};
+
+use crate::fault::TicFault;
+use std::alloc::Global;
+use ti_binary::decode;
+use ti_caps::Bytes;
+use ti_source::print;
+
+/// A compiled file as source text, and what of it is not in the text.
+#[derive(Debug, Drop)]
+pub struct Listing {
+    /// The source text of the file's entry.
+    pub text: Bytes,
+    /// How many present capabilities have no name and are left out.
+    pub unnamed: usize,
+    /// How many bytes stand after the string table.
+    pub skipped: usize,
+}
+
+/// Lists a compiled file: the source text of its entry, how many of its capabilities have no name and
+/// are left out, and how many bytes follow its string table (term(5), 'Legacy Storage Format'). The text
+/// is a source of one entry, which resolves to the file's without its unnamed capabilities.
+///
+/// `Decode` with the first reason for which the bytes are no file; `NoMemory` where memory runs out.
+pub fn list(alloc: Global, bytes: &[u8]) -> Result<Listing, TicFault>
+    ensures ok { IfOk result (λ l. (d : Description) × Reads bytes.now d l.skipped × (l.text ≡ printed d) × (l.unnamed ≡ unnamed_count d) × ReadsBack d) }
+    ensures err { IfErr result (λ f. (f ≡ TicFault.NoMemory) ⊎ ((b : BinFault) × (refusal bytes.now ≡ Some b) × (f ≡ TicFault.Decode b))) }
+    ensures good { refusal bytes.now ≡ None → IsOkUnless result TicFault.NoMemory }
+    ensures plain { IfErr result IsPlain }
+{
+    let (entry, skipped) = decode(alloc, bytes)?;
+    let printed = print(alloc, &entry)?;
+    Ok(Listing {
+        text: printed.text,
+        unnamed: printed.unnamed,
+        skipped,
+    })
+}

@@ -1,0 +1,106 @@
+//! The compiled files of entries (term(5)).
+
+ghost use Rattle.std.specs.Prelude.{◌≡◌, ◌⊎◌, ◌∷◌, ◌++◌, [], IfErr, IfOk, OnOk, None, Some, map};
+ghost use Rattle.ti_binary.specs.Canonical.{canonical};
+ghost use Rattle.ti_caps.specs.Names.{first_name};
+ghost use Rattle.terminfo_files.specs.Compiling.{encoding_refusal, files_under, refusal_of};
+ghost use Rattle.terminfo_files.specs.Faults.{IsPlain};
+ghost use Rattle.terminfo_files.specs.Progress.{with_entry};
+
+use crate::fault::TicFault;
+use crate::file_names::{are_file_names, path_of, reference_names};
+use std::alloc::{AllocError, Global};
+use std::marker::Model;
+use ti_binary::encode;
+use ti_caps::{Bytes, Entry, first_name};
+
+/// Compiled files, each by its path below a folder and its bytes.
+#[derive(Debug, Drop)]
+pub struct Files(pub Vec<(Bytes, Bytes)>);
+
+impl Model for Files {
+    ghost use Rattle.std.specs.Prelude.{List, ℕ};
+
+    ghost Value = { List (List ℕ × List ℕ) };
+
+    ghost view = { λ f. f.0.items };
+}
+
+/// First reference names of entries, each with the size of its compiled file in bytes.
+#[derive(Debug, Drop)]
+pub struct Sizes(pub Vec<(Bytes, usize)>);
+
+impl Model for Sizes {
+    ghost use Rattle.std.specs.Prelude.{List, ℕ};
+
+    ghost Value = { List (List ℕ × ℕ) };
+
+    ghost view = { λ s. s.0.items };
+}
+
+/// The files and sizes of some entries.
+#[derive(Debug, Drop)]
+pub(crate) struct Written {
+    pub(crate) files: Files,
+    pub(crate) sizes: Sizes,
+}
+
+// The compiled file of an entry.
+fn file_of(alloc: Global, entry: &Entry) -> Result<Bytes, TicFault>
+    ensures ok { IfOk result (λ bytes. (encoding_refusal entry.now ≡ None) × (bytes ≡ canonical entry.now)) }
+    ensures err { IfErr result (λ f. (f ≡ TicFault.NoMemory) ⊎ (encoding_refusal entry.now ≡ Some f)) }
+    ensures plain { IfErr result IsPlain }
+{
+    Ok(encode(alloc, entry)?)
+}
+
+fn put_files(
+    alloc: Global,
+    names: &[&[u8]],
+    bytes: &[u8],
+    files: &mut Files,
+) -> Result<(), AllocError>
+    ensures { OnOk result (files.new ≡ files.old ++ files_under (map (λ name. name.now) names.now) bytes.now) }
+{
+    for name in names {
+        let path = path_of(alloc, name)?;
+        let copy = Bytes(Vec::from_slice(alloc, bytes)?);
+        files.0.push((path, copy))?;
+    }
+    Ok(())
+}
+
+fn put_size(alloc: Global, names: &[u8], size: usize, sizes: &mut Sizes) -> Result<(), AllocError>
+    ensures { OnOk result (sizes.new ≡ sizes.old ++ (first_name names.now, size) ∷ []) }
+{
+    let name = Bytes(Vec::from_slice(alloc, first_name(names))?);
+    sizes.0.push((name, size))?;
+    Ok(())
+}
+
+impl Written {
+    pub(crate) fn new(alloc: Global) -> Written
+        ensures { result ≡ record { files = []; sizes = [] } }
+    {
+        Written {
+            files: Files(Vec::new(alloc)),
+            sizes: Sizes(Vec::new(alloc)),
+        }
+    }
+
+    /// Adds the files and the size of an entry.
+    pub(crate) fn put(&mut self, alloc: Global, entry: &Entry) -> Result<(), TicFault>
+        ensures ok { OnOk result ((refusal_of entry.now ≡ None) × (self.new ≡ with_entry entry.now self.old)) }
+        ensures err { IfErr result (λ f. (f ≡ TicFault.NoMemory) ⊎ (refusal_of entry.now ≡ Some f)) }
+        ensures plain { IfErr result IsPlain }
+    {
+        let bytes = file_of(alloc, entry)?;
+        let names = reference_names(alloc, entry.names())?;
+        if !are_file_names(&names) {
+            return Err(TicFault::BadFileName);
+        }
+        put_files(alloc, &names, bytes.0.as_slice(), &mut self.files)?;
+        put_size(alloc, entry.names(), bytes.0.len(), &mut self.sizes)?;
+        Ok(())
+    }
+}

@@ -1,5 +1,0 @@
-use Rattle.tic.proofs.OnceLaws.{good-answer}
-use Rattle.tic.proofs.compiler.compile.Goals as goal
-
-pub returns-clause-good : goal.returns-clause-good
-returns-clause-good c = good-answer c.args.source.now _ c.compiled_by.ensures.err

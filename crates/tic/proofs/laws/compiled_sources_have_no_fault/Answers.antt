@@ -1,5 +1,0 @@
-use Rattle.tic.proofs.OnceLaws.{compiled-or-faulty}
-use Rattle.tic.proofs.laws.compiled_sources_have_no_fault.Goals as goal
-
-pub returns : goal.returns
-returns c = compiled-or-faulty
