@@ -1,3 +1,4 @@
+//! The one way in which these types refuse a call.
 use std::alloc::{AllocError, AllocFailed};
 use thiserror::Error;
 

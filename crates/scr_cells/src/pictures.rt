@@ -1,3 +1,4 @@
+//! Pictures: what a screen is to show.
 ghost use Rattle.std.specs.Prelude.{◌≡◌, ◌<◌, length, IfOk, IfSome};
 ghost use Rattle.std.specs.Option.{ForSome};
 ghost use Rattle.scr_cells.specs.PictureViews.{IsPicture, IsPlace, blank_picture, grid_row, grid_with};

@@ -1,3 +1,4 @@
+//! Sizes of screens.
 ghost use Rattle.std.specs.Prelude.{◌↔◌, IsSome, IfSome, ◌≡◌, ◌≤◌};
 ghost use Rattle.scr_cells.specs.PictureViews.{IsSize};
 

@@ -69,7 +69,7 @@ bordered rows columns border at r c =
 abbrev pub over : CellView → CellView → CellView
 over cell under = if cell.byte == 32 then under else cell
 
--- with overlay so, and else always: copywin()
+-- a cell laid over another: with overlay a blank leaves it, and without overlay no cell does: copywin()
 abbrev pub laid : Bool → CellView → CellView → CellView
 laid overlay cell under = if overlay then over cell under else cell
 
