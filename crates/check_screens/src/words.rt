@@ -26,11 +26,6 @@ impl<'a> Words<'a> {
         word
     }
 
-    /// What is left of the line.
-    pub fn rest(&self) -> &'a [u8] {
-        self.rest
-    }
-
     /// The next word as a number with a sign.
     pub fn integer(&mut self) -> Result<i64, Trouble> {
         integer(self.next())
