@@ -1,9 +1,6 @@
 //! Reads or runs one parameter string again and again, so that the instructions of one time can be counted:
 //! `bench_param read|run cup|sgr COUNT` prints how many bytes the runs wrote, or the bounds of what was read added up.
-//! `bench_param refuse` runs some texts once, calls anew what memory was refused to, and prints what they wrote.
 #![tactic(auto)]
-
-mod refusals;
 
 use anyhow::{Context, Result, anyhow, bail};
 use std::alloc::Global;
@@ -54,10 +51,7 @@ fn measure(alloc: Global, action: &str, name: &str, count: u32) -> Result<usize>
 fn main(rt: HostRuntime) -> Result<()> {
     let mut words = env::args(&rt)?;
     let _program = words.next();
-    let action = words.next().ok_or_else(|| anyhow!("read, run or refuse"))?;
-    if action.as_str() == "refuse" {
-        return refusals::rehearse(&rt);
-    }
+    let action = words.next().ok_or_else(|| anyhow!("read or run"))?;
     let name = words.next().ok_or_else(|| anyhow!("cup or sgr"))?;
     let count = words.next().ok_or_else(|| anyhow!("how often"))?;
     let count = count.as_str().parse::<u32>().context("how often")?;
