@@ -1,11 +1,12 @@
 -- One row of a surface changed, and changes that are made of such rows.
-use Rattle.std.proofs.Common.{[], drop, map, take, ◌≡◌, ◌≢◌, ◌⊎◌, inl, inr, ℕ, ◌+◌, ◌-◌, ◌<◌, ◌≤◌, sym, subst, ◌∙◌, ap, refl, arith, List, length, get_or, cond, ltb, leb, ◌==◌, ◌&&◌, false}
+use Rattle.std.specs.Prelude.{slice_set}
+use Rattle.std.proofs.Common.{[], ◌∷◌, ◌++◌, zero, suc, drop, map, take, ◌≡◌, ◌≢◌, ◌⊎◌, inl, inr, ℕ, ◌+◌, ◌-◌, ◌<◌, ◌≤◌, sym, subst, ◌∙◌, ap, refl, arith, List, length, get_or, cond, ltb, leb, ◌==◌, ◌&&◌, false}
 use Rattle.std.specs.List.{enumerate_from, range_with_len}
 use Rattle.std.proofs.lemmas.List.{get_or-drop, get_or-map, get_or-take, length-drop, length-map, length-take-le, same_lists}
 use Rattle.std.proofs.lemmas.List.FromFn.{get_or-enumerate_from, get_or-map-range_with_len, length-enumerate_from, length-map-range_with_len}
 use Rattle.std.proofs.lemmas.Bool.Decides.{nat_tests}
 use Rattle.scr_cells.specs.CellViews.{CellView, blank_cell}
-use Rattle.scr_cells.specs.Grids.{GridLaws, GridView, IsGrid, changed_run, grid_at, grid_of, grid_row, grid_with_run, is_in_run}
+use Rattle.scr_cells.specs.Grids.{GridLaws, GridView, IsGrid, changed_run, grid_at, grid_of, grid_row, grid_with, grid_with_run, is_in_run, line_with_run}
 use Rattle.scr_surfaces.specs.declared.areas.Area.{Area}
 use Rattle.scr_surfaces.specs.SurfaceViews.{SurfaceView, IsSurface, IsSurfaceSize, IsPart, cell_of, is_inside, inside_at}
 use Rattle.scr_surfaces.specs.Code.Steps.{RunIs, Changes}
@@ -182,3 +183,20 @@ then_run old mid new area f g row from end value part h run row_in end_in is = r
 pub unchanged : (old : SurfaceView) (area : Area) (f : (ℕ → ℕ → CellView) → ℕ → ℕ → CellView) → IsSurface old
     → ((r c : ℕ) → r < area.rows → c < area.columns → inside_at old area r c ≡ f (inside_at old area) r c) → Changes old old area f
 unchanged old area f surface h = record { same_rows = refl; same_columns = refl; surface = surface; inside = h; outside = λ r c b k t. refl }
+
+-- one place of a row changed is a run of one element put there
+set_is_run : {A : Type 0} (xs : List A) (k : ℕ) (x : A) → k < length xs → slice_set xs k x ≡ line_with_run xs k (x ∷ [])
+set_is_run [] k x h = absurd (omega (arith, h))
+set_is_run (y ∷ ys) zero x h = refl
+set_is_run {A} (y ∷ ys) (suc k) x h =
+    let one : List A = x ∷ [] in
+    let e : suc (k + length one) ≡ suc k + length one = omega arith in
+    let rest : y ∷ slice_set ys k x ≡ y ∷ (take k ys ++ one ++ drop (k + length one) ys) = ap (λ zs. y ∷ zs) (set_is_run ys k x (omega (arith, h))) in
+    let last : y ∷ (take k ys ++ one ++ drop (suc (k + length one)) (y ∷ ys)) ≡ y ∷ (take k ys ++ one ++ drop (suc k + length one) (y ∷ ys)) = ap (λ n. y ∷ (take k ys ++ one ++ drop n (y ∷ ys))) e in
+    rest ∙ last
+
+pub put_is_run : GridLaws CellView → (g : GridView CellView) (row column : ℕ) (cell : CellView) → IsSurface (surface_of g) → row < g.rows → column < g.columns → grid_with g.lines row column cell ≡ grid_with_run g.lines row column (cell ∷ [])
+put_is_run laws g row column cell surface h k =
+    let P : List (List CellView) → Type 0 = λ lines. IsGrid g.rows g.columns lines in
+    let grid : IsGrid g.rows g.columns g.lines = subst P (sym surface.whole) (laws.sized g.rows g.columns (cell_of (surface_of g))) in
+    ap (slice_set g.lines row) (set_is_run (grid_row g.lines row) column cell (omega (arith, grid.wide row h, k)))

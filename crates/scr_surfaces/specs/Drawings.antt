@@ -1,9 +1,9 @@
 -- What a drawing does: the cell of each place of the area after it, from the cells of the area before.
-use Rattle.std.specs.Prelude.{ℕ, ◌+◌, ◌<◌, ◌≤◌}
+use Rattle.std.specs.Prelude.{ℕ, ◌<◌, ◌≤◌}
 use Rattle.scr_cells.specs.CellViews.{CellView}
 use Rattle.scr_surfaces.specs.declared.drawings.Drawing.{Drawing}
 use Rattle.scr_surfaces.specs.declared.drawings.Drawing.TheVariants.{Run, Rows, Below, Column, Opened, Closed, Up, Down, Exchanged, Edges}
-use Rattle.scr_surfaces.specs.Formulas.{all_exchanged, below_put, block_at, bordered, column_put, part_laid, part_of, row_closed, row_opened, rows_down, rows_put, rows_up, run_put}
+use Rattle.scr_surfaces.specs.Formulas.{all_exchanged, below_put, bordered, column_put, row_closed, row_opened, rows_down, rows_put, rows_up, run_put}
 
 -- in an area of so many rows and columns
 abbrev pub drawn : Drawing → ℕ → ℕ → (ℕ → ℕ → CellView) → ℕ → ℕ → CellView

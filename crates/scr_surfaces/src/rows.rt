@@ -21,6 +21,16 @@ impl Surface {
         self.grid.fill(row, from, end, cell);
     }
 
+    // The cell in one place.
+    pub(crate) fn put_place(&mut self, row: u32, column: u32, cell: Cell)
+        requires row { row < self.old.rows }
+        requires column { column < self.old.columns }
+        ensures { RunIs self.old self.new row column (column + 1) (λ c. cell) }
+    {
+        grid_laws::<Cell>();
+        self.grid.put(row, column, cell);
+    }
+
     // A new background in place of an old one in columns `from..end` of a row.
     pub(crate) fn exchange_row(&mut self, row: u32, from: u32, end: u32, old: Cell, new: Cell)
         requires row { row < self.old.rows }

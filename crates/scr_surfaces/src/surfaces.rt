@@ -3,6 +3,7 @@ ghost use Rattle.std.specs.Prelude.{◌≡◌, ◌+◌, ◌<◌, length, map, If
 ghost use Rattle.std.specs.List.{range_with_len};
 ghost use Rattle.scr_surfaces.specs.SurfaceViews.{IsPart, IsSurface, IsSurfaceSize, blank_surface, filled, inside_at};
 ghost use Rattle.scr_surfaces.specs.Drawings.{IsFitting, drawn};
+ghost use Rattle.scr_surfaces.specs.Formulas.{run_put};
 
 use crate::areas::Area;
 use crate::drawings::Drawing;
@@ -56,6 +57,19 @@ impl Surface {
         grid_laws::<Cell>();
         self.grid
             .part(area.top + row, area.left, area.left + area.columns)
+    }
+
+    /// Puts a cell in one place of an area. Every other place stays. This is a drawing too, of a run of one place; it is a call of its
+    /// own since text is added so.
+    pub fn put(&mut self, area: Area, row: u32, column: u32, cell: Cell)
+        requires part { IsPart self.old area }
+        requires row { row < area.rows }
+        requires column { column < area.columns }
+        ensures { self.new ≡ filled self.old area (run_put row column (column + 1) cell (inside_at self.old area)) }
+    {
+        // The drawings are proved from what holds of every surface.
+        let _ = self.size();
+        self.put_place(area.top + row, area.left + column, cell);
     }
 
     /// Draws in an area. Every place outside the area stays.

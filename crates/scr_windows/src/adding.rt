@@ -185,17 +185,9 @@ impl Desk {
     {
         let pen = self.pen_at(place);
         let (row, column) = pen.state.cursor;
-        let end = column + 1;
         let cell = written(byte, attrs, pen.state);
-        self.draw(
-            place,
-            &Drawing::Run {
-                row,
-                from: column,
-                end,
-                cell,
-            },
-        );
+        self.put(place, row, column, cell);
+        let end = column + 1;
         if end < pen.area.columns {
             self.go_to(place, row, end)
         } else {

@@ -3,11 +3,13 @@
 //! What each drawing does is a matter of `scr_surfaces`.
 ghost use Rattle.std.specs.Prelude.{◌≡◌, ◌+◌, ◌<◌, ◌≤◌, length};
 ghost use Rattle.scr_surfaces.specs.Drawings.{IsFitting, drawn};
+ghost use Rattle.scr_surfaces.specs.Formulas.{run_put};
 ghost use Rattle.scr_windows.specs.DeskViews.{window_at};
 ghost use Rattle.scr_windows.specs.Calls.{IsKept, lines_drawn, write};
 
 use crate::desks::Desk;
 use crate::sheets::index_of_sheet;
+use scr_cells::Cell;
 use scr_surfaces::{Drawing, surface_laws};
 
 impl Desk {
@@ -25,6 +27,24 @@ impl Desk {
         let sheet = index_of_sheet(&self.surfaces, frame.surface);
         surface_laws();
         self.surfaces[sheet].surface.draw(frame.area, drawing);
+    }
+
+    // Puts a cell in one place of the window at a place, and touches the line.
+    pub(crate) fn put(&mut self, place: usize, row: u32, column: u32, cell: Cell)
+        requires here { place < length self.old.windows }
+        requires row { row < (window_at self.old place).frame.area.rows }
+        requires column { column < (window_at self.old place).frame.area.columns }
+        ensures put { self.new ≡ write self.old place row (row + 1) (run_put row column (column + 1) cell) }
+        ensures kept { IsKept self.old self.new place }
+    {
+        let window = &mut self.windows[place];
+        let frame = window.frame();
+        window.touch_line(row);
+        let sheet = index_of_sheet(&self.surfaces, frame.surface);
+        surface_laws();
+        self.surfaces[sheet]
+            .surface
+            .put(frame.area, row, column, cell);
     }
 }
 
