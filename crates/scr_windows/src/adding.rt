@@ -1,3 +1,6 @@
+//! Calls that add bytes: a byte, a text, an inserted byte, and lines of one byte.
+//!
+//! The definitions are in `specs/Adding.antt`; what is drawn of them is a matter of `scr_surfaces`.
 ghost use Rattle.std.specs.Prelude.{◌≡◌, ◌+◌, ◌<◌, ◌≤◌, ◌⊎◌, length, leb, false};
 ghost use Rattle.std.specs.List.{list_any};
 ghost use Rattle.scr_windows.specs.DeskViews.{window_at, no_attributes};

@@ -1,3 +1,4 @@
+//! The call that draws a border. The definition is in `specs/Borders.antt`.
 ghost use Rattle.std.specs.Prelude.{◌≡◌, ◌<◌, length, slice_index_or, true};
 ghost use Rattle.std.specs.List.{list_all};
 ghost use Rattle.scr_cells.specs.CellViews.{is_character};

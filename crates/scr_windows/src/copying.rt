@@ -1,3 +1,4 @@
+//! Calls that copy cells from one window to another. The definitions are in `specs/Copying.antt`.
 ghost use Rattle.std.specs.Prelude.{◌≡◌, ◌+◌, ◌*◌, ◌<◌, ◌≤◌, length, true, false, MatchResult, Ok};
 ghost use Rattle.scr_surfaces.specs.SurfaceViews.{inside_at};
 ghost use Rattle.scr_surfaces.specs.Formulas.{block_at, part_laid, part_of};

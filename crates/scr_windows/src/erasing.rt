@@ -1,3 +1,4 @@
+//! Calls that erase. The definitions are in `specs/Erasing.antt`.
 ghost use Rattle.std.specs.Prelude.{◌≡◌};
 ghost use Rattle.scr_windows.specs.Erasing.{clear_to_eol_call, clear_to_bottom_call, erase_call, clear_call};
 

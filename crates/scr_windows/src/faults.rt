@@ -1,3 +1,4 @@
+//! What calls answer: a window's number, whether a cursor went on, and why a call was refused, in the order of refusals.
 use std::alloc::{AllocError, AllocFailed};
 use thiserror::Error;
 

@@ -1,3 +1,4 @@
+//! What is known of a window: its frame, which no drawing changes, and what the calls set in it.
 use scr_cells::{Attrs, Cell};
 use scr_surfaces::Area;
 

@@ -1,3 +1,4 @@
+//! Calls that make a desk, windows with cells of their own, and pads. The definitions are in `specs/Making.antt`.
 ghost use Rattle.std.specs.Prelude.{◌≡◌, MatchResult};
 ghost use Rattle.scr_windows.specs.declared.faults.WinFault.TheVariants.{NoMemory};
 ghost use Rattle.scr_cells.specs.PictureViews.{IsSize};

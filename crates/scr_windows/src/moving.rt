@@ -1,3 +1,4 @@
+//! Calls that move a window on the screen, or a subwindow in its parent. The definitions are in `specs/Moving.antt`.
 ghost use Rattle.std.specs.Prelude.{◌≡◌, ◌+◌, ◌-◌, ◌<◌, ◌≤◌, All, MatchOption, length, leb, map};
 ghost use Rattle.scr_windows.specs.DeskViews.{WindowView, window_at};
 ghost use Rattle.scr_windows.specs.Moving.{IsNear, IsNearFrame, IsNearShift, IsShift, area_shifted, descends, family_frame, family_shifted, link_of, move_derived_call, move_window_call, moved, origin_shifted, place_shifted, shifted, with_family_shifted};

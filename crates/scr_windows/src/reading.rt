@@ -1,3 +1,4 @@
+//! Calls that read: sizes, cells, cursors, touched lines, and a window lent whole. The definitions are in `specs/Reading.antt`.
 ghost use Rattle.std.specs.Prelude.{◌≡◌, ◌<◌, ◌≤◌, length, MatchResult};
 ghost use Rattle.scr_windows.specs.DeskViews.{IsDesk, window_at};
 ghost use Rattle.scr_windows.specs.Reading.{cell_at_answer, cursor_answer, size_answer, origin_answer, line_touched_answer, window_touched_answer, row_answer, row_at, nth_answer, window_answer, contents};

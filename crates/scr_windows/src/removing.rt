@@ -1,3 +1,4 @@
+//! The call that deletes a window. The definition is in `specs/Removing.antt`.
 ghost use Rattle.std.specs.Prelude.{◌≡◌, false};
 ghost use Rattle.scr_windows.specs.Removing.{is_number, has_children, deleted, delete_call};
 

@@ -1,3 +1,5 @@
+//! Calls that move what stands in a line, or lines: deleting a byte, inserting and deleting lines, scrolling. The definitions are in
+//! `specs/Erasing.antt`.
 ghost use Rattle.std.specs.Prelude.{◌≡◌};
 ghost use Rattle.scr_windows.specs.Erasing.{delete_byte_call, insert_delete_lines_call, scroll_call};
 

@@ -1,3 +1,5 @@
+//! Calls that set something in a window: cursor, region, attributes, background, settings. The definitions are in
+//! `specs/Settings.antt`.
 ghost use Rattle.std.specs.Prelude.{◌≡◌};
 ghost use Rattle.scr_windows.specs.Settings.{move_cursor_call, set_region_call, scroll_ok_call, clear_ok_call, leave_ok_call, attr_on_call, attr_off_call, attr_set_call, set_background_call, change_background_call};
 

@@ -1,3 +1,4 @@
+//! Calls that make subwindows. The definitions are in `specs/Making.antt`.
 ghost use Rattle.std.specs.Prelude.{◌≡◌, ◌+◌, ◌<◌, ◌≤◌, length};
 ghost use Rattle.scr_windows.specs.DeskViews.{window_at};
 ghost use Rattle.scr_windows.specs.Making.{Allocated, IsChildPlace, part_of, child_made, derived, derive_call, sub_call, sub_pad_call};

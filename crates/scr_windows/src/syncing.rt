@@ -1,3 +1,4 @@
+//! Calls that touch lines of windows that share cells. The definitions are in `specs/Syncing.antt`.
 ghost use Rattle.std.specs.Prelude.{◌≡◌, ◌≢◌, ◌<◌, length, MatchOption};
 ghost use Rattle.scr_windows.specs.DeskViews.{IsDesk, window_at};
 ghost use Rattle.scr_windows.specs.Calls.{with_window};

@@ -1,3 +1,4 @@
+//! Calls that touch lines, make them untouched, or take them for an update. The definitions are in `specs/Touching.antt`.
 ghost use Rattle.std.specs.Prelude.{◌≡◌, true, false};
 ghost use Rattle.scr_windows.specs.Touching.{take_lines_call, touch_all_call, touch_lines_call};
 

@@ -1,3 +1,4 @@
+//! A window: its frame, its state and a mark for each line; and the search for the window of a number.
 ghost use Rattle.std.specs.Prelude.{◌≡◌, ◌+◌, ◌<◌, ◌==◌, true, false, length, slice_index_or, MatchResult, ◌≤◌};
 ghost use Rattle.std.specs.List.{list_any, position};
 ghost use Rattle.scr_windows.specs.DeskViews.{WindowView, AreAscending, fresh_window};
