@@ -1,6 +1,6 @@
 //! Rows of elements of one type: what pictures, surfaces and emulated screens are made of. The rows stand in one vector, and
 //! where a row begins in it is reckoned here alone.
-ghost use Rattle.std.specs.Prelude.{ℕ, ◌≡◌, ◌+◌, ◌-◌, ◌*◌, ◌<◌, ◌≤◌, length, take, drop, map, replicate, slice_range, slice_index_or, IfOk, ◌^◌};
+ghost use Rattle.std.specs.Prelude.{ℕ, ◌≡◌, ◌+◌, ◌-◌, ◌*◌, ◌<◌, ◌≤◌, length, take, drop, map, replicate, slice_range, slice_index_or, IfOk, OnOk, OnErr, [], ◌∷◌, ◌++◌, ◌^◌};
 ghost use Rattle.scr_cells.specs.Grids.{IsGrid, changed_run, grid_at, grid_of, grid_row, grid_with, grid_with_run, line_with_run};
 
 use crate::NoMemory;
@@ -40,6 +40,30 @@ impl<T: Copy> Grid<T> {
             columns,
             items,
         })
+    }
+
+    /// A grid of no rows, with room for so many rows of so many columns. Fails only when memory runs out.
+    pub fn with_room(alloc: Global, rows: u32, columns: u32) -> Result<Grid<T>, NoMemory>
+        ensures { IfOk result (λ grid. grid ≡ record { rows = 0; columns = columns; lines = [] }) }
+    {
+        let items = Vec::with_capacity(alloc, rows as usize * columns as usize)?;
+        Ok(Grid {
+            rows: 0,
+            columns,
+            items,
+        })
+    }
+
+    /// Adds a row at the end. Fails only when memory runs out, and nothing is changed then.
+    pub fn push_row(&mut self, row: &[T]) -> Result<(), NoMemory>
+        requires few { self.old.rows < 4294967295 }
+        requires width { length row.now ≡ self.old.columns }
+        ensures ok { OnOk result (self.new ≡ record self.old { rows = self.old.rows + 1; lines = self.old.lines ++ row.now ∷ [] }) }
+        ensures err { OnErr result (self.new ≡ self.old) }
+    {
+        self.items.extend_from_slice(row)?;
+        self.rows += 1;
+        Ok(())
     }
 
     /// How many rows there are.

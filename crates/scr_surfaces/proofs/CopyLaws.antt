@@ -1,17 +1,16 @@
 -- Blocks of cells that are laid over a part of an area.
-use Rattle.std.proofs.Common.{refl, map, subst, ◌≡◌, ℕ, ◌+◌, ◌-◌, ◌<◌, ◌≤◌, ◌∙◌, ap, arith, sym, List, length, get_or, Bool, cond, ltb, leb, ◌==◌, ◌&&◌}
+use Rattle.std.proofs.lemmas.List.{map-append}
+use Rattle.std.proofs.Common.{[], ◌∷◌, ◌++◌, zero, suc, refl, map, ◌≡◌, ℕ, ◌+◌, ◌-◌, ◌<◌, ◌≤◌, ◌∙◌, ap, arith, sym, List, get_or, Bool, cond, ltb, leb, ◌==◌, ◌&&◌}
 use Rattle.std.proofs.lemmas.Bool.Decides.{nat_tests}
 use Rattle.std.specs.List.{range_with_len}
-use Rattle.std.proofs.lemmas.List.FromFn.{get_or-map-range_with_len, length-map-range_with_len}
 use Rattle.scr_cells.specs.CellViews.{CellView, blank_cell}
-use Rattle.scr_cells.specs.Grids.{GridLaws, IsGrid, grid_at, grid_of, grid_with_run, is_in_run}
+use Rattle.scr_cells.specs.Grids.{grid_of}
 use Rattle.scr_surfaces.specs.declared.areas.Area.{Area}
 use Rattle.scr_surfaces.specs.SurfaceViews.{SurfaceView, IsSurface, IsPart, cell_of, inside_at, is_inside}
 use Rattle.scr_surfaces.specs.Formulas.{laid, part_laid}
 use Rattle.scr_surfaces.specs.Code.Steps.{RunIs, Changes}
 use Rattle.scr_surfaces.proofs.ChangeLaws.{run_at}
 use Rattle.scr_surfaces.proofs.RunLaws.{then_run, unchanged}
-use Rattle.scr_surfaces.proofs.FilledLaws.{grid_same}
 
 ap2 : {X Y Z : Type 0} (f : X → Y → Z) {a b : X} {c d : Y} → a ≡ b → c ≡ d → f a c ≡ f b d
 ap2 f p q = λ i. f (p i) (q i)
@@ -47,35 +46,18 @@ lay_more old mid new area part overlay cells row line on below right row_in h ru
         ≡ cond (is_inside (record part { rows = row + 1 }) r c) (f (cells (r - part.top) (c - part.left)) (at r c)) (at r c)
     one at part f cells row r c value e = grind (arith, nat_tests)
 
--- the cells of an area in the rows up to one, and blanks below
-abbrev pub partly_read : SurfaceView → Area → ℕ → ℕ → ℕ → CellView
-partly_read s area rows r c = cond (ltb r rows) (inside_at s area r c) blank_cell
+-- a row more that is read
+range_more : (a n : ℕ) → range_with_len a (n + 1) ≡ range_with_len a n ++ (a + n) ∷ []
+range_more a zero = let e : a + 0 ≡ a = omega arith in ap (λ k. k ∷ []) (sym e)
+range_more a (suc n) =
+    let e : a + 1 + n ≡ a + suc n = omega arith in
+    let f : suc n + 1 ≡ suc (n + 1) = omega arith in
+    ap (range_with_len a) f ∙ ap (λ ks. a ∷ ks) (range_more (a + 1) n ∙ ap (λ k. range_with_len (a + 1) n ++ k ∷ []) e)
 
-pub read_begun : (s : SurfaceView) (area : Area) (rows columns : ℕ) → grid_of rows columns (λ _ _. blank_cell) ≡ grid_of rows columns (partly_read s area 0)
-read_begun s area rows columns = grid_same rows columns _ _ (λ r c h k. none r (inside_at s area r c) blank_cell)
-  where
-    none : {X : Type 0} (r : ℕ) (x y : X) → y ≡ cond (ltb r 0) x y
-    none r x y = grind (arith, nat_tests)
-
-pub read_more : GridLaws CellView → (s : SurfaceView) (area : Area) (rows columns row : ℕ) (lines : List (List CellView)) (line : List CellView) → row < rows
-    → lines ≡ grid_of rows columns (partly_read s area row) → line ≡ map (inside_at s area row) (range_with_len 0 columns)
-    → grid_with_run lines row 0 line ≡ grid_of rows columns (partly_read s area (row + 1))
-read_more laws s area rows columns row lines line row_in is line_is =
-    let P : List (List CellView) → Type 0 = λ ls. IsGrid rows columns ls in
-    let grid : IsGrid rows columns lines = subst P (sym is) (laws.sized rows columns (partly_read s area row)) in
-    let width : length line ≡ columns = ap length line_is ∙ length-map-range_with_len _ 0 columns in
-    laws.run blank_cell rows columns lines row 0 line grid row_in (omega (arith, width))
-    ∙ grid_same rows columns _ _ (λ r c h k.
-    let was : grid_at blank_cell lines r c ≡ partly_read s area row r c = ap (λ ls. grid_at blank_cell ls r c) is ∙ laws.formula blank_cell rows columns (partly_read s area row) r c h k in
-    let now : get_or line (c - 0) blank_cell ≡ inside_at s area row c = ap (λ xs. get_or xs (c - 0) blank_cell) line_is ∙ get_or-map-range_with_len (inside_at s area row) 0 columns (c - 0) c blank_cell (omega arith) (omega arith) in
-    one (inside_at s area) row (length line) r c (get_or line (c - 0) blank_cell) (grid_at blank_cell lines r c) (omega (arith, width)) now was)
-  where
-    one : (at : ℕ → ℕ → CellView) (row n r c : ℕ) (x y : CellView) → c < n → x ≡ at row c → y ≡ cond (ltb r row) (at r c) blank_cell
-        → cond (is_in_run row 0 (0 + n) r c) x y ≡ cond (ltb r (row + 1)) (at r c) blank_cell
-    one at row n r c x y k now was = grind (arith, nat_tests)
-
-pub read_all : (s : SurfaceView) (area : Area) (rows columns row : ℕ) → row ≡ rows → grid_of rows columns (partly_read s area row) ≡ grid_of rows columns (inside_at s area)
-read_all s area rows columns row done = grid_same rows columns _ _ (λ r c h k. all r row (inside_at s area r c) blank_cell (omega arith))
-  where
-    all : {X : Type 0} (r row : ℕ) (x y : X) → r < row → cond (ltb r row) x y ≡ x
-    all r row x y h = grind (arith, nat_tests)
+pub read_more : (columns row : ℕ) (f : ℕ → ℕ → CellView) (lines : List (List CellView)) (line : List CellView) → lines ≡ grid_of row columns f → line ≡ map (f row) (range_with_len 0 columns)
+    → lines ++ line ∷ [] ≡ grid_of (row + 1) columns f
+read_more columns row f lines line is line_is =
+    let g : ℕ → List CellView = λ r. map (f r) (range_with_len 0 columns) in
+    let zeroth : 0 + row ≡ row = omega arith in
+    let all : map g (range_with_len 0 (row + 1)) ≡ map g (range_with_len 0 row) ++ g (0 + row) ∷ [] = ap (map g) (range_more 0 row) ∙ map-append g (range_with_len 0 row) ((0 + row) ∷ []) in
+    (λ j. is j ++ (line_is ∙ ap g (sym zeroth)) j ∷ []) ∙ sym all

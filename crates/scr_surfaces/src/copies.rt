@@ -6,7 +6,7 @@ ghost use Rattle.scr_surfaces.specs.Formulas.{block_at, part_laid, part_of};
 
 use crate::areas::Area;
 use crate::surfaces::Surface;
-use scr_cells::{Cell, Grid, NoMemory, grid_laws};
+use scr_cells::{Cell, Grid, NoMemory};
 use std::alloc::Global;
 
 impl Surface {
@@ -15,10 +15,9 @@ impl Surface {
         requires { IsPart self.now area }
         ensures { IfOk result (λ block. block ≡ record { rows = area.rows; columns = area.columns; lines = grid_of area.rows area.columns (inside_at self.now area) }) }
     {
-        grid_laws::<Cell>();
-        let mut block = Grid::new(alloc, area.rows, area.columns, Cell::blank())?;
+        let mut block = Grid::with_room(alloc, area.rows, area.columns)?;
         for row in 0..area.rows {
-            block.lay(row, 0, self.line(area, row));
+            block.push_row(self.line(area, row))?;
         }
         Ok(block)
     }
