@@ -4,6 +4,7 @@ use Rattle.std.specs.List.{flat_map, AllByRecursion}
 use Rattle.std.specs.Int.{bit_at}
 use Rattle.std.proofs.lemmas.List.{append-nil}
 use Rattle.std.proofs.lemmas.List.Concat.{flat_map-append}
+use Rattle.std.proofs.lemmas.List.Elements.{All-from_recursion}
 use Rattle.std.proofs.lemmas.Nat.{and_le_l, and_le_r}
 use Rattle.std.proofs.lemmas.Nat.Bits.{same_from_bits, bit_at_and, bit_at_or}
 use Rattle.std.proofs.lemmas.Bool.{eqb-true}
@@ -21,8 +22,8 @@ use Rattle.scr_term.specs.Texts.{bytes_of, all_bytes}
 use Rattle.scr_term.specs.EcmaUnits.{EcmaUnit, spelling, IsUnit}
 use Rattle.scr_term.specs.EcmaMeanings.{meaning, meanings}
 use Rattle.scr_term.specs.EcmaMeanings.{Leads}
-use Rattle.scr_term.specs.OperationLaws.{StepsKeepStates, BytesActAsTheirOperations}
-use Rattle.scr_term.proofs.LookGridLaws.{all_blank, is_blank, put_all, put_is_grid}
+use Rattle.scr_term.specs.OperationLaws.{BlankLaws, BytesActAsTheirOperations, RunLaws, StepsKeepStates}
+use Rattle.scr_term.proofs.LookGridLaws.{all_blank, is_blank, negative_blank, put_all, put_is_grid}
 use Rattle.scr_term.proofs.OperationLaws.{chosen, same_some, both_true, bytes_act_as_their_operation}
 
 -- a set and one more member within a set
@@ -153,3 +154,28 @@ runs_keep profile p old new s [] h = subst (λ z. IsState profile.rows profile.c
 runs_keep profile p old new s (op ∷ ops) h =
     let first = then_some (step profile old op) (λ next. runs profile next ops) new h in
     runs_keep profile p first.0 new (steps_keep_states profile p old first.0 s op first.1) ops first.2
+
+-- a run that is defined has only operations that the profile has
+each_had : (profile : ProfileView) (old new : State) (ops : List Op) → runs profile old ops ≡ Some new → AllByRecursion (λ op. has profile op ≡ true) ops
+each_had profile old new [] h = tt
+each_had profile old new (op ∷ ops) h =
+    let first = then_some (step profile old op) (λ next. runs profile next ops) new h in
+    ((chosen (has profile op) (act profile old op) first.0 first.1).0, each_had profile first.0 new ops first.2)
+
+pub run_laws_hold : RunLaws
+run_laws_hold = record {
+  joined = runs-append;
+  kept = runs_keep;
+  had = λ profile old new ops h. All-from_recursion (λ op. has profile op ≡ true) ops (each_had profile old new ops h);
+}
+
+pub blank_laws_hold : BlankLaws
+blank_laws_hold = record {
+  state = λ profile p. record {
+    whole = is_blank profile.rows profile.columns;
+    looks = all_blank profile.rows profile.columns;
+    spot = (p.size.some_rows, p.size.some_columns);
+    attrs = omega (arith, and_le_r profile.shown 0);
+  };
+  negative = λ rows columns. ap (λ g. record { grid = g; spot = At 0 0; attrs = 0 }) (negative_blank rows columns);
+}
