@@ -248,6 +248,13 @@ constant_grid {A} rows columns x =
         let k_in : k < n = omega (arith, wide) in
         get_or-replicate n k x d k_in ∙ sym (get_or-map-range_with_len (λ (_ : ℕ). x) 0 n k k d k_in (omega arith)))
 
+-- what a method leaves that puts the same element in every place
+pub every_place_is : {A : Type 0} (rows columns : ℕ) (items : List A) (g : GridView A) (x : A) (new : List A) → seen rows columns items ≡ g → length items ≡ rows * columns → new ≡ replicate (length items) x
+    → seen rows columns new ≡ record g { lines = grid_of g.rows g.columns (λ _ _. x) }
+every_place_is {A} rows columns items g x new is len e =
+    (λ i. record (seen rows columns items) { lines = (ap (rows_of rows columns) (e ∙ ap (λ n. replicate n x) len) ∙ constant_grid rows columns x) i })
+    ∙ ap (λ (v : GridView A). record v { lines = grid_of v.rows v.columns (λ _ _. x) }) is
+
 -- loops over a slice: what is done, and what is left
 pub one_filled : {A : Type 0} (old : List A) (n : ℕ) (x : A) → n < length old → set (replicate n x ++ drop n old) n x ≡ replicate (n + 1) x ++ drop (n + 1) old
 one_filled old n x h =

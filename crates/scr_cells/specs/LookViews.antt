@@ -1,7 +1,8 @@
 -- What a terminal shows in one place. ECMA-48, 'graphic rendition'.
-use Rattle.std.specs.Prelude.{ℕ, ◌*◌, ◌<◌, ◌≤◌, bit_and, List, map, replicate}
+use Rattle.std.specs.Prelude.{ℕ, ◌<◌, ◌≤◌, bit_and, List, map}
 use Rattle.scr_cells.specs.Attributes.{negative_set}
 use Rattle.scr_cells.specs.CellViews.{CellView}
+use Rattle.scr_cells.specs.Grids.{grid_of}
 
 -- a byte with the attributes that it is shown with
 pub record LookView : Type 0 where
@@ -19,8 +20,8 @@ abbrev pub blank : LookView
 blank = record { byte = 32; attrs = 0 }
 
 -- blanks everywhere
-abbrev pub blank_grid : ℕ → ℕ → List LookView
-blank_grid rows columns = replicate (rows * columns) blank
+abbrev pub blank_grid : ℕ → ℕ → List (List LookView)
+blank_grid rows columns = grid_of rows columns (λ _ _. blank)
 
 -- what is seen of a cell on a terminal that shows these attributes: its byte, and those of its attributes that are shown
 abbrev pub seen : ℕ → CellView → LookView
@@ -31,5 +32,5 @@ abbrev pub negative : LookView → LookView
 negative look = record { byte = look.byte; attrs = negative_set look.attrs }
 
 -- the same of every place of a grid
-abbrev pub negative_grid : List LookView → List LookView
-negative_grid grid = map negative grid
+abbrev pub negative_grid : List (List LookView) → List (List LookView)
+negative_grid grid = map (map negative) grid

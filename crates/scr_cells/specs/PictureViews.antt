@@ -1,7 +1,8 @@
 -- A picture: the cells that a screen is to show, and where its cursor is wished.
 -- X/Open Curses Issue 7, 'Screens, Windows and Terminals'; curs_refresh(3X), 'virtual screen'.
-use Rattle.std.specs.Prelude.{ℕ, ◌≡◌, ◌+◌, ◌*◌, ◌<◌, ◌≤◌, List, length, take, drop, All, Option, None, IfSome, replicate, slice_get, slice_set}
+use Rattle.std.specs.Prelude.{ℕ, ◌<◌, ◌≤◌, List, All, Option, None, IfSome}
 use Rattle.scr_cells.specs.CellViews.{CellView, IsCell, blank_cell}
+use Rattle.scr_cells.specs.Grids.{IsGrid, grid_of}
 
 -- 1 to 500 rows of 1 to 500 columns
 pub record IsSize (rows columns : ℕ) : Type 0 where
@@ -10,11 +11,11 @@ pub record IsSize (rows columns : ℕ) : Type 0 where
   pub few_rows : rows ≤ 500
   pub few_columns : columns ≤ 500
 
--- the cells stand in rows, from the top; a wish is a row and a column
+-- a size, the rows of cells from the top, each of them its cells from the left, and a wish, which is a row and a column
 pub record PictureView : Type 0 where
   pub rows : ℕ
   pub columns : ℕ
-  pub cells : List CellView
+  pub lines : List (List CellView)
   pub wish : Option (ℕ × ℕ)
 
 -- a place inside
@@ -24,22 +25,10 @@ IsPlace rows columns place = (place.0 < rows) × (place.1 < columns)
 -- a cell in every place, and a wish inside where there is one
 pub record IsPicture (picture : PictureView) : Type 0 where
   pub size : IsSize picture.rows picture.columns
-  pub whole : length picture.cells ≡ picture.rows * picture.columns
-  pub cells : All IsCell picture.cells
+  pub grid : IsGrid picture.rows picture.columns picture.lines
+  pub cells : All (All IsCell) picture.lines
   pub wish : IfSome picture.wish (IsPlace picture.rows picture.columns)
-
--- one row of a grid of that many columns
-abbrev pub grid_row : {A : Type 0} → ℕ → ℕ → List A → List A
-grid_row columns r grid = take columns (drop (r * columns) grid)
-
--- what stands in one place of a grid of that many columns
-abbrev pub grid_at : {A : Type 0} → ℕ → ℕ → ℕ → List A → Option A
-grid_at columns r c grid = slice_get grid (r * columns + c)
-
--- the grid with one place changed
-abbrev pub grid_with : {A : Type 0} → ℕ → ℕ → ℕ → A → List A → List A
-grid_with columns r c value grid = slice_set grid (r * columns + c) value
 
 -- blanks everywhere, and no wish
 abbrev pub blank_picture : ℕ → ℕ → PictureView
-blank_picture rows columns = record { rows = rows; columns = columns; cells = replicate (rows * columns) blank_cell; wish = None }
+blank_picture rows columns = record { rows = rows; columns = columns; lines = grid_of rows columns (λ _ _. blank_cell); wish = None }

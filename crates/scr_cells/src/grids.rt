@@ -135,6 +135,13 @@ impl<T: Copy> Grid<T> {
         fill_all(&mut self.items[start..start + count], element);
     }
 
+    /// Puts an element in every place.
+    pub fn fill_every(&mut self, element: T)
+        ensures { self.new ≡ record self.old { lines = grid_of self.old.rows self.old.columns (λ _ _. element) } }
+    {
+        fill_all(&mut self.items, element);
+    }
+
     /// Writes a run of elements into a row from column `from` on. Nothing else changes.
     pub fn lay(&mut self, row: u32, from: u32, run: &[T])
         requires row { row < self.old.rows }

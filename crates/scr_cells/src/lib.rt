@@ -1,4 +1,4 @@
-//! What a curses screen is made of: sizes, attribute sets, cells, looks and pictures.
+//! What a curses screen is made of: sizes, attribute sets, cells, looks, grids of them and pictures.
 //!
 //! A *cell* is what a window holds in one place, and a *look* what a terminal shows there. They are
 //! two types, since colours will come to them in different ways.

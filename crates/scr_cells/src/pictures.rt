@@ -1,9 +1,11 @@
 //! Pictures: what a screen is to show.
-ghost use Rattle.std.specs.Prelude.{◌≡◌, ◌<◌, length, IfOk, IfSome};
+ghost use Rattle.std.specs.Prelude.{◌≡◌, ◌+◌, ◌<◌, ◌≤◌, All, length, IfOk, IfSome};
 ghost use Rattle.std.specs.Option.{ForSome};
-ghost use Rattle.scr_cells.specs.PictureViews.{IsPicture, IsPlace, blank_picture, grid_row, grid_with};
+ghost use Rattle.scr_cells.specs.CellViews.{IsCell};
+ghost use Rattle.scr_cells.specs.Grids.{grid_row, grid_with, grid_with_run};
+ghost use Rattle.scr_cells.specs.PictureViews.{IsPicture, IsPlace, blank_picture};
 
-use crate::{Cell, NoMemory, Size};
+use crate::{Cell, Grid, NoMemory, Size, grid_laws};
 use std::alloc::Global;
 use std::marker::Model;
 
@@ -11,9 +13,7 @@ use std::marker::Model;
 /// 'Screens, Windows and Terminals'; curs_refresh(3X), 'virtual screen').
 #[derive(Drop)]
 pub struct Picture {
-    size: Size,
-    // The rows one after another, from the top.
-    cells: Vec<Cell>,
+    grid: Grid<Cell>,
     wish: Option<(u32, u32)>,
 }
 
@@ -22,22 +22,19 @@ impl Model for Picture {
 
     ghost Value = { PictureView };
 
-    ghost view = { λ a. record { rows = a.size.rows; columns = a.size.columns; cells = a.cells.items; wish = a.wish } };
+    ghost view = { λ a. record { rows = a.grid.rows; columns = a.grid.columns; lines = a.grid.lines; wish = a.wish } };
 
-    ghost invariant = { λ a. IsPicture (record { rows = a.size.rows; columns = a.size.columns; cells = a.cells.items; wish = a.wish }) };
+    ghost invariant = { λ a. IsPicture (record { rows = a.grid.rows; columns = a.grid.columns; lines = a.grid.lines; wish = a.wish }) };
 }
 
 impl Picture {
-    /// Blanks everywhere, and no wish. Refused for want of memory alone.
+    /// Blanks everywhere, and no wish. Fails only when memory runs out.
     pub fn new(alloc: Global, size: Size) -> Result<Picture, NoMemory>
         ensures { IfOk result (λ picture. picture ≡ blank_picture size.rows size.columns) }
     {
-        let count = size.rows as usize * size.columns as usize;
-        let mut cells = Vec::with_capacity(alloc, count)?;
-        cells.resize(count, Cell::blank())?;
+        grid_laws::<Cell>();
         Ok(Picture {
-            size,
-            cells,
+            grid: Grid::new(alloc, size.rows, size.columns, Cell::blank())?,
             wish: None,
         })
     }
@@ -48,28 +45,38 @@ impl Picture {
         ensures columns { result.columns ≡ self.now.columns }
         ensures picture { IsPicture self.now }
     {
-        self.size
+        Size {
+            rows: self.grid.rows(),
+            columns: self.grid.columns(),
+        }
     }
 
     /// The cells of a row, counted from 0 at the top.
     pub fn row(&self, row: u32) -> &[Cell]
         requires { row < self.now.rows }
-        ensures cells { result.now ≡ grid_row self.now.columns row self.now.cells }
+        ensures cells { result.now ≡ grid_row self.now.lines row }
         ensures width { length result.now ≡ self.now.columns }
     {
-        let columns = self.size.columns as usize;
-        let start = row as usize * columns;
-        &self.cells[start..start + columns]
+        self.grid.row(row)
     }
 
     /// Puts a cell in the place at a row and a column. Nothing else changes.
     pub fn put(&mut self, row: u32, column: u32, cell: Cell)
         requires { IsPlace self.old.rows self.old.columns (row, column) }
-        ensures { self.new ≡ record self.old { cells = grid_with self.old.columns row column cell self.old.cells } }
+        ensures { self.new ≡ record self.old { lines = grid_with self.old.lines row column cell } }
     {
         let _byte = cell.byte();
-        let place = row as usize * self.size.columns as usize + column as usize;
-        self.cells[place] = cell;
+        self.grid.put(row, column, cell);
+    }
+
+    /// Puts cells next to one another into a row, from a column on. Nothing else changes.
+    pub fn put_row(&mut self, row: u32, column: u32, cells: &[Cell])
+        requires row { row < self.old.rows }
+        requires end { column + length cells.now ≤ self.old.columns }
+        ensures { self.new ≡ record self.old { lines = grid_with_run self.old.lines row column cells.now } }
+    {
+        each_is_cell(cells);
+        self.grid.lay(row, column, cells);
     }
 
     /// Where the cursor is wished, as a row and a column, if anywhere.
@@ -86,5 +93,14 @@ impl Picture {
         ensures { self.new ≡ record self.old { wish = wish } }
     {
         self.wish = wish;
+    }
+}
+
+// What holds of every cell holds of each of these.
+fn each_is_cell(cells: &[Cell])
+    ensures { All IsCell cells.now }
+{
+    for cell in cells {
+        let _byte = cell.byte();
     }
 }

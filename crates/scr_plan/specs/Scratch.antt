@@ -3,7 +3,8 @@ use Rattle.std.specs.Prelude.{ℕ, ◌≡◌, ◌+◌, List, [], ◌∷◌, ◌+
 use Rattle.std.specs.List.{flat_map, range_with_len}
 use Rattle.scr_cells.specs.Attributes.{attributes_of}
 use Rattle.scr_cells.specs.CellViews.{CellView}
-use Rattle.scr_cells.specs.PictureViews.{PictureView, IsPicture, grid_row}
+use Rattle.scr_cells.specs.Grids.{grid_row}
+use Rattle.scr_cells.specs.PictureViews.{PictureView, IsPicture}
 use Rattle.scr_term.specs.Profiles.{ProfileView, IsProfile, IsEcma48}
 use Rattle.scr_term.specs.States.{State, IsState, negative_state}
 use Rattle.scr_term.specs.Steps.{runs}
@@ -29,7 +30,7 @@ paints_cells profile r c (cell ∷ cells) = paints_cell profile r c cell ++ pain
 
 -- a whole row of a picture
 abbrev pub paints_row : ProfileView → PictureView → ℕ → List Op
-paints_row profile picture r = paints_cells profile r 0 (grid_row picture.columns r picture.cells)
+paints_row profile picture r = paints_cells profile r 0 (grid_row picture.lines r)
 
 -- every row, from the top
 abbrev pub paints_rows : ProfileView → PictureView → List Op

@@ -1,3 +1,4 @@
+//! The operations that paint a whole picture, row by row and cell by cell.
 ghost use Rattle.std.specs.Prelude.{◌≡◌, ◌≤◌, ◌++◌, ◌==◌, length, IfOk, OnOk, map, filter, bit_and};
 ghost use Rattle.scr_term.specs.declared.operations.Op.TheVariants.{Enter};
 ghost use Rattle.scr_plan.specs.Scratch.{scratch_of, paints_cell, paints_cells, Fits};
@@ -11,7 +12,7 @@ use std::alloc::Global;
 /// attribute, each attribute that is shown and its byte, at the end no attribute and the cursor where
 /// it is wished.
 ///
-/// The picture has the profile's size. Refused for want of memory alone.
+/// The picture has the profile's size. Fails only when memory runs out.
 pub fn scratch(alloc: Global, profile: &Profile, picture: &Picture) -> Result<Ops, NoMemory>
     requires { Fits profile.now picture.now }
     ensures { IfOk result (λ ops. ops ≡ scratch_of profile.now picture.now) }

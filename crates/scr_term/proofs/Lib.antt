@@ -1,5 +1,6 @@
 pub mod Attributes
 pub mod Parameters
+mod LookGridLaws
 pub mod OperationLaws
 pub mod StepLaws
 mod EcmaUnitLaws

@@ -1,15 +1,16 @@
 -- The bytes of each operation do to the negative of a state what the operation does to the state.
-use Rattle.std.proofs.Common.{◌≡◌, ℕ, ◌+◌, ◌-◌, ◌*◌, ◌^◌, ◌<◌, ◌≤◌, ◌==◌, ◌&&◌, Bool, true, false, IsTrue, cond, refl, sym, ◌∙◌, ap, subst, arith, [], ◌∷◌, ◌++◌, length, length-append, Option, Some, None, option_and_then, bit_and, bit_or, nat_le, map, replicate, codes, zero, suc}
+use Rattle.std.proofs.Common.{◌≡◌, ℕ, ◌+◌, ◌-◌, ◌^◌, ◌<◌, ◌≤◌, ◌==◌, ◌&&◌, Bool, true, false, IsTrue, cond, refl, sym, ◌∙◌, ap, subst, arith, [], ◌∷◌, ◌++◌, length, length-append, Option, Some, None, option_and_then, bit_and, bit_or, nat_le, codes}
 use Rattle.std.specs.List.{list_any}
 use Rattle.std.specs.Fmt.{decimal}
 use Rattle.std.proofs.lemmas.Fmt.{length-decimal-le}
 use Rattle.std.proofs.lemmas.Nat.{and_le_l}
-use Rattle.std.proofs.lemmas.List.{map-set, append-nil}
+use Rattle.std.proofs.lemmas.List.{append-nil}
 use Rattle.std.proofs.lemmas.Bool.{eqb-true, false≢true}
 use Rattle.std.proofs.lemmas.Bool.Decides.{nat_tests}
 use Rattle.scr_cells.specs.Attributes.{negative_set, all_attributes}
-use Rattle.scr_cells.specs.LookViews.{LookView, negative, negative_grid, blank}
-use Rattle.scr_cells.specs.PictureViews.{IsSize, grid_with}
+use Rattle.scr_cells.specs.LookViews.{LookView, blank_grid, negative, negative_grid}
+use Rattle.scr_cells.specs.Grids.{grid_with}
+use Rattle.scr_cells.specs.PictureViews.{IsSize}
 use Rattle.scr_term.specs.declared.operations.Op.{Op}
 use Rattle.scr_term.specs.declared.operations.Op.TheVariants.{Move, Clear, Reset, Enter, Put}
 use Rattle.scr_term.specs.declared.operations.Spot.{Spot}
@@ -23,6 +24,7 @@ use Rattle.scr_term.specs.EcmaMeanings.{cursor_at, meanings}
 use Rattle.scr_term.specs.EcmaMeanings.{Leads}
 use Rattle.scr_term.specs.OperationLaws.{BytesActAsTheirOperation}
 use Rattle.scr_term.proofs.Attributes.{each_attribute, negative-or_standout, negative-or_underline, negative-or_reverse, negative-or_blink, negative-or_dim, negative-or_bold, negative-or_invis}
+use Rattle.scr_term.proofs.LookGridLaws.{negative_blank, negative_put}
 use Rattle.scr_term.proofs.Parameters.{parameter_bytes, parameter_bytes_of_two, parameters_of_two}
 
 -- what a test chose, where the other way out is none
@@ -94,8 +96,8 @@ put_leads rows columns byte old new (Margin r) e low high h = absurd (no_state h
     no_state n = (cc)
 put_leads rows columns byte old new (At r c) e low high h =
     let look : LookView = record { byte = byte; attrs = old.attrs } in
-    let written : State = record { grid = grid_with columns r c look old.grid; spot = spot_after columns r c; attrs = old.attrs } in
-    let grid : negative_grid (grid_with columns r c look old.grid) ≡ grid_with columns r c (negative look) (negative_grid old.grid) = map-set negative old.grid (r * columns + c) look in
+    let written : State = record { grid = grid_with old.grid r c look; spot = spot_after columns r c; attrs = old.attrs } in
+    let grid : negative_grid (grid_with old.grid r c look) ≡ grid_with (negative_grid old.grid) r c (negative look) = negative_put old.grid r c look in
     let acts : meanings rows columns (negative_state old) (Graphic byte ∷ []) ≡ Some (negative_state written) =
     ap (λ s. option_and_then (λ next. Some next) (written_at columns (negative_state old) byte s)) e
     ∙ ap (λ g. Some (record { grid = g; spot = spot_after columns r c; attrs = negative_set old.attrs })) (sym grid) in
@@ -106,18 +108,14 @@ put_leads rows columns byte old new (At r c) e low high h =
     } in
     subst (λ s. Leads rows columns (negative_state old) (byte ∷ []) (negative_state s)) (same_some written new h) leads
 
-pub map-replicate : {A B : Type 0} (f : A → B) (n : ℕ) (x : A) → map f (replicate n x) ≡ replicate n (f x)
-map-replicate f zero x = refl
-map-replicate f (suc n) x = ap (λ xs. f x ∷ xs) (map-replicate f n x)
-
 -- the cursor to the first place, and then every place erased
 clear_leads : (rows columns : ℕ) (old : State) → IsSize rows columns → old.attrs ≡ 0
     → Leads rows columns (negative_state old) (control_sequence [] 72 ++ control_sequence (codes "2") 74)
-    (negative_state (record { grid = replicate (rows * columns) blank; spot = At 0 0; attrs = 0 }))
+    (negative_state (record { grid = blank_grid rows columns; spot = At 0 0; attrs = 0 }))
 clear_leads rows columns old size none =
     let home : State = record { grid = negative_grid old.grid; spot = At 0 0; attrs = negative_set old.attrs } in
     let first : cursor_at rows columns (negative_state old) 1 1 ≡ Some home = placed rows columns (negative_state old) 0 0 size.some_rows size.some_columns in
-    let blanks : negative_grid (replicate (rows * columns) blank) ≡ replicate (rows * columns) blank = map-replicate negative (rows * columns) blank in
+    let blanks : negative_grid (blank_grid rows columns) ≡ blank_grid rows columns = negative_blank rows columns in
     record {
       units = Sequence [] 72 ∷ Sequence (codes "2") 74 ∷ [];
       division = record {
@@ -165,7 +163,7 @@ leads_by profile p old new s (Move r c) had h =
     subst (λ z. Leads profile.rows profile.columns (negative_state old) (bytes_of profile (Move r c)) (negative_state z)) (same_some next new h)
     (move_leads profile.rows profile.columns (negative_state old) r c p.size hr hc)
 leads_by profile p old new s Clear had h =
-    let next : State = record { grid = replicate (profile.rows * profile.columns) blank; spot = At 0 0; attrs = 0 } in
+    let next : State = record { grid = blank_grid profile.rows profile.columns; spot = At 0 0; attrs = 0 } in
     let c = chosen (old.attrs == 0) (Some next) new h in
     let none : old.attrs ≡ 0 = eqb-true old.attrs 0 c.0 in
     subst (λ z. Leads profile.rows profile.columns (negative_state old) (bytes_of profile Clear) (negative_state z)) (same_some next new c.1)

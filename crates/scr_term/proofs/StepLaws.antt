@@ -1,17 +1,16 @@
 -- What steps and runs keep, and how the texts of operations join.
-use Rattle.std.proofs.Common.{◌≡◌, ℕ, ◌+◌, ◌*◌, ◌<◌, ◌≤◌, ◌==◌, Bool, true, false, cond, refl, sym, ◌∙◌, ap, subst, arith, List, [], ◌∷◌, ◌++◌, append_assoc, Option, Some, None, option_and_then, bit_and, bit_or, nat_lt, replicate}
+use Rattle.std.proofs.Common.{◌≡◌, ℕ, ◌+◌, ◌<◌, ◌≤◌, ◌==◌, Bool, true, false, cond, refl, sym, ◌∙◌, ap, subst, arith, List, [], ◌∷◌, ◌++◌, append_assoc, Option, Some, None, option_and_then, bit_and, bit_or, nat_lt}
 use Rattle.std.specs.List.{flat_map, AllByRecursion}
 use Rattle.std.specs.Int.{bit_at}
-use Rattle.std.proofs.Math.ListN.{length-set, length-replicate}
 use Rattle.std.proofs.lemmas.List.{append-nil}
 use Rattle.std.proofs.lemmas.List.Concat.{flat_map-append}
-use Rattle.std.proofs.lemmas.List.Elements.{All-set, All-replicate}
+use Rattle.std.proofs.lemmas.List.Elements.{All-from_recursion}
 use Rattle.std.proofs.lemmas.Nat.{and_le_l, and_le_r}
 use Rattle.std.proofs.lemmas.Nat.Bits.{same_from_bits, bit_at_and, bit_at_or}
 use Rattle.std.proofs.lemmas.Bool.{eqb-true}
 use Rattle.std.proofs.lemmas.Bool.Decides.{nat_tests}
-use Rattle.scr_cells.specs.LookViews.{LookView, IsLook, blank}
-use Rattle.scr_cells.specs.PictureViews.{grid_with}
+use Rattle.scr_cells.specs.Grids.{grid_with}
+use Rattle.scr_cells.specs.LookViews.{LookView, blank_grid}
 use Rattle.scr_term.specs.declared.operations.Op.{Op}
 use Rattle.scr_term.specs.declared.operations.Op.TheVariants.{Move, Clear, Reset, Enter, Put}
 use Rattle.scr_term.specs.declared.operations.Spot.{Spot}
@@ -23,7 +22,8 @@ use Rattle.scr_term.specs.Texts.{bytes_of, all_bytes}
 use Rattle.scr_term.specs.EcmaUnits.{EcmaUnit, spelling, IsUnit}
 use Rattle.scr_term.specs.EcmaMeanings.{meaning, meanings}
 use Rattle.scr_term.specs.EcmaMeanings.{Leads}
-use Rattle.scr_term.specs.OperationLaws.{StepsKeepStates, BytesActAsTheirOperations}
+use Rattle.scr_term.specs.OperationLaws.{BlankLaws, BytesActAsTheirOperations, RunLaws, StepsKeepStates}
+use Rattle.scr_term.proofs.LookGridLaws.{all_blank, is_blank, negative_blank, put_all, put_is_grid}
 use Rattle.scr_term.proofs.OperationLaws.{chosen, same_some, both_true, bytes_act_as_their_operation}
 
 -- a set and one more member within a set
@@ -42,12 +42,12 @@ keeps_put profile p old new s byte (Margin r) inside low high h = absurd (no_sta
     no_state n = (cc)
 keeps_put profile p old new s byte (At r c) inside low high h =
     let look : LookView = record { byte = byte; attrs = old.attrs } in
-    let written : State = record { grid = grid_with profile.columns r c look old.grid; spot = spot_after profile.columns r c; attrs = old.attrs } in
+    let written : State = record { grid = grid_with old.grid r c look; spot = spot_after profile.columns r c; attrs = old.attrs } in
     let few : old.attrs < 256 = omega (arith, s.attrs, p.shown, and_le_l profile.shown old.attrs, and_le_l 127 profile.shown) in
     let after : IsSpot profile.rows profile.columns (spot_after profile.columns r c) = next_spot (nat_lt (c + 1) profile.columns) refl in
     let kept : IsState profile.rows profile.columns profile.shown written = record {
-      whole = rw (length-set old.grid (r * profile.columns + c) look) s.whole;
-      looks = All-set IsLook old.grid (r * profile.columns + c) look (record { from_blank = low; to_tilde = high; attributes = few }) s.looks;
+      whole = put_is_grid profile.rows profile.columns old.grid r c look s.whole;
+      looks = put_all profile.rows profile.columns old.grid r c look s.whole inside.0 (record { from_blank = low; to_tilde = high; attributes = few }) s.looks;
       spot = after;
       attrs = s.attrs;
     } in
@@ -66,12 +66,12 @@ keeps profile p old new s (Move r c) had h =
     subst (λ z. IsState profile.rows profile.columns profile.shown z) (same_some next new h)
     (record { whole = s.whole; looks = s.looks; spot = (hr, hc); attrs = s.attrs })
 keeps profile p old new s Clear had h =
-    let next : State = record { grid = replicate (profile.rows * profile.columns) blank; spot = At 0 0; attrs = 0 } in
+    let next : State = record { grid = blank_grid profile.rows profile.columns; spot = At 0 0; attrs = 0 } in
     let c = chosen (old.attrs == 0) (Some next) new h in
     subst (λ z. IsState profile.rows profile.columns profile.shown z) (same_some next new c.1)
     (record {
-      whole = length-replicate (profile.rows * profile.columns) blank;
-      looks = All-replicate IsLook (profile.rows * profile.columns) blank (record { from_blank = omega arith; to_tilde = omega arith; attributes = omega arith });
+      whole = is_blank profile.rows profile.columns;
+      looks = all_blank profile.rows profile.columns;
       spot = (p.size.some_rows, p.size.some_columns);
       attrs = omega (arith, and_le_r profile.shown 0);
     })
@@ -154,3 +154,28 @@ runs_keep profile p old new s [] h = subst (λ z. IsState profile.rows profile.c
 runs_keep profile p old new s (op ∷ ops) h =
     let first = then_some (step profile old op) (λ next. runs profile next ops) new h in
     runs_keep profile p first.0 new (steps_keep_states profile p old first.0 s op first.1) ops first.2
+
+-- a run that is defined has only operations that the profile has
+each_had : (profile : ProfileView) (old new : State) (ops : List Op) → runs profile old ops ≡ Some new → AllByRecursion (λ op. has profile op ≡ true) ops
+each_had profile old new [] h = tt
+each_had profile old new (op ∷ ops) h =
+    let first = then_some (step profile old op) (λ next. runs profile next ops) new h in
+    ((chosen (has profile op) (act profile old op) first.0 first.1).0, each_had profile first.0 new ops first.2)
+
+pub run_laws_hold : RunLaws
+run_laws_hold = record {
+  joined = runs-append;
+  kept = runs_keep;
+  had = λ profile old new ops h. All-from_recursion (λ op. has profile op ≡ true) ops (each_had profile old new ops h);
+}
+
+pub blank_laws_hold : BlankLaws
+blank_laws_hold = record {
+  state = λ profile p. record {
+    whole = is_blank profile.rows profile.columns;
+    looks = all_blank profile.rows profile.columns;
+    spot = (p.size.some_rows, p.size.some_columns);
+    attrs = omega (arith, and_le_r profile.shown 0);
+  };
+  negative = λ rows columns. ap (λ g. record { grid = g; spot = At 0 0; attrs = 0 }) (negative_blank rows columns);
+}

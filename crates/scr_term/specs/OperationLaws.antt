@@ -1,8 +1,8 @@
 -- The laws that tie the operations of a terminal to the bytes that are sent for them.
-use Rattle.std.specs.Prelude.{◌≡◌, List, Some}
+use Rattle.std.specs.Prelude.{ℕ, ◌≡◌, ◌++◌, true, All, List, Some}
 use Rattle.scr_term.specs.Profiles.{ProfileView, IsProfile, IsEcma48}
-use Rattle.scr_term.specs.States.{State, IsState, negative_state}
-use Rattle.scr_term.specs.Steps.{step, runs}
+use Rattle.scr_term.specs.States.{State, IsState, blank_state, negative_state}
+use Rattle.scr_term.specs.Steps.{has, step, runs}
 use Rattle.scr_term.specs.Texts.{bytes_of, all_bytes}
 use Rattle.scr_term.specs.EcmaMeanings.{Leads}
 use Rattle.scr_term.specs.declared.operations.Op.{Op}
@@ -30,3 +30,15 @@ StepsKeepStates =
     → (old new : State) → IsState profile.rows profile.columns profile.shown old
     → (op : Op) → step profile old op ≡ Some new
     → IsState profile.rows profile.columns profile.shown new
+
+-- Runs join; a run leads from a state of the profile to one, and has only operations that the profile has.
+pub record RunLaws : Type 0 where
+  pub joined : (profile : ProfileView) (old next : State) (ops more : List Op) → runs profile old ops ≡ Some next → runs profile old (ops ++ more) ≡ runs profile next more
+  pub kept : (profile : ProfileView) → IsProfile profile → (old new : State) → IsState profile.rows profile.columns profile.shown old
+      → (ops : List Op) → runs profile old ops ≡ Some new → IsState profile.rows profile.columns profile.shown new
+  pub had : (profile : ProfileView) (old new : State) (ops : List Op) → runs profile old ops ≡ Some new → All (λ op. has profile op ≡ true) ops
+
+-- A blank screen is a state of each profile, and its own negative.
+pub record BlankLaws : Type 0 where
+  pub state : (profile : ProfileView) → IsProfile profile → IsState profile.rows profile.columns profile.shown (blank_state profile.rows profile.columns)
+  pub negative : (rows columns : ℕ) → negative_state (blank_state rows columns) ≡ blank_state rows columns

@@ -7,8 +7,8 @@ use Rattle.scr_term.specs.States.{State}
 use Rattle.scr_term.specs.declared.operations.Spot.TheVariants.{At}
 
 -- at every place, what is seen of the picture's cell
-abbrev pub painted : ProfileView → PictureView → List LookView
-painted profile picture = map (seen profile.shown) picture.cells
+abbrev pub painted : ProfileView → PictureView → List (List LookView)
+painted profile picture = map (map (seen profile.shown)) picture.lines
 
 -- the terminal shows the painted picture, and its cursor is where the picture wishes it, if anywhere
 pub record Shows (profile : ProfileView) (state : State) (picture : PictureView) : Type 0 where

@@ -1,15 +1,15 @@
 -- The state of a terminal: what its screen shows, where its cursor is, and which attributes are on.
 -- terminfo(5), 'Cursor Motions' and 'Highlighting'; ECMA-48, 'active presentation position'.
-use Rattle.std.specs.Prelude.{ℕ, ◌≡◌, ◌*◌, ◌+◌, ◌<◌, List, length, All, bit_and, nat_lt, if◌then◌else◌, Option, Some, None}
+use Rattle.std.specs.Prelude.{ℕ, ◌≡◌, ◌+◌, ◌<◌, List, All, bit_and, nat_lt, if◌then◌else◌, Option, Some, None}
 use Rattle.scr_cells.specs.Attributes.{negative_set}
+use Rattle.scr_cells.specs.Grids.{IsGrid, grid_with}
 use Rattle.scr_cells.specs.LookViews.{LookView, IsLook, blank_grid, negative_grid}
-use Rattle.scr_cells.specs.PictureViews.{grid_with}
 use Rattle.scr_term.specs.declared.operations.Spot.{Spot}
 use Rattle.scr_term.specs.declared.operations.Spot.TheVariants.{At, Margin}
 
--- a grid of looks in rows from the top, the cursor's spot, and the attributes that are on
+-- the rows of looks from the top, the cursor's spot, and the attributes that are on
 pub record State : Type 0 where
-  pub grid : List LookView
+  pub grid : List (List LookView)
   pub spot : Spot
   pub attrs : ℕ
 
@@ -20,8 +20,8 @@ IsSpot rows columns (Margin r) = r < rows
 
 -- a state of a terminal of this size that shows these attributes
 pub record IsState (rows columns shown : ℕ) (state : State) : Type 0 where
-  pub whole : length state.grid ≡ rows * columns
-  pub looks : All IsLook state.grid
+  pub whole : IsGrid rows columns state.grid
+  pub looks : All (All IsLook) state.grid
   pub spot : IsSpot rows columns state.spot
   pub attrs : bit_and shown state.attrs ≡ state.attrs
 
@@ -40,7 +40,7 @@ spot_after columns r c = if nat_lt (c + 1) columns then At r (c + 1) else Margin
 -- a character is written with the attributes that are on, and the cursor goes right; nothing can be written at the margin
 abbrev pub written_at : ℕ → State → ℕ → Spot → Option State
 written_at columns state byte (At r c) = Some (record state {
-  grid = grid_with columns r c (record { byte = byte; attrs = state.attrs }) state.grid;
+  grid = grid_with state.grid r c (record { byte = byte; attrs = state.attrs });
   spot = spot_after columns r c;
 })
 written_at columns state byte (Margin r) = None

@@ -1,3 +1,5 @@
+//! Control functions: what a whole control sequence changes. How its parameters are read is in `ecma_parameters`, and the
+//! change is made in `ecma_screens`.
 ghost use Rattle.std.specs.Prelude.{◌≡◌, ℕ, List, ◌∷◌, option_map, bit_and, IfSome};
 ghost use Rattle.scr_cells.specs.Attributes.{every_attribute};
 ghost use Rattle.scr_term.specs.States.{State};

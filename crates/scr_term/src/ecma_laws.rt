@@ -1,3 +1,4 @@
+//! Laws about texts and the screens that are fed them: functions that do nothing, whose contracts are the laws.
 ghost use Rattle.scr_term.specs.EcmaLaws.{HasOneDivision, PiecesDoNotMatter, ScreensFollowTexts};
 
 /// A text has at most one division into units and a rest that is nothing or a part of one unit

@@ -1,3 +1,4 @@
+//! The parameters of a control sequence, as numbers. What they mean is in `ecma_controls`.
 ghost use Rattle.std.specs.Prelude.{◌≡◌, ◌≤◌, length, option_map, IsTrue};
 ghost use Rattle.std.specs.Char.{is_ascii_digit};
 ghost use Rattle.std.specs.List.{AllByRecursion};

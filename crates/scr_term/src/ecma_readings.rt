@@ -1,3 +1,4 @@
+//! What the next byte of a text is, after a part of a unit. Nothing changes here.
 ghost use Rattle.std.specs.Prelude.{◌≡◌, [], ◌⊎◌};
 ghost use Rattle.scr_term.specs.EcmaUnits.{IsWaiting, is_parameter_byte};
 ghost use Rattle.scr_term.specs.EcmaReadings.{IsReading};

@@ -1,8 +1,11 @@
-ghost use Rattle.std.specs.Prelude.{◌≡◌, ◌≤◌, ◌*◌, ◌+◌, ◌<◌, ◌↔◌, false, length, [], ◌∷◌, bit_and, option_map, replicate, slice_get, IfOk, IsOk, IsTrue, Some};
+//! A screen that is fed the bytes of a text. Which bytes make a control function, and what that changes, is in the other
+//! files that begin with `ecma_`.
+ghost use Rattle.std.specs.Prelude.{◌≡◌, ◌≤◌, ◌+◌, ◌<◌, ◌↔◌, false, length, [], ◌∷◌, bit_and, option_map, IfOk, IsOk, IsTrue};
 ghost use Rattle.std.specs.Option.{ForSome};
 ghost use Rattle.scr_cells.specs.Attributes.{every_attribute};
-ghost use Rattle.scr_cells.specs.LookViews.{blank, IsLook};
-ghost use Rattle.scr_cells.specs.PictureViews.{IsPlace, grid_at, grid_row};
+ghost use Rattle.scr_cells.specs.Grids.{grid_at, grid_row};
+ghost use Rattle.scr_cells.specs.LookViews.{IsLook, LookView};
+ghost use Rattle.scr_cells.specs.PictureViews.{IsPlace};
 ghost use Rattle.scr_term.specs.States.{IsSpot, written};
 ghost use Rattle.scr_term.specs.EcmaUnits.{IsWaiting};
 ghost use Rattle.scr_term.specs.EcmaScreens.{IsScreen, IsFed, blank_screen};
@@ -13,7 +16,7 @@ use crate::ecma_controls::{Change, control_sequence};
 use crate::ecma_readings::{Reading, read_byte};
 use arrayvec::ArrayVec;
 use bitflags::Flags;
-use scr_cells::{Attrs, Look, NoMemory, Size};
+use scr_cells::{Attrs, Grid, Look, NoMemory, Size, grid_laws};
 use std::alloc::Global;
 use std::marker::Model;
 use thiserror::Error;
@@ -30,9 +33,7 @@ pub struct Undefined;
 /// first undefined one the screen stays as it is.
 #[derive(Drop)]
 pub struct EcmaScreen {
-    size: Size,
-    // The rows one after another, from the top.
-    grid: Vec<Look>,
+    grid: Grid<Look>,
     spot: Spot,
     attrs: Attrs,
     // The part of a control sequence that came after the last whole unit.
@@ -46,33 +47,31 @@ impl Model for EcmaScreen {
     ghost Value = { ScreenView };
 
     ghost view = { λ a. record {
-      rows = a.size.rows;
-      columns = a.size.columns;
-      state = record { grid = a.grid.items; spot = a.spot; attrs = a.attrs.0 };
+      rows = a.grid.rows;
+      columns = a.grid.columns;
+      state = record { grid = a.grid.lines; spot = a.spot; attrs = a.attrs.0 };
       waiting = a.waiting.items;
       undefined = a.undefined;
     } };
 
     ghost invariant = { λ a. IsScreen (record {
-      rows = a.size.rows;
-      columns = a.size.columns;
-      state = record { grid = a.grid.items; spot = a.spot; attrs = a.attrs.0 };
+      rows = a.grid.rows;
+      columns = a.grid.columns;
+      state = record { grid = a.grid.lines; spot = a.spot; attrs = a.attrs.0 };
       waiting = a.waiting.items;
       undefined = a.undefined;
     }) };
 }
 
 impl EcmaScreen {
-    /// A blank screen with the cursor at 0 0 and no attribute on. Refused for want of memory alone.
+    /// A blank screen with the cursor at 0 0 and no attribute on. Fails only when
+    /// memory runs out.
     pub fn new(alloc: Global, size: Size) -> Result<EcmaScreen, NoMemory>
         ensures { IfOk result (λ screen. screen ≡ blank_screen size.rows size.columns) }
     {
-        let count = size.rows as usize * size.columns as usize;
-        let mut grid = Vec::with_capacity(alloc, count)?;
-        grid.resize(count, Look::blank())?;
+        grid_laws::<Look>();
         Ok(EcmaScreen {
-            size,
-            grid,
+            grid: Grid::new(alloc, size.rows, size.columns, Look::blank())?,
             spot: Spot::At(0, 0),
             attrs: Attrs::empty(),
             waiting: ArrayVec::new(),
@@ -107,16 +106,19 @@ impl EcmaScreen {
         ensures columns { result.columns ≡ self.now.columns }
         ensures screen { IsScreen self.now }
     {
-        self.size
+        Size {
+            rows: self.grid.rows(),
+            columns: self.grid.columns(),
+        }
     }
 
     /// What is shown at a row and a column, which count from 0 at the top left.
     pub fn cell(&self, row: u32, column: u32) -> Look
         requires { IsPlace self.now.rows self.now.columns (row, column) }
-        ensures value { grid_at self.now.columns row column self.now.state.grid ≡ Some result }
+        ensures value { (other : LookView) → result ≡ grid_at other self.now.state.grid row column }
         ensures look { IsLook result }
     {
-        let look = self.grid[row as usize * self.size.columns as usize + column as usize];
+        let look = self.grid.at(row, column);
         let _byte = look.byte();
         look
     }
@@ -124,12 +126,10 @@ impl EcmaScreen {
     /// What is shown in a row, counted from 0 at the top.
     pub fn row(&self, row: u32) -> &[Look]
         requires { row < self.now.rows }
-        ensures cells { result.now ≡ grid_row self.now.columns row self.now.state.grid }
+        ensures cells { result.now ≡ grid_row self.now.state.grid row }
         ensures width { length result.now ≡ self.now.columns }
     {
-        let columns = self.size.columns as usize;
-        let start = row as usize * columns;
-        &self.grid[start..start + columns]
+        self.grid.row(row)
     }
 
     /// Where the cursor is (ECMA-48, 'active presentation position').
@@ -167,7 +167,7 @@ impl EcmaScreen {
             Reading::Graphic => self.write(byte),
             Reading::Held => self.waiting.push(byte),
             Reading::Last => {
-                let change = control_sequence(self.size, self.attrs, part, byte);
+                let change = control_sequence(self.size(), self.attrs, part, byte);
                 self.apply(change);
             }
             Reading::Other => self.apply(None),
@@ -183,9 +183,8 @@ impl EcmaScreen {
     {
         match (self.spot, Look::new(byte, self.attrs)) {
             (Spot::At(row, column), Some(look)) => {
-                let place = row as usize * self.size.columns as usize + column as usize;
-                self.grid[place] = look;
-                self.spot = if column + 1 < self.size.columns {
+                self.grid.put(row, column, look);
+                self.spot = if column + 1 < self.grid.columns() {
                     Spot::At(row, column + 1)
                 } else {
                     Spot::Margin(row)
@@ -214,17 +213,8 @@ impl EcmaScreen {
     {
         match change {
             Change::Moved(spot) => self.spot = spot,
-            Change::Erased => erase(&mut self.grid),
+            Change::Erased => self.grid.fill_every(Look::blank()),
             Change::Rendered(attrs) => self.attrs = attrs,
         }
-    }
-}
-
-/// Makes every place blank.
-fn erase(places: &mut [Look])
-    ensures { places.new ≡ replicate (length places.old) blank }
-{
-    for place in places.iter_mut() {
-        *place = Look::blank();
     }
 }

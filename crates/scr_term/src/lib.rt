@@ -15,7 +15,8 @@ mod rendering;
 pub use ecma_laws::{one_division, pieces_do_not_matter, screens_follow_texts};
 pub use ecma_screens::{EcmaScreen, Undefined};
 pub use operation_laws::{
-    bytes_act_as_their_operation, bytes_act_as_their_operations, steps_keep_states,
+    blank_laws, bytes_act_as_their_operation, bytes_act_as_their_operations, run_laws,
+    steps_keep_states,
 };
 pub use operations::{Op, Ops, Spot};
 pub use profiles::Profile;

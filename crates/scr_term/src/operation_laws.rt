@@ -1,4 +1,6 @@
-ghost use Rattle.scr_term.specs.OperationLaws.{StepsKeepStates, BytesActAsTheirOperation, BytesActAsTheirOperations};
+//! Laws about operations, their steps and their bytes, for the crates above: functions that do nothing, whose contracts are
+//! the laws.
+ghost use Rattle.scr_term.specs.OperationLaws.{BlankLaws, BytesActAsTheirOperation, BytesActAsTheirOperations, RunLaws, StepsKeepStates};
 
 /// A step leads from a state of a profile to a state of that profile.
 pub fn steps_keep_states()
@@ -14,4 +16,15 @@ pub fn bytes_act_as_their_operation()
 /// The same of operations one after another.
 pub fn bytes_act_as_their_operations()
     ensures { BytesActAsTheirOperations }
+{}
+
+/// Runs of operations join. A run leads from a state of a profile to a state of that profile, and has
+/// only operations that the profile has.
+pub fn run_laws()
+    ensures { RunLaws }
+{}
+
+/// A blank screen with no attribute on is a state of each profile, and its own negative.
+pub fn blank_laws()
+    ensures { BlankLaws }
 {}

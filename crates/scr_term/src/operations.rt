@@ -1,3 +1,5 @@
+//! The operations of a terminal, and the places of its cursor. What they do is in `specs/Steps.antt`, their bytes in
+//! `rendering`.
 use scr_cells::Attrs;
 use std::marker::Model;
 

@@ -1,3 +1,4 @@
+//! What is known of a terminal, and which operations it has.
 ghost use Rattle.std.specs.Prelude.{◌≡◌, ◌==◌, IfOk};
 ghost use Rattle.std.specs.List.{list_any};
 ghost use Rattle.scr_cells.specs.Attributes.{all_attributes};
@@ -36,8 +37,8 @@ fn is_attribute(set: Attrs) -> bool
 }
 
 impl Profile {
-    /// The profile of the bundled ECMA-48 entry on a screen of this size. Refused for want of memory
-    /// alone.
+    /// The profile of the bundled ECMA-48 entry on a screen of this size. Fails only when memory
+    /// runs out.
     pub fn ecma48(_alloc: Global, size: Size) -> Result<Profile, NoMemory>
         ensures entry { IfOk result IsEcma48 }
         ensures rows { IfOk result (λ profile. profile.rows ≡ size.rows) }

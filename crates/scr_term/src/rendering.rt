@@ -1,3 +1,4 @@
+//! The bytes of each operation. Nothing is sent here: they are appended to a vector.
 ghost use Rattle.std.specs.Prelude.{◌≡◌, ◌+◌, ◌<◌, ◌++◌, ◌∷◌, [], IsTrue, OnOk, OnErr, length, vec_len, vec_capacity};
 ghost use Rattle.std.specs.Fmt.{decimal};
 ghost use Rattle.scr_term.specs.Steps.{has};
@@ -9,7 +10,7 @@ use scr_cells::{Attrs, NoMemory};
 impl Profile {
     /// Appends the bytes of an operation that the terminal has (ECMA-48, 8.3: CUP, ED, SGR).
     ///
-    /// Refused for want of memory alone, and then nothing is appended; never refused where `out` has
+    /// Fails only when memory runs out, and then nothing is appended; never fails where `out` has
     /// room for the bytes.
     pub fn render(&self, op: Op, out: &mut Vec<u8>) -> Result<(), NoMemory>
         requires { IsTrue (has self.now op) }

@@ -17,8 +17,7 @@ use Rattle.screen_scripts.specs.StageViews.{ActsOn, events_of}
 use Rattle.screen_scripts.specs.Commands.{CommandView, SizeCommand, AddCommand, ShowCommand, command_of}
 use Rattle.screen_scripts.specs.Showing.{IsReady, IsTerminalFor, Writes, AddsRefusals}
 use Rattle.scr_term.specs.States.{IsState}
-use Rattle.scr_term.proofs.OperationLaws.{chosen, same_some}
-use Rattle.scr_term.proofs.StepLaws.{then_some}
+use Rattle.screen_scripts.proofs.OptionLaws.{chosen, same_some, then_some}
 
 -- ---- lines
 

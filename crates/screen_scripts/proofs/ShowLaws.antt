@@ -1,69 +1,52 @@
 -- The bytes that paint a surface bring a terminal to show it.
-use Rattle.std.proofs.Common.{◌≡◌, ℕ, ◌*◌, true, refl, sym, ◌∙◌, ap, subst, arith, List, [], ◌∷◌, Some, inl, replicate}
-use Rattle.std.specs.List.{All, AllByRecursion}
-use Rattle.std.proofs.Math.ListN.{length-replicate}
-use Rattle.std.proofs.lemmas.List.Elements.{All-replicate, All-from_recursion}
+use Rattle.std.proofs.Common.{◌≡◌, ℕ, true, refl, sym, ◌∙◌, ap, subst, List, inl}
+use Rattle.std.specs.List.{All}
 use Rattle.scr_cells.specs.Attributes.{every_attribute}
-use Rattle.scr_cells.specs.LookViews.{IsLook, blank, negative, negative_grid}
-use Rattle.scr_cells.specs.PictureViews.{PictureView, IsPicture, IsSize}
-use Rattle.scr_term.specs.declared.operations.Op.{Op}
-use Rattle.scr_term.specs.declared.operations.Spot.TheVariants.{At}
-use Rattle.scr_term.specs.Profiles.{ProfileView, IsEcma48}
+use Rattle.scr_cells.specs.PictureViews.{PictureView, IsPicture}
+use Rattle.scr_term.specs.Profiles.{ProfileView, IsEcma48, IsProfile}
 use Rattle.scr_term.specs.States.{State, IsState, blank_state, negative_state}
-use Rattle.scr_term.specs.Steps.{has, act, step, runs}
+use Rattle.scr_term.specs.Steps.{has}
 use Rattle.scr_term.specs.EcmaMeanings.{Leads}
 use Rattle.scr_term.specs.Painted.{ShowsNegative}
 use Rattle.scr_term.specs.EcmaScreens.{ScreenView, IsScreen, IsFed, blank_screen}
 use Rattle.scr_term.specs.EcmaLaws.{ScreensFollowTexts}
-use Rattle.scr_term.proofs.OperationLaws.{map-replicate, chosen}
-use Rattle.scr_term.proofs.StepLaws.{then_some, is_profile}
+use Rattle.scr_term.specs.OperationLaws.{BlankLaws, RunLaws}
 use Rattle.scr_plan.specs.Scratch.{scratch_of, Fits, ScratchShows, ScratchBytesShow}
 use Rattle.screen_scripts.specs.Stories.{Shown}
 use Rattle.screen_scripts.specs.Printing.{profile_for, sent_event}
 use Rattle.screen_scripts.specs.Showing.{IsTerminalFor}
 
-is_blank_state : (rows columns : ℕ) → IsSize rows columns → IsState rows columns every_attribute (blank_state rows columns)
-is_blank_state rows columns size = record {
-  whole = length-replicate (rows * columns) blank;
-  looks = All-replicate IsLook (rows * columns) blank (record { from_blank = omega arith; to_tilde = omega arith; attributes = omega arith });
-  spot = (size.some_rows, size.some_columns);
-  attrs = refl;
-}
+is_profile : (profile : ProfileView) → IsEcma48 profile → IsProfile profile
+is_profile profile e = record { size = e.size; shown = rw e.shown refl }
 
-pub blank_is_terminal : (picture : PictureView) → IsPicture picture → IsTerminalFor picture (blank_screen picture.rows picture.columns)
-blank_is_terminal picture p =
-    let blanks : negative_grid (replicate (picture.rows * picture.columns) blank) ≡ replicate (picture.rows * picture.columns) blank = map-replicate negative (picture.rows * picture.columns) blank in
+pub ecma48_for : (picture : PictureView) → IsPicture picture → IsEcma48 (profile_for picture)
+ecma48_for picture p = record { size = p.size; shown = refl }
+
+pub blank_is_terminal : BlankLaws → (picture : PictureView) → IsPicture picture → IsTerminalFor picture (blank_screen picture.rows picture.columns)
+blank_is_terminal laws picture p =
+    let state : IsState picture.rows picture.columns every_attribute (blank_state picture.rows picture.columns) =
+    laws.state (profile_for picture) (is_profile (profile_for picture) (ecma48_for picture p)) in
     record {
       rows = refl;
       columns = refl;
-      valid = record { size = p.size; state = is_blank_state picture.rows picture.columns p.size; waiting = inl refl; undefined = λ _. refl };
+      valid = record { size = p.size; state = state; waiting = inl refl; undefined = λ _. refl };
       state = blank_state picture.rows picture.columns;
-      is_state = is_blank_state picture.rows picture.columns p.size;
-      negative = ap (λ g. record { grid = g; spot = At 0 0; attrs = 0 }) (sym blanks);
+      is_state = state;
+      negative = sym (laws.negative picture.rows picture.columns);
       nothing_waits = refl;
       defined = refl;
     }
 
--- a run that is defined has only operations that the profile has
-each_had : (profile : ProfileView) (old new : State) (ops : List Op) → runs profile old ops ≡ Some new → AllByRecursion (λ op. has profile op ≡ true) ops
-each_had profile old new [] h = tt
-each_had profile old new (op ∷ ops) h =
-    let first = then_some (step profile old op) (λ next. runs profile next ops) new h in
-    ((chosen (has profile op) (act profile old op) first.0 first.1).0, each_had profile first.0 new ops first.2)
-
-pub scratch_had : ScratchShows → (profile : ProfileView) → IsEcma48 profile → (picture : PictureView) → IsPicture picture → Fits profile picture
+-- painting from scratch takes only operations that the profile has
+pub scratch_had : ScratchShows → RunLaws → BlankLaws → (profile : ProfileView) → IsEcma48 profile → (picture : PictureView) → IsPicture picture → Fits profile picture
     → All (λ op. has profile op ≡ true) (scratch_of profile picture)
-scratch_had law profile e picture p fits =
-    let state : IsState profile.rows profile.columns profile.shown (blank_state profile.rows profile.columns) =
-    subst (λ shown. IsState profile.rows profile.columns shown (blank_state profile.rows profile.columns)) (sym e.shown) (is_blank_state profile.rows profile.columns e.size) in
-    let shows = law profile (is_profile profile e) picture p fits (blank_state profile.rows profile.columns) state in
-    All-from_recursion (λ op. has profile op ≡ true) (scratch_of profile picture) (each_had profile (blank_state profile.rows profile.columns) shows.new (scratch_of profile picture) shows.run)
+scratch_had scratch_law runs_law blank_law profile e picture p fits =
+    let blank : State = blank_state profile.rows profile.columns in
+    let shows = scratch_law profile (is_profile profile e) picture p fits blank (blank_law.state profile (is_profile profile e)) in
+    runs_law.had profile blank shows.new (scratch_of profile picture) shows.run
 
 pub is_profile_for : (profile : ProfileView) (picture : PictureView) → IsEcma48 profile → profile.rows ≡ picture.rows → profile.columns ≡ picture.columns → profile ≡ profile_for picture
 is_profile_for profile picture e r c = λ i. record { rows = r i; columns = c i; shown = e.shown i }
-
-pub ecma48_for : (picture : PictureView) → IsPicture picture → IsEcma48 (profile_for picture)
-ecma48_for picture p = record { size = p.size; shown = refl }
 
 -- what the terminal is after the bytes that paint a picture
 pub record IsAfter (picture : PictureView) (new : ScreenView) : Type 0 where

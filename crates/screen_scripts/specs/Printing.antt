@@ -1,10 +1,10 @@
 -- The lines that the demonstration prints, and the bytes that it sends in their place.
 use Rattle.std.specs.Prelude.{ℕ, ◌+◌, ◌/◌, ◌%◌, ◌==◌, nat_lt, Bool, List, [], ◌∷◌, ◌++◌, map, codes, if◌then◌else◌}
-use Rattle.std.specs.List.{flat_map, range_with_len, list_all}
+use Rattle.std.specs.List.{flat_map, list_all}
 use Rattle.std.specs.Fmt.{decimal}
 use Rattle.scr_cells.specs.Attributes.{every_attribute}
 use Rattle.scr_cells.specs.LookViews.{LookView, negative_grid}
-use Rattle.scr_cells.specs.PictureViews.{PictureView, grid_row}
+use Rattle.scr_cells.specs.PictureViews.{PictureView}
 use Rattle.scr_term.specs.declared.operations.Spot.{Spot}
 use Rattle.scr_term.specs.declared.operations.Spot.TheVariants.{At, Margin}
 use Rattle.scr_term.specs.Profiles.{ProfileView}
@@ -40,9 +40,8 @@ cursor_line (At row column) = codes "cursor " ++ decimal row ++ 32 ∷ decimal c
 cursor_line (Margin row) = codes "cursor " ++ decimal row ++ codes " margin" ++ 10 ∷ []
 
 -- a screen: its rows from the top, and the cursor
-abbrev pub screen_lines : ℕ → ℕ → List LookView → Spot → List ℕ
-screen_lines rows columns grid spot =
-    flat_map (λ r. row_lines (grid_row columns r grid)) (range_with_len 0 rows) ++ cursor_line spot
+abbrev pub screen_lines : List (List LookView) → Spot → List ℕ
+screen_lines grid spot = flat_map row_lines grid ++ cursor_line spot
 
 abbrev pub refusal_line : List ℕ → List ℕ
 refusal_line name = codes "refused " ++ name ++ 10 ∷ []
@@ -55,7 +54,7 @@ profile_for picture = record { rows = picture.rows; columns = picture.columns; s
 abbrev pub printed_event : Event → List ℕ
 printed_event (Refused name) = refusal_line name
 printed_event (Shown picture) =
-    screen_lines picture.rows picture.columns (negative_grid (painted (profile_for picture) picture)) (At (cursor_of picture).0 (cursor_of picture).1)
+    screen_lines (negative_grid (painted (profile_for picture) picture)) (At (cursor_of picture).0 (cursor_of picture).1)
 
 -- what is sent of an event: the bytes that paint the picture from scratch
 abbrev pub sent_event : Event → List ℕ

@@ -1,7 +1,8 @@
 -- The surface that a script draws on: a picture whose wish is the cursor.
 -- X/Open Curses Issue 7, waddch() and waddstr(), of characters that are printed as they are.
 use Rattle.std.specs.Prelude.{ℕ, ◌+◌, nat_lt, List, [], ◌∷◌, Some, unwrap_or, if◌then◌else◌}
-use Rattle.scr_cells.specs.PictureViews.{PictureView, blank_picture, grid_with}
+use Rattle.scr_cells.specs.Grids.{grid_with}
+use Rattle.scr_cells.specs.PictureViews.{PictureView, blank_picture}
 
 -- blanks, with the cursor in the first place
 abbrev pub blank_surface : ℕ → ℕ → PictureView
@@ -23,7 +24,7 @@ next_place rows columns row column =
 -- a character without attributes is written at the cursor, which goes on
 abbrev pub with_byte_at : PictureView → ℕ × ℕ → ℕ → PictureView
 with_byte_at surface place byte = record surface {
-  cells = grid_with surface.columns place.0 place.1 (record { byte = byte; attrs = 0 }) surface.cells;
+  lines = grid_with surface.lines place.0 place.1 (record { byte = byte; attrs = 0 });
   wish = Some (next_place surface.rows surface.columns place.0 place.1);
 }
 

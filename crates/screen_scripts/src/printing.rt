@@ -9,8 +9,7 @@ use scr_term::{EcmaScreen, Spot};
 
 /// Adds the lines of a screen: each row, and the cursor.
 pub fn print_screen(screen: &EcmaScreen, text: &mut Vec<u8>) -> Result<(), NoMemory>
-    ensures { OnOk result (text.new.items ≡ text.old.items
-        ++ screen_lines screen.now.rows screen.now.columns screen.now.state.grid screen.now.state.spot) }
+    ensures { OnOk result (text.new.items ≡ text.old.items ++ screen_lines screen.now.state.grid screen.now.state.spot) }
 {
     for row in 0..screen.size().rows {
         print_row(screen.row(row), text)?;

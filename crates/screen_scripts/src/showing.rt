@@ -11,7 +11,7 @@ ghost use Rattle.screen_scripts.specs.Showing.{IsTerminalFor};
 use crate::printing::print_screen;
 use scr_cells::{NoMemory, Picture};
 use scr_plan::{scratch, scratch_bytes_show, scratch_shows};
-use scr_term::{EcmaScreen, Op, Profile, screens_follow_texts};
+use scr_term::{EcmaScreen, Op, Profile, blank_laws, run_laws, screens_follow_texts};
 use std::alloc::Global;
 
 /// What is written of a surface that is shown: raw, the bytes that paint it, else the lines that the
@@ -43,6 +43,7 @@ pub fn show(
 fn blank_terminal(alloc: Global, surface: &Picture) -> Result<EcmaScreen, NoMemory>
     ensures { IfOk result (λ screen. IsTerminalFor surface.now screen) }
 {
+    blank_laws();
     let screen = EcmaScreen::new(alloc, surface.size())?;
     Ok(screen)
 }
@@ -86,6 +87,8 @@ fn update_bytes(alloc: Global, surface: &Picture) -> Result<Vec<u8>, NoMemory>
     let profile = Profile::ecma48(alloc, surface.size())?;
     let ops = scratch(alloc, &profile, surface)?;
     scratch_shows();
+    run_laws();
+    blank_laws();
     rendered(alloc, &profile, &ops.0)
 }
 

@@ -1,0 +1,73 @@
+-- Grids of looks: blank ones, and what a character that is put in a place keeps.
+use Rattle.std.proofs.Common.{◌≡◌, ◌≢◌, ◌⊎◌, inl, inr, ℕ, ◌<◌, All, List, [], ap, arith, length, map, set, subst, sym, ◌∙◌}
+use Rattle.std.specs.List.{range_with_len}
+use Rattle.std.proofs.Math.ListN.{get_or-map}
+use Rattle.std.proofs.lemmas.Simd.{map-map}
+use Rattle.std.proofs.lemmas.List.{get_or-set_other, get_or-set_same, length-set, map-set}
+use Rattle.std.proofs.lemmas.List.FromFn.{get_or-map-range_with_len, length-map-range_with_len}
+use Rattle.std.proofs.lemmas.List.Elements.{All-get_or, All-map, All-set}
+use Rattle.scr_cells.specs.Grids.{GridView, IsGrid, grid_row, grid_with}
+use Rattle.scr_cells.specs.LookViews.{IsLook, LookView, blank, blank_grid, negative, negative_grid}
+use Rattle.scr_term.specs.EcmaScreens.{ScreenView, IsScreen}
+
+same_or_not : (a b : ℕ) → (a ≡ b) ⊎ (a ≢ b)
+same_or_not a b = grind arith
+
+-- a place that is changed leaves the grid its size
+pub put_is_grid : {A : Type 0} (rows columns : ℕ) (lines : List (List A)) (r c : ℕ) (x : A) → IsGrid rows columns lines → IsGrid rows columns (grid_with lines r c x)
+put_is_grid {A} rows columns lines r c x is = record {
+  high = length-set lines r line ∙ is.high;
+  wide = λ k h. elim (same_or_not k r) [
+    | inl e ↦ ap (λ i. length (grid_row (set lines r line) i)) e ∙ ap length (get_or-set_same lines r line [] (omega (arith, is.high))) ∙ length-set (grid_row lines r) c x ∙ is.wide r (omega arith)
+    | inr n ↦ ap length (get_or-set_other lines r k line [] n) ∙ is.wide k h
+  ];
+}
+  where
+    line : List A
+    line = set (grid_row lines r) c x
+
+pub put_all : (rows columns : ℕ) (lines : List (List LookView)) (r c : ℕ) (look : LookView) → IsGrid rows columns lines → r < rows → IsLook look → All (All IsLook) lines → All (All IsLook) (grid_with lines r c look)
+put_all rows columns lines r c look is row_in one each =
+    All-set (All IsLook) lines r (set (grid_row lines r) c look) (All-set IsLook (grid_row lines r) c look one (All-get_or (All IsLook) lines r [] (omega (arith, is.high)) each)) each
+
+-- blanks everywhere
+abbrev blank_line : ℕ → List LookView
+blank_line columns = map (λ (_ : ℕ). blank) (range_with_len 0 columns)
+
+blank_row : (rows columns r : ℕ) → r < rows → grid_row (blank_grid rows columns) r ≡ blank_line columns
+blank_row rows columns r h = get_or-map-range_with_len (λ (_ : ℕ). blank_line columns) 0 rows r r [] h (omega arith)
+
+pub is_blank : (rows columns : ℕ) → IsGrid rows columns (blank_grid rows columns)
+is_blank rows columns = record {
+  high = length-map-range_with_len _ 0 rows;
+  wide = λ r h. ap length (blank_row rows columns r h) ∙ length-map-range_with_len _ 0 columns;
+}
+
+pub all_blank : (rows columns : ℕ) → All (All IsLook) (blank_grid rows columns)
+all_blank rows columns =
+    let look : IsLook blank = record { from_blank = omega arith; to_tilde = omega arith; attributes = omega arith } in
+    All-map (All IsLook) (λ (_ : ℕ). blank_line columns) (range_with_len 0 rows) (λ k d h. All-map IsLook (λ (_ : ℕ). blank) (range_with_len 0 columns) (λ i e j. look))
+
+-- the negative of blanks is blanks, and that of a look in a place is its negative in that place
+pub negative_blank : (rows columns : ℕ) → negative_grid (blank_grid rows columns) ≡ blank_grid rows columns
+negative_blank rows columns =
+    map-map (map negative) (λ (_ : ℕ). blank_line columns) (range_with_len 0 rows)
+    ∙ ap (λ line. map (λ (_ : ℕ). line) (range_with_len 0 rows)) (map-map negative (λ (_ : ℕ). blank) (range_with_len 0 columns))
+
+pub negative_put : (lines : List (List LookView)) (r c : ℕ) (look : LookView) → negative_grid (grid_with lines r c look) ≡ grid_with (negative_grid lines) r c (negative look)
+negative_put lines r c look =
+    let line : List LookView = set (grid_row lines r) c look in
+    map-set (map negative) lines r line
+    ∙ ap (set (negative_grid lines) r) (map-set negative (grid_row lines r) c look ∙ ap (λ row. set row c (negative look)) (sym (get_or-map (map negative) lines r [])))
+
+-- a screen whose places are all made blank
+pub erased_is_screen : (old : ScreenView) (grid : GridView LookView) → IsScreen old → grid ≡ record { rows = old.rows; columns = old.columns; lines = blank_grid old.rows old.columns }
+    → IsScreen (record { rows = grid.rows; columns = grid.columns; state = record old.state { grid = grid.lines }; waiting = old.waiting; undefined = old.undefined })
+erased_is_screen old grid is e =
+    let P : GridView LookView → Type 0 = λ g. IsScreen (record { rows = g.rows; columns = g.columns; state = record old.state { grid = g.lines }; waiting = old.waiting; undefined = old.undefined }) in
+    subst P (sym e) (record {
+      size = is.size;
+      state = record { whole = is_blank old.rows old.columns; looks = all_blank old.rows old.columns; spot = is.state.spot; attrs = is.state.attrs };
+      waiting = is.waiting;
+      undefined = is.undefined;
+    })
