@@ -62,6 +62,8 @@ pub fn add_answer(answered: Answered, words: &mut Vec<u8>) -> Result<(), Trouble
             add_number(i64::from(attrs), words)
         }
         Ok(Answer::Flag(flag)) => add_flag(flag, words),
+        Ok(Answer::Number(number)) => add_number(i64::from(number), words),
+        Ok(Answer::Nothing) => add_word("none", words),
         Err(fault) => add_word(fault_name(fault), words),
     }
 }

@@ -86,6 +86,8 @@ pub enum Answer {
     Place(u32, u32),
     Cell(u8, u8),
     Flag(bool),
+    Number(u32),
+    Nothing,
 }
 
 /// What a call answers.

@@ -1,147 +1,183 @@
 //! Where the library's desk and the plain one differ.
 
 use crate::answers::{add_answer, add_number, add_word};
-use crate::calls::{Answer, placed};
+use crate::calls::Answer;
 use crate::desk_lines::add_text_of;
+use crate::lent_windows::{FIELDS, Field, lent_field, lent_line, narrow, plain_field, win};
 use crate::plain::{Plain, Window};
 use crate::troubles::Trouble;
-use scr_cells::Cell;
-use scr_windows::{Desk, Win};
+use scr_cells::{Cell, Size};
+use scr_windows::{Desk, WindowRef};
 
-/// What differs of a window.
+/// What differs.
 #[derive(Clone, Copy)]
 pub enum What {
-    Window,
-    Cursor,
-    Origin,
-    Row(u64),
-    Touched(u64),
+    /// The size of the screen.
+    Screen,
+    /// How many windows there are.
+    Count,
+    /// Which window stands at an index.
+    Nth(usize),
+    /// A field of the window at an index.
+    Field(usize, &'static str, Field),
+    /// The cells of a row of the window at an index.
+    Row(usize, u64),
+    /// Whether a row of the window at an index is touched.
+    Touched(usize, u64),
 }
 
-/// The number of a window, and what differs.
-#[derive(Clone, Copy)]
-pub struct Difference(u64, What);
-
-/// The first difference: in which windows there are, their sizes, cursors, places on the screen, cells and touched
-/// lines.
-///
-/// What the calls set besides is compared by what calls do that are made after them. Here the settings themselves can
-/// be compared, `clear_ok` and `leave_ok` among them, once a window's settings can be read.
-pub fn first_difference(desk: &Desk, plain: &Plain) -> Option<Difference> {
-    for number in 0..plain.made.saturating_add(2) {
-        if let Some(what) = window_difference(desk, plain, number) {
-            return Some(Difference(number, what));
+/// The first difference in all that can be seen: the screen, which windows there are, and of each its fields, its
+/// touched lines and its cells.
+pub fn first_difference(desk: &Desk, plain: &Plain) -> Option<What> {
+    if screen_of(desk.screen()) != screen_wanted(plain) {
+        return Some(What::Screen);
+    }
+    for (index, window) in plain.windows.iter().enumerate() {
+        if let Some(what) = window_difference(desk, plain, index, window) {
+            return Some(what);
         }
+    }
+    if desk.count() != plain.windows.len() {
+        return Some(What::Count);
     }
     None
 }
 
-fn window_difference(desk: &Desk, plain: &Plain, number: u64) -> Option<What> {
-    let win = win(number);
-    let Ok(window) = plain.window(number) else {
-        if desk.size(win).is_ok() {
-            return Some(What::Window);
-        }
-        return None;
+fn window_difference(desk: &Desk, plain: &Plain, index: usize, window: &Window) -> Option<What> {
+    if desk.nth(index) != Some(win(window.number)) {
+        return Some(What::Nth(index));
+    }
+    let Ok(lent) = desk.window(win(window.number)) else {
+        return Some(What::Nth(index));
     };
-    if placed(desk.size(win)) != Ok(place(window.rows, window.columns)) {
-        Some(What::Window)
-    } else if placed(desk.cursor(win)) != Ok(place(window.cursor.0, window.cursor.1)) {
-        Some(What::Cursor)
-    } else if desk.origin(win).ok() != origin_of(window) {
-        Some(What::Origin)
-    } else {
-        line_difference(desk, plain, window)
+    for (name, field) in FIELDS.iter() {
+        if lent_field(&lent, *field) != plain_field(window, *field) {
+            return Some(What::Field(index, *name, *field));
+        }
     }
+    line_difference(&lent, plain, index, window)
 }
 
-fn line_difference(desk: &Desk, plain: &Plain, window: &Window) -> Option<What> {
-    let win = win(window.number);
+fn line_difference(
+    lent: &WindowRef<'_>,
+    plain: &Plain,
+    index: usize,
+    window: &Window,
+) -> Option<What> {
     for row in 0..window.rows {
-        let line = desk.line(win, narrow(row)).unwrap_or(&[]);
+        let (touched, line) = lent_line(lent, narrow(row)).unwrap_or((false, &[]));
         if line != plain.line(window, row) {
-            return Some(What::Row(row));
+            return Some(What::Row(index, row));
         }
-        let touched = desk.line_touched(win, narrow(row)).ok();
-        if touched != window.touched.get(row as usize).copied() {
-            return Some(What::Touched(row));
+        if Some(&touched) != window.touched.get(row as usize) {
+            return Some(What::Touched(index, row));
         }
     }
     None
 }
 
-fn win(number: u64) -> Win {
-    Win(u32::try_from(number).unwrap_or(u32::MAX))
+fn screen_of(size: Size) -> Answer {
+    Answer::Place(size.rows, size.columns)
 }
 
-fn narrow(number: u64) -> u32 {
-    u32::try_from(number).unwrap_or(u32::MAX)
-}
-
-fn place(row: u64, column: u64) -> Answer {
-    Answer::Place(narrow(row), narrow(column))
-}
-
-fn origin_of(window: &Window) -> Option<(u32, u32)> {
-    let (row, column) = window.origin?;
-    Some((narrow(row), narrow(column)))
+fn screen_wanted(plain: &Plain) -> Answer {
+    Answer::Place(narrow(plain.rows), narrow(plain.columns))
 }
 
 /// Adds what differs, what was wanted and what came.
 pub fn add_difference(
     desk: &Desk,
     plain: &Plain,
-    difference: &Difference,
-    came: &mut Vec<u8>,
-) -> Result<(), Trouble> {
-    let Difference(number, what) = *difference;
-    let win = win(number);
-    match what {
-        What::Window => add_word("size", came)?,
-        What::Cursor => add_word("cursor", came)?,
-        What::Origin => add_word("origin", came)?,
-        What::Row(row) | What::Touched(row) => {
-            add_word("row", came)?;
-            add_number(i64::from(narrow(row)), came)?;
-        }
-    }
-    add_word("of window", came)?;
-    add_number(i64::from(narrow(number)), came)?;
-    add_word("wanted", came)?;
-    if let Ok(window) = plain.window(number) {
-        add_wanted(plain, window, what, came)?;
-    }
-    add_word("came", came)?;
-    match what {
-        What::Window => add_answer(placed(desk.size(win)), came),
-        What::Cursor => add_answer(placed(desk.cursor(win)), came),
-        What::Origin => add_answer(placed(desk.origin(win)), came),
-        What::Row(row) => add_cells(desk.line(win, narrow(row)).unwrap_or(&[]), came),
-        What::Touched(row) => add_touched(desk.line_touched(win, narrow(row)) == Ok(true), came),
-    }
-}
-
-// Adds what the plain desk has.
-fn add_wanted(
-    plain: &Plain,
-    window: &Window,
     what: What,
     came: &mut Vec<u8>,
 ) -> Result<(), Trouble> {
     match what {
-        What::Window => add_answer(Ok(place(window.rows, window.columns)), came),
-        What::Cursor => add_answer(Ok(place(window.cursor.0, window.cursor.1)), came),
-        What::Origin => match window.origin {
-            Some((row, column)) => add_answer(Ok(place(row, column)), came),
-            None => add_word("none", came),
-        },
-        What::Row(row) => add_cells(plain.line(window, row), came),
-        What::Touched(row) => { add_touched(window.touched.get(row as usize) == Some(&true), came) }
+        What::Screen => {
+            add_word("screen", came)?;
+            add_both(screen_wanted(plain), screen_of(desk.screen()), came)
+        }
+        What::Count => {
+            add_word("count", came)?;
+            add_both(counted(plain.windows.len()), counted(desk.count()), came)
+        }
+        What::Nth(index) => {
+            add_word("nth", came)?;
+            add_number(index as i64, came)?;
+            add_both(plain_nth(plain, index), desk_nth(desk, index), came)
+        }
+        What::Field(index, ..) | What::Row(index, _) | What::Touched(index, _) => {
+            add_within(desk, plain, index, what, came)
+        }
     }
 }
 
-fn add_touched(touched: bool, came: &mut Vec<u8>) -> Result<(), Trouble> {
-    add_word(if touched { "touched" } else { "untouched" }, came)
+// Adds what differs in the window at an index, which both desks have.
+fn add_within(
+    desk: &Desk,
+    plain: &Plain,
+    index: usize,
+    what: What,
+    came: &mut Vec<u8>,
+) -> Result<(), Trouble> {
+    let Some(window) = plain.windows.get(index) else {
+        return Ok(());
+    };
+    let Ok(lent) = desk.window(win(window.number)) else {
+        return Ok(());
+    };
+    add_word("window", came)?;
+    add_number(i64::from(narrow(window.number)), came)?;
+    match what {
+        What::Field(_, name, field) => {
+            add_word(name, came)?;
+            add_both(plain_field(window, field), lent_field(&lent, field), came)
+        }
+        What::Row(_, row) => {
+            let (_, line) = lent_line(&lent, narrow(row)).unwrap_or((false, &[]));
+            add_rows(row, plain.line(window, row), line, came)
+        }
+        What::Touched(_, row) => {
+            let (touched, _) = lent_line(&lent, narrow(row)).unwrap_or((false, &[]));
+            add_word("touched", came)?;
+            add_number(i64::from(narrow(row)), came)?;
+            add_both(Answer::Flag(!touched), Answer::Flag(touched), came)
+        }
+        What::Screen | What::Count | What::Nth(_) => Ok(()),
+    }
+}
+
+fn counted(count: usize) -> Answer {
+    Answer::Number(narrow(count as u64))
+}
+
+fn plain_nth(plain: &Plain, index: usize) -> Answer {
+    match plain.windows.get(index) {
+        Some(window) => Answer::Made(win(window.number)),
+        None => Answer::Nothing,
+    }
+}
+
+fn desk_nth(desk: &Desk, index: usize) -> Answer {
+    match desk.nth(index) {
+        Some(win) => Answer::Made(win),
+        None => Answer::Nothing,
+    }
+}
+
+fn add_both(wanted: Answer, answer: Answer, came: &mut Vec<u8>) -> Result<(), Trouble> {
+    add_word("wanted", came)?;
+    add_answer(Ok(wanted), came)?;
+    add_word("came", came)?;
+    add_answer(Ok(answer), came)
+}
+
+fn add_rows(row: u64, wanted: &[Cell], line: &[Cell], came: &mut Vec<u8>) -> Result<(), Trouble> {
+    add_word("line", came)?;
+    add_number(i64::from(narrow(row)), came)?;
+    add_word("wanted", came)?;
+    add_cells(wanted, came)?;
+    add_word("came", came)?;
+    add_cells(line, came)
 }
 
 // Adds the bytes of cells, and their attributes.

@@ -13,6 +13,7 @@ pub fn call_desk(alloc: Global, desk: &mut Desk, call: &Call) -> Answered {
         Name::Erase(name) => erase(desk, call, name),
         Name::Touch(name) => touch(alloc, desk, call, name),
         Name::Set(name) => set(desk, call, name),
+        Name::Take => said(desk.take_lines(call.win(), call.number(1), call.number(2))),
         Name::Read(name) => read(desk, call, name),
     }
 }

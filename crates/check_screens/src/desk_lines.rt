@@ -1,6 +1,7 @@
 //! Lines about a whole desk: how one is made, and what a window holds.
 
 use crate::answers::{add_number, add_word, fault_name};
+use crate::lent_lines::answer_of_lent;
 use crate::stages::Stage;
 use crate::texts::write_byte;
 use crate::troubles::Trouble;
@@ -10,7 +11,8 @@ use scr_windows::{Desk, Win, WinFault};
 use std::alloc::Global;
 
 impl Stage {
-    /// The lines `desk R C`, `drawn R C TEXT`, `line W R`, `rows W`, `attributes W R` and `touched W`.
+    /// The lines `desk R C`, `drawn R C TEXT`, `line W R`, `rows W`, `attributes W R` and `touched W`, and those about
+    /// which windows there are and what one tells.
     pub fn answer_of_desk(
         &mut self,
         word: &[u8],
@@ -24,7 +26,7 @@ impl Stage {
             b"rows" => self.add_rows(words, came)?,
             b"attributes" => self.add_attributes(words, came)?,
             b"touched" => self.add_touched(words, came)?,
-            _ => return Ok(false),
+            _ => return answer_of_lent(self.desk.as_ref(), word, words, came),
         }
         Ok(true)
     }
@@ -48,7 +50,6 @@ impl Stage {
         match new_desk(self.alloc, size, drawn, &self.text) {
             Ok(desk) => {
                 self.desk = Some(desk);
-                self.made = 0;
                 add_word("Ok", came)
             }
             Err(fault) => add_word(fault_name(fault), came),

@@ -1,18 +1,18 @@
 //! All that can be seen of a script's state, as bytes, so that a refused call can be shown to have changed nothing.
 
+use crate::answers::{add_answer, add_number};
+use crate::lent_windows::{FIELDS, lent_field, lent_line};
 use crate::screen_lines::print_state;
 use crate::stages::Stage;
 use crate::troubles::Trouble;
 use scr_cells::{Cell, Picture};
-use scr_windows::{Desk, Win, WinFault};
+use scr_windows::{Desk, WindowRef};
 
 impl Stage {
     /// Adds all that can be seen.
     pub fn dump(&self, bytes: &mut Vec<u8>) -> Result<(), Trouble> {
         if let Some(desk) = &self.desk {
-            for number in 0..self.made.saturating_add(2) {
-                dump_window(desk, Win(number), bytes)?;
-            }
+            dump_desk(desk, bytes)?;
         }
         if let Some(picture) = &self.picture {
             dump_picture(picture, bytes)?;
@@ -24,32 +24,40 @@ impl Stage {
     }
 }
 
-// Adds what can be seen of a window.
-fn dump_window(desk: &Desk, win: Win, bytes: &mut Vec<u8>) -> Result<(), Trouble> {
-    let Ok((rows, columns)) = desk.size(win) else {
-        bytes.push(0)?;
-        return Ok(());
-    };
-    dump_place(Ok((rows, columns)), bytes)?;
-    dump_place(desk.cursor(win), bytes)?;
-    dump_place(desk.origin(win), bytes)?;
-    for row in 0..rows {
-        bytes.push(u8::from(desk.line_touched(win, row) == Ok(true)))?;
-        dump_cells(desk.line(win, row).unwrap_or(&[]), bytes)?;
+// Adds the size of the screen, and each window that there is.
+fn dump_desk(desk: &Desk, bytes: &mut Vec<u8>) -> Result<(), Trouble> {
+    let size = desk.screen();
+    dump_place(size.rows, size.columns, bytes)?;
+    for index in 0..desk.count() {
+        if let Some(win) = desk.nth(index)
+            && let Ok(window) = desk.window(win)
+        {
+            add_number(i64::from(win.0), bytes)?;
+            dump_window(&window, bytes)?;
+        }
     }
     Ok(())
 }
 
-// Adds a row and a column, or that there is none.
-fn dump_place(place: Result<(u32, u32), WinFault>, bytes: &mut Vec<u8>) -> Result<(), Trouble> {
-    match place {
-        Ok((row, column)) => {
-            bytes.push(1)?;
-            bytes.extend_from_slice(&row.to_be_bytes())?;
-            bytes.extend_from_slice(&column.to_be_bytes())?;
-        }
-        Err(_) => bytes.push(0)?,
+// Adds the fields of a window, its touched lines and its cells.
+fn dump_window(window: &WindowRef<'_>, bytes: &mut Vec<u8>) -> Result<(), Trouble> {
+    for (_, field) in FIELDS.iter() {
+        add_answer(Ok(lent_field(window, *field)), bytes)?;
     }
+    let (rows, _) = window.size();
+    for row in 0..rows {
+        if let Some((touched, line)) = lent_line(window, row) {
+            bytes.push(u8::from(touched))?;
+            dump_cells(line, bytes)?;
+        }
+    }
+    Ok(())
+}
+
+// Adds a row and a column.
+fn dump_place(row: u32, column: u32, bytes: &mut Vec<u8>) -> Result<(), Trouble> {
+    bytes.extend_from_slice(&row.to_be_bytes())?;
+    bytes.extend_from_slice(&column.to_be_bytes())?;
     Ok(())
 }
 
@@ -66,7 +74,7 @@ fn dump_picture(picture: &Picture, bytes: &mut Vec<u8>) -> Result<(), Trouble> {
         dump_cells(picture.row(row), bytes)?;
     }
     match picture.wish() {
-        Some(place) => dump_place(Ok(place), bytes),
-        None => dump_place(Err(WinFault::NoWindow), bytes),
+        Some((row, column)) => dump_place(row, column, bytes),
+        None => Ok(()),
     }
 }

@@ -57,7 +57,7 @@ static ERASING: [Form; 7] = [
     ),
 ];
 
-static TOUCHING: [Form; 8] = [
+static TOUCHING: [Form; 9] = [
     ("copy", "wwssrcdeo", 10, Name::Touch(Touching::Copy)),
     ("overlay", "ww", 4, Name::Touch(Touching::Overlay)),
     ("overwrite", "ww", 4, Name::Touch(Touching::Overwrite)),
@@ -66,14 +66,15 @@ static TOUCHING: [Form; 8] = [
     ("touch_lines", "wrro", 5, Name::Touch(Touching::TouchLines)),
     ("sync_up", "w", 4, Name::Touch(Touching::SyncUp)),
     ("sync_down", "w", 4, Name::Touch(Touching::SyncDown)),
+    ("take_lines", "wrr", 8, Name::Take),
 ];
 
 static SETTING: [Form; 9] = [
     ("move_cursor", "wrc", 10, Name::Set(Setting::MoveCursor)),
     ("set_region", "wrr", 6, Name::Set(Setting::SetRegion)),
     ("scroll_ok", "wo", 8, Name::Set(Setting::ScrollOk)),
-    ("clear_ok", "wo", 2, Name::Set(Setting::ClearOk)),
-    ("leave_ok", "wo", 2, Name::Set(Setting::LeaveOk)),
+    ("clear_ok", "wo", 4, Name::Set(Setting::ClearOk)),
+    ("leave_ok", "wo", 4, Name::Set(Setting::LeaveOk)),
     ("attr_on", "wa", 2, Name::Set(Setting::AttrOn)),
     ("attr_off", "wa", 2, Name::Set(Setting::AttrOff)),
     ("attr_set", "wa", 2, Name::Set(Setting::AttrSet)),

@@ -1,12 +1,10 @@
 //! Generated calls on the library's desk and on the plain one, compared after each.
 
 use crate::answers::{add_answer, add_number, add_text, add_word};
-use crate::calls::{Answered, Call, MOST_NUMBERS};
-use crate::comparing::{Difference, add_difference, first_difference};
+use crate::calls::{Answered, Call};
+use crate::comparing::{What, add_difference, first_difference};
 use crate::desk_calls::call_desk;
-use crate::forms::find;
 use crate::generating::{TEXT, next_call, next_form};
-use crate::names::Name;
 use crate::plain::Plain;
 use crate::random::Random;
 use crate::troubles::Trouble;
@@ -68,7 +66,7 @@ fn new_desks(alloc: Global) -> Result<Option<Both>, Trouble> {
 }
 
 impl Both {
-    // Makes a call on both, and now and then calls that show what it set.
+    // Makes the next call.
     fn step(
         &mut self,
         number: u64,
@@ -78,32 +76,7 @@ impl Both {
         let mut text = [0; TEXT];
         let form = next_form(random).ok_or(Trouble::Bad("no form"))?;
         let call = next_call(&self.plain, random, form, &mut text);
-        if !self.make(number, &call, came)? {
-            return Ok(false);
-        }
-        if is_setting(&call) && random.below(3) == 0 {
-            return self.probe(number, call.numbers[0], came);
-        }
-        Ok(true)
-    }
-
-    // Makes calls that show the region and whether it may scroll, the attributes and the background of a window.
-    fn probe(&mut self, number: u64, win: i64, came: &mut Vec<u8>) -> Result<bool, Trouble> {
-        let mut numbers = [0; MOST_NUMBERS];
-        numbers[0] = win;
-        for (word, argument) in [("scroll", 1), ("add_byte", 32), ("clear_to_eol", 0)] {
-            numbers[1] = argument;
-            let form = find(word.as_bytes()).ok_or(Trouble::Bad("no form"))?;
-            let call = Call {
-                form,
-                numbers,
-                text: &[],
-            };
-            if !self.make(number, &call, came)? {
-                return Ok(false);
-            }
-        }
-        Ok(true)
+        self.make(number, &call, came)
     }
 
     // Makes a call on both and compares them. Where memory runs out on the library's desk, nothing may have changed,
@@ -112,7 +85,7 @@ impl Both {
         let mut answered = call_desk(self.alloc, &mut self.desk, call);
         if answered == Err(WinFault::NoMemory) {
             if let Some(difference) = first_difference(&self.desk, &self.plain) {
-                self.tell(number, call, &difference, came)?;
+                self.tell(number, call, difference, came)?;
                 return Ok(false);
             }
             answered = call_desk(self.alloc, &mut self.desk, call);
@@ -127,7 +100,7 @@ impl Both {
         }
         match first_difference(&self.desk, &self.plain) {
             Some(difference) => {
-                self.tell(number, call, &difference, came)?;
+                self.tell(number, call, difference, came)?;
                 Ok(false)
             }
             None => Ok(true),
@@ -139,17 +112,12 @@ impl Both {
         &self,
         number: u64,
         call: &Call,
-        difference: &Difference,
+        difference: What,
         came: &mut Vec<u8>,
     ) -> Result<(), Trouble> {
         add_call(number, call, came)?;
         add_difference(&self.desk, &self.plain, difference, came)
     }
-}
-
-// Whether a call makes a window or sets something.
-fn is_setting(call: &Call) -> bool {
-    matches!(call.name(), Name::Make(_) | Name::Set(_))
 }
 
 fn tell_answers(

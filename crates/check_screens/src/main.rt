@@ -14,6 +14,8 @@ mod forms;
 mod formulas;
 mod generated;
 mod generating;
+mod lent_lines;
+mod lent_windows;
 mod names;
 mod picture_lines;
 mod plain;

@@ -75,7 +75,7 @@ pub enum Reading {
     WindowTouched,
 }
 
-/// A call on windows.
+/// A call on windows; `Take` takes lines.
 #[derive(Clone, Copy)]
 pub enum Name {
     Make(Making),
@@ -83,5 +83,6 @@ pub enum Name {
     Erase(Erasing),
     Touch(Touching),
     Set(Setting),
+    Take,
     Read(Reading),
 }

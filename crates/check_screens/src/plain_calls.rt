@@ -1,6 +1,6 @@
 //! Calls on the plain desk.
 
-use crate::calls::{Answer, Answered, Call, done};
+use crate::calls::{Answer, Answered, Call, done, said};
 use crate::names::{Name, Reading};
 use crate::plain::Plain;
 use scr_windows::WinFault;
@@ -15,6 +15,7 @@ impl Plain {
             Name::Erase(name) => done(self.erase_places(call, name)),
             Name::Touch(name) => done(self.touch_lines(call, name)),
             Name::Set(name) => done(self.set(call, name)),
+            Name::Take => said(self.take_lines(call)),
             Name::Read(name) => self.read(call, name),
         }
     }

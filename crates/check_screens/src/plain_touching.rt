@@ -28,6 +28,21 @@ impl Plain {
         }
     }
 
+    /// Lines are taken: they are untouched, and the wish for a whole repaint is answered and taken back.
+    pub fn take_lines(&mut self, call: &Call) -> Result<bool, WinFault> {
+        let number = u64::from(call.number(0));
+        let first = u64::from(call.number(1));
+        let end = first.saturating_add(u64::from(call.number(2)));
+        let window = self.window_mut(number)?;
+        if end > window.rows {
+            return Err(WinFault::OutOfWindow);
+        }
+        let wished = window.clear_ok;
+        window.clear_ok = false;
+        self.touch(number, first, end, false)?;
+        Ok(wished)
+    }
+
     fn copy(
         &mut self,
         source: u64,

@@ -2,7 +2,7 @@
 //! it on.
 
 use crate::answers::add_answer;
-use crate::calls::{Answer, Answered, Call, MOST_NUMBERS};
+use crate::calls::{Call, MOST_NUMBERS};
 use crate::desk_calls::call_desk;
 use crate::forms::{Form, find};
 use crate::texts::read_text;
@@ -10,7 +10,7 @@ use crate::troubles::Trouble;
 use crate::words::{Words, byte, integer};
 use scr_cells::Picture;
 use scr_term::{EcmaScreen, Profile};
-use scr_windows::{Desk, Win};
+use scr_windows::Desk;
 use std::alloc::Global;
 
 /// The state of a script.
@@ -18,8 +18,6 @@ use std::alloc::Global;
 pub struct Stage {
     pub alloc: Global,
     pub desk: Option<Desk>,
-    /// The greatest number of a window that was made on the desk.
-    pub made: u32,
     pub picture: Option<Picture>,
     pub profile: Option<Profile>,
     pub screen: Option<EcmaScreen>,
@@ -34,7 +32,6 @@ impl Stage {
         Stage {
             alloc,
             desk: None,
-            made: 0,
             picture: None,
             profile: None,
             screen: None,
@@ -77,7 +74,6 @@ impl Stage {
         };
         let desk = self.desk.as_mut().ok_or(Trouble::Bad("no desk"))?;
         let answered = call_desk(self.alloc, desk, &call);
-        self.made = self.made.max(number_made(answered));
         add_answer(answered, came)
     }
 
@@ -85,14 +81,6 @@ impl Stage {
     pub fn read_text(&mut self, words: &mut Words<'_>) -> Result<(), Trouble> {
         self.text.clear();
         read_text(words.next(), &mut self.text)
-    }
-}
-
-// The number of the window that was made, or 0.
-fn number_made(answered: Answered) -> u32 {
-    match answered {
-        Ok(Answer::Made(Win(number))) => number,
-        _ => 0,
     }
 }
 

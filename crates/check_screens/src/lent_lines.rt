@@ -1,0 +1,83 @@
+//! Lines about which windows there are, and about what one that is lent tells.
+
+use crate::answers::{add_answer, add_flag, add_number, add_place, add_word, fault_name};
+use crate::desk_lines::add_text_of;
+use crate::lent_windows::{FIELDS, Field, lent_field, lent_line};
+use crate::troubles::Trouble;
+use crate::words::Words;
+use scr_windows::{Desk, Win, WindowRef};
+
+/// The lines `desk_screen`, `count`, `nth INDEX`, and `window W FIELD`, `window W is_touched R` and `window W line R`.
+pub fn answer_of_lent(
+    desk: Option<&Desk>,
+    word: &[u8],
+    words: &mut Words<'_>,
+    came: &mut Vec<u8>,
+) -> Result<bool, Trouble> {
+    let Some(desk) = desk else {
+        return Ok(false);
+    };
+    match word {
+        b"desk_screen" => {
+            let size = desk.screen();
+            add_place(size.rows, size.columns, came)?;
+        }
+        b"count" => add_number(desk.count() as i64, came)?,
+        b"nth" => {
+            let index = words.number()?;
+            add_nth(desk, index as usize, came)?;
+        }
+        b"window" => add_lent(desk, words, came)?,
+        _ => return Ok(false),
+    }
+    Ok(true)
+}
+
+// Adds the number of the window at an index.
+fn add_nth(desk: &Desk, index: usize, came: &mut Vec<u8>) -> Result<(), Trouble> {
+    match desk.nth(index) {
+        Some(win) => add_number(i64::from(win.0), came),
+        None => add_word("none", came),
+    }
+}
+
+// Adds what a line asks of a window that is lent.
+fn add_lent(desk: &Desk, words: &mut Words<'_>, came: &mut Vec<u8>) -> Result<(), Trouble> {
+    let win = Win(words.number()?);
+    let word = words.next();
+    let asked = match word {
+        b"is_touched" | b"line" => Some(words.number()?),
+        _ => None,
+    };
+    match desk.window(win) {
+        Ok(window) => match asked {
+            Some(row) => add_lent_line(&window, row, word == b"line".as_slice(), came),
+            None => add_answer(Ok(lent_field(&window, field_of(word)?)), came),
+        },
+        Err(fault) => add_word(fault_name(fault), came),
+    }
+}
+
+// Adds the cells of a line, or whether it is touched.
+fn add_lent_line(
+    window: &WindowRef<'_>,
+    row: u32,
+    cells: bool,
+    came: &mut Vec<u8>,
+) -> Result<(), Trouble> {
+    match lent_line(window, row) {
+        Some((_, line)) if cells => add_text_of(line, came),
+        Some((touched, _)) => add_flag(touched, came),
+        None => Err(Trouble::Bad("no row of the window")),
+    }
+}
+
+// The field of a word.
+fn field_of(word: &[u8]) -> Result<Field, Trouble> {
+    for (name, field) in FIELDS.iter() {
+        if name.as_bytes() == word {
+            return Ok(*field);
+        }
+    }
+    Err(Trouble::Bad("no such field"))
+}
