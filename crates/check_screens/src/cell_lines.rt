@@ -1,38 +1,34 @@
 //! Lines about sizes, sets of attributes, cells and looks.
 
 use crate::answers::{add_flag, add_number, add_text, add_word};
-use crate::stages::Stage;
 use crate::troubles::Trouble;
 use crate::words::Words;
 use bitflags::Flags;
 use scr_cells::{Attrs, Cell, Look, Size};
 
-impl Stage {
-    /// The lines `new_size R C`, `union A B`, `difference A B`, `contains A B`, `all_attributes`, `new_cell B A`,
-    /// `new_look B A`, `blank_cell`, `blank_look` and `same_look B A B A`.
-    pub fn answer_of_cells(
-        &mut self,
-        word: &[u8],
-        words: &mut Words<'_>,
-        came: &mut Vec<u8>,
-    ) -> Result<bool, Trouble> {
-        match word {
-            b"new_size" => {
-                let (rows, columns) = (words.number()?, words.number()?);
-                add_flag(Size::new(rows, columns).is_some(), came)?;
-            }
-            b"union" | b"difference" | b"contains" | b"all_attributes" => {
-                answer_of_sets(word, words, came)?;
-            }
-            b"new_cell" => add_new_cell(words, came)?,
-            b"blank_cell" => add_held(Cell::blank().byte(), Cell::blank().attrs(), came)?,
-            b"new_look" => add_new_look(words, came)?,
-            b"blank_look" => add_held(Look::blank().byte(), Look::blank().attrs(), came)?,
-            b"same_look" => add_same_look(words, came)?,
-            _ => return Ok(false),
+/// The lines `new_size R C`, `union A B`, `difference A B`, `contains A B`, `all_attributes`, `new_cell B A`,
+/// `new_look B A`, `blank_cell`, `blank_look` and `same_look B A B A`.
+pub fn answer_of_cells(
+    word: &[u8],
+    words: &mut Words<'_>,
+    came: &mut Vec<u8>,
+) -> Result<bool, Trouble> {
+    match word {
+        b"new_size" => {
+            let (rows, columns) = (words.number()?, words.number()?);
+            add_flag(Size::new(rows, columns).is_some(), came)?;
         }
-        Ok(true)
+        b"union" | b"difference" | b"contains" | b"all_attributes" => {
+            answer_of_sets(word, words, came)?;
+        }
+        b"new_cell" => add_new_cell(words, came)?,
+        b"blank_cell" => add_held(Cell::blank().byte(), Cell::blank().attrs(), came)?,
+        b"new_look" => add_new_look(words, came)?,
+        b"blank_look" => add_held(Look::blank().byte(), Look::blank().attrs(), came)?,
+        b"same_look" => add_same_look(words, came)?,
+        _ => return Ok(false),
     }
+    Ok(true)
 }
 
 fn answer_of_sets(word: &[u8], words: &mut Words<'_>, came: &mut Vec<u8>) -> Result<(), Trouble> {

@@ -102,7 +102,7 @@ pub fn add_difference(
         }
         What::Nth(index) => {
             add_word("nth", came)?;
-            add_number(index as i64, came)?;
+            add_number(i64::try_from(index).unwrap_or(0), came)?;
             add_both(plain_nth(plain, index), desk_nth(desk, index), came)
         }
         What::Field(index, ..) | What::Row(index, _) | What::Touched(index, _) => {

@@ -9,14 +9,11 @@ use scr_windows::{Desk, Win, WindowRef};
 
 /// The lines `desk_screen`, `count`, `nth INDEX`, and `window W FIELD`, `window W is_touched R` and `window W line R`.
 pub fn answer_of_lent(
-    desk: Option<&Desk>,
+    desk: &Desk,
     word: &[u8],
     words: &mut Words<'_>,
     came: &mut Vec<u8>,
 ) -> Result<bool, Trouble> {
-    let Some(desk) = desk else {
-        return Ok(false);
-    };
     match word {
         b"desk_screen" => {
             let size = desk.screen();

@@ -2,7 +2,6 @@
 
 use crate::answers::{add_done, add_number, add_place, add_text, add_word};
 use crate::desk_lines::add_text_of;
-use crate::stages::Stage;
 use crate::terminal_lines::{add_op, render};
 use crate::troubles::Trouble;
 use crate::words::Words;
@@ -11,123 +10,128 @@ use scr_plan::scratch;
 use scr_term::{Ops, Profile};
 use std::alloc::Global;
 
-impl Stage {
-    /// The lines `picture R C`, `put R C B A`, `wish R C`, `wish none`, `wished`, `picture_size`, `picture_rows`,
-    /// `scratch` and `painted`.
-    pub fn answer_of_picture(
-        &mut self,
-        word: &[u8],
-        words: &mut Words<'_>,
-        came: &mut Vec<u8>,
-    ) -> Result<bool, Trouble> {
-        match word {
-            b"picture" => self.make_picture(words, came)?,
-            b"put" => self.put(words, came)?,
-            b"wish" => self.wish(words, came)?,
-            b"wished" => self.add_wish(came)?,
-            b"picture_size" => {
-                let size = self.picture()?.size();
-                add_place(size.rows, size.columns, came)?;
+/// The lines `picture R C`, `put R C B A`, `wish R C`, `wish none`, `wished`, `picture_size`, `picture_rows`,
+/// `scratch` and `painted`.
+pub fn answer_of_picture(
+    alloc: Global,
+    picture: &mut Option<Picture>,
+    word: &[u8],
+    words: &mut Words<'_>,
+    came: &mut Vec<u8>,
+) -> Result<bool, Trouble> {
+    match word {
+        b"picture" => make_picture(alloc, picture, words, came)?,
+        b"put" => put(ready_mut(picture)?, words, came)?,
+        b"wish" => wish(ready_mut(picture)?, words, came)?,
+        b"wished" => add_wish(ready(picture)?, came)?,
+        b"picture_size" => {
+            let size = ready(picture)?.size();
+            add_place(size.rows, size.columns, came)?;
+        }
+        b"picture_rows" => add_picture_rows(ready(picture)?, came)?,
+        b"scratch" => add_scratch(alloc, ready(picture)?, came)?,
+        b"painted" => add_painted(alloc, ready(picture)?, came)?,
+        _ => return Ok(false),
+    }
+    Ok(true)
+}
+
+fn make_picture(
+    alloc: Global,
+    picture: &mut Option<Picture>,
+    words: &mut Words<'_>,
+    came: &mut Vec<u8>,
+) -> Result<(), Trouble> {
+    let size = read_size(words)?;
+    match Picture::new(alloc, size) {
+        Ok(made) => {
+            *picture = Some(made);
+            add_word("Ok", came)
+        }
+        Err(NoMemory) => add_word("NoMemory", came),
+    }
+}
+
+fn ready(picture: &Option<Picture>) -> Result<&Picture, Trouble> {
+    picture.as_ref().ok_or(Trouble::Bad("no picture"))
+}
+
+fn ready_mut(picture: &mut Option<Picture>) -> Result<&mut Picture, Trouble> {
+    picture.as_mut().ok_or(Trouble::Bad("no picture"))
+}
+
+fn put(picture: &mut Picture, words: &mut Words<'_>, came: &mut Vec<u8>) -> Result<(), Trouble> {
+    let (row, column) = (words.number()?, words.number()?);
+    let Some(cell) = Cell::new(words.byte()?, Attrs(words.byte()?)) else {
+        return Err(Trouble::Bad("no cell"));
+    };
+    let size = picture.size();
+    if row >= size.rows || column >= size.columns {
+        return Err(Trouble::Bad("no place of the picture"));
+    }
+    picture.put(row, column, cell);
+    add_word("Ok", came)
+}
+
+fn wish(picture: &mut Picture, words: &mut Words<'_>, came: &mut Vec<u8>) -> Result<(), Trouble> {
+    if words.peek() == b"none".as_slice() {
+        let _none = words.next();
+        picture.set_wish(None);
+        return add_word("Ok", came);
+    }
+    let (row, column) = (words.number()?, words.number()?);
+    let size = picture.size();
+    if row >= size.rows || column >= size.columns {
+        return Err(Trouble::Bad("no place of the picture"));
+    }
+    picture.set_wish(Some((row, column)));
+    add_word("Ok", came)
+}
+
+fn add_wish(picture: &Picture, came: &mut Vec<u8>) -> Result<(), Trouble> {
+    match picture.wish() {
+        Some((row, column)) => add_place(row, column, came),
+        None => add_word("none", came),
+    }
+}
+
+fn add_picture_rows(picture: &Picture, came: &mut Vec<u8>) -> Result<(), Trouble> {
+    for row in 0..picture.size().rows {
+        add_text_of(picture.row(row), came)?;
+    }
+    Ok(())
+}
+
+// Adds the operations that paint the picture from scratch.
+fn add_scratch(alloc: Global, picture: &Picture, came: &mut Vec<u8>) -> Result<(), Trouble> {
+    match painting(alloc, picture) {
+        Ok((_, ops)) => {
+            for op in &ops.0 {
+                add_op(*op, came)?;
             }
-            b"picture_rows" => self.add_picture_rows(came)?,
-            b"scratch" => self.add_scratch(came)?,
-            b"painted" => self.add_painted(came)?,
-            _ => return Ok(false),
+            Ok(())
         }
-        Ok(true)
+        Err(NoMemory) => add_word("NoMemory", came),
     }
+}
 
-    fn make_picture(&mut self, words: &mut Words<'_>, came: &mut Vec<u8>) -> Result<(), Trouble> {
-        let size = read_size(words)?;
-        match Picture::new(self.alloc, size) {
-            Ok(picture) => {
-                self.picture = Some(picture);
-                add_word("Ok", came)
-            }
-            Err(NoMemory) => add_word("NoMemory", came),
+// Adds the bytes of each of them, and how many there are in all.
+fn add_painted(alloc: Global, picture: &Picture, came: &mut Vec<u8>) -> Result<(), Trouble> {
+    let (profile, ops) = match painting(alloc, picture) {
+        Ok(painting) => painting,
+        Err(NoMemory) => return add_word("NoMemory", came),
+    };
+    let mut bytes = Vec::new(alloc);
+    let mut count: u32 = 0;
+    for op in &ops.0 {
+        bytes.clear();
+        match render(&profile, *op, &mut bytes)? {
+            Ok(()) => add_text(&bytes, came)?,
+            refused => return add_done(refused, came),
         }
+        count = count.saturating_add(u32::try_from(bytes.len()).unwrap_or(0));
     }
-
-    fn picture(&self) -> Result<&Picture, Trouble> {
-        self.picture.as_ref().ok_or(Trouble::Bad("no picture"))
-    }
-
-    fn put(&mut self, words: &mut Words<'_>, came: &mut Vec<u8>) -> Result<(), Trouble> {
-        let (row, column) = (words.number()?, words.number()?);
-        let Some(cell) = Cell::new(words.byte()?, Attrs(words.byte()?)) else {
-            return Err(Trouble::Bad("no cell"));
-        };
-        let picture = self.picture.as_mut().ok_or(Trouble::Bad("no picture"))?;
-        let size = picture.size();
-        if row >= size.rows || column >= size.columns {
-            return Err(Trouble::Bad("no place of the picture"));
-        }
-        picture.put(row, column, cell);
-        add_word("Ok", came)
-    }
-
-    fn wish(&mut self, words: &mut Words<'_>, came: &mut Vec<u8>) -> Result<(), Trouble> {
-        let picture = self.picture.as_mut().ok_or(Trouble::Bad("no picture"))?;
-        if words.peek() == b"none".as_slice() {
-            let _none = words.next();
-            picture.set_wish(None);
-            return add_word("Ok", came);
-        }
-        let (row, column) = (words.number()?, words.number()?);
-        let size = picture.size();
-        if row >= size.rows || column >= size.columns {
-            return Err(Trouble::Bad("no place of the picture"));
-        }
-        picture.set_wish(Some((row, column)));
-        add_word("Ok", came)
-    }
-
-    fn add_wish(&self, came: &mut Vec<u8>) -> Result<(), Trouble> {
-        match self.picture()?.wish() {
-            Some((row, column)) => add_place(row, column, came),
-            None => add_word("none", came),
-        }
-    }
-
-    fn add_picture_rows(&self, came: &mut Vec<u8>) -> Result<(), Trouble> {
-        let picture = self.picture()?;
-        for row in 0..picture.size().rows {
-            add_text_of(picture.row(row), came)?;
-        }
-        Ok(())
-    }
-
-    // Adds the operations that paint the picture from scratch.
-    fn add_scratch(&self, came: &mut Vec<u8>) -> Result<(), Trouble> {
-        match painting(self.alloc, self.picture()?) {
-            Ok((_, ops)) => {
-                for op in &ops.0 {
-                    add_op(*op, came)?;
-                }
-                Ok(())
-            }
-            Err(NoMemory) => add_word("NoMemory", came),
-        }
-    }
-
-    // Adds the bytes of each of them, and how many there are in all.
-    fn add_painted(&self, came: &mut Vec<u8>) -> Result<(), Trouble> {
-        let (profile, ops) = match painting(self.alloc, self.picture()?) {
-            Ok(painting) => painting,
-            Err(NoMemory) => return add_word("NoMemory", came),
-        };
-        let mut bytes = Vec::new(self.alloc);
-        let mut count: u32 = 0;
-        for op in &ops.0 {
-            bytes.clear();
-            match render(&profile, *op, &mut bytes)? {
-                Ok(()) => add_text(&bytes, came)?,
-                refused => return add_done(refused, came),
-            }
-            count = count.saturating_add(u32::try_from(bytes.len()).unwrap_or(0));
-        }
-        add_number(i64::from(count), came)
-    }
+    add_number(i64::from(count), came)
 }
 
 // The bundled profile at a picture's size, and the operations that paint it.

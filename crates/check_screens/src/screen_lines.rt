@@ -3,7 +3,6 @@
 use crate::answers::{add_flag, add_number, add_place, add_text, add_word};
 use crate::cell_lines::add_held;
 use crate::picture_lines::read_size;
-use crate::stages::Stage;
 use crate::texts::read_text;
 use crate::troubles::Trouble;
 use crate::words::Words;
@@ -12,143 +11,182 @@ use scr_term::{EcmaScreen, Spot};
 use screen_scripts::print_screen;
 use std::alloc::Global;
 
-impl Stage {
-    /// The lines `screen R C`, `feed TEXT`, `screen_size`, `shown R C`, `spot`, `rendition`, `marked`, `printed`,
-    /// `state`, `cuts TEXT` and `undefined_after TEXT TEXT`.
-    pub fn answer_of_screen(
-        &mut self,
-        word: &[u8],
-        words: &mut Words<'_>,
-        came: &mut Vec<u8>,
-    ) -> Result<bool, Trouble> {
-        match word {
-            b"screen" => self.make_screen(words, came)?,
-            b"feed" => self.feed(words, came)?,
-            b"cuts" => self.add_cuts(words, came)?,
-            b"undefined_after" => self.add_undefined_after(words, came)?,
-            _ => return self.answer_of_shown(word, words, came),
-        }
-        Ok(true)
+/// The lines `screen R C`, `feed TEXT`, `screen_size`, `shown R C`, `spot`, `rendition`, `marked`, `printed`,
+/// `state`, `cuts TEXT` and `undefined_after TEXT TEXT`.
+pub fn answer_of_screen(
+    alloc: Global,
+    screen: &mut Option<EcmaScreen>,
+    text: &mut Vec<u8>,
+    other: &mut Vec<u8>,
+    word: &[u8],
+    words: &mut Words<'_>,
+    came: &mut Vec<u8>,
+) -> Result<bool, Trouble> {
+    match word {
+        b"screen" => make_screen(alloc, screen, words, came)?,
+        b"feed" => feed(ready_mut(screen)?, text, words, came)?,
+        b"cuts" => add_cuts(alloc, ready(screen)?.size(), text, words, came)?,
+        b"undefined_after" => add_undefined_after(
+            alloc,
+            ready(screen)?.size(),
+            text,
+            other,
+            words,
+            came,
+        )?,
+        _ => return answer_of_shown(alloc, screen.as_ref(), word, words, came),
     }
+    Ok(true)
+}
 
-    // The lines that say what there is.
-    fn answer_of_shown(
-        &self,
-        word: &[u8],
-        words: &mut Words<'_>,
-        came: &mut Vec<u8>,
-    ) -> Result<bool, Trouble> {
-        match word {
-            b"screen_size" => {
-                let size = self.screen()?.size();
-                add_place(size.rows, size.columns, came)?;
-            }
-            b"shown" => self.add_shown(words, came)?,
-            b"spot" => self.add_spot(came)?,
-            b"rendition" => add_number(i64::from(self.screen()?.rendition().0), came)?,
-            b"marked" => add_number(i64::from(marked(self.screen()?)), came)?,
-            b"printed" => {
-                let mut text = Vec::new(self.alloc);
-                let done = print_screen(self.screen()?, &mut text);
-                add_lines(done, &text, came)?;
-            }
-            b"state" => {
-                let mut text = Vec::new(self.alloc);
-                let done = print_state(self.screen()?, &mut text);
-                add_lines(done, &text, came)?;
-            }
-            _ => return Ok(false),
+// The lines that say what there is.
+fn answer_of_shown(
+    alloc: Global,
+    screen: Option<&EcmaScreen>,
+    word: &[u8],
+    words: &mut Words<'_>,
+    came: &mut Vec<u8>,
+) -> Result<bool, Trouble> {
+    let Some(screen) = screen else {
+        return Ok(false);
+    };
+    match word {
+        b"screen_size" => {
+            let size = screen.size();
+            add_place(size.rows, size.columns, came)?;
         }
-        Ok(true)
+        b"shown" => add_shown(screen, words, came)?,
+        b"spot" => add_spot(screen, came)?,
+        b"rendition" => add_number(i64::from(screen.rendition().0), came)?,
+        b"marked" => add_number(i64::from(marked(screen)), came)?,
+        b"printed" => {
+            let mut text = Vec::new(alloc);
+            let done = print_screen(screen, &mut text);
+            add_lines(done, &text, came)?;
+        }
+        b"state" => {
+            let mut text = Vec::new(alloc);
+            let done = print_state(screen, &mut text);
+            add_lines(done, &text, came)?;
+        }
+        _ => return Ok(false),
     }
+    Ok(true)
+}
 
-    fn make_screen(&mut self, words: &mut Words<'_>, came: &mut Vec<u8>) -> Result<(), Trouble> {
-        let size = read_size(words)?;
-        match EcmaScreen::new(self.alloc, size) {
-            Ok(screen) => {
-                self.screen = Some(screen);
-                add_word("Ok", came)
-            }
-            Err(NoMemory) => add_word("NoMemory", came),
+fn make_screen(
+    alloc: Global,
+    screen: &mut Option<EcmaScreen>,
+    words: &mut Words<'_>,
+    came: &mut Vec<u8>,
+) -> Result<(), Trouble> {
+    let size = read_size(words)?;
+    match EcmaScreen::new(alloc, size) {
+        Ok(made) => {
+            *screen = Some(made);
+            add_word("Ok", came)
+        }
+        Err(NoMemory) => add_word("NoMemory", came),
+    }
+}
+
+fn ready(screen: &Option<EcmaScreen>) -> Result<&EcmaScreen, Trouble> {
+    screen.as_ref().ok_or(Trouble::Bad("no screen"))
+}
+
+/// The screen, which a line asks for.
+pub fn ready_mut(screen: &mut Option<EcmaScreen>) -> Result<&mut EcmaScreen, Trouble> {
+    screen.as_mut().ok_or(Trouble::Bad("no screen"))
+}
+
+// Feeds a text, and adds whether it is defined and whether the screen waits for more.
+fn feed(
+    screen: &mut EcmaScreen,
+    text: &mut Vec<u8>,
+    words: &mut Words<'_>,
+    came: &mut Vec<u8>,
+) -> Result<(), Trouble> {
+    text.clear();
+    read_text(words.next(), text)?;
+    let fed = screen.feed(text);
+    add_word(if fed.is_ok() { "Ok" } else { "Undefined" }, came)?;
+    if screen.waiting() {
+        add_word("waiting", came)?;
+    }
+    Ok(())
+}
+
+fn add_shown(
+    screen: &EcmaScreen,
+    words: &mut Words<'_>,
+    came: &mut Vec<u8>,
+) -> Result<(), Trouble> {
+    let (row, column) = (words.number()?, words.number()?);
+    let size = screen.size();
+    if row >= size.rows || column >= size.columns {
+        return Err(Trouble::Bad("no place of the screen"));
+    }
+    let look = screen.cell(row, column);
+    add_held(look.byte(), look.attrs(), came)
+}
+
+fn add_spot(screen: &EcmaScreen, came: &mut Vec<u8>) -> Result<(), Trouble> {
+    match screen.spot() {
+        Spot::At(row, column) => add_place(row, column, came),
+        Spot::Margin(row) => {
+            add_word("margin", came)?;
+            add_number(i64::from(row), came)
         }
     }
+}
 
-    fn screen(&self) -> Result<&EcmaScreen, Trouble> {
-        self.screen.as_ref().ok_or(Trouble::Bad("no screen"))
-    }
-
-    // Feeds a text, and adds whether it is defined and whether the screen waits for more.
-    fn feed(&mut self, words: &mut Words<'_>, came: &mut Vec<u8>) -> Result<(), Trouble> {
-        self.read_text(words)?;
-        let screen = self.screen.as_mut().ok_or(Trouble::Bad("no screen"))?;
-        let fed = screen.feed(&self.text);
-        add_word(if fed.is_ok() { "Ok" } else { "Undefined" }, came)?;
-        if screen.waiting() {
-            add_word("waiting", came)?;
+// Feeds a text to a blank screen of the same size in two pieces, once for each place where it can be cut, and adds
+// the state after, or the first cut that makes it another.
+fn add_cuts(
+    alloc: Global,
+    size: Size,
+    text: &mut Vec<u8>,
+    words: &mut Words<'_>,
+    came: &mut Vec<u8>,
+) -> Result<(), Trouble> {
+    text.clear();
+    read_text(words.next(), text)?;
+    let mut whole = Vec::new(alloc);
+    let mut state = Vec::new(alloc);
+    for cut in 0..=text.len() {
+        state.clear();
+        let (head, tail) = text.split_at(cut);
+        let done = feed_two(alloc, size, head, tail, &mut state);
+        if done.is_err() {
+            return add_word("NoMemory", came);
         }
-        Ok(())
-    }
-
-    fn add_shown(&self, words: &mut Words<'_>, came: &mut Vec<u8>) -> Result<(), Trouble> {
-        let (row, column) = (words.number()?, words.number()?);
-        let screen = self.screen()?;
-        let size = screen.size();
-        if row >= size.rows || column >= size.columns {
-            return Err(Trouble::Bad("no place of the screen"));
-        }
-        let look = screen.cell(row, column);
-        add_held(look.byte(), look.attrs(), came)
-    }
-
-    fn add_spot(&self, came: &mut Vec<u8>) -> Result<(), Trouble> {
-        match self.screen()?.spot() {
-            Spot::At(row, column) => add_place(row, column, came),
-            Spot::Margin(row) => {
-                add_word("margin", came)?;
-                add_number(i64::from(row), came)
-            }
+        if cut == 0 {
+            whole.extend_from_slice(&state)?;
+        } else if whole.as_slice() != state.as_slice() {
+            add_word("cut", came)?;
+            return add_number(i64::try_from(cut).unwrap_or(0), came);
         }
     }
+    add_text(&whole, came)
+}
 
-    // Feeds a text to a blank screen of the same size in two pieces, once for each place where it can be cut, and adds
-    // the state after, or the first cut that makes it another.
-    fn add_cuts(&mut self, words: &mut Words<'_>, came: &mut Vec<u8>) -> Result<(), Trouble> {
-        self.read_text(words)?;
-        let size = self.screen()?.size();
-        let mut whole = Vec::new(self.alloc);
-        let mut state = Vec::new(self.alloc);
-        for cut in 0..=self.text.len() {
-            state.clear();
-            let (head, tail) = self.text.split_at(cut);
-            let done = feed_two(self.alloc, size, head, tail, &mut state);
-            if done.is_err() {
-                return add_word("NoMemory", came);
-            }
-            if cut == 0 {
-                whole.extend_from_slice(&state)?;
-            } else if whole.as_slice() != state.as_slice() {
-                add_word("cut", came)?;
-                return add_number(i64::try_from(cut).unwrap_or(0), came);
-            }
-        }
-        add_text(&whole, came)
-    }
-
-    // Whether a text that is fed behind another, which is defined, to a blank screen of the same size is undefined, and
-    // the screen then stays as it was.
-    fn add_undefined_after(
-        &mut self,
-        words: &mut Words<'_>,
-        came: &mut Vec<u8>,
-    ) -> Result<(), Trouble> {
-        self.read_text(words)?;
-        self.other_text.clear();
-        read_text(words.next(), &mut self.other_text)?;
-        let size = self.screen()?.size();
-        match stays_after(self.alloc, size, &self.text, &self.other_text) {
-            Ok(stays) => add_flag(stays, came),
-            Err(NoMemory) => add_word("NoMemory", came),
-        }
+// Whether a text that is fed behind another, which is defined, to a blank screen of the same size is undefined, and
+// the screen then stays as it was.
+fn add_undefined_after(
+    alloc: Global,
+    size: Size,
+    text: &mut Vec<u8>,
+    other: &mut Vec<u8>,
+    words: &mut Words<'_>,
+    came: &mut Vec<u8>,
+) -> Result<(), Trouble> {
+    text.clear();
+    read_text(words.next(), text)?;
+    other.clear();
+    read_text(words.next(), other)?;
+    match stays_after(alloc, size, text, other) {
+        Ok(stays) => add_flag(stays, came),
+        Err(NoMemory) => add_word("NoMemory", came),
     }
 }
 

@@ -1,86 +1,91 @@
 //! Lines about the scripts of the demonstration program.
 
 use crate::answers::{add_number, add_text, add_word};
-use crate::stages::Stage;
+use crate::screen_lines::ready_mut;
+use crate::texts::read_text;
 use crate::troubles::Trouble;
 use crate::words::Words;
 use scr_cells::NoMemory;
+use scr_term::EcmaScreen;
 use screen_scripts::{DemoFault, refusals, run};
+use std::alloc::Global;
 use std::io;
 use std::io::{ErrorKind, Write};
 
-impl Stage {
-    /// The lines `run TEXT`, `run_raw TEXT`, `refusals TEXT`, `run_writing N TEXT`, `run_flushing TEXT` and
-    /// `feed_run TEXT`, where the text is a script.
-    pub fn answer_of_script(
-        &mut self,
-        word: &[u8],
-        words: &mut Words<'_>,
-        came: &mut Vec<u8>,
-    ) -> Result<bool, Trouble> {
-        match word {
-            b"run" => self.run(false, words, came)?,
-            b"run_raw" => self.run(true, words, came)?,
-            b"refusals" => self.add_refusals(words, came)?,
-            b"run_writing" => {
-                let room = words.number()?;
-                self.run_into(room as usize, false, words, came)?;
-            }
-            b"run_flushing" => self.run_into(usize::MAX, true, words, came)?,
-            b"feed_run" => self.feed_run(words, came)?,
-            _ => return Ok(false),
-        }
-        Ok(true)
+/// The lines `run TEXT`, `run_raw TEXT`, `refusals TEXT`, `run_writing N TEXT`, `run_flushing TEXT` and `feed_run TEXT`,
+/// where the text is a script.
+pub fn answer_of_script(
+    alloc: Global,
+    screen: &mut Option<EcmaScreen>,
+    text: &mut Vec<u8>,
+    word: &[u8],
+    words: &mut Words<'_>,
+    came: &mut Vec<u8>,
+) -> Result<bool, Trouble> {
+    let room = match word {
+        b"run" | b"run_raw" | b"refusals" | b"run_flushing" | b"feed_run" => usize::MAX,
+        b"run_writing" => words.number()? as usize,
+        _ => return Ok(false),
+    };
+    text.clear();
+    read_text(words.next(), text)?;
+    match word {
+        b"refusals" => add_refusals(alloc, text, came)?,
+        b"run_writing" => run_into(alloc, room, false, text, came)?,
+        b"run_flushing" => run_into(alloc, room, true, text, came)?,
+        b"feed_run" => feed_run(alloc, ready_mut(screen)?, text, came)?,
+        _ => add_run(alloc, word == b"run_raw".as_slice(), text, came)?,
     }
+    Ok(true)
+}
 
-    // Runs a script, and adds what it writes and how it ends.
-    fn run(&mut self, raw: bool, words: &mut Words<'_>, came: &mut Vec<u8>) -> Result<(), Trouble> {
-        self.read_text(words)?;
-        let mut out = Vec::new(self.alloc);
-        let ended = run(self.alloc, &self.text, raw, &mut out);
-        add_text(&out, came)?;
-        add_end(ended, came)
-    }
+// Runs a script, and adds what it writes and how it ends.
+fn add_run(alloc: Global, raw: bool, text: &[u8], came: &mut Vec<u8>) -> Result<(), Trouble> {
+    let mut out = Vec::new(alloc);
+    let ended = run(alloc, text, raw, &mut out);
+    add_text(&out, came)?;
+    add_end(ended, came)
+}
 
-    fn add_refusals(&mut self, words: &mut Words<'_>, came: &mut Vec<u8>) -> Result<(), Trouble> {
-        self.read_text(words)?;
-        match refusals(self.alloc, &self.text) {
-            Ok(lines) => add_text(&lines, came),
-            Err(NoMemory) => add_word("NoMemory", came),
-        }
+fn add_refusals(alloc: Global, text: &[u8], came: &mut Vec<u8>) -> Result<(), Trouble> {
+    match refusals(alloc, text) {
+        Ok(lines) => add_text(&lines, came),
+        Err(NoMemory) => add_word("NoMemory", came),
     }
+}
 
-    // Runs a script into a writer that takes so many bytes and then fails, or that fails where it is flushed.
-    fn run_into(
-        &mut self,
-        room: usize,
-        fails_to_flush: bool,
-        words: &mut Words<'_>,
-        came: &mut Vec<u8>,
-    ) -> Result<(), Trouble> {
-        self.read_text(words)?;
-        let mut out = Failing {
-            taken: Vec::new(self.alloc),
-            room,
-            fails_to_flush,
-        };
-        let ended = run(self.alloc, &self.text, false, &mut out);
-        add_text(&out.taken, came)?;
-        add_end(ended, came)
-    }
+// Runs a script into a writer that takes so many bytes and then fails, or that fails where it is flushed.
+fn run_into(
+    alloc: Global,
+    room: usize,
+    fails_to_flush: bool,
+    text: &[u8],
+    came: &mut Vec<u8>,
+) -> Result<(), Trouble> {
+    let mut out = Failing {
+        taken: Vec::new(alloc),
+        room,
+        fails_to_flush,
+    };
+    let ended = run(alloc, text, false, &mut out);
+    add_text(&out.taken, came)?;
+    add_end(ended, came)
+}
 
-    // Feeds the screen the bytes that a script sends.
-    fn feed_run(&mut self, words: &mut Words<'_>, came: &mut Vec<u8>) -> Result<(), Trouble> {
-        self.read_text(words)?;
-        let mut out = Vec::new(self.alloc);
-        let ended = run(self.alloc, &self.text, true, &mut out);
-        if ended.is_err() {
-            return add_end(ended, came);
-        }
-        let screen = self.screen.as_mut().ok_or(Trouble::Bad("no screen"))?;
-        let fed = screen.feed(&out);
-        add_word(if fed.is_ok() { "Ok" } else { "Undefined" }, came)
+// Feeds a screen the bytes that a script sends.
+fn feed_run(
+    alloc: Global,
+    screen: &mut EcmaScreen,
+    text: &[u8],
+    came: &mut Vec<u8>,
+) -> Result<(), Trouble> {
+    let mut out = Vec::new(alloc);
+    let ended = run(alloc, text, true, &mut out);
+    if ended.is_err() {
+        return add_end(ended, came);
     }
+    let fed = screen.feed(&out);
+    add_word(if fed.is_ok() { "Ok" } else { "Undefined" }, came)
 }
 
 // How a run ended. The growth of a vector that is written to may be refused too.

@@ -3,8 +3,14 @@
 
 use crate::answers::add_answer;
 use crate::calls::{Call, MOST_NUMBERS};
+use crate::cell_lines::answer_of_cells;
 use crate::desk_calls::call_desk;
+use crate::desk_lines::answer_of_desk;
 use crate::forms::{Form, find};
+use crate::picture_lines::answer_of_picture;
+use crate::screen_lines::answer_of_screen;
+use crate::script_lines::answer_of_script;
+use crate::terminal_lines::answer_of_terminal;
 use crate::texts::read_text;
 use crate::troubles::Trouble;
 use crate::words::{Words, byte, integer};
@@ -46,17 +52,38 @@ impl Stage {
         if let Some(form) = find(word) {
             return self.call(form, words, came);
         }
-        let made = self.answer_of_desk(word, words, came)?
-            || self.answer_of_cells(word, words, came)?
-            || self.answer_of_picture(word, words, came)?
-            || self.answer_of_terminal(word, words, came)?
-            || self.answer_of_screen(word, words, came)?
-            || self.answer_of_script(word, words, came)?;
+        let made = self.answer_of_parts(word, words, came)?;
         if made {
             Ok(())
         } else {
-            Err(Trouble::Bad("no such call"))
+            Err(Trouble::Bad("no such call, or nothing that it is about"))
         }
+    }
+
+    // Makes the call of a line that is not one on windows, on the part of the state that it is about.
+    fn answer_of_parts(
+        &mut self,
+        word: &[u8],
+        words: &mut Words<'_>,
+        came: &mut Vec<u8>,
+    ) -> Result<bool, Trouble> {
+        let (alloc, text) = (self.alloc, &mut self.text);
+        Ok(
+            answer_of_desk(alloc, &mut self.desk, text, word, words, came)?
+                || answer_of_cells(word, words, came)?
+                || answer_of_picture(alloc, &mut self.picture, word, words, came)?
+                || answer_of_terminal(alloc, &mut self.profile, word, words, came)?
+                || answer_of_screen(
+                    alloc,
+                    &mut self.screen,
+                    text,
+                    &mut self.other_text,
+                    word,
+                    words,
+                    came,
+                )?
+                || answer_of_script(alloc, &mut self.screen, text, word, words, came)?,
+        )
     }
 
     // Makes a call on the desk.
@@ -75,12 +102,6 @@ impl Stage {
         let desk = self.desk.as_mut().ok_or(Trouble::Bad("no desk"))?;
         let answered = call_desk(self.alloc, desk, &call);
         add_answer(answered, came)
-    }
-
-    /// Reads the text of a line.
-    pub fn read_text(&mut self, words: &mut Words<'_>) -> Result<(), Trouble> {
-        self.text.clear();
-        read_text(words.next(), &mut self.text)
     }
 }
 

@@ -2,61 +2,70 @@
 
 use crate::answers::{add_done, add_flag, add_number, add_place, add_text, add_word};
 use crate::picture_lines::read_size;
-use crate::stages::Stage;
 use crate::troubles::Trouble;
 use crate::words::Words;
 use scr_cells::{Attrs, NoMemory};
 use scr_term::{Op, Profile};
+use std::alloc::Global;
 
-impl Stage {
-    /// The lines `profile R C`, `profile_size`, `shows`, `has OP` and `render OP`, where an operation is `move R C`,
-    /// `clear`, `reset`, `enter A` or `put B`.
-    pub fn answer_of_terminal(
-        &mut self,
-        word: &[u8],
-        words: &mut Words<'_>,
-        came: &mut Vec<u8>,
-    ) -> Result<bool, Trouble> {
-        match word {
-            b"profile" => self.make_profile(words, came)?,
-            b"profile_size" => {
-                let size = self.profile()?.size();
-                add_place(size.rows, size.columns, came)?;
-            }
-            b"shows" => add_number(i64::from(self.profile()?.shows().0), came)?,
-            b"has" => add_flag(self.profile()?.has(read_op(words)?), came)?,
-            b"render" => self.add_rendered(words, came)?,
-            _ => return Ok(false),
+/// The lines `profile R C`, `profile_size`, `shows`, `has OP` and `render OP`, where an operation is `move R C`,
+/// `clear`, `reset`, `enter A` or `put B`.
+pub fn answer_of_terminal(
+    alloc: Global,
+    profile: &mut Option<Profile>,
+    word: &[u8],
+    words: &mut Words<'_>,
+    came: &mut Vec<u8>,
+) -> Result<bool, Trouble> {
+    match word {
+        b"profile" => make_profile(alloc, profile, words, came)?,
+        b"profile_size" => {
+            let size = ready(profile)?.size();
+            add_place(size.rows, size.columns, came)?;
         }
-        Ok(true)
+        b"shows" => add_number(i64::from(ready(profile)?.shows().0), came)?,
+        b"has" => add_flag(ready(profile)?.has(read_op(words)?), came)?,
+        b"render" => add_rendered(alloc, ready(profile)?, words, came)?,
+        _ => return Ok(false),
     }
+    Ok(true)
+}
 
-    fn make_profile(&mut self, words: &mut Words<'_>, came: &mut Vec<u8>) -> Result<(), Trouble> {
-        let size = read_size(words)?;
-        match Profile::ecma48(self.alloc, size) {
-            Ok(profile) => {
-                self.profile = Some(profile);
-                add_word("Ok", came)
-            }
-            Err(NoMemory) => add_word("NoMemory", came),
+fn make_profile(
+    alloc: Global,
+    profile: &mut Option<Profile>,
+    words: &mut Words<'_>,
+    came: &mut Vec<u8>,
+) -> Result<(), Trouble> {
+    let size = read_size(words)?;
+    match Profile::ecma48(alloc, size) {
+        Ok(made) => {
+            *profile = Some(made);
+            add_word("Ok", came)
         }
+        Err(NoMemory) => add_word("NoMemory", came),
     }
+}
 
-    fn profile(&self) -> Result<&Profile, Trouble> {
-        self.profile.as_ref().ok_or(Trouble::Bad("no profile"))
+fn ready(profile: &Option<Profile>) -> Result<&Profile, Trouble> {
+    profile.as_ref().ok_or(Trouble::Bad("no profile"))
+}
+
+fn add_rendered(
+    alloc: Global,
+    profile: &Profile,
+    words: &mut Words<'_>,
+    came: &mut Vec<u8>,
+) -> Result<(), Trouble> {
+    let op = read_op(words)?;
+    let mut bytes = Vec::new(alloc);
+    let done = render(profile, op, &mut bytes)?;
+    if done.is_err() && !bytes.is_empty() {
+        return add_word("refused with bytes", came);
     }
-
-    fn add_rendered(&self, words: &mut Words<'_>, came: &mut Vec<u8>) -> Result<(), Trouble> {
-        let op = read_op(words)?;
-        let mut bytes = Vec::new(self.alloc);
-        let done = render(self.profile()?, op, &mut bytes)?;
-        if done.is_err() && !bytes.is_empty() {
-            return add_word("refused with bytes", came);
-        }
-        match done {
-            Ok(()) => add_text(&bytes, came),
-            refused => add_done(refused, came),
-        }
+    match done {
+        Ok(()) => add_text(&bytes, came),
+        refused => add_done(refused, came),
     }
 }
 
