@@ -10,7 +10,7 @@ use scr_plan::scratch;
 use scr_term::{Ops, Profile};
 use std::alloc::Global;
 
-/// The lines `picture R C`, `put R C B A`, `wish R C`, `wish none`, `wished`, `picture_size`, `picture_rows`,
+/// The lines `picture R C`, `put R C B A`, `put_row R C B A`, `wish R C`, `wish none`, `wished`, `picture_size`, `picture_rows`,
 /// `scratch` and `painted`.
 pub fn answer_of_picture(
     alloc: Global,
@@ -22,6 +22,7 @@ pub fn answer_of_picture(
     match word {
         b"picture" => make_picture(alloc, picture, words, came)?,
         b"put" => put(ready_mut(picture)?, words, came)?,
+        b"put_row" => put_row(ready_mut(picture)?, words, came)?,
         b"wish" => wish(ready_mut(picture)?, words, came)?,
         b"wished" => add_wish(ready(picture)?, came)?,
         b"picture_size" => {
@@ -70,6 +71,24 @@ fn put(picture: &mut Picture, words: &mut Words<'_>, came: &mut Vec<u8>) -> Resu
         return Err(Trouble::Bad("no place of the picture"));
     }
     picture.put(row, column, cell);
+    add_word("Ok", came)
+}
+
+// A cell, and a blank behind it, as a run.
+fn put_row(
+    picture: &mut Picture,
+    words: &mut Words<'_>,
+    came: &mut Vec<u8>,
+) -> Result<(), Trouble> {
+    let (row, column) = (words.number()?, words.number()?);
+    let Some(cell) = Cell::new(words.byte()?, Attrs(words.byte()?)) else {
+        return Err(Trouble::Bad("no cell"));
+    };
+    let size = picture.size();
+    if row >= size.rows || column >= size.columns.saturating_sub(1) {
+        return Err(Trouble::Bad("no places of the picture"));
+    }
+    picture.put_row(row, column, &[cell, Cell::blank()]);
     add_word("Ok", came)
 }
 
