@@ -1,5 +1,6 @@
 //! Calls that read: sizes, cells, cursors, touched lines, and a window lent whole. The definitions are in `specs/Reading.antt`.
-ghost use Rattle.std.specs.Prelude.{◌≡◌, ◌<◌, ◌≤◌, length, MatchResult};
+ghost use Rattle.std.specs.Prelude.{ℕ, ◌≡◌, ◌<◌, ◌≤◌, length, IfOk, MatchResult};
+ghost use Rattle.scr_windows.specs.Calls.{place_of};
 ghost use Rattle.scr_windows.specs.DeskViews.{IsDesk, window_at};
 ghost use Rattle.scr_windows.specs.Reading.{cell_at_answer, cursor_answer, size_answer, origin_answer, line_touched_answer, window_touched_answer, row_answer, row_at, nth_answer, window_answer, contents};
 
@@ -143,7 +144,8 @@ impl Desk {
     /// Refused: NoWindow; OutOfWindow where the window has no such row.
     #[tactic(auto, unfolding(crate::specs::Reading::row_answer))]
     pub fn line(&self, win: Win, row: u32) -> Result<&[Cell], WinFault>
-        ensures { MatchResult result (λ cells. row_answer self.now win.0 row ≡ Ok cells.now) (λ fault. row_answer self.now win.0 row ≡ Err fault) }
+        ensures cells { MatchResult result (λ cells. row_answer self.now win.0 row ≡ Ok cells.now) (λ fault. row_answer self.now win.0 row ≡ Err fault) }
+        ensures width { IfOk result (λ cells. (i : ℕ) → place_of self.now win.0 ≡ Ok i → length cells.now ≡ (window_at self.now i).frame.area.columns) }
     {
         let pen = self.pen(win)?;
         if row >= pen.area.rows {
