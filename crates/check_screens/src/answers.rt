@@ -1,9 +1,9 @@
 //! Answers in words, as they stand behind the `=` of a line.
 
-use crate::calls::{Answer, Answered};
 use crate::texts::{read_text, write_text};
 use crate::troubles::Trouble;
 use crate::words::Words;
+use plain_desk::calls::{Answer, Answered};
 use scr_cells::NoMemory;
 use scr_windows::{Added, WinFault};
 

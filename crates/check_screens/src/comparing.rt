@@ -1,11 +1,11 @@
 //! Where the library's desk and the plain one differ.
 
 use crate::answers::{add_answer, add_number, add_word};
-use crate::calls::Answer;
 use crate::desk_lines::add_text_of;
 use crate::lent_windows::{FIELDS, Field, lent_field, lent_line, narrow, plain_field, win};
-use crate::plain::{Plain, Window};
 use crate::troubles::Trouble;
+use plain_desk::calls::Answer;
+use plain_desk::plain::{Plain, Window};
 use scr_cells::{Cell, Size};
 use scr_windows::{Desk, WindowRef};
 

@@ -1,7 +1,7 @@
 //! Calls on the library's desk.
 
-use crate::calls::{Answered, Call, added, done, held, made, placed, said};
-use crate::names::{Erasing, Making, Name, Reading, Setting, Touching, Writing};
+use plain_desk::calls::{Answered, Call, added, done, held, made, placed, said};
+use plain_desk::names::{Erasing, Making, Name, Reading, Setting, Touching, Writing};
 use scr_windows::{Desk, Win};
 use std::alloc::Global;
 

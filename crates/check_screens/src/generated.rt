@@ -1,14 +1,14 @@
 //! Generated calls on the library's desk and on the plain one, compared after each.
 
 use crate::answers::{add_answer, add_number, add_text, add_word};
-use crate::calls::{Answered, Call};
 use crate::comparing::{What, add_difference, first_difference};
 use crate::desk_calls::call_desk;
 use crate::generating::{TEXT, next_call, next_form};
-use crate::plain::Plain;
 use crate::random::Random;
 use crate::troubles::Trouble;
 use crate::words::Words;
+use plain_desk::calls::{Answered, Call};
+use plain_desk::plain::Plain;
 use scr_cells::Size;
 use scr_windows::{Desk, WinFault};
 use std::alloc::Global;

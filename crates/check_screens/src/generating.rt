@@ -1,9 +1,9 @@
 //! Calls that are made up, of windows that are there.
 
-use crate::calls::{Call, MOST_NUMBERS};
-use crate::forms::{Form, pick, table};
-use crate::plain::Plain;
 use crate::random::Random;
+use plain_desk::calls::{Call, MOST_NUMBERS};
+use plain_desk::forms::{Form, pick, table};
+use plain_desk::plain::Plain;
 
 /// How many bytes the texts have.
 pub const TEXT: usize = 8;

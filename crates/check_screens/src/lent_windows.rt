@@ -1,7 +1,7 @@
 //! What a window that is lent tells, field by field, and what the plain desk's window has in its place.
 
-use crate::calls::Answer;
-use crate::plain::Window;
+use plain_desk::calls::Answer;
+use plain_desk::plain::Window;
 use scr_cells::Cell;
 use scr_windows::{Win, WindowRef};
 

@@ -3,28 +3,17 @@
 #![tactic(auto)]
 
 mod answers;
-mod calls;
 mod cell_lines;
 mod checking;
 mod comparing;
 mod desk_calls;
 mod desk_lines;
 mod dumps;
-mod forms;
-mod formulas;
 mod generated;
 mod generating;
 mod lent_lines;
 mod lent_windows;
-mod names;
 mod picture_lines;
-mod plain;
-mod plain_calls;
-mod plain_erasing;
-mod plain_making;
-mod plain_settings;
-mod plain_touching;
-mod plain_writing;
 mod random;
 mod screen_lines;
 mod script_lines;

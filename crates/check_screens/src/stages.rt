@@ -2,11 +2,9 @@
 //! it on.
 
 use crate::answers::add_answer;
-use crate::calls::{Call, MOST_NUMBERS};
 use crate::cell_lines::answer_of_cells;
 use crate::desk_calls::call_desk;
 use crate::desk_lines::answer_of_desk;
-use crate::forms::{Form, find};
 use crate::picture_lines::answer_of_picture;
 use crate::screen_lines::answer_of_screen;
 use crate::script_lines::answer_of_script;
@@ -14,6 +12,8 @@ use crate::terminal_lines::answer_of_terminal;
 use crate::texts::read_text;
 use crate::troubles::Trouble;
 use crate::words::{Words, byte, integer};
+use plain_desk::calls::{Call, MOST_NUMBERS};
+use plain_desk::forms::{Form, find};
 use scr_cells::Picture;
 use scr_term::{EcmaScreen, Profile};
 use scr_windows::Desk;
