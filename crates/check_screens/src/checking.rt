@@ -21,6 +21,7 @@ pub struct Checker<'a> {
 }
 
 impl<'a> Checker<'a> {
+    /// A checker before a script's first line.
     pub fn new(alloc: Global, script: &'a [u8]) -> Checker<'a> {
         Checker {
             alloc,

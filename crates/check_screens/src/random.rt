@@ -7,6 +7,7 @@ pub struct Random {
 }
 
 impl Random {
+    /// The numbers that follow a seed.
     pub fn new(seed: u32) -> Random {
         Random {
             state: u64::from(seed),

@@ -9,6 +9,7 @@ pub struct Words<'a> {
 }
 
 impl<'a> Words<'a> {
+    /// The words of a line, none of them taken yet.
     pub fn new(line: &'a [u8]) -> Words<'a> {
         Words { rest: line }
     }

@@ -40,6 +40,7 @@ pub struct Plain {
 }
 
 impl Plain {
+    /// A desk of one blank window over the whole screen.
     pub fn new(alloc: Global, rows: u64, columns: u64) -> Result<Plain, WinFault> {
         let mut plain = Plain {
             rows,

@@ -8,6 +8,7 @@ use crate::plain::Plain;
 use scr_windows::WinFault;
 
 impl Plain {
+    /// Makes a call that erases, moves lines, or changes the background.
     pub fn erase_places(&mut self, call: &Call, name: Erasing) -> Result<(), WinFault> {
         let number = u64::from(call.number(0));
         let n = call.signed();

@@ -15,6 +15,7 @@ const MOST_CELLS: u64 = 1_000_000;
 type Part = ((u64, u64), (u64, u64));
 
 impl Plain {
+    /// Makes a call that makes, deletes or moves a window.
     pub fn make(&mut self, alloc: Global, call: &Call, name: Making) -> Answered {
         let [a, b, c, d, e] = wide_numbers(call);
         match name {

@@ -7,6 +7,7 @@ use crate::plain::Plain;
 use scr_windows::WinFault;
 
 impl Plain {
+    /// Makes a call that sets something in a window.
     pub fn set(&mut self, call: &Call, name: Setting) -> Result<(), WinFault> {
         let window = self.window_mut(u64::from(call.number(0)))?;
         let (a, b) = (u64::from(call.number(1)), u64::from(call.number(2)));

@@ -8,6 +8,7 @@ use crate::plain::{Plain, Window};
 use scr_windows::WinFault;
 
 impl Plain {
+    /// Makes a call that copies cells, or touches lines.
     pub fn touch_lines(&mut self, call: &Call, name: Touching) -> Result<(), WinFault> {
         let number = u64::from(call.number(0));
         let other = u64::from(call.number(1));

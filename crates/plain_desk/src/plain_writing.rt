@@ -9,6 +9,7 @@ use scr_cells::{Attrs, Cell};
 use scr_windows::{Added, WinFault};
 
 impl Plain {
+    /// Makes a call that adds, inserts or deletes bytes, or draws lines or a border.
     pub fn write_bytes(&mut self, call: &Call, name: Writing) -> Answered {
         let number = u64::from(call.number(0));
         let n = u64::from(call.number(2));

@@ -1,3 +1,4 @@
+//! Reading a program's input whole, within bounds of bytes and reads.
 ghost use Rattle.std.specs.Prelude.{◌≡◌, ◌≤◌, length, IfOk, IfSome};
 
 use std::alloc::Global;

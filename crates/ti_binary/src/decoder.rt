@@ -1,3 +1,4 @@
+//! Reading a compiled file, refusal by refusal. The definition is in `specs/Files.antt`.
 ghost use Rattle.std.specs.Prelude.{◌≡◌, ◌≤◌, ◌*◌, ◌⊎◌, false, true, length, IfOk, IfErr, OnOk, None, Some, IsOkUnless};
 ghost use Rattle.std.specs.List.{before_first, list_any};
 ghost use Rattle.ti_caps.specs.Names.{are_names};

@@ -1,3 +1,4 @@
+//! Writing an entry in its one form. The definition is in `specs/Canonical.antt`.
 ghost use Rattle.std.specs.Prelude.{◌≡◌, ◌≤◌, ◌<◌, ◌+◌, ◌↔◌, ◌++◌, length, nat_lt, IfOk, OnOk, IsErrOf, IsOkUnless};
 ghost use Rattle.ti_binary.specs.Canonical.{canonical, words};
 ghost use Rattle.ti_binary.specs.Shapes.{IsShape};

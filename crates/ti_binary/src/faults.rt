@@ -1,3 +1,4 @@
+//! Why bytes are no compiled file, in the order of refusals.
 use std::alloc::AllocError;
 use thiserror::Error;
 

@@ -1,3 +1,4 @@
+//! Setting in an entry what the sections of a file say.
 ghost use Rattle.std.specs.Prelude.{◌≡◌, ◌≤◌, ◌*◌, false, length, map, option_map, replicate, IfErr, IfSome, OnOk, None};
 ghost use Rattle.ti_caps.specs.Description.{text_has_nul};
 ghost use Rattle.ti_binary.specs.Files.{flag_said, number_said, padded, text_said, words_in};

@@ -1,3 +1,4 @@
+//! Laws of compiled files, each the contract of a function that does nothing. They are stated in `specs/FileLaws.antt`.
 ghost use Rattle.ti_binary.specs.FileLaws.{CanonicalReadsBack, FilesAreNotRefused, FilesHaveOneEntry};
 
 /// Bytes that are a file of some entry have no reason to be refused, so that `decode` reads them where

@@ -1,3 +1,4 @@
+//! Writing the sections of a file: flags, numbers, offsets and texts.
 ghost use Rattle.std.specs.Prelude.{◌≡◌, ◌≤◌, ◌++◌, length, take, map, option_map, OnOk};
 ghost use Rattle.ti_binary.specs.Canonical.{ended, flag_byte, number_word, offset_of, offsets_from, table_of, word, words};
 

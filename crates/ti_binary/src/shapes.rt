@@ -1,3 +1,4 @@
+//! The sizes of a file's sections, as its header has them.
 ghost use Rattle.std.specs.Prelude.{◌≡◌, ◌≤◌, ◌+◌, ◌*◌, ◌%◌, ◌==◌, length};
 ghost use Rattle.ti_binary.specs.Shapes.{IsShape};
 

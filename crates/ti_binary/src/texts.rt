@@ -1,3 +1,4 @@
+//! Texts in bytes that a NUL ends.
 ghost use Rattle.std.specs.Prelude.{◌≡◌, drop};
 ghost use Rattle.std.specs.List.{before_first, list_any};
 ghost use Rattle.ti_binary.specs.Files.{is_nul};
