@@ -6,13 +6,14 @@ use Rattle.std.proofs.lemmas.Bool.Decides.{nat_tests}
 use Rattle.std.proofs.lemmas.List.{get_or-map, take_all}
 use Rattle.std.proofs.lemmas.List.Quantifiers.{position-Some}
 use Rattle.scr_windows.specs.declared.frames.Frame.{Frame}
-use Rattle.scr_windows.specs.declared.moving.Shift.{Shift}
+use Rattle.scr_windows.specs.declared.calls.moving.Shift.{Shift}
 use Rattle.scr_windows.specs.DeskViews.{WindowView, DeskView, IsChild, IsDesk, window_at, no_frame, no_window}
-use Rattle.scr_windows.specs.Moving.{descends, family_frame, family_shifted, is_family, link_of, shifted, with_family_shifted}
-use Rattle.scr_windows.specs.Syncing.{chain, frames_of, parent_place, place_of_parent}
+use Rattle.scr_windows.specs.Code.Families.{descends, family_frame, family_shifted, link_of}
+use Rattle.scr_windows.specs.Calls.Moving.{is_family, shifted, with_family_shifted}
+use Rattle.scr_windows.specs.Calls.Syncing.{chain, frames_of, parent_index, index_of_parent}
 use Rattle.scr_windows.proofs.DeskLaws.{Reads, frame_of, here_too, length_map, reads_window}
 use Rattle.scr_windows.proofs.GridLaws.{part_is}
-use Rattle.scr_windows.proofs.FamilyLaws.{Ascends, Family, HasParent, child_family, frame_at, map_links, one_place, root_family, stands_before}
+use Rattle.scr_windows.proofs.FamilyLaws.{Ascends, Family, HasParent, child_family, frame_at, map_links, one_index, root_family, stands_before}
 use Rattle.scr_windows.proofs.FrameLaws.{reframed}
 use Rattle.scr_windows.proofs.SyncLaws.{chain_none}
 
@@ -38,7 +39,7 @@ itself a b h = grind (arith, nat_tests)
 less : (a b : ℕ) → a < b → ltb a b ≡ true
 less a b h = grind (arith, nat_tests)
 
--- the place of the window of a number
+-- the index of the window of a number
 number_at : (frames : List Frame) (m number : ℕ) → Ascends frames → m < length frames → (frame_at frames m).number ≡ number → position (λ (f : Frame). f.number == number) frames ≡ Some m
 number_at frames m number up l e =
     let p : Frame → Bool = λ f. f.number == number in
@@ -46,8 +47,8 @@ number_at frames m number up l e =
     let here : first < length frames = first_passes p frames m no_frame l (itself _ _ e) in
     let found : position p frames ≡ Some first = ap (λ b. cond b (Some first) None) (less first (length frames) here) in
     let there = position-Some p frames first no_frame found in
-    let place : first ≡ m = one_place frames first m up here l (equals _ _ there.1 ∙ sym e) in
-    found ∙ ap Some place
+    let index : first ≡ m = one_index frames first m up here l (equals _ _ there.1 ∙ sym e) in
+    found ∙ ap Some index
 
 -- a window descends from another where it is that window or has it as an ancestor
 chain_family : (frames : List Frame) (i : ℕ) → Ascends frames → ((k : ℕ) → k < length frames → HasParent frames (frame_at frames k)) → i < length frames
@@ -56,19 +57,19 @@ chain_family frames i up parents l zero k b h = absurd (omega (arith, b))
 chain_family frames i up parents l (suc most) k b h = above (λ m c d. chain_family frames i up parents l most m c d) (frame_at frames k).parent refl (parents k h)
   where
     same : (k == i) ≡ ((frame_at frames k).number == (frame_at frames i).number)
-    same = same_bool k i _ _ (λ e. ap (λ n. (frame_at frames n).number) e) (one_place frames k i up h l)
+    same = same_bool k i _ _ (λ e. ap (λ n. (frame_at frames n).number) e) (one_index frames k i up h l)
 
     above : ((m : ℕ) → m < most → m < length frames → list_any (λ x. x == i) (chain most frames (Some m)) ≡ Family frames (frame_at frames i).number (frame_at frames m).number)
         → (o : Option ℕ) → (frame_at frames k).parent ≡ o → MatchOption o (Unit {0}) (λ number. (m : ℕ) × (m < length frames) × ((get_or frames m no_frame).number ≡ number) × IsChild (frame_at frames k) (get_or frames m no_frame))
-        → ((k == i) || list_any (λ m. m == i) (chain most frames (parent_place frames k))) ≡ Family frames (frame_at frames i).number (frame_at frames k).number
+        → ((k == i) || list_any (λ m. m == i) (chain most frames (parent_index frames k))) ≡ Family frames (frame_at frames i).number (frame_at frames k).number
     above rest None e has =
-        let none : chain most frames (parent_place frames k) ≡ [] = ap (λ o. chain most frames (place_of_parent frames o)) e ∙ chain_none most frames in
+        let none : chain most frames (parent_index frames k) ≡ [] = ap (λ o. chain most frames (index_of_parent frames o)) e ∙ chain_none most frames in
         ap (λ xs. (k == i) || list_any (λ m. m == i) xs) none ∙ ap (λ t. t || false) same ∙ sym (root_family frames (frame_at frames i).number k up h e)
     above rest (Some number) e has =
         let m : ℕ = has.0 in
-        let place : parent_place frames k ≡ Some m = ap (place_of_parent frames) e ∙ number_at frames m number up has.1 has.2 in
+        let index : parent_index frames k ≡ Some m = ap (index_of_parent frames) e ∙ number_at frames m number up has.1 has.2 in
         let before : m < k = stands_before frames m k up has.1 h has.3.later in
-        ap (λ o. (k == i) || list_any (λ m. m == i) (chain most frames o)) place
+        ap (λ o. (k == i) || list_any (λ m. m == i) (chain most frames o)) index
         ∙ ap (λ t. (k == i) || t) (rest m (omega (arith, before, b)) has.1)
         ∙ ap (λ t. t || Family frames (frame_at frames i).number (frame_at frames m).number) same
         ∙ sym (child_family frames (frame_at frames i).number k m number up h has.1 e has.2 has.3.later)

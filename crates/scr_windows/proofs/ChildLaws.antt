@@ -12,14 +12,16 @@ use Rattle.std.proofs.Math.Seq.{get_or-append_seam}
 use Rattle.std.proofs.lemmas.Bool.Decides.{nat_tests}
 use Rattle.scr_surfaces.specs.declared.areas.Area.{Area}
 use Rattle.scr_windows.specs.declared.frames.Frame.{Frame}
-use Rattle.scr_windows.specs.declared.frames.State.{State}
+use Rattle.scr_windows.specs.declared.frames.WindowState.{WindowState}
 use Rattle.scr_surfaces.specs.SurfaceViews.{SurfaceView, IsSurface, blank_surface}
-use Rattle.scr_windows.specs.DeskViews.{no_attributes, WindowView, DeskView, IsWindow, IsPlaced, IsChild, IsInsideOnScreen, AreFrames, IsDesk, Placed, window_at, HasOwn, no_window, no_frame, fresh_window}
+use Rattle.scr_windows.specs.DeskViews.{no_attributes, WindowView, DeskView, IsWindow, IsPlaced, IsChild, IsInsideOnScreen, AreFrames, IsDesk, IsThere, window_at, HasOwn, no_window, no_frame, fresh_window}
 use Rattle.scr_windows.specs.declared.sheets.Sheet.{Sheet}
 use Rattle.scr_windows.specs.Sheets.{size_on}
 use Rattle.std.proofs.lemmas.List.Quantifiers.{all_pairs_push}
 use Rattle.scr_windows.proofs.SheetLaws.{has_sheet, size_last, size_more}
-use Rattle.scr_windows.specs.Making.{IsRootPlace, with_root, root_frame, screen_area, IsChildPlace, child_frame, with_child, part_of}
+use Rattle.scr_windows.specs.Code.NewFrames.{IsRootPlace, IsChildPlace}
+use Rattle.scr_windows.specs.Calls.Making.{with_root, root_frame, screen_area, part_of}
+use Rattle.scr_windows.specs.Calls.Subwindows.{child_frame, with_child}
 use Rattle.scr_windows.proofs.DeskLaws.{Reads, reads_window, here_too, placed, length_map, frame_of}
 use Rattle.scr_windows.proofs.MakingLaws.{fresh_is_window, screen_is_size}
 use Rattle.scr_surfaces.specs.SurfaceLaws.{SurfaceLaws}
@@ -97,7 +99,7 @@ child_is_desk d i area origin h l few made inside =
     }
 
 -- what the code knows when the subwindow is there
-pub child_added : (d old : DeskView) → d ≡ old → (i : ℕ) (w new : WindowView) (above : Frame) (state : State) (ws : List WindowView) (area : Area) (origin : Option (ℕ × ℕ)) → IsDesk d → i < length old.windows
+pub child_added : (d old : DeskView) → d ≡ old → (i : ℕ) (w new : WindowView) (above : Frame) (state : WindowState) (ws : List WindowView) (area : Area) (origin : Option (ℕ × ℕ)) → IsDesk d → i < length old.windows
     → IsChildPlace old i area origin → Reads d.windows i w → above ≡ w.frame → state ≡ w.state
     → new ≡ fresh_window (record { number = d.made + 1; surface = above.surface; area = area; parent = Some above.number; origin = origin }) state.attrs state.background
     → ws ≡ d.windows ++ new ∷ [] → length d.windows < 1000 → d.made < 4294967295 → IsDesk (record d { windows = ws; made = d.made + 1 })
@@ -135,7 +137,7 @@ part_tells area part rows columns row column e =
     let columns_is : c ≡ part.columns = ap (λ (a : Area). a.columns) w.1 in
     (sym (ap (λ (a : Area). a.top) w.1), sym (ap (λ (a : Area). a.left) w.1), omega (arith, b.0), omega (arith, b.1), omega (arith, b.2), omega (arith, b.3))
 
-pub derived_place : (d : DeskView) (i : ℕ) (frame : Frame) (origin : ℕ × ℕ) (part : Area) (rows columns row column : ℕ) → Placed d i → frame ≡ (window_at d i).frame → frame.origin ≡ Some origin
+pub derived_place : (d : DeskView) (i : ℕ) (frame : Frame) (origin : ℕ × ℕ) (part : Area) (rows columns row column : ℕ) → IsThere d i → frame ≡ (window_at d i).frame → frame.origin ≡ Some origin
     → part_of frame.area rows columns row column ≡ Some part → IsChildPlace d i part (Some (origin.0 + row, origin.1 + column))
 derived_place d i frame origin part rows columns row column p frame_is origin_is part_is =
     let a = part_tells frame.area part rows columns row column part_is in

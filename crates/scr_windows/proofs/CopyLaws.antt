@@ -9,9 +9,9 @@ use Rattle.scr_surfaces.specs.SurfaceViews.{SurfaceView, IsPart, cell_of, inside
 use Rattle.scr_surfaces.specs.Formulas.{block_at, laid, part_laid, part_of}
 use Rattle.scr_windows.specs.Sheets.{with_surface}
 use Rattle.scr_windows.specs.DeskViews.{DeskView, surface_at, window_at}
-use Rattle.scr_windows.specs.Calls.{marked, write}
-use Rattle.scr_windows.specs.Reading.{at}
-use Rattle.scr_windows.specs.Copying.{copied}
+use Rattle.scr_windows.specs.Changes.{marked, write}
+use Rattle.scr_windows.specs.Calls.Reading.{at}
+use Rattle.scr_windows.specs.Calls.Copying.{copied}
 use Rattle.scr_windows.specs.declared.frames.Frame.{Frame}
 use Rattle.scr_windows.specs.declared.sheets.Sheet.{Sheet}
 use Rattle.scr_windows.specs.DeskViews.{WindowView}

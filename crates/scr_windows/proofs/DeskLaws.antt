@@ -9,17 +9,18 @@ use Rattle.std.proofs.lemmas.List.FromFn.{length-map-range_with_len}
 use Rattle.scr_cells.specs.CellViews.{CellView}
 use Rattle.scr_surfaces.specs.declared.areas.Area.{Area}
 use Rattle.scr_windows.specs.declared.frames.Frame.{Frame}
-use Rattle.scr_windows.specs.declared.frames.State.{State}
+use Rattle.scr_windows.specs.declared.frames.WindowState.{WindowState}
 use Rattle.scr_surfaces.specs.SurfaceViews.{SurfaceView, IsSurface, IsPart, filled, inside_at}
-use Rattle.scr_windows.specs.DeskViews.{WindowView, DeskView, IsState, IsWindow, IsPlaced, AreFrames, IsDesk, window_at, AreAscending, surface_at, no_window, no_frame, Placed}
+use Rattle.scr_windows.specs.DeskViews.{WindowView, DeskView, IsState, IsWindow, IsPlaced, AreFrames, IsDesk, window_at, AreAscending, surface_at, no_window, no_frame, IsThere}
 use Rattle.scr_windows.specs.declared.sheets.Sheet.{Sheet}
 use Rattle.scr_windows.specs.Sheets.{HasSheet, no_sheet, size_on, with_surface}
 use Rattle.scr_windows.proofs.SheetLaws.{all_put, has_sheet, sheets_put, sizes_put, surface_found, surface_put}
 use Rattle.scr_surfaces.specs.declared.drawings.Drawing.{Drawing}
 use Rattle.scr_surfaces.specs.Drawings.{drawn}
 use Rattle.scr_surfaces.specs.SurfaceLaws.{SurfaceLaws}
-use Rattle.scr_windows.specs.Calls.{IsKept, lines_drawn, fill, with_window, marked, marked_lines, write}
-use Rattle.scr_windows.specs.Reading.{at, row_at, contents}
+use Rattle.scr_windows.specs.Code.Pens.{IsKept, lines_drawn}
+use Rattle.scr_windows.specs.Changes.{fill, with_window, marked, marked_lines, write}
+use Rattle.scr_windows.specs.Calls.Reading.{at, row_at, contents}
 use Rattle.scr_windows.specs.Lending.{lines_in}
 
 pub length_map : {X Y : Type 0} (f : X → Y) (xs : List X) → length (map f xs) ≡ length xs
@@ -35,7 +36,7 @@ frame_number frame = frame.number
 abbrev pub number_of : WindowView → ℕ
 number_of w = w.frame.number
 
-pub placed : (d : DeskView) (i : ℕ) → IsDesk d → i < length d.windows → Placed d i
+pub placed : (d : DeskView) (i : ℕ) → IsDesk d → i < length d.windows → IsThere d i
 placed d i h l =
     let frame : Frame = (window_at d i).frame in
     let frames : length (map frame_of d.windows) ≡ length d.windows = length_map frame_of d.windows in
@@ -99,7 +100,7 @@ get_or_any [] i d e h = absurd (omega (arith, h))
 get_or_any (x ∷ xs) zero d e h = refl
 get_or_any (x ∷ xs) (suc i) d e h = get_or_any xs i d e (omega (arith, h))
 
--- what code knows of a window that it reads: it is the one at its place
+-- what code knows of a window that it reads: it is the one at its index
 abbrev pub Reads : {X : Type 0} → List X → ℕ → X → Type 0
 Reads xs i x = x ≡ get_or xs i x
 
@@ -113,7 +114,7 @@ reads_of d old i w is l e = e ∙ ap (λ v. window_at v i) (sym is) ∙ get_or_a
 pub here_too : (d old : DeskView) (i : ℕ) → d ≡ old → i < length old.windows → i < length d.windows
 here_too d old i is h = omega (arith, h, ap (λ (v : DeskView). length v.windows) is)
 
-pub state_set : (d old : DeskView) (is : d ≡ old) (i : ℕ) (w new : WindowView) (state : State) → IsDesk d → i < length old.windows → Reads d.windows i w → IsState (window_at old i).frame state
+pub state_set : (d old : DeskView) (is : d ≡ old) (i : ℕ) (w new : WindowView) (state : WindowState) → IsDesk d → i < length old.windows → Reads d.windows i w → IsState (window_at old i).frame state
     → new ≡ record w { state = state } → IsDesk (with_window d i new)
 state_set d old is i w new state h l e fits n =
     let here : i < length d.windows = here_too d old i is l in
@@ -271,9 +272,9 @@ draws_contents d old i k w frame sheet h r =
     let here : record { window = w; lines = lines_in sheet.surface w.frame.area } ≡ contents d i = (λ j. record { window = at j; lines = lines_in (surfaces j) (at j).frame.area }) in
     here ∙ ap (λ v. contents v i) h.is
 
-pub placed_by : (d old : DeskView) (i : ℕ) → d ≡ old → IsDesk d → i < length old.windows → Placed old i
+pub placed_by : (d old : DeskView) (i : ℕ) → d ≡ old → IsDesk d → i < length old.windows → IsThere old i
 placed_by d old i is h l =
-    let P : DeskView → Type 0 = λ v. Placed v i in
+    let P : DeskView → Type 0 = λ v. IsThere v i in
     subst P is (placed d i h (here_too d old i is l))
 
 -- the windows of a desk stand by ascending numbers

@@ -6,7 +6,7 @@ use Rattle.std.proofs.lemmas.List.{get_or-map}
 use Rattle.scr_surfaces.specs.declared.areas.Area.{Area}
 use Rattle.scr_windows.specs.declared.frames.Frame.{Frame}
 use Rattle.scr_windows.specs.DeskViews.{WindowView, IsChild, IsInsideOnScreen, no_frame}
-use Rattle.scr_windows.specs.Moving.{link_of, from_parent, descends}
+use Rattle.scr_windows.specs.Code.Families.{link_of, from_parent, descends}
 use Rattle.scr_windows.proofs.DeskLaws.{frame_of}
 
 abbrev pub frame_link : Frame → ℕ × Option ℕ
@@ -52,8 +52,8 @@ Ascends frames = (i j : ℕ) → i < j → j < length frames → (get_or frames 
 less_or_more : (a b : ℕ) → (a < b) ⊎ ((a ≡ b) ⊎ (b < a))
 less_or_more a b = grind arith
 
-pub one_place : (frames : List Frame) (i j : ℕ) → Ascends frames → i < length frames → j < length frames → (get_or frames i no_frame).number ≡ (get_or frames j no_frame).number → i ≡ j
-one_place frames i j up h k e = elim (less_or_more i j) [
+pub one_index : (frames : List Frame) (i j : ℕ) → Ascends frames → i < length frames → j < length frames → (get_or frames i no_frame).number ≡ (get_or frames j no_frame).number → i ≡ j
+one_index frames i j up h k e = elim (less_or_more i j) [
   | inl l ↦ absurd (omega (arith, up i j l k, e))
   | inr r ↦ elim r [ inl s ↦ s | inr l ↦ absurd (omega (arith, up j i l h, e)) ]
 ]
@@ -64,7 +64,7 @@ stands_before frames i j up h k e = elim (less_or_more i j) [
   | inr r ↦ elim r [ inl s ↦ absurd (omega (arith, e, ap (λ n. (get_or frames n no_frame).number) s)) | inr l ↦ absurd (omega (arith, up j i l h, e)) ]
 ]
 
--- whether the frame at a place descends from the window of a number
+-- whether the frame at an index descends from the window of a number
 abbrev pub Family : List Frame → ℕ → ℕ → Bool
 Family frames a number = descends (map frame_link frames) a (length frames) number
 
@@ -149,7 +149,7 @@ either_tells x a false h = inl (equal x a h)
     equal : (x a : ℕ) → (x == a || false) ≡ true → x ≡ a
     equal x a h = grind (arith, nat_tests)
 
--- the frame at a place
+-- the frame at an index
 abbrev pub frame_at : List Frame → ℕ → Frame
 frame_at frames k = get_or frames k no_frame
 
@@ -159,7 +159,7 @@ pub family_within : (frames : List Frame) (i : ℕ) → Ascends frames → ((k :
 family_within frames i up parents l k h t = upto (suc k) k (omega arith) h t
   where
     itself : (k : ℕ) → k < length frames → (frame_at frames k).number ≡ (frame_at frames i).number → Within (frame_at frames k) (frame_at frames i)
-    itself k h e = (let P : ℕ → Type 0 = λ n. Within (frame_at frames n) (frame_at frames i) in subst P (sym (one_place frames k i up h l e)) (within_itself (frame_at frames i)))
+    itself k h e = (let P : ℕ → Type 0 = λ n. Within (frame_at frames n) (frame_at frames i) in subst P (sym (one_index frames k i up h l e)) (within_itself (frame_at frames i)))
 
     step : (k : ℕ) → k < length frames → ((m : ℕ) → m < k → m < length frames → Family frames (frame_at frames i).number (frame_at frames m).number ≡ true → Within (frame_at frames m) (frame_at frames i))
         → (o : Option ℕ) → (frame_at frames k).parent ≡ o → MatchOption o (Unit {0}) (λ number. (m : ℕ) × (m < length frames) × ((frame_at frames m).number ≡ number) × IsChild (frame_at frames k) (frame_at frames m))

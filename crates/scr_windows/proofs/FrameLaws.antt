@@ -5,7 +5,7 @@ use Rattle.std.proofs.lemmas.List.{length-append, length-take-le, length-drop, g
 use Rattle.std.proofs.lemmas.List.Edits.{map_over_more}
 use Rattle.scr_windows.specs.declared.frames.Frame.{Frame}
 use Rattle.scr_windows.specs.DeskViews.{WindowView}
-use Rattle.scr_windows.specs.Calls.{found}
+use Rattle.scr_windows.specs.Changes.{found}
 use Rattle.scr_windows.proofs.DeskLaws.{frame_of, length_map}
 
 -- a window with another frame
@@ -28,7 +28,7 @@ reframed_more g xs ys i first second new frame l ys_is frame_is new_is =
     let value : new ≡ reframed g x = new_is ∙ (λ j. record x { frame = (frame_is ∙ ap (λ (w : WindowView). g w.frame) same) j }) in
     ap (slice_set ys i) value ∙ map_over_more (reframed g) xs ys i x l ys_is (get_or_default ys i second x here)
 
--- a place that was found
+-- an index that was found
 pub was_found : (o : Option ℕ) (i : ℕ) → found o ≡ Ok i → o ≡ Some i
 was_found None i e = absurd (let z : ⊥ = (cc) in z)
 was_found (Some k) i e = (let same : k ≡ i = (cc) in ap Some same)

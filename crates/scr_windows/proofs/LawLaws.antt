@@ -11,10 +11,10 @@ use Rattle.scr_surfaces.specs.SurfaceViews.{SurfaceView, cell_of, filled, inside
 use Rattle.scr_windows.specs.declared.faults.WinFault.{WinFault}
 use Rattle.scr_windows.specs.declared.frames.Frame.{Frame}
 use Rattle.scr_windows.specs.DeskViews.{AreAscending, WindowView, DeskView, IsChild, IsDesk, no_frame, no_window, surface_at, window_at}
-use Rattle.scr_windows.specs.Calls.{found, marked, on_window, place_of, write}
-use Rattle.scr_windows.specs.Moving.{derived_moved, move_derived_call, move_window_call, moved_in, window_moved}
-use Rattle.scr_windows.specs.Reading.{at}
-use Rattle.scr_windows.specs.Removing.{others, deleted}
+use Rattle.scr_windows.specs.Changes.{found, marked, on_window, index_of, write}
+use Rattle.scr_windows.specs.Calls.Moving.{derived_moved, move_derived_call, move_window_call, moved_in, window_moved}
+use Rattle.scr_windows.specs.Calls.Reading.{at}
+use Rattle.scr_windows.specs.Calls.Removing.{others, deleted}
 use Rattle.scr_windows.specs.Laws.{DeletingKeepsOthers, MovingChangesNoCell, SubwindowsShareCells, WritingStaysInside}
 use Rattle.scr_windows.proofs.DeskLaws.{desk_ascends, frame_of, length_map, number_of, placed}
 use Rattle.scr_windows.proofs.FrameLaws.{was_found}
@@ -23,7 +23,7 @@ use Rattle.scr_windows.proofs.RemovingLaws.{alone_desk, deleted_is_desk}
 use Rattle.scr_windows.proofs.SheetLaws.{is_or_not, put_other, put_there, surface_less}
 
 -- a window that was found has the number
-pub found_number : (d : DeskView) (number i : ℕ) → place_of d number ≡ Ok i → (i < length d.windows) × ((window_at d i).frame.number ≡ number)
+pub found_number : (d : DeskView) (number i : ℕ) → index_of d number ≡ Ok i → (i < length d.windows) × ((window_at d i).frame.number ≡ number)
 found_number d number i e =
     let there = position-Some (λ (w : WindowView). w.frame.number == number) d.windows i no_window (was_found _ i e) in
     (there.0, equal _ number there.1)
@@ -41,7 +41,7 @@ deleting d number other k h alone apart e =
     let cells : surface_at (deleted d number) (window_at d k).frame.surface ≡ surface_at d (window_at d k).frame.surface = surface_less d.surfaces number (window_at d k).frame.surface surface in
     (m.0, ap found there, m.2, λ r c. (λ j. inside_at (surface_at (deleted d number) (m.2 j).frame.surface) (m.2 j).frame.area r c) ∙ ap (λ (s : SurfaceView). inside_at s (window_at d k).frame.area r c) cells)
 
--- two places of one number are one
+-- two indices of one number are one
 one_index : (d : DeskView) → AreAscending d.windows → (m i : ℕ) → m < length d.windows → i < length d.windows → (window_at d m).frame.number ≡ (window_at d i).frame.number → m ≡ i
 one_index d up m i l k e = elim (three m i) [ inl less ↦ absurd (let b = up m i no_window less k in omega (arith, b, e)) | inr rest ↦ elim rest [ inl same ↦ same | inr more ↦ absurd (let b = up i m no_window more l in omega (arith, b, e)) ] ]
   where
@@ -49,7 +49,7 @@ one_index d up m i l k e = elim (three m i) [ inl less ↦ absurd (let b = up m 
     three a b = grind arith
 
 -- the parent of a window, and where it lies in it
-parent_there : (d : DeskView) (number k i : ℕ) → IsDesk d → k < length d.windows → (window_at d k).frame.parent ≡ Some number → place_of d number ≡ Ok i → IsChild (window_at d k).frame (window_at d i).frame
+parent_there : (d : DeskView) (number k i : ℕ) → IsDesk d → k < length d.windows → (window_at d k).frame.parent ≡ Some number → index_of d number ≡ Ok i → IsChild (window_at d k).frame (window_at d i).frame
 parent_there d number k i h l parent e =
     let frames : List Frame = map frame_of d.windows in
     let many : length frames ≡ length d.windows = length_map frame_of d.windows in
@@ -108,7 +108,7 @@ writing laws d i first end f k r c h l m below right outside =
     ])
 
 -- a call that keeps the surfaces wherever the window is
-on_surfaces : {A : Type 0} (d : DeskView) (place : Result ℕ WinFault) (f : ℕ → DeskView × Result A WinFault) → ((i : ℕ) → (f i).0.surfaces ≡ d.surfaces) → (on_window d place f).0.surfaces ≡ d.surfaces
+on_surfaces : {A : Type 0} (d : DeskView) (index : Result ℕ WinFault) (f : ℕ → DeskView × Result A WinFault) → ((i : ℕ) → (f i).0.surfaces ≡ d.surfaces) → (on_window d index f).0.surfaces ≡ d.surfaces
 on_surfaces d (Err fault) f h = refl
 on_surfaces d (Ok i) f h = h i
 
@@ -125,12 +125,12 @@ window_case d i (Some origin) None row column = either d (leb (row + (window_at 
 derived_case : (d : DeskView) (i : ℕ) (origin : Option (ℕ × ℕ)) (parent : Option ℕ) (row column : ℕ) → (derived_moved d i origin parent row column).0.surfaces ≡ d.surfaces
 derived_case d i None parent row column = refl
 derived_case d i (Some origin) None row column = refl
-derived_case d i (Some origin) (Some parent) row column = on_surfaces d (place_of d parent) (λ k. moved_in d i (window_at d k).frame.area row column)
+derived_case d i (Some origin) (Some parent) row column = on_surfaces d (index_of d parent) (λ k. moved_in d i (window_at d k).frame.area row column)
     (λ k. either d (leb (row + (window_at d i).frame.area.rows) (window_at d k).frame.area.rows && leb (column + (window_at d i).frame.area.columns) (window_at d k).frame.area.columns) _ _ refl refl)
 
 pub moving : MovingChangesNoCell
 unfolding move_window_call move_derived_call
 moving = record {
-  window = λ d win row column. on_surfaces d (place_of d win) (λ i. window_moved d i (window_at d i).frame.origin (window_at d i).frame.parent row column) (λ i. window_case d i (window_at d i).frame.origin (window_at d i).frame.parent row column);
-  derived = λ d win row column. on_surfaces d (place_of d win) (λ i. derived_moved d i (window_at d i).frame.origin (window_at d i).frame.parent row column) (λ i. derived_case d i (window_at d i).frame.origin (window_at d i).frame.parent row column);
+  window = λ d win row column. on_surfaces d (index_of d win) (λ i. window_moved d i (window_at d i).frame.origin (window_at d i).frame.parent row column) (λ i. window_case d i (window_at d i).frame.origin (window_at d i).frame.parent row column);
+  derived = λ d win row column. on_surfaces d (index_of d win) (λ i. derived_moved d i (window_at d i).frame.origin (window_at d i).frame.parent row column) (λ i. derived_case d i (window_at d i).frame.origin (window_at d i).frame.parent row column);
 }

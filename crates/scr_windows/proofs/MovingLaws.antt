@@ -2,17 +2,17 @@
 use Rattle.std.proofs.Common.{◌≡◌, ◌≢◌, ℕ, ◌+◌, ◌-◌, ◌<◌, ◌≤◌, sym, subst, ◌∙◌, ap, refl, arith, List, [], ◌∷◌, ◌++◌, suc, length, map, take, drop, get_or, Option, None, Some, Bool, true, false, cond, ◌==◌, ◌||◌}
 use Rattle.std.specs.Prelude.{All, MatchOption, slice_set, Ok}
 use Rattle.std.proofs.lemmas.List.Quantifiers.{position-Some}
-use Rattle.scr_windows.specs.Calls.{place_of}
+use Rattle.scr_windows.specs.Changes.{index_of}
 use Rattle.std.proofs.lemmas.Bool.Decides.{nat_tests}
 use Rattle.std.proofs.lemmas.List.{get_or-map, get_or-drop, get_or-append_right, length-take-le, map-append, take-append-drop}
 use Rattle.std.proofs.lemmas.List.Elements.{All-from_get_or, All-map}
 use Rattle.scr_surfaces.specs.declared.areas.Area.{Area}
 use Rattle.scr_windows.specs.declared.frames.Frame.{Frame}
-use Rattle.scr_windows.specs.declared.moving.Shift.{Shift}
-use Rattle.scr_windows.specs.declared.moving.Shift.TheVariants.{Screen, Surface}
-use Rattle.scr_windows.specs.DeskViews.{WindowView, DeskView, IsWindow, AreFrames, IsDesk, Placed, window_at, no_window, no_frame}
+use Rattle.scr_windows.specs.declared.calls.moving.Shift.{Shift}
+use Rattle.scr_windows.specs.declared.calls.moving.Shift.TheVariants.{Screen, Surface}
+use Rattle.scr_windows.specs.DeskViews.{WindowView, DeskView, IsWindow, AreFrames, IsDesk, IsThere, window_at, no_window, no_frame}
 use Rattle.scr_windows.specs.Sheets.{size_on}
-use Rattle.scr_windows.specs.Moving.{IsNear, IsNearFrame, IsNearShift, IsShift, descends, family_frame, from_parent, family_shifted, link_of}
+use Rattle.scr_windows.specs.Code.Families.{IsNear, IsNearFrame, IsNearShift, IsShift, descends, family_frame, from_parent, family_shifted, link_of}
 use Rattle.scr_windows.proofs.DeskLaws.{Reads, reads_window, here_too, placed, length_map, frame_of}
 use Rattle.scr_windows.proofs.FrameLaws.{map_reframed, reframed, reframed_more, was_found}
 use Rattle.scr_windows.proofs.FamilyLaws.{frame_link, map_links}
@@ -88,7 +88,7 @@ near_origin : (rows columns a b : ℕ) (o : Option (ℕ × ℕ)) → rows ≤ 50
 near_origin rows columns a b None h k m = tt
 near_origin rows columns a b (Some p) h k m = (omega (arith, h, m.0), omega (arith, k, m.1))
 
-near_window : (d : DeskView) (i : ℕ) → Placed d i → IsNearFrame (window_at d i).frame
+near_window : (d : DeskView) (i : ℕ) → IsThere d i → IsNearFrame (window_at d i).frame
 near_window d i p = (
   (omega (arith, p.part.below, p.whole.size.few_rows), omega (arith, p.part.right, p.whole.size.few_columns)),
   near_origin d.rows d.columns (window_at d i).frame.area.rows (window_at d i).frame.area.columns (window_at d i).frame.origin p.screen.few_rows p.screen.few_columns p.origin,
@@ -196,7 +196,7 @@ up_other ws a later number whole first frame l is h t =
     ap (λ m. descends (map link_of ws) a m number) e ∙ sym (searched_other (map link_of ws) a (length ws - 1 - later) number (ap (λ (x : ℕ × Option ℕ). x.0 == number) link ∙ differs t)) ∙ left_one ws a later number whole l h
 
 -- a subwindow that stays in its parent
-pub derived_fits : (d : DeskView) (i k parent row column : ℕ) (frame : Frame) (within : Area) → frame ≡ (window_at d i).frame → frame.parent ≡ Some parent → place_of d parent ≡ Ok k → within ≡ (window_at d k).frame.area
+pub derived_fits : (d : DeskView) (i k parent row column : ℕ) (frame : Frame) (within : Area) → frame ≡ (window_at d i).frame → frame.parent ≡ Some parent → index_of d parent ≡ Ok k → within ≡ (window_at d k).frame.area
     → row + frame.area.rows ≤ within.rows → column + frame.area.columns ≤ within.columns
     → IsShift d i (Surface (frame.area.top, frame.area.left) (within.top + row, within.left + column))
 derived_fits d i k parent row column frame within frame_is parent_is at within_is rows columns =

@@ -112,7 +112,7 @@ ends_there n xs number i k d up h l e = elim (less_or_from i k) [
       (at, omega (arith, low, high, e)))
 ]
 
--- what code reads at a place
+-- what code reads at an index
 pub read_number : {X Y : Type 0} (n : X → ℕ) (m : Y → ℕ) (g : X → Y) → ((x : X) → m (g x) ≡ n x) → (xs : List X) (i : ℕ) (x d : X) (y : Y) → i < length xs → x ≡ get_or xs i x → y ≡ g x → n (get_or xs i d) ≡ m y
 read_number n m g same xs i x d y l x_is y_is = ap n (get_or_default xs i d x l ∙ sym x_is) ∙ sym (same x) ∙ ap m (sym y_is)
 

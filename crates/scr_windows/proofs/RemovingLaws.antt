@@ -11,7 +11,7 @@ use Rattle.scr_windows.specs.declared.sheets.Sheet.{Sheet}
 use Rattle.scr_surfaces.specs.SurfaceViews.{IsSurface}
 use Rattle.scr_windows.specs.Sheets.{size_on, without_surface}
 use Rattle.scr_windows.specs.DeskViews.{WindowView, DeskView, HasOwn, IsWindow, IsPlaced, IsChild, AreFrames, IsDesk, no_frame, no_window, window_at}
-use Rattle.scr_windows.specs.Removing.{is_number, has_children, others, deleted}
+use Rattle.scr_windows.specs.Calls.Removing.{is_number, has_children, others, deleted}
 use Rattle.scr_windows.proofs.DeskLaws.{frame_of, length_map}
 use Rattle.scr_windows.proofs.NumberLaws.{is_not, differs, kept_in_filter, map-filter}
 use Rattle.scr_windows.proofs.SheetLaws.{size_less}

@@ -28,7 +28,7 @@ rest_rises sheet sheets up i j d less l = up (suc i) (suc j) d (omega (arith, le
 head_below : (sheet : Sheet) (sheets : List Sheet) → AreSheets (sheet ∷ sheets) → (k : ℕ) → k < length sheets → sheet.number < (get_or sheets k no_sheet).number
 head_below sheet sheets up k l = up zero (suc k) no_sheet (omega arith) (omega (arith, l))
 
--- the surface that bears a number is the one at the place where it was found
+-- the surface that bears a number is the one at the index where it was found
 pub surface_found : (sheets : List Sheet) (number k : ℕ) → AreSheets sheets → k < length sheets → (get_or sheets k no_sheet).number ≡ number → (get_or sheets k no_sheet).surface ≡ surface_on sheets number
 surface_found [] number k up l e = absurd (omega (arith, l))
 surface_found (sheet ∷ sheets) number zero up l e = sym (ap (λ b. cond b sheet.surface (surface_on sheets number)) (is_it number sheet.number e))
@@ -47,7 +47,7 @@ none_put (sheet ∷ sheets) number surface h =
     let other : (sheet.number == number) ≡ false = is_not number sheet.number (h zero (omega arith)) in
     (λ j. ap (λ b. cond b (record sheet { surface = surface }) sheet) other j ∷ none_put sheets number surface (λ k l. h (suc k) (omega (arith, l))) j)
 
--- a surface put at the place of its number
+-- a surface put at the index of its number
 pub surface_put : (sheets : List Sheet) (number k : ℕ) (surface : SurfaceView) (new : Sheet) → AreSheets sheets → k < length sheets → (get_or sheets k no_sheet).number ≡ number → new ≡ record (get_or sheets k no_sheet) { surface = surface }
     → slice_set sheets k new ≡ with_surface number surface sheets
 surface_put [] number k surface new up l e new_is = absurd (omega (arith, l))

@@ -6,12 +6,13 @@ use Rattle.std.proofs.lemmas.List.{get_or-map}
 use Rattle.std.proofs.lemmas.List.Elements.{All-from_get_or}
 use Rattle.scr_surfaces.specs.declared.areas.Area.{Area}
 use Rattle.scr_windows.specs.declared.frames.Frame.{Frame}
-use Rattle.scr_windows.specs.declared.moving.Shift.{Shift}
-use Rattle.scr_windows.specs.declared.moving.Shift.TheVariants.{Screen, Surface}
+use Rattle.scr_windows.specs.declared.calls.moving.Shift.{Shift}
+use Rattle.scr_windows.specs.declared.calls.moving.Shift.TheVariants.{Screen, Surface}
 use Rattle.scr_windows.specs.DeskViews.{HasOwn, IsPlaced, IsChild, IsInsideOnScreen, AreFrames, no_frame}
-use Rattle.scr_windows.specs.Moving.{area_shifted, family_frame, origin_shifted, shifted}
+use Rattle.scr_windows.specs.Calls.Moving.{area_shifted, origin_shifted, shifted}
+use Rattle.scr_windows.specs.Code.Families.{family_frame}
 use Rattle.scr_windows.proofs.DeskLaws.{length_map}
-use Rattle.scr_windows.proofs.FamilyLaws.{frame_at, Ascends, Family, HasParent, Within, child_family, family_within, frame_link, one_place}
+use Rattle.scr_windows.proofs.FamilyLaws.{frame_at, Ascends, Family, HasParent, Within, child_family, family_within, frame_link, one_index}
 
 -- a frame that may have been shifted
 abbrev pub turned : Bool → Shift → Frame → Frame
@@ -132,8 +133,8 @@ own_shifted frames (Screen from to) root m number up begins stays parent h is c 
 own_shifted frames (Surface from to) root m number up begins stays parent h is c =
     let k : ℕ = stays.0 in
     let one : (get_or frames k no_frame).number ≡ number = some_same _ _ root.parent stays.2 parent in
-    let place : k ≡ m = one_place frames k m up stays.1 h (one ∙ sym is) in
-    let same : get_or frames k no_frame ≡ get_or frames m no_frame = ap (λ n. get_or frames n no_frame) place in
+    let index : k ≡ m = one_index frames k m up stays.1 h (one ∙ sym is) in
+    let same : get_or frames k no_frame ≡ get_or frames m no_frame = ap (λ n. get_or frames n no_frame) index in
     let P : Frame → Type 0 = λ g. (g.area.top ≤ to.0) × (to.0 + root.area.rows ≤ g.area.top + g.area.rows) × (g.area.left ≤ to.1) × (to.1 + root.area.columns ≤ g.area.left + g.area.columns) in
     let in' = subst P same (stays.3, stays.4, stays.5, stays.6) in
     let top : from.0 ≡ root.area.top = ap (λ (x : ℕ × ℕ). x.0) begins in
@@ -162,8 +163,8 @@ ends_of rows columns sizes made frames i (Surface from to) h l fits stays =
     let k : ℕ = stays.0 in
     let P : Option ℕ → Type 0 = λ o. MatchOption o (Unit {0}) (λ given. (m : ℕ) × (m < length frames) × ((get_or frames m no_frame).number ≡ given) × IsChild root (get_or frames m no_frame)) in
     let has = subst P stays.2 (h.parents i no_frame l) in
-    let place : has.0 ≡ k = one_place frames has.0 k h.ascending has.1 stays.1 has.2 in
-    let surface : root.surface ≡ (get_or frames k no_frame).surface = has.3.surface ∙ ap (λ n. (get_or frames n no_frame).surface) place in
+    let index : has.0 ≡ k = one_index frames has.0 k h.ascending has.1 stays.1 has.2 in
+    let surface : root.surface ≡ (get_or frames k no_frame).surface = has.3.surface ∙ ap (λ n. (get_or frames n no_frame).surface) index in
     let size : sizes root.surface ≡ sizes (get_or frames k no_frame).surface = ap sizes surface in
     let p = h.placed k no_frame stays.1 in
     (omega (arith, stays.4, p.below, ap (λ (z : ℕ × ℕ). z.0) size), omega (arith, stays.6, p.right, ap (λ (z : ℕ × ℕ). z.1) size))
@@ -198,7 +199,7 @@ own_turned true (Surface from to) f h = h
 pub is_equal : (a b : ℕ) → (a == b) ≡ true → a ≡ b
 is_equal a b h = grind (arith, nat_tests)
 
--- whether the frame at a place descends from that at another
+-- whether the frame at an index descends from that at another
 abbrev is_family : List Frame → ℕ → ℕ → Bool
 is_family frames i k = Family frames (frame_at frames i).number (frame_at frames k).number
 
@@ -239,7 +240,7 @@ frames_moved rows columns sizes made frames i shift h l begins fits stays = reco
     own : (k m given : ℕ) → k < length frames → m < length frames → (frame_at frames k).parent ≡ Some given → (frame_at frames m).number ≡ given → IsChild (frame_at frames k) (frame_at frames m) → ((frame_at frames k).number == (frame_at frames i).number) ≡ true → IsChild (shifted shift (frame_at frames k)) (frame_at frames m)
     own k m given b d e q c t =
         let P : ℕ → Type 0 = λ n. (frame_at frames n).parent ≡ Some given → IsChild (frame_at frames n) (frame_at frames m) → IsChild (shifted shift (frame_at frames n)) (frame_at frames m) in
-        subst P (sym (one_place frames k i h.ascending b l (is_equal _ _ t))) (λ e2 c2. own_shifted frames shift (frame_at frames i) m given h.ascending begins stays e2 d q c2) e c
+        subst P (sym (one_index frames k i h.ascending b l (is_equal _ _ t))) (λ e2 c2. own_shifted frames shift (frame_at frames i) m given h.ascending begins stays e2 d q c2) e c
 
     parent : (k : ℕ) → k < length frames → HasParent (after frames i shift) (turned (is_family frames i k) shift (frame_at frames k))
     parent k b = (let P : Option ℕ → Type 0 = λ o. MatchOption o (Unit {0}) (λ given. (m : ℕ) × (m < length (after frames i shift)) × ((get_or (after frames i shift) m no_frame).number ≡ given) × IsChild (turned (is_family frames i k) shift (frame_at frames k)) (get_or (after frames i shift) m no_frame)) in

@@ -9,8 +9,8 @@ use Rattle.std.proofs.lemmas.List.FromFn.{get_or-map-range_with_len, length-map-
 use Rattle.std.proofs.lemmas.List.Quantifiers.{position-Some}
 use Rattle.scr_windows.specs.declared.frames.Frame.{Frame}
 use Rattle.scr_windows.specs.DeskViews.{WindowView, DeskView, IsWindow, IsChild, IsDesk, window_at, no_frame, no_window}
-use Rattle.scr_windows.specs.Calls.{with_window, marked, marked_lines}
-use Rattle.scr_windows.specs.Syncing.{frames_of, place_of_parent, parent_place, chain, ancestors, touched_at, with_touched, touched_up, touched_down}
+use Rattle.scr_windows.specs.Changes.{with_window, marked, marked_lines}
+use Rattle.scr_windows.specs.Calls.Syncing.{frames_of, index_of_parent, parent_index, chain, ancestors, touched_at, with_touched, touched_up, touched_down}
 use Rattle.scr_windows.proofs.GridLaws.{map_range, part_is}
 use Rattle.scr_windows.proofs.DeskLaws.{frame_of, length_map}
 
@@ -97,7 +97,7 @@ further : (o : Option ℕ) (k j : ℕ) → k < j → MatchOption o (Unit {0}) (�
 further None k j b h = tt
 further (Some x) k j b h = omega (arith, b, h)
 
-pub parent_before : (d : DeskView) (i : ℕ) → IsDesk d → i < length d.windows → MatchOption (parent_place (frames_of d) i) (Unit {0}) (λ k. k < i)
+pub parent_before : (d : DeskView) (i : ℕ) → IsDesk d → i < length d.windows → MatchOption (parent_index (frames_of d) i) (Unit {0}) (λ k. k < i)
 parent_before d i h l =
     let frames : List Frame = frames_of d in
     let frame : Frame = get_or frames i no_frame in
@@ -129,16 +129,16 @@ parent_before d i h l =
     found : (frames : List Frame) (o : Option ℕ) (i : ℕ) (frame : Frame) → i < length frames → ((i j : ℕ) → i < j → j < length frames → (get_or frames i no_frame).number < (get_or frames j no_frame).number)
         → frame ≡ get_or frames i no_frame
         → MatchOption o (Unit {0}) (λ number. (k : ℕ) × (k < length frames) × ((get_or frames k no_frame).number ≡ number) × IsChild frame (get_or frames k no_frame))
-        → MatchOption (place_of_parent frames o) (Unit {0}) (λ k. k < i)
+        → MatchOption (index_of_parent frames o) (Unit {0}) (λ k. k < i)
     found frames None i frame l ascending is h = tt
     found frames (Some number) i frame l ascending is h = at frames number i frame l ascending is (omega (arith, h.2, h.3.later)) _ refl
 
--- a list of ancestors has no place from one on
+-- a list of ancestors has no index from one on
 pub chain_misses : (d : DeskView) → IsDesk d → (most : ℕ) (o : Option ℕ) (j : ℕ) → j < length d.windows → MatchOption o (Unit {0}) (λ k. k < j) → list_any (λ k. k == j) (chain most (frames_of d) o) ≡ false
 chain_misses d h zero o j l b = refl
 chain_misses d h (suc most) None j l b = refl
 chain_misses d h (suc most) (Some k) j l b =
-    one k j _ b (chain_misses d h most (parent_place (frames_of d) k) j l (further (parent_place (frames_of d) k) k j b (parent_before d k h (omega (arith, b, l)))))
+    one k j _ b (chain_misses d h most (parent_index (frames_of d) k) j l (further (parent_index (frames_of d) k) k j b (parent_before d k h (omega (arith, b, l)))))
   where
     one : (k j : ℕ) (rest : Bool) → k < j → rest ≡ false → ((k == j) || rest) ≡ false
     one k j rest b e = grind (arith, nat_tests)
@@ -150,7 +150,7 @@ chain_reads d h zero o j w row l b = refl
 chain_reads d h (suc most) None j w row l b = refl
 chain_reads d h (suc most) (Some k) j w row l b =
     let here : touched_at (get_or (slice_set d.windows j w) k no_window) row ≡ touched_at (get_or d.windows k no_window) row = ap (λ v. touched_at v row) (get_or-set_other d.windows j k w no_window (λ e. absurd (omega (arith, e, b)))) in
-    let rest = chain_reads d h most (parent_place (frames_of d) k) j w row l (further (parent_place (frames_of d) k) k j b (parent_before d k h (omega (arith, b, l)))) in
+    let rest = chain_reads d h most (parent_index (frames_of d) k) j w row l (further (parent_index (frames_of d) k) k j b (parent_before d k h (omega (arith, b, l)))) in
     (λ i. here i || rest i)
 
 pub chain_none : (most : ℕ) (frames : List Frame) → chain most frames None ≡ []
@@ -159,31 +159,31 @@ chain_none (suc most) frames = refl
 
 -- the parent that code finds
 
-pub parent_before_in : (d old : DeskView) → d ≡ old → (i : ℕ) → IsDesk d → i < length old.windows → MatchOption (parent_place (frames_of old) i) (Unit {0}) (λ k. k < i)
+pub parent_before_in : (d old : DeskView) → d ≡ old → (i : ℕ) → IsDesk d → i < length old.windows → MatchOption (parent_index (frames_of old) i) (Unit {0}) (λ k. k < i)
 parent_before_in d old is i h l =
-    let P : DeskView → Type 0 = λ v. MatchOption (parent_place (frames_of v) i) (Unit {0}) (λ k. k < i) in
+    let P : DeskView → Type 0 = λ v. MatchOption (parent_index (frames_of v) i) (Unit {0}) (λ k. k < i) in
     subst P is (parent_before d i h (omega (arith, l, ap (λ (v : DeskView). length v.windows) is)))
 
-place_map : {X Y : Type 0} (f : X → Y) (p : Y → Bool) (xs : List X) → position_or_len (λ x. p (f x)) xs ≡ position_or_len p (map f xs)
-place_map f p [] = refl
-place_map f p (x ∷ xs) = ap (λ rest. cond (not (p (f x))) (1 + rest) 0) (place_map f p xs)
+index_map : {X Y : Type 0} (f : X → Y) (p : Y → Bool) (xs : List X) → position_or_len (λ x. p (f x)) xs ≡ position_or_len p (map f xs)
+index_map f p [] = refl
+index_map f p (x ∷ xs) = ap (λ rest. cond (not (p (f x))) (1 + rest) 0) (index_map f p xs)
 
 position_map : {X Y : Type 0} (f : X → Y) (p : Y → Bool) (xs : List X) → position (λ x. p (f x)) xs ≡ position p (map f xs)
 position_map f p xs =
-    let place = place_map f p xs in
+    let index = index_map f p xs in
     let many = length_map f xs in
-    (λ j. cond (ltb (place j) (sym many j)) (Some (place j)) None)
+    (λ j. cond (ltb (index j) (sym many j)) (Some (index j)) None)
 
 pub parent_found : (d old : DeskView) → d ≡ old → (i : ℕ) (windows : List WindowView) (frame : Frame) (number : ℕ) (found : Option ℕ) → i < length old.windows → windows ≡ d.windows → frame ≡ (window_at old i).frame → frame.parent ≡ Some number
-    → found ≡ position (λ (w : WindowView). w.frame.number == number) windows → found ≡ parent_place (frames_of old) i
+    → found ≡ position (λ (w : WindowView). w.frame.number == number) windows → found ≡ parent_index (frames_of old) i
 parent_found d old is i windows frame number found l items frame_is some e =
     let here : get_or (frames_of old) i no_frame ≡ (window_at old i).frame = get_or-map frame_of old.windows i no_window no_frame l in
     let parent : (get_or (frames_of old) i no_frame).parent ≡ Some number = ap (λ (f : Frame). f.parent) (here ∙ sym frame_is) ∙ some in
     e ∙ ap (position (λ (w : WindowView). w.frame.number == number)) (items ∙ ap (λ (v : DeskView). v.windows) is)
     ∙ position_map frame_of (λ (f : Frame). f.number == number) old.windows
-    ∙ ap (place_of_parent (frames_of old)) (sym parent)
+    ∙ ap (index_of_parent (frames_of old)) (sym parent)
 
--- more than as many steps as lead from a place to the first
+-- more than as many steps as lead from an index to the first
 abbrev pub steps_left : Option ℕ → ℕ
 steps_left None = 0
 steps_left (Some k) = k + 1
@@ -262,21 +262,21 @@ picks : {X : Type 0} (hit any : Bool) (a b c e : X) → (hit ≡ true → (any �
 picks true any a b c e h k = ap (λ x. cond x a b) (h refl).0 ∙ (h refl).1
 picks false any a b c e h k = λ j. cond any ((k refl).0 j) ((k refl).1 j)
 
-up_once : (d : DeskView) (i k : ℕ) (places : List ℕ) → k < i → i < length d.windows → list_any (λ place. place == k) places ≡ false
-    → touched_up places (with_window d k (with_touched (touched_at (window_at d i)) (window_at d k))) i ≡ touched_up (k ∷ places) d i
-up_once d i k places before l misses =
+up_once : (d : DeskView) (i k : ℕ) (indices : List ℕ) → k < i → i < length d.windows → list_any (λ index. index == k) indices ≡ false
+    → touched_up indices (with_window d k (with_touched (touched_at (window_at d i)) (window_at d k))) i ≡ touched_up (k ∷ indices) d i
+up_once d i k indices before l misses =
     let f : ℕ → Bool = touched_at (window_at d i) in
     let w : WindowView = with_touched f (window_at d k) in
     let now : DeskView = with_window d k w in
     let same : window_at now i ≡ window_at d i = get_or-set_other d.windows k i w no_window (λ e. absurd (omega (arith, e, before))) in
     let many : length (slice_set d.windows k w) ≡ length d.windows = length-set d.windows k w in
-    let lines : map (λ x. cond (list_any (λ place. place == x) places) (with_touched (touched_at (window_at now i)) (window_at now x)) (window_at now x)) (range_with_len 0 (length (slice_set d.windows k w)))
-    ≡ map (λ x. cond ((k == x) || list_any (λ place. place == x) places) (with_touched f (window_at d x)) (window_at d x)) (range_with_len 0 (length d.windows))
-    = ap (λ n. map (λ x. cond (list_any (λ place. place == x) places) (with_touched (touched_at (window_at now i)) (window_at now x)) (window_at now x)) (range_with_len 0 n)) many
-    ∙ map_range (λ x. cond (list_any (λ place. place == x) places) (with_touched (touched_at (window_at now i)) (window_at now x)) (window_at now x)) (λ x. cond ((k == x) || list_any (λ place. place == x) places) (with_touched f (window_at d x)) (window_at d x)) 0 (length d.windows) (λ x a b.
-    picks (k == x) (list_any (λ place. place == x) places) (with_touched (touched_at (window_at now i)) (window_at now x)) (window_at now x) (with_touched f (window_at d x)) (window_at d x)
+    let lines : map (λ x. cond (list_any (λ index. index == x) indices) (with_touched (touched_at (window_at now i)) (window_at now x)) (window_at now x)) (range_with_len 0 (length (slice_set d.windows k w)))
+    ≡ map (λ x. cond ((k == x) || list_any (λ index. index == x) indices) (with_touched f (window_at d x)) (window_at d x)) (range_with_len 0 (length d.windows))
+    = ap (λ n. map (λ x. cond (list_any (λ index. index == x) indices) (with_touched (touched_at (window_at now i)) (window_at now x)) (window_at now x)) (range_with_len 0 n)) many
+    ∙ map_range (λ x. cond (list_any (λ index. index == x) indices) (with_touched (touched_at (window_at now i)) (window_at now x)) (window_at now x)) (λ x. cond ((k == x) || list_any (λ index. index == x) indices) (with_touched f (window_at d x)) (window_at d x)) 0 (length d.windows) (λ x a b.
+    picks (k == x) (list_any (λ index. index == x) indices) (with_touched (touched_at (window_at now i)) (window_at now x)) (window_at now x) (with_touched f (window_at d x)) (window_at d x)
     (λ hit. (let e : k ≡ x = same_number k x hit in
-    (ap (λ y. list_any (λ place. place == y) places) (sym e) ∙ misses, ap (window_at now) (sym e) ∙ get_or-set_same d.windows k w no_window (omega (arith, before, l)) ∙ ap (λ y. with_touched f (window_at d y)) e)))
+    (ap (λ y. list_any (λ index. index == y) indices) (sym e) ∙ misses, ap (window_at now) (sym e) ∙ get_or-set_same d.windows k w no_window (omega (arith, before, l)) ∙ ap (λ y. with_touched f (window_at d y)) e)))
     (λ other. (let e : window_at now x ≡ window_at d x = get_or-set_other d.windows k x w no_window (other_number k x other) in
     ((λ j. with_touched (touched_at (same j)) (e j)), e)))) in
     (λ j. record d { windows = lines j })
@@ -289,46 +289,46 @@ abbrev pub Left : Option ℕ → (ℕ → DeskView) → DeskView → Type 0
 Left above makes end = (most : ℕ) × (steps_left above ≤ most) × (makes most ≡ end)
 
 pub up_more : (d now : DeskView) (i k : ℕ) (above next : Option ℕ) (end : DeskView) → IsDesk now → i < length d.windows → above ≡ Some k → k < i
-    → now ≡ with_window d k (with_touched (touched_at (window_at d i)) (window_at d k)) → next ≡ parent_place (frames_of now) k → MatchOption next (Unit {0}) (λ x. x < k)
+    → now ≡ with_window d k (with_touched (touched_at (window_at d i)) (window_at d k)) → next ≡ parent_index (frames_of now) k → MatchOption next (Unit {0}) (λ x. x < k)
     → Left above (λ most. touched_up (chain most (frames_of d) above) d i) end → Left next (λ most. touched_up (chain most (frames_of now) next) now i) end
 up_more d now i k above next end h l some before is parent earlier (zero, few, e) = absurd (omega (arith, few, ap steps_left some))
 up_more d now i k above next end h l some before is parent earlier (suc most, few, e) =
     let rest : List ℕ = chain most (frames_of now) next in
     let frames : frames_of now ≡ frames_of d = frames_stay d now k (touched_at (window_at d i)) is in
     let many : length now.windows ≡ length d.windows = ap (λ (v : DeskView). length v.windows) is ∙ length-set d.windows k _ in
-    let same : rest ≡ chain most (frames_of d) (parent_place (frames_of d) k) = ap (chain most (frames_of now)) parent ∙ (λ j. chain most (frames j) (parent_place (frames j) k)) in
-    let misses : list_any (λ place. place == k) rest ≡ false = chain_misses now h most next k (omega (arith, many, before, l)) earlier in (
+    let same : rest ≡ chain most (frames_of d) (parent_index (frames_of d) k) = ap (chain most (frames_of now)) parent ∙ (λ j. chain most (frames j) (parent_index (frames j) k)) in
+    let misses : list_any (λ index. index == k) rest ≡ false = chain_misses now h most next k (omega (arith, many, before, l)) earlier in (
       most,
       omega (arith, few, ap steps_left some, fewer_steps above next k some earlier),
-      ap (λ v. touched_up rest v i) is ∙ up_once d i k rest before l misses ∙ ap (λ places. touched_up (k ∷ places) d i) same ∙ ap (λ o. touched_up (chain (suc most) (frames_of d) o) d i) (sym some) ∙ e,
+      ap (λ v. touched_up rest v i) is ∙ up_once d i k rest before l misses ∙ ap (λ indices. touched_up (k ∷ indices) d i) same ∙ ap (λ o. touched_up (chain (suc most) (frames_of d) o) d i) (sym some) ∙ e,
     )
 
 pub up_done : (d end : DeskView) (i : ℕ) (above : Option ℕ) → above ≡ None → Left above (λ most. touched_up (chain most (frames_of d) above) d i) end → d ≡ end
 up_done d end i above is (most, few, e) =
     let nothing : chain most (frames_of d) above ≡ [] = ap (chain most (frames_of d)) is ∙ chain_none most (frames_of d) in
-    (λ j. record d { windows = each_in_order d.windows (window_at d) no_window (λ k b. refl) j }) ∙ ap (λ places. touched_up places d i) (sym nothing) ∙ e
+    (λ j. record d { windows = each_in_order d.windows (window_at d) no_window (λ k b. refl) j }) ∙ ap (λ indices. touched_up indices d i) (sym nothing) ∙ e
 
-down_once : (d : DeskView) (i k : ℕ) (places : List ℕ) → i < length d.windows
-    → ((row : ℕ) → list_any (λ x. touched_at (window_at (with_window d i (with_touched (touched_at (window_at d k)) (window_at d i))) x) row) places ≡ list_any (λ x. touched_at (window_at d x) row) places)
-    → touched_down places (with_window d i (with_touched (touched_at (window_at d k)) (window_at d i))) i ≡ touched_down (k ∷ places) d i
-down_once d i k places l reads =
+down_once : (d : DeskView) (i k : ℕ) (indices : List ℕ) → i < length d.windows
+    → ((row : ℕ) → list_any (λ x. touched_at (window_at (with_window d i (with_touched (touched_at (window_at d k)) (window_at d i))) x) row) indices ≡ list_any (λ x. touched_at (window_at d x) row) indices)
+    → touched_down indices (with_window d i (with_touched (touched_at (window_at d k)) (window_at d i))) i ≡ touched_down (k ∷ indices) d i
+down_once d i k indices l reads =
     let g : ℕ → Bool = touched_at (window_at d k) in
-    let f : ℕ → Bool = λ row. list_any (λ x. touched_at (window_at d x) row) places in
+    let f : ℕ → Bool = λ row. list_any (λ x. touched_at (window_at d x) row) indices in
     let w : WindowView = window_at d i in
     let now : DeskView = with_window d i (with_touched g w) in
     let here : window_at now i ≡ with_touched g w = get_or-set_same d.windows i (with_touched g w) no_window l in
-    let changed : with_touched (λ row. list_any (λ x. touched_at (window_at now x) row) places) (window_at now i) ≡ with_touched (λ row. g row || f row) w
+    let changed : with_touched (λ row. list_any (λ x. touched_at (window_at now x) row) indices) (window_at now i) ≡ with_touched (λ row. g row || f row) w
     = (λ j. with_touched (λ row. reads row j) (here j)) ∙ touched_twice w f g in
     ap (with_window now i) changed ∙ (λ j. record d { windows = set_twice d.windows i (with_touched g w) (with_touched (λ row. g row || f row) w) j })
 
 pub down_more : (d now : DeskView) (i k : ℕ) (above next : Option ℕ) (end : DeskView) → IsDesk d → i < length d.windows → above ≡ Some k → k < i
-    → now ≡ with_window d i (with_touched (touched_at (window_at d k)) (window_at d i)) → next ≡ parent_place (frames_of now) k → MatchOption next (Unit {0}) (λ x. x < k)
+    → now ≡ with_window d i (with_touched (touched_at (window_at d k)) (window_at d i)) → next ≡ parent_index (frames_of now) k → MatchOption next (Unit {0}) (λ x. x < k)
     → Left above (λ most. touched_down (chain most (frames_of d) above) d i) end → Left next (λ most. touched_down (chain most (frames_of now) next) now i) end
 down_more d now i k above next end h l some before is parent earlier (zero, few, e) = absurd (omega (arith, few, ap steps_left some))
 down_more d now i k above next end h l some before is parent earlier (suc most, few, e) =
     let frames : frames_of now ≡ frames_of d = frames_stay d now i (touched_at (window_at d k)) is in
     let rest : List ℕ = chain most (frames_of d) next in
-    let up : next ≡ parent_place (frames_of d) k = parent ∙ (λ j. parent_place (frames j) k) in
+    let up : next ≡ parent_index (frames_of d) k = parent ∙ (λ j. parent_index (frames j) k) in
     let reads = λ (row : ℕ). chain_reads d h most next i (with_touched (touched_at (window_at d k)) (window_at d i)) row l (further next k i before earlier) in (
       most,
       omega (arith, few, ap steps_left some, fewer_steps above next k some earlier),
@@ -338,17 +338,17 @@ down_more d now i k above next end h l some before is parent earlier (suc most, 
 pub down_done : (d end : DeskView) (i : ℕ) (above : Option ℕ) → above ≡ None → Left above (λ most. touched_down (chain most (frames_of d) above) d i) end → d ≡ end
 down_done d end i above is (most, few, e) =
     let nothing : chain most (frames_of d) above ≡ [] = ap (chain most (frames_of d)) is ∙ chain_none most (frames_of d) in
-    (λ j. record d { windows = sym (set-get_or d.windows i no_window) j }) ∙ ap (with_window d i) (sym (touched_none (window_at d i) (λ row. false) (λ r b. refl))) ∙ ap (λ places. touched_down places d i) (sym nothing) ∙ e
+    (λ j. record d { windows = sym (set-get_or d.windows i no_window) j }) ∙ ap (with_window d i) (sym (touched_none (window_at d i) (λ row. false) (λ r b. refl))) ∙ ap (λ indices. touched_down indices d i) (sym nothing) ∙ e
 
 enough_steps : (d : DeskView) (i : ℕ) (above : Option ℕ) → i < length d.windows → MatchOption above (Unit {0}) (λ k. k < i) → steps_left above ≤ length (frames_of d)
 enough_steps d i None l before = omega arith
 enough_steps d i (Some k) l before = omega (arith, l, before, length_map frame_of d.windows)
 
-pub up_begun : (d : DeskView) (i : ℕ) (above : Option ℕ) → i < length d.windows → above ≡ parent_place (frames_of d) i → MatchOption above (Unit {0}) (λ k. k < i)
+pub up_begun : (d : DeskView) (i : ℕ) (above : Option ℕ) → i < length d.windows → above ≡ parent_index (frames_of d) i → MatchOption above (Unit {0}) (λ k. k < i)
     → Left above (λ most. touched_up (chain most (frames_of d) above) d i) (touched_up (ancestors d i) d i)
 up_begun d i above l is before = (length (frames_of d), enough_steps d i above l before, ap (λ o. touched_up (chain (length (frames_of d)) (frames_of d) o) d i) is)
 
-pub down_begun : (d : DeskView) (i : ℕ) (above : Option ℕ) → i < length d.windows → above ≡ parent_place (frames_of d) i → MatchOption above (Unit {0}) (λ k. k < i)
+pub down_begun : (d : DeskView) (i : ℕ) (above : Option ℕ) → i < length d.windows → above ≡ parent_index (frames_of d) i → MatchOption above (Unit {0}) (λ k. k < i)
     → Left above (λ most. touched_down (chain most (frames_of d) above) d i) (touched_down (ancestors d i) d i)
 down_begun d i above l is before = (length (frames_of d), enough_steps d i above l before, ap (λ o. touched_down (chain (length (frames_of d)) (frames_of d) o) d i) is)
 

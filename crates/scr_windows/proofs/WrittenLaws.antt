@@ -1,24 +1,25 @@
 -- Calls that write in a window and then set something in it.
 use Rattle.std.proofs.Common.{◌≡◌, ℕ, ◌∙◌, sym, ap, Result, Ok}
 use Rattle.scr_cells.specs.CellViews.{CellView}
-use Rattle.scr_windows.specs.declared.frames.State.{State}
+use Rattle.scr_windows.specs.declared.frames.WindowState.{WindowState}
 use Rattle.scr_windows.specs.declared.frames.Pen.{Pen}
 use Rattle.scr_windows.specs.declared.faults.WinFault.{WinFault}
 use Rattle.scr_windows.specs.DeskViews.{DeskView, window_at}
-use Rattle.scr_windows.specs.Calls.{IsPen, on_window, place_of, with_window, write}
-use Rattle.scr_windows.specs.Settings.{with_state}
+use Rattle.scr_windows.specs.Code.Pens.{IsPen}
+use Rattle.scr_windows.specs.Changes.{on_window, index_of, with_window, write}
+use Rattle.scr_windows.specs.Calls.Settings.{with_state}
 
 -- a call on a window that is there
-pub on_place : {A : Type 0} (d : DeskView) (win i : ℕ) (f : ℕ → DeskView × Result A WinFault) → place_of d win ≡ Ok i → f i ≡ on_window d (place_of d win) f
-on_place d win i f e = ap (λ r. on_window d r f) (sym e)
+pub on_index : {A : Type 0} (d : DeskView) (win i : ℕ) (f : ℕ → DeskView × Result A WinFault) → index_of d win ≡ Ok i → f i ≡ on_window d (index_of d win) f
+on_index d win i f e = ap (λ r. on_window d r f) (sym e)
 
 -- the whole window is written with something of its area and state, and another state is set
-pub rewritten : (d put new : DeskView) (win : ℕ) (pen : Pen) (f : State → ℕ → (ℕ → ℕ → CellView) → ℕ → ℕ → CellView) (g : State → State) → IsPen d win pen
-    → put ≡ write d pen.place 0 pen.area.rows (f pen.state pen.area.rows) → new ≡ with_window put pen.place (record (window_at put pen.place) { state = g pen.state })
-    → ◌≡◌ {A = DeskView × Result (Unit {0}) WinFault} (new, Ok tt) (on_window d (place_of d win) (λ i. (with_state (write d i 0 (window_at d i).frame.area.rows (f (window_at d i).state (window_at d i).frame.area.rows)) i (g (window_at d i).state), Ok tt)))
+pub rewritten : (d put new : DeskView) (win : ℕ) (pen : Pen) (f : WindowState → ℕ → (ℕ → ℕ → CellView) → ℕ → ℕ → CellView) (g : WindowState → WindowState) → IsPen d win pen
+    → put ≡ write d pen.index 0 pen.area.rows (f pen.state pen.area.rows) → new ≡ with_window put pen.index (record (window_at put pen.index) { state = g pen.state })
+    → ◌≡◌ {A = DeskView × Result (Unit {0}) WinFault} (new, Ok tt) (on_window d (index_of d win) (λ i. (with_state (write d i 0 (window_at d i).frame.area.rows (f (window_at d i).state (window_at d i).frame.area.rows)) i (g (window_at d i).state), Ok tt)))
 rewritten d put new win pen f g h put_is new_is =
-    let i : ℕ = pen.place in
+    let i : ℕ = pen.index in
     let here : new ≡ with_state (write d i 0 (window_at d i).frame.area.rows (f (window_at d i).state (window_at d i).frame.area.rows)) i (g (window_at d i).state)
     = new_is ∙ ap (λ v. with_state v i (g pen.state)) put_is ∙ (λ j. with_state (write d i 0 (h.area_is j).rows (f (h.state_is j) (h.area_is j).rows)) i (g (h.state_is j))) in
     let one : ◌≡◌ {A = DeskView × Result (Unit {0}) WinFault} (new, Ok tt) (with_state (write d i 0 (window_at d i).frame.area.rows (f (window_at d i).state (window_at d i).frame.area.rows)) i (g (window_at d i).state), Ok tt) = (λ j. (here j, Ok tt)) in
-    one ∙ on_place {A = Unit {0}} d win i (λ i. (with_state (write d i 0 (window_at d i).frame.area.rows (f (window_at d i).state (window_at d i).frame.area.rows)) i (g (window_at d i).state), Ok tt)) h.place_is
+    one ∙ on_index {A = Unit {0}} d win i (λ i. (with_state (write d i 0 (window_at d i).frame.area.rows (f (window_at d i).state (window_at d i).frame.area.rows)) i (g (window_at d i).state), Ok tt)) h.index_is

@@ -5,7 +5,7 @@ use Rattle.scr_cells.specs.CellViews.{CellView, blank_cell}
 use Rattle.scr_cells.specs.PictureViews.{IsSize}
 use Rattle.scr_surfaces.specs.declared.areas.Area.{Area}
 use Rattle.scr_windows.specs.declared.frames.Frame.{Frame}
-use Rattle.scr_windows.specs.declared.frames.State.{State}
+use Rattle.scr_windows.specs.declared.frames.WindowState.{WindowState}
 use Rattle.scr_cells.specs.declared.attributes.Attrs.{Attrs}
 use Rattle.scr_windows.specs.declared.sheets.Sheet.{Sheet}
 use Rattle.scr_surfaces.specs.SurfaceViews.{SurfaceView, IsSurface, IsPart, blank_surface}
@@ -14,7 +14,7 @@ use Rattle.scr_windows.specs.Sheets.{AreSheets, HasSheet, surface_on, size_on}
 -- a frame, which no drawing changes; what the calls set; and a mark for each line
 pub record WindowView : Type 0 where
   pub frame : Frame
-  pub state : State
+  pub state : WindowState
   pub touched : List Bool
 
 -- the screen's size, the surfaces and the windows that are there, both by ascending numbers, and how many windows were made
@@ -50,7 +50,7 @@ no_frame = record { number = 0; surface = 0; area = record { top = 0; left = 0; 
 abbrev pub no_window : WindowView
 no_window = fresh_window no_frame no_attributes blank_cell
 
--- the window at a place among the desk's, and the surface that bears a number
+-- the window at an index among the desk's, and the surface that bears a number
 abbrev pub window_at : DeskView → ℕ → WindowView
 window_at desk i = slice_index_or desk.windows i no_window
 
@@ -58,7 +58,7 @@ abbrev pub surface_at : DeskView → ℕ → SurfaceView
 surface_at desk number = surface_on desk.surfaces number
 
 -- the cursor and the region are inside
-pub record IsState (frame : Frame) (state : State) : Type 0 where
+pub record IsState (frame : Frame) (state : WindowState) : Type 0 where
   pub cursor_row : state.cursor.0 < frame.area.rows
   pub cursor_column : state.cursor.1 < frame.area.columns
   pub region_order : state.region.0 ≤ state.region.1
@@ -122,7 +122,7 @@ abbrev pub first_frame : ℕ → ℕ → Frame
 first_frame rows columns = record { number = 0; surface = 0; area = record { top = 0; left = 0; rows = rows; columns = columns }; parent = None; origin = Some (0, 0) }
 
 -- a window that is there, and what is known of it
-pub record Placed (desk : DeskView) (i : ℕ) : Type 0 where
+pub record IsThere (desk : DeskView) (i : ℕ) : Type 0 where
   pub here : i < length desk.windows
   pub window : IsWindow (window_at desk i)
   pub surface : HasSheet desk.surfaces (window_at desk i).frame.surface

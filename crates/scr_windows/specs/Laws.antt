@@ -3,21 +3,21 @@ use Rattle.std.specs.Prelude.{ℕ, ◌≡◌, ◌≢◌, ◌+◌, ◌-◌, ◌<�
 use Rattle.scr_cells.specs.CellViews.{CellView}
 use Rattle.scr_surfaces.specs.SurfaceViews.{is_inside}
 use Rattle.scr_windows.specs.DeskViews.{DeskView, IsDesk, window_at}
-use Rattle.scr_windows.specs.Calls.{place_of, write}
-use Rattle.scr_windows.specs.Moving.{move_window_call, move_derived_call}
-use Rattle.scr_windows.specs.Reading.{at}
-use Rattle.scr_windows.specs.Removing.{has_children, deleted}
+use Rattle.scr_windows.specs.Changes.{index_of, write}
+use Rattle.scr_windows.specs.Calls.Moving.{move_window_call, move_derived_call}
+use Rattle.scr_windows.specs.Calls.Reading.{at}
+use Rattle.scr_windows.specs.Calls.Removing.{has_children, deleted}
 
 -- delwin(): every other window is there as before, with its cells
 abbrev pub DeletingKeepsOthers : Type 0
 DeletingKeepsOthers =
-    (desk : DeskView) (number other k : ℕ) → IsDesk desk → has_children number desk.windows ≡ false → other ≢ number → place_of desk other ≡ Ok k
-    → (m : ℕ) × (place_of (deleted desk number) other ≡ Ok m) × (window_at (deleted desk number) m ≡ window_at desk k) × ((r c : ℕ) → at (deleted desk number) m r c ≡ at desk k r c)
+    (desk : DeskView) (number other k : ℕ) → IsDesk desk → has_children number desk.windows ≡ false → other ≢ number → index_of desk other ≡ Ok k
+    → (m : ℕ) × (index_of (deleted desk number) other ≡ Ok m) × (window_at (deleted desk number) m ≡ window_at desk k) × ((r c : ℕ) → at (deleted desk number) m r c ≡ at desk k r c)
 
 -- derwin(): a cell of a subwindow is the parent's cell as many rows and columns further on as the subwindow begins in the parent
 abbrev pub SubwindowsShareCells : Type 0
 SubwindowsShareCells =
-    (desk : DeskView) (number k i : ℕ) → IsDesk desk → k < length desk.windows → (window_at desk k).frame.parent ≡ Some number → place_of desk number ≡ Ok i
+    (desk : DeskView) (number k i : ℕ) → IsDesk desk → k < length desk.windows → (window_at desk k).frame.parent ≡ Some number → index_of desk number ≡ Ok i
     → (r c : ℕ) → at desk k r c ≡ at desk i (r + ((window_at desk k).frame.area.top - (window_at desk i).frame.area.top)) (c + ((window_at desk k).frame.area.left - (window_at desk i).frame.area.left))
 
 -- a call that writes in a window leaves every place of every window that is not one of the window's

@@ -2,13 +2,14 @@
 //!
 //! The calls are in the files of their kinds: `making`, `adding`, `erasing` and the others.
 ghost use Rattle.std.specs.Prelude.{◌≡◌, ◌+◌, ◌<◌, ◌≤◌, true, length, IfOk, MatchResult};
-ghost use Rattle.scr_windows.specs.DeskViews.{IsDesk, IsState, Placed, window_at, surface_at};
-ghost use Rattle.scr_windows.specs.Calls.{IsPen, IsPenAt, place_of, with_window, marked};
+ghost use Rattle.scr_windows.specs.DeskViews.{IsDesk, IsState, IsThere, window_at, surface_at};
+ghost use Rattle.scr_windows.specs.Code.Pens.{IsPen, IsPenAt};
+ghost use Rattle.scr_windows.specs.Changes.{index_of, with_window, marked};
 
 use crate::faults::{Win, WinFault};
-use crate::frames::{Pen, State};
+use crate::frames::{Pen, WindowState};
 use crate::sheets::Sheet;
-use crate::windows::{Window, place_of_number};
+use crate::windows::{Window, index_of_number};
 use std::marker::Model;
 
 /// The windows of a screen and the surfaces that they are on (X/Open Curses Issue 7, 'Screens, Windows
@@ -39,79 +40,79 @@ impl Model for Desk {
     ghost invariant = { λ a. IsDesk (record { rows = a.rows; columns = a.columns; surfaces = a.surfaces.items; windows = a.windows.items; made = a.made }) };
 }
 
-// What the calls are made of. A place is one among the windows.
+// What the calls are made of. An index is one among the desk's windows.
 impl Desk {
     // Where a window stands among the windows.
-    pub(crate) fn place(&self, win: Win) -> Result<usize, WinFault>
-        ensures place { result ≡ place_of self.now win.0 }
-        ensures placed { IfOk result (λ i. Placed self.now i) }
+    pub(crate) fn index_of(&self, win: Win) -> Result<usize, WinFault>
+        ensures index { result ≡ index_of self.now win.0 }
+        ensures placed { IfOk result (λ i. IsThere self.now i) }
     {
-        match place_of_number(&self.windows, win.0) {
-            Some(place) => Ok(place),
+        match index_of_number(&self.windows, win.0) {
+            Some(index) => Ok(index),
             None => Err(WinFault::NoWindow),
         }
     }
 
     // Where a window stands, its area and what the calls set in it.
     pub(crate) fn pen(&self, win: Win) -> Result<Pen, WinFault>
-        ensures { MatchResult result (IsPen self.now win.0) (λ fault. place_of self.now win.0 ≡ Err fault) }
+        ensures { MatchResult result (IsPen self.now win.0) (λ fault. index_of self.now win.0 ≡ Err fault) }
     {
-        let place = self.place(win)?;
-        let window = self.window_at(place);
+        let index = self.index_of(win)?;
+        let window = self.window_at(index);
         Ok(Pen {
-            place,
+            index,
             area: window.frame().area,
             state: window.state(),
         })
     }
 
-    // The same, of the window at a place.
-    pub(crate) fn pen_at(&self, place: usize) -> Pen
-        requires { place < length self.now.windows }
-        ensures place { result.place ≡ place }
+    // The same, of the window at an index.
+    pub(crate) fn pen_at(&self, index: usize) -> Pen
+        requires { index < length self.now.windows }
+        ensures index { result.index ≡ index }
         ensures pen { IsPenAt self.now result }
     {
-        let window = self.window_at(place);
+        let window = self.window_at(index);
         Pen {
-            place,
+            index,
             area: window.frame().area,
             state: window.state(),
         }
     }
 
-    // The window at a place.
-    pub(crate) fn window_at(&self, place: usize) -> &Window
-        requires { place < length self.now.windows }
-        ensures window { result.now ≡ window_at self.now place }
-        ensures placed { Placed self.now place }
+    // The window at an index.
+    pub(crate) fn window_at(&self, index: usize) -> &Window
+        requires { index < length self.now.windows }
+        ensures window { result.now ≡ window_at self.now index }
+        ensures placed { IsThere self.now index }
     {
-        &self.windows[place]
+        &self.windows[index]
     }
 
-    // Sets what the calls set in the window at a place.
-    pub(crate) fn set_state(&mut self, place: usize, state: State)
-        requires here { place < length self.old.windows }
-        requires state { IsState (window_at self.old place).frame state }
-        ensures { self.new ≡ with_window self.old place (record (window_at self.old place) { state = state }) }
+    // Sets what the calls set in the window at an index.
+    pub(crate) fn set_state(&mut self, index: usize, state: WindowState)
+        requires here { index < length self.old.windows }
+        requires state { IsState (window_at self.old index).frame state }
+        ensures { self.new ≡ with_window self.old index (record (window_at self.old index) { state = state }) }
     {
-        self.windows[place].set_state(state);
+        self.windows[index].set_state(state);
     }
 
-    // Puts the cursor of the window at a place to a row and a column inside.
-    pub(crate) fn set_cursor(&mut self, place: usize, row: u32, column: u32)
-        requires here { place < length self.old.windows }
-        requires row { row < (window_at self.old place).frame.area.rows }
-        requires column { column < (window_at self.old place).frame.area.columns }
-        ensures { self.new ≡ with_window self.old place (record (window_at self.old place) { state = record (window_at self.old place).state { cursor = (row, column) } }) }
+    // Puts the cursor of the window at an index to a row and a column inside.
+    pub(crate) fn set_cursor(&mut self, index: usize, row: u32, column: u32)
+        requires here { index < length self.old.windows }
+        requires row { row < (window_at self.old index).frame.area.rows }
+        requires column { column < (window_at self.old index).frame.area.columns }
+        ensures { self.new ≡ with_window self.old index (record (window_at self.old index) { state = record (window_at self.old index).state { cursor = (row, column) } }) }
     {
-        self.windows[place].set_cursor(row, column);
+        self.windows[index].set_cursor(row, column);
     }
 
-    // Marks lines of the window at a place.
-    pub(crate) fn mark(&mut self, place: usize, first: u32, end: u32, mark: bool)
-        requires here { place < length self.old.windows }
-        ensures { self.new ≡ with_window self.old place (marked first end mark (window_at self.old place)) }
+    // Marks lines of the window at an index.
+    pub(crate) fn mark(&mut self, index: usize, first: u32, end: u32, mark: bool)
+        requires here { index < length self.old.windows }
+        ensures { self.new ≡ with_window self.old index (marked first end mark (window_at self.old index)) }
     {
-        self.windows[place].mark(first, end, mark);
+        self.windows[index].mark(first, end, mark);
     }
 }

@@ -1,11 +1,12 @@
-//! Drawing in the window at a place among the desk's, which touches the lines that are written.
+//! Drawing in the window at an index among the desk's, which touches the lines that are written.
 //!
 //! What each drawing does is a matter of `scr_surfaces`.
 ghost use Rattle.std.specs.Prelude.{◌≡◌, ◌+◌, ◌<◌, ◌≤◌, length};
 ghost use Rattle.scr_surfaces.specs.Drawings.{IsFitting, drawn};
 ghost use Rattle.scr_surfaces.specs.Formulas.{run_put};
 ghost use Rattle.scr_windows.specs.DeskViews.{window_at};
-ghost use Rattle.scr_windows.specs.Calls.{IsKept, lines_drawn, write};
+ghost use Rattle.scr_windows.specs.Code.Pens.{IsKept, lines_drawn};
+ghost use Rattle.scr_windows.specs.Changes.{write};
 
 use crate::desks::Desk;
 use crate::sheets::index_of_sheet;
@@ -13,14 +14,14 @@ use scr_cells::Cell;
 use scr_surfaces::{Drawing, surface_laws};
 
 impl Desk {
-    // Draws in the window at a place, and touches the lines that are written.
-    pub(crate) fn draw(&mut self, place: usize, drawing: &Drawing)
-        requires here { place < length self.old.windows }
-        requires fits { IsFitting drawing.now (window_at self.old place).frame.area.rows (window_at self.old place).frame.area.columns }
-        ensures drawn { self.new ≡ write self.old place (lines_drawn drawing.now (window_at self.old place).frame.area.rows).0 (lines_drawn drawing.now (window_at self.old place).frame.area.rows).1 (drawn drawing.now (window_at self.old place).frame.area.rows (window_at self.old place).frame.area.columns) }
-        ensures kept { IsKept self.old self.new place }
+    // Draws in the window at an index, and touches the lines that are written.
+    pub(crate) fn draw(&mut self, index: usize, drawing: &Drawing)
+        requires here { index < length self.old.windows }
+        requires fits { IsFitting drawing.now (window_at self.old index).frame.area.rows (window_at self.old index).frame.area.columns }
+        ensures drawn { self.new ≡ write self.old index (lines_drawn drawing.now (window_at self.old index).frame.area.rows).0 (lines_drawn drawing.now (window_at self.old index).frame.area.rows).1 (drawn drawing.now (window_at self.old index).frame.area.rows (window_at self.old index).frame.area.columns) }
+        ensures kept { IsKept self.old self.new index }
     {
-        let window = &mut self.windows[place];
+        let window = &mut self.windows[index];
         let frame = window.frame();
         let (first, end) = lines_of(drawing, frame.area.rows);
         window.mark(first, end, true);
@@ -29,15 +30,15 @@ impl Desk {
         self.surfaces[sheet].surface.draw(frame.area, drawing);
     }
 
-    // Puts a cell in one place of the window at a place, and touches the line.
-    pub(crate) fn put(&mut self, place: usize, row: u32, column: u32, cell: Cell)
-        requires here { place < length self.old.windows }
-        requires row { row < (window_at self.old place).frame.area.rows }
-        requires column { column < (window_at self.old place).frame.area.columns }
-        ensures put { self.new ≡ write self.old place row (row + 1) (run_put row column (column + 1) cell) }
-        ensures kept { IsKept self.old self.new place }
+    // Puts a cell in one place of the window at an index, and touches the line.
+    pub(crate) fn put(&mut self, index: usize, row: u32, column: u32, cell: Cell)
+        requires here { index < length self.old.windows }
+        requires row { row < (window_at self.old index).frame.area.rows }
+        requires column { column < (window_at self.old index).frame.area.columns }
+        ensures put { self.new ≡ write self.old index row (row + 1) (run_put row column (column + 1) cell) }
+        ensures kept { IsKept self.old self.new index }
     {
-        let window = &mut self.windows[place];
+        let window = &mut self.windows[index];
         let frame = window.frame();
         window.touch_line(row);
         let sheet = index_of_sheet(&self.surfaces, frame.surface);

@@ -19,7 +19,7 @@ pub struct Frame {
 
 /// What the calls set in a window.
 #[derive(Clone, Copy)]
-pub struct State {
+pub struct WindowState {
     /// The row and the column of the cursor.
     pub cursor: (u32, u32),
     /// The attributes that bytes are added with.
@@ -39,10 +39,10 @@ pub struct State {
 /// What a call that draws begins from.
 #[derive(Clone, Copy)]
 pub struct Pen {
-    /// The place of the window among the desk's.
-    pub place: usize,
+    /// The index of the window among the desk's.
+    pub index: usize,
     /// Its part of its surface.
     pub area: Area,
     /// What the calls set in it.
-    pub state: State,
+    pub state: WindowState,
 }

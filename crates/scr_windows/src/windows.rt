@@ -3,10 +3,10 @@ ghost use Rattle.std.specs.Prelude.{◌≡◌, ◌+◌, ◌<◌, ◌==◌, true,
 ghost use Rattle.std.specs.List.{list_any, position};
 ghost use Rattle.scr_windows.specs.DeskViews.{WindowView, AreAscending, fresh_window};
 ghost use Rattle.scr_windows.specs.declared.faults.WinFault.TheVariants.{NoMemory};
-ghost use Rattle.scr_windows.specs.Calls.{marked, marked_lines};
+ghost use Rattle.scr_windows.specs.Changes.{marked, marked_lines};
 
 use crate::faults::WinFault;
-use crate::frames::{Frame, State};
+use crate::frames::{Frame, WindowState};
 use scr_cells::{Attrs, Cell};
 use std::alloc::Global;
 use std::marker::Model;
@@ -15,7 +15,7 @@ use std::marker::Model;
 #[derive(Drop)]
 pub struct Window {
     frame: Frame,
-    state: State,
+    state: WindowState,
     touched: Vec<bool>,
 }
 
@@ -41,7 +41,7 @@ impl Window {
         let rows = frame.area.rows;
         let mut touched = Vec::with_capacity(alloc, rows as usize)?;
         touched.resize(rows as usize, true)?;
-        let state = State {
+        let state = WindowState {
             cursor: (0, 0),
             attrs,
             background,
@@ -65,7 +65,7 @@ impl Window {
     }
 
     /// What the calls set.
-    pub fn state(&self) -> State
+    pub fn state(&self) -> WindowState
         ensures { result ≡ self.now.state }
     {
         self.state
@@ -79,7 +79,7 @@ impl Window {
     }
 
     /// Sets what the calls set.
-    pub fn set_state(&mut self, state: State)
+    pub fn set_state(&mut self, state: WindowState)
         ensures { self.new ≡ record self.old { state = state } }
     {
         self.state = state;
@@ -123,13 +123,13 @@ impl Window {
 }
 
 /// Where the window of a number stands among windows by ascending numbers.
-pub fn place_of_number(windows: &[Window], number: u32) -> Option<usize>
+pub fn index_of_number(windows: &[Window], number: u32) -> Option<usize>
     requires { AreAscending windows.now }
     ensures { result ≡ position (λ (w : WindowView). w.frame.number == number) windows.now }
 {
-    let place = windows.partition_point(|window| window.frame().number < number);
-    if place < windows.len() && windows[place].frame().number == number {
-        Some(place)
+    let index = windows.partition_point(|window| window.frame().number < number);
+    if index < windows.len() && windows[index].frame().number == number {
+        Some(index)
     } else {
         None
     }

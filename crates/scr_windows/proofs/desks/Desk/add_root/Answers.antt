@@ -2,7 +2,7 @@ use Rattle.std.proofs.Common.{◌≡◌, ◌+◌, ◌<◌, ◌∷◌, ◌∙◌,
 use Rattle.std.proofs.lemmas.Slice.{pushed}
 use Rattle.scr_cells.specs.CellViews.{blank_cell}
 use Rattle.scr_windows.specs.DeskViews.{fresh_window, no_attributes}
-use Rattle.scr_windows.specs.Making.{root_frame}
+use Rattle.scr_windows.specs.Calls.Making.{root_frame}
 use Rattle.scr_windows.proofs.ChildLaws.{root_added}
 use Rattle.scr_windows.proofs.desks.Desk.add_root.Goals as goal
 

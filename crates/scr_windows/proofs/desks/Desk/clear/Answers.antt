@@ -1,6 +1,6 @@
 use Rattle.std.proofs.Common.{true}
 use Rattle.scr_surfaces.specs.Formulas.{rows_put}
-use Rattle.scr_windows.specs.Erasing.{clear_call}
+use Rattle.scr_windows.specs.Calls.Erasing.{clear_call}
 use Rattle.scr_windows.proofs.WrittenLaws.{rewritten}
 use Rattle.scr_windows.proofs.desks.Desk.clear.Goals as goal
 

@@ -1,6 +1,6 @@
 use Rattle.std.proofs.Common.{◌≡◌, ◌∙◌, ◌+◌, ◌-◌, min, max, true, ap, arith, sym, ◌≤◌}
 use Rattle.scr_windows.specs.DeskViews.{window_at}
-use Rattle.scr_windows.specs.Calls.{marked, with_window}
+use Rattle.scr_windows.specs.Changes.{marked, with_window}
 use Rattle.scr_windows.proofs.SyncLaws.{share_begun, share_more, share_not, share_all}
 use Rattle.scr_windows.proofs.desks.Desk.touch_shared.Goals.{then-is_row_touched, else-is_row_touched}
 use Rattle.scr_windows.proofs.desks.Desk.touch_shared.Goals as goal

@@ -1,7 +1,7 @@
 use Rattle.std.proofs.Common.{◌≡◌, ◌&&◌, ltb}
 use Rattle.scr_windows.specs.DeskViews.{window_at}
-use Rattle.scr_windows.specs.Calls.{with_window}
-use Rattle.scr_windows.specs.Syncing.{touched_at, with_touched}
+use Rattle.scr_windows.specs.Changes.{with_window}
+use Rattle.scr_windows.specs.Calls.Syncing.{touched_at, with_touched}
 use Rattle.scr_windows.proofs.desks.Desk.touch_shared.Given as goal
 
 -- the lines in the surface's rows before one are touched

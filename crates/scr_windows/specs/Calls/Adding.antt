@@ -1,0 +1,132 @@
+-- What the calls that add bytes do. X/Open Curses Issue 7, addch(), addnstr(), insch(), hline(), vline().
+use Rattle.std.specs.Prelude.{ℕ, List, [], ◌∷◌, Result, Ok, Err, ◌+◌, ◌-◌, ◌*◌, ◌/◌, ◌==◌, ◌||◌, ltb, leb, min, bit_or, bit_xor, if◌then◌else◌}
+use Rattle.std.specs.List.{list_any}
+use Rattle.scr_cells.specs.CellViews.{CellView, is_character}
+use Rattle.scr_cells.specs.declared.attributes.Attrs.{Attrs}
+use Rattle.scr_windows.specs.declared.faults.WinFault.{WinFault}
+use Rattle.scr_windows.specs.declared.faults.WinFault.TheVariants.{NotAscii}
+use Rattle.scr_windows.specs.declared.faults.Added.{Added}
+use Rattle.scr_windows.specs.declared.faults.Added.TheVariants.{Done, Stayed}
+use Rattle.scr_windows.specs.declared.frames.WindowState.{WindowState}
+use Rattle.scr_windows.specs.DeskViews.{WindowView, DeskView, window_at, no_attributes}
+use Rattle.scr_surfaces.specs.Formulas.{column_put, run_put, row_opened, rows_up}
+use Rattle.scr_windows.specs.Changes.{index_of, on_window, write}
+use Rattle.scr_windows.specs.Calls.Erasing.{erased_up_to}
+use Rattle.scr_windows.specs.Calls.Settings.{with_state, cursor_at}
+
+-- the written form of a byte: the background's byte in place of a blank, and its own attributes, the window's and the
+-- background's
+abbrev pub written : ℕ → Attrs → WindowState → CellView
+written byte attrs state =
+    record {
+      byte = if byte == 32 then state.background.byte else byte;
+      attrs = bit_or (bit_or attrs.0 state.attrs.0) state.background.attrs;
+    }
+
+-- the cursor goes to a place
+abbrev pub gone_to : DeskView → ℕ → ℕ × ℕ → DeskView × Added
+gone_to desk i cursor = (with_state desk i (cursor_at cursor (window_at desk i).state), Done)
+
+-- the cursor goes to the first column of the line that follows, if one follows: from the region's last row the same row,
+-- after the region scrolled up by one, where the window may scroll, and else none; from the window's last row none; else
+-- the row below
+unfoldable pub line_begun : DeskView → ℕ → DeskView × Added
+line_begun desk i =
+    let w : WindowView = window_at desk i in
+    let y : ℕ = w.state.cursor.0 in
+    if y == w.state.region.1 then
+    (if w.state.scroll_ok then gone_to (write desk i w.state.region.0 (w.state.region.1 + 1) (rows_up w.state.region.0 (w.state.region.1 + 1) 1 w.state.background)) i (y, 0)
+    else (desk, Stayed))
+    else if y + 1 == w.frame.area.rows then (desk, Stayed)
+    else gone_to desk i (y + 1, 0)
+
+-- a byte 32 to 126: it is written at the cursor, which goes right; after the last column the next line is begun
+unfoldable pub character_added : DeskView → ℕ → ℕ → Attrs → DeskView × Added
+character_added desk i byte attrs =
+    let w : WindowView = window_at desk i in
+    let y : ℕ = w.state.cursor.0 in
+    let x : ℕ = w.state.cursor.1 in
+    let put : DeskView = write desk i y (y + 1) (run_put y x (x + 1) (written byte attrs w.state)) in
+    if ltb (x + 1) w.frame.area.columns then gone_to put i (y, x + 1) else line_begun put i
+
+-- newline: the rest of the line gets the background, and the next line is begun
+unfoldable pub newline_added : DeskView → ℕ → DeskView × Added
+newline_added desk i =
+    line_begun (erased_up_to desk i (window_at desk i).frame.area.columns) i
+
+-- tab: the places up to the next column that is a multiple of 8 get the background, and the cursor goes there; a newline
+-- where the line has no such column
+unfoldable pub tab_added : DeskView → ℕ → DeskView × Added
+tab_added desk i =
+    let w : WindowView = window_at desk i in
+    let stop : ℕ = (w.state.cursor.1 / 8 + 1) * 8 in
+    if ltb stop w.frame.area.columns then gone_to (erased_up_to desk i stop) i (w.state.cursor.0, stop) else newline_added desk i
+
+-- Stayed where either is
+abbrev pub either_stayed : Added → Added → Added
+either_stayed Done b = b
+either_stayed Stayed b = Stayed
+
+-- a byte that is no character is shown as ^ and another
+abbrev pub shown_added : DeskView → ℕ → ℕ → Attrs → DeskView × Added
+shown_added desk i byte attrs =
+    let first : DeskView × Added = character_added desk i 94 attrs in
+    let second : DeskView × Added = character_added first.0 i (bit_xor byte 64) attrs in
+    (second.0, either_stayed first.1 second.1)
+
+-- the seven cases of a byte: newline, tab, backspace, carriage return, another control character, and a character
+unfoldable pub byte_added : DeskView → ℕ → ℕ → Attrs → DeskView × Added
+byte_added desk i byte attrs =
+    let s : WindowState = (window_at desk i).state in
+    if byte == 10 then newline_added desk i
+    else if byte == 9 then tab_added desk i
+    else if byte == 8 then gone_to desk i (s.cursor.0, s.cursor.1 - 1)
+    else if byte == 13 then gone_to desk i (s.cursor.0, 0)
+    else if ltb byte 32 || byte == 127 then shown_added desk i byte attrs
+    else character_added desk i byte attrs
+
+-- addch()
+unfoldable pub add_byte_call : DeskView → ℕ → ℕ → Attrs → DeskView × Result Added WinFault
+add_byte_call desk win byte attrs = on_window desk (index_of desk win) (λ i.
+    if leb 128 byte then (desk, Err NotAscii) else ((byte_added desk i byte attrs).0, Ok (byte_added desk i byte attrs).1))
+
+-- a text is added byte after byte, and Stayed is answered if any byte's answer was
+abbrev pub text_added : DeskView → ℕ → List ℕ → DeskView × Added
+text_added desk i [] = (desk, Done)
+text_added desk i (byte ∷ bytes) =
+    let first : DeskView × Added = byte_added desk i byte no_attributes in
+    let rest : DeskView × Added = text_added first.0 i bytes in
+    (rest.0, either_stayed first.1 rest.1)
+
+-- addnstr()
+unfoldable pub add_text_call : DeskView → ℕ → List ℕ → DeskView × Result Added WinFault
+add_text_call desk win bytes = on_window desk (index_of desk win) (λ i.
+    if list_any (λ byte. leb 128 byte) bytes then (desk, Err NotAscii) else ((text_added desk i bytes).0, Ok (text_added desk i bytes).1))
+
+-- insch()
+unfoldable pub insert_byte_call : DeskView → ℕ → ℕ → Attrs → DeskView × Result (Unit {0}) WinFault
+insert_byte_call desk win byte attrs = on_window desk (index_of desk win) (λ i.
+    let s : WindowState = (window_at desk i).state in
+    if is_character byte then (write desk i s.cursor.0 (s.cursor.0 + 1) (row_opened s.cursor.0 s.cursor.1 (written byte attrs s)), Ok tt)
+    else (desk, Err NotAscii))
+
+-- hline(): places from the cursor on, at most to the edge
+unfoldable pub line_across_call : DeskView → ℕ → ℕ → ℕ → DeskView × Result (Unit {0}) WinFault
+line_across_call desk win byte n = on_window desk (index_of desk win) (λ i.
+    let w : WindowView = window_at desk i in
+    let y : ℕ = w.state.cursor.0 in
+    let x : ℕ = w.state.cursor.1 in
+    if is_character byte then
+    ((if n == 0 then desk else write desk i y (y + 1) (run_put y x (min (x + n) w.frame.area.columns) (written byte no_attributes w.state))), Ok tt)
+    else (desk, Err NotAscii))
+
+-- vline(): places from the cursor down, at most to the edge
+unfoldable pub line_down_call : DeskView → ℕ → ℕ → ℕ → DeskView × Result (Unit {0}) WinFault
+line_down_call desk win byte n = on_window desk (index_of desk win) (λ i.
+    let w : WindowView = window_at desk i in
+    let y : ℕ = w.state.cursor.0 in
+    let x : ℕ = w.state.cursor.1 in
+    let end : ℕ = min (y + n) w.frame.area.rows in
+    if is_character byte then
+    ((if n == 0 then desk else write desk i y end (column_put x y end (written byte no_attributes w.state))), Ok tt)
+    else (desk, Err NotAscii))

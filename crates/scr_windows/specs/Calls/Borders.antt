@@ -1,0 +1,38 @@
+-- What the call that draws a border does. X/Open Curses Issue 7, border().
+use Rattle.std.specs.Prelude.{ℕ, List, Result, Ok, Err, slice_index_or, if◌then◌else◌}
+use Rattle.std.specs.List.{list_all}
+use Rattle.scr_cells.specs.CellViews.{CellView, is_character}
+use Rattle.scr_surfaces.specs.declared.borders.Border.{Border}
+use Rattle.scr_surfaces.specs.Formulas.{bordered}
+use Rattle.scr_windows.specs.declared.faults.WinFault.{WinFault}
+use Rattle.scr_windows.specs.declared.faults.WinFault.TheVariants.{NotAscii}
+use Rattle.scr_windows.specs.declared.frames.WindowState.{WindowState}
+use Rattle.scr_windows.specs.DeskViews.{WindowView, DeskView, window_at, no_attributes}
+use Rattle.scr_windows.specs.Changes.{index_of, on_window, write}
+use Rattle.scr_windows.specs.Calls.Adding.{written}
+
+-- the written form, without attributes of its own, of a byte among those of a border
+abbrev pub edge_cell : List ℕ → WindowState → ℕ → CellView
+edge_cell bytes state k = written (slice_index_or bytes k 0) no_attributes state
+
+-- the bytes are those of the left, right, top and bottom edge, and of the top left, top right, bottom left and bottom right
+-- corner
+abbrev pub border_of : List ℕ → WindowState → Border
+border_of bytes state =
+    record {
+      left = edge_cell bytes state 0;
+      right = edge_cell bytes state 1;
+      top = edge_cell bytes state 2;
+      bottom = edge_cell bytes state 3;
+      top_left = edge_cell bytes state 4;
+      top_right = edge_cell bytes state 5;
+      bottom_left = edge_cell bytes state 6;
+      bottom_right = edge_cell bytes state 7;
+    }
+
+-- border(): all lines are touched, since each has a place of the left and the right edge
+unfoldable pub border_call : DeskView → ℕ → List ℕ → DeskView × Result (Unit {0}) WinFault
+border_call desk win bytes = on_window desk (index_of desk win) (λ i.
+    let w : WindowView = window_at desk i in
+    if list_all is_character bytes then (write desk i 0 w.frame.area.rows (bordered w.frame.area.rows w.frame.area.columns (border_of bytes w.state)), Ok tt)
+    else (desk, Err NotAscii))

@@ -1,0 +1,67 @@
+-- What the calls that read answer. X/Open Curses Issue 7, the pages named.
+use Rattle.std.specs.Prelude.{ℕ, Bool, false, Option, None, Some, Result, Ok, Err, List, map, length, ltb, ◌&&◌, slice_index_or, if◌then◌else◌}
+use Rattle.std.specs.List.{range_with_len, list_any}
+use Rattle.scr_cells.specs.CellViews.{CellView}
+use Rattle.scr_windows.specs.declared.faults.WinFault.{WinFault}
+use Rattle.scr_windows.specs.declared.faults.WinFault.TheVariants.{OutOfWindow, IsPad}
+use Rattle.scr_surfaces.specs.SurfaceViews.{inside_at}
+use Rattle.scr_windows.specs.DeskViews.{DeskView, window_at, surface_at}
+use Rattle.scr_windows.specs.Lending.{LentView, lines_in}
+use Rattle.scr_windows.specs.Changes.{index_of}
+use Rattle.scr_windows.specs.declared.faults.Win.{Win}
+
+-- the cell in a row and a column of a window
+abbrev pub at : DeskView → ℕ → ℕ → ℕ → CellView
+at desk i r c = inside_at (surface_at desk (window_at desk i).frame.surface) (window_at desk i).frame.area r c
+
+-- the cells of a row of a window
+abbrev pub row_at : DeskView → ℕ → ℕ → List CellView
+row_at desk i r = map (at desk i r) (range_with_len 0 (window_at desk i).frame.area.columns)
+
+-- what is lent of a window: the window and its lines
+abbrev pub contents : DeskView → ℕ → LentView
+contents desk i = record { window = window_at desk i; lines = lines_in (surface_at desk (window_at desk i).frame.surface) (window_at desk i).frame.area }
+
+-- the window at an index among those that there are
+unfoldable pub nth_answer : DeskView → ℕ → Option Win
+nth_answer desk i = if ltb i (length desk.windows) then Some (record { 0 = (window_at desk i).frame.number }) else None
+
+-- an answer about a window, which refuses a window that is not there
+abbrev pub about_window : {A : Type 0} → Result ℕ WinFault → (ℕ → Result A WinFault) → Result A WinFault
+about_window (Err fault) f = Err fault
+about_window (Ok i) f = f i
+
+-- inch() at a place
+unfoldable pub cell_at_answer : DeskView → ℕ → ℕ → ℕ → Result CellView WinFault
+cell_at_answer desk win row column = about_window (index_of desk win) (λ i.
+    if ltb row (window_at desk i).frame.area.rows && ltb column (window_at desk i).frame.area.columns then Ok (at desk i row column) else Err OutOfWindow)
+
+-- getyx(), getmaxyx(), getbegyx()
+unfoldable pub cursor_answer : DeskView → ℕ → Result (ℕ × ℕ) WinFault
+cursor_answer desk win = about_window (index_of desk win) (λ i. Ok (window_at desk i).state.cursor)
+
+unfoldable pub size_answer : DeskView → ℕ → Result (ℕ × ℕ) WinFault
+size_answer desk win = about_window (index_of desk win) (λ i. Ok ((window_at desk i).frame.area.rows, (window_at desk i).frame.area.columns))
+
+abbrev pub place_on_screen : Option (ℕ × ℕ) → Result (ℕ × ℕ) WinFault
+place_on_screen None = Err IsPad
+place_on_screen (Some place) = Ok place
+
+unfoldable pub origin_answer : DeskView → ℕ → Result (ℕ × ℕ) WinFault
+origin_answer desk win = about_window (index_of desk win) (λ i. place_on_screen (window_at desk i).frame.origin)
+
+-- is_linetouched(), is_wintouched()
+unfoldable pub line_touched_answer : DeskView → ℕ → ℕ → Result Bool WinFault
+line_touched_answer desk win row = about_window (index_of desk win) (λ i.
+    if ltb row (window_at desk i).frame.area.rows then Ok (slice_index_or (window_at desk i).touched row false) else Err OutOfWindow)
+
+unfoldable pub window_touched_answer : DeskView → ℕ → Result Bool WinFault
+window_touched_answer desk win = about_window (index_of desk win) (λ i. Ok (list_any (λ mark. mark) (window_at desk i).touched))
+
+-- a window that is lent
+unfoldable pub window_answer : DeskView → ℕ → Result LentView WinFault
+window_answer desk win = about_window (index_of desk win) (λ i. Ok (contents desk i))
+
+-- a row that is lent
+unfoldable pub row_answer : DeskView → ℕ → ℕ → Result (List CellView) WinFault
+row_answer desk win row = about_window (index_of desk win) (λ i. if ltb row (window_at desk i).frame.area.rows then Ok (row_at desk i row) else Err OutOfWindow)

@@ -1,0 +1,4 @@
+-- Words of private functions.
+pub mod Families
+pub mod NewFrames
+pub mod Pens

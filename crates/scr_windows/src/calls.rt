@@ -1,0 +1,15 @@
+//! The calls of the desk, by kinds. Each call's definition is in the file of the same name in `specs/Calls/`.
+
+mod adding;
+mod borders;
+mod copying;
+mod erasing;
+mod making;
+mod moving;
+mod reading;
+mod removing;
+mod scrolling;
+mod settings;
+mod subwindows;
+mod syncing;
+mod touching;

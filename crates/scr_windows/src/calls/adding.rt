@@ -1,0 +1,301 @@
+//! Calls that add bytes: a byte, a text, an inserted byte, and lines of one byte.
+//!
+//! The definitions are in `specs/Calls/Adding.antt`; what is drawn of them is a matter of `scr_surfaces`.
+ghost use Rattle.std.specs.Prelude.{◌≡◌, ◌+◌, ◌<◌, ◌≤◌, ◌⊎◌, length, leb, false};
+ghost use Rattle.std.specs.List.{list_any};
+ghost use Rattle.scr_windows.specs.DeskViews.{window_at, no_attributes};
+ghost use Rattle.scr_windows.specs.Calls.Adding.{written, gone_to, line_begun, character_added, newline_added, tab_added, either_stayed, shown_added, byte_added, text_added, add_byte_call, add_text_call, insert_byte_call, line_across_call, line_down_call};
+
+use crate::desks::Desk;
+use crate::faults::{Added, Win, WinFault};
+use crate::frames::WindowState;
+use bitflags::Flags;
+use scr_cells::{Attrs, Cell, is_character};
+use scr_surfaces::Drawing;
+
+impl Desk {
+    /// Adds a byte at the cursor, with attributes beside those of the window and of its background.
+    ///
+    /// A byte 32 to 126 is written and the cursor goes right, from the last column to the first of the
+    /// line that follows. Byte 10 erases to the end of the line and begins the line that follows, 9
+    /// erases to the next column that is a multiple of 8, 8 goes left, 13 goes to the first column, and
+    /// another byte is shown as `^` and a character. `Stayed` says that no line followed where one was to
+    /// be begun, and the cursor stayed.
+    ///
+    /// Refused: NoWindow; NotAscii for a byte from 128 on. X/Open Curses Issue 7, addch().
+    #[tactic(auto, unfolding(crate::specs::Calls::Adding::add_byte_call))]
+    pub fn add_byte(&mut self, win: Win, byte: u8, attrs: Attrs) -> Result<Added, WinFault>
+        ensures { (self.new, result) ≡ add_byte_call self.old win.0 byte attrs }
+    {
+        let index = self.index_of(win)?;
+        if byte >= 128 {
+            return Err(WinFault::NotAscii);
+        }
+        Ok(self.add_at(index, byte, attrs))
+    }
+
+    /// Adds the bytes of a text one after another, as `add_byte` without attributes; `Stayed` where any
+    /// of them answered so.
+    ///
+    /// Refused: NoWindow; NotAscii where any byte is 128 or more. X/Open Curses Issue 7, addnstr().
+    #[tactic(auto, unfolding(crate::specs::Calls::Adding::add_text_call))]
+    pub fn add_text(&mut self, win: Win, text: &[u8]) -> Result<Added, WinFault>
+        ensures { (self.new, result) ≡ add_text_call self.old win.0 text.now }
+    {
+        let index = self.index_of(win)?;
+        if is_any_above(text) {
+            return Err(WinFault::NotAscii);
+        }
+        Ok(self.add_all(index, text))
+    }
+
+    /// Inserts a byte 32 to 126 at the cursor: the rest of the line moves right by one, and its last cell
+    /// is lost. The cursor stays.
+    ///
+    /// Refused: NoWindow; NotAscii for another byte. X/Open Curses Issue 7, insch().
+    #[tactic(auto, unfolding(crate::specs::Calls::Adding::insert_byte_call))]
+    pub fn insert_byte(&mut self, win: Win, byte: u8, attrs: Attrs) -> Result<(), WinFault>
+        ensures { (self.new, result) ≡ insert_byte_call self.old win.0 byte attrs }
+    {
+        let pen = self.pen(win)?;
+        if !is_character(byte) {
+            return Err(WinFault::NotAscii);
+        }
+        let (row, column) = pen.state.cursor;
+        self.draw(
+            pen.index,
+            &Drawing::Opened {
+                row,
+                column,
+                cell: written(byte, attrs, pen.state),
+            },
+        );
+        Ok(())
+    }
+
+    /// Writes a byte 32 to 126 in n places of the cursor's line from the cursor on, at most to the edge.
+    /// The cursor stays.
+    ///
+    /// Refused: NoWindow; NotAscii for another byte. X/Open Curses Issue 7, hline().
+    #[tactic(auto, unfolding(crate::specs::Calls::Adding::line_across_call))]
+    pub fn line_across(&mut self, win: Win, byte: u8, n: u32) -> Result<(), WinFault>
+        ensures { (self.new, result) ≡ line_across_call self.old win.0 byte n }
+    {
+        let pen = self.pen(win)?;
+        if !is_character(byte) {
+            return Err(WinFault::NotAscii);
+        }
+        let (row, column) = pen.state.cursor;
+        if n > 0 {
+            let end = column + n.min(pen.area.columns - column);
+            let cell = written(byte, Attrs(0), pen.state);
+            self.draw(
+                pen.index,
+                &Drawing::Run {
+                    row,
+                    from: column,
+                    end,
+                    cell,
+                },
+            );
+        }
+        Ok(())
+    }
+
+    /// Writes a byte 32 to 126 in n places of the cursor's column from the cursor down, at most to the
+    /// edge. The cursor stays.
+    ///
+    /// Refused: NoWindow; NotAscii for another byte. X/Open Curses Issue 7, vline().
+    #[tactic(auto, unfolding(crate::specs::Calls::Adding::line_down_call))]
+    pub fn line_down(&mut self, win: Win, byte: u8, n: u32) -> Result<(), WinFault>
+        ensures { (self.new, result) ≡ line_down_call self.old win.0 byte n }
+    {
+        let pen = self.pen(win)?;
+        if !is_character(byte) {
+            return Err(WinFault::NotAscii);
+        }
+        let (row, column) = pen.state.cursor;
+        if n > 0 {
+            let end = row + n.min(pen.area.rows - row);
+            let cell = written(byte, Attrs(0), pen.state);
+            self.draw(
+                pen.index,
+                &Drawing::Column {
+                    column,
+                    first: row,
+                    end,
+                    cell,
+                },
+            );
+        }
+        Ok(())
+    }
+
+    // Adds the bytes of a text to the window at an index.
+    fn add_all(&mut self, index: usize, text: &[u8]) -> Added
+        requires here { index < length self.old.windows }
+        requires ascii { list_any (λ byte. leb 128 byte) text.now ≡ false }
+        ensures { (self.new, result) ≡ text_added self.old index text.now }
+    {
+        let mut all = Added::Done;
+        for byte in text {
+            let one = self.add_at(index, *byte, Attrs(0));
+            all = either(all, one);
+        }
+        all
+    }
+
+    // Adds a byte below 128 to the window at an index.
+    #[tactic(auto, unfolding(crate::specs::Calls::Adding::byte_added))]
+    fn add_at(&mut self, index: usize, byte: u8, attrs: Attrs) -> Added
+        requires here { index < length self.old.windows }
+        requires ascii { byte < 128 }
+        ensures added { (self.new, result) ≡ byte_added self.old index byte attrs }
+        ensures there { index < length self.new.windows }
+    {
+        let pen = self.pen_at(index);
+        let (row, column) = pen.state.cursor;
+        match byte {
+            10 => self.add_newline(index),
+            9 => self.add_tab(index),
+            8 => self.go_to(index, row, column.saturating_sub(1)),
+            13 => self.go_to(index, row, 0),
+            0..32 | 127 => self.add_shown(index, byte, attrs),
+            _ => self.add_character(index, byte, attrs),
+        }
+    }
+
+    // Shows a control character as `^` and a character.
+    fn add_shown(&mut self, index: usize, byte: u8, attrs: Attrs) -> Added
+        requires here { index < length self.old.windows }
+        requires control { (byte < 32) ⊎ (byte ≡ 127) }
+        ensures added { (self.new, result) ≡ shown_added self.old index byte attrs }
+        ensures there { index < length self.new.windows }
+    {
+        let first = self.add_character(index, b'^', attrs);
+        let second = self.add_character(index, byte ^ 64, attrs);
+        either(first, second)
+    }
+
+    // Writes a byte 32 to 126 at the cursor.
+    #[tactic(auto, unfolding(crate::specs::Calls::Adding::character_added))]
+    fn add_character(&mut self, index: usize, byte: u8, attrs: Attrs) -> Added
+        requires here { index < length self.old.windows }
+        requires from { 32 ≤ byte }
+        requires to { byte ≤ 126 }
+        ensures added { (self.new, result) ≡ character_added self.old index byte attrs }
+        ensures there { index < length self.new.windows }
+    {
+        let pen = self.pen_at(index);
+        let (row, column) = pen.state.cursor;
+        let cell = written(byte, attrs, pen.state);
+        self.put(index, row, column, cell);
+        let end = column + 1;
+        if end < pen.area.columns {
+            self.go_to(index, row, end)
+        } else {
+            self.begin_line(index)
+        }
+    }
+
+    // Erases to the end of the cursor's line, and begins the next one.
+    #[tactic(auto, unfolding(crate::specs::Calls::Adding::newline_added))]
+    fn add_newline(&mut self, index: usize) -> Added
+        requires here { index < length self.old.windows }
+        ensures added { (self.new, result) ≡ newline_added self.old index }
+        ensures there { index < length self.new.windows }
+    {
+        let pen = self.pen_at(index);
+        self.erase_up_to(index, pen.area.columns);
+        self.begin_line(index)
+    }
+
+    // Erases to the next column that is a multiple of 8, and goes there; a newline where the line has none.
+    #[tactic(auto, unfolding(crate::specs::Calls::Adding::tab_added))]
+    fn add_tab(&mut self, index: usize) -> Added
+        requires here { index < length self.old.windows }
+        ensures added { (self.new, result) ≡ tab_added self.old index }
+        ensures there { index < length self.new.windows }
+    {
+        let pen = self.pen_at(index);
+        let (row, column) = pen.state.cursor;
+        let end = (column / 8 + 1) * 8;
+        if end >= pen.area.columns {
+            return self.add_newline(index);
+        }
+        self.erase_up_to(index, end);
+        self.go_to(index, row, end)
+    }
+
+    // Puts the cursor to a row and a column inside.
+    fn go_to(&mut self, index: usize, row: u32, column: u32) -> Added
+        requires here { index < length self.old.windows }
+        requires row { row < (window_at self.old index).frame.area.rows }
+        requires column { column < (window_at self.old index).frame.area.columns }
+        ensures added { (self.new, result) ≡ gone_to self.old index (row, column) }
+        ensures there { index < length self.new.windows }
+    {
+        self.set_cursor(index, row, column);
+        Added::Done
+    }
+
+    // Begins the line that follows, if one follows.
+    #[tactic(auto, unfolding(crate::specs::Calls::Adding::line_begun))]
+    fn begin_line(&mut self, index: usize) -> Added
+        requires here { index < length self.old.windows }
+        ensures added { (self.new, result) ≡ line_begun self.old index }
+        ensures there { index < length self.new.windows }
+    {
+        let pen = self.pen_at(index);
+        let row = pen.state.cursor.0;
+        let (top, bottom) = pen.state.region;
+        if row == bottom {
+            if !pen.state.scroll_ok {
+                return Added::Stayed;
+            }
+            self.draw(
+                index,
+                &Drawing::Up {
+                    first: top,
+                    end: bottom + 1,
+                    count: 1,
+                    cell: pen.state.background,
+                },
+            );
+            self.go_to(index, row, 0)
+        } else if row + 1 == pen.area.rows {
+            Added::Stayed
+        } else {
+            self.go_to(index, row + 1, 0)
+        }
+    }
+}
+
+// Stayed where either is.
+fn either(first: Added, second: Added) -> Added
+    ensures { result ≡ either_stayed first second }
+{
+    match first {
+        Added::Done => second,
+        Added::Stayed => Added::Stayed,
+    }
+}
+
+// Whether any byte is 128 or more.
+fn is_any_above(text: &[u8]) -> bool
+    ensures { result ≡ list_any (λ byte. leb 128 byte) text.now }
+{
+    text.iter().any(|byte| *byte >= 128)
+}
+
+// The written form of a byte 32 to 126.
+pub(crate) fn written(byte: u8, attrs: Attrs, state: WindowState) -> Cell
+    requires from { 32 ≤ byte }
+    requires to { byte ≤ 126 }
+    ensures { result ≡ written byte attrs state }
+{
+    let background = state.background;
+    let shown = if byte == 32 { background.byte() } else { byte };
+    let all = attrs.union(state.attrs).union(background.attrs());
+    Cell::new(shown, all).unwrap_or(Cell::blank())
+}

@@ -1,0 +1,109 @@
+//! Calls that erase. The definitions are in `specs/Calls/Erasing.antt`.
+ghost use Rattle.std.specs.Prelude.{◌≡◌, ◌<◌, ◌≤◌, length};
+ghost use Rattle.scr_windows.specs.DeskViews.{window_at};
+ghost use Rattle.scr_windows.specs.Code.Pens.{IsKept};
+ghost use Rattle.scr_windows.specs.Calls.Erasing.{erased_up_to, clear_to_eol_call, clear_to_bottom_call, erase_call, clear_call};
+
+use crate::desks::Desk;
+use crate::faults::{Win, WinFault};
+use scr_surfaces::Drawing;
+
+impl Desk {
+    /// Erases the places from the cursor to the end of its line.
+    ///
+    /// Refused: NoWindow. X/Open Curses Issue 7, clrtoeol().
+    #[tactic(auto, unfolding(crate::specs::Calls::Erasing::clear_to_eol_call))]
+    pub fn clear_to_eol(&mut self, win: Win) -> Result<(), WinFault>
+        ensures { (self.new, result) ≡ clear_to_eol_call self.old win.0 }
+    {
+        let pen = self.pen(win)?;
+        self.erase_up_to(pen.index, pen.area.columns);
+        Ok(())
+    }
+
+    /// Erases the places from the cursor to the end of its line, and all lines below.
+    ///
+    /// Refused: NoWindow. X/Open Curses Issue 7, clrtobot().
+    #[tactic(auto, unfolding(crate::specs::Calls::Erasing::clear_to_bottom_call))]
+    pub fn clear_to_bottom(&mut self, win: Win) -> Result<(), WinFault>
+        ensures { (self.new, result) ≡ clear_to_bottom_call self.old win.0 }
+    {
+        let pen = self.pen(win)?;
+        let (row, column) = pen.state.cursor;
+        self.draw(
+            pen.index,
+            &Drawing::Below {
+                row,
+                column,
+                cell: pen.state.background,
+            },
+        );
+        Ok(())
+    }
+
+    /// Erases all places, and puts the cursor to the first.
+    ///
+    /// Refused: NoWindow. X/Open Curses Issue 7, erase().
+    #[tactic(auto, unfolding(crate::specs::Calls::Erasing::erase_call))]
+    pub fn erase(&mut self, win: Win) -> Result<(), WinFault>
+        ensures { (self.new, result) ≡ erase_call self.old win.0 }
+    {
+        let pen = self.pen(win)?;
+        let mut state = pen.state;
+        self.draw(
+            pen.index,
+            &Drawing::Rows {
+                first: 0,
+                end: pen.area.rows,
+                cell: state.background,
+            },
+        );
+        state.cursor = (0, 0);
+        self.set_state(pen.index, state);
+        Ok(())
+    }
+
+    /// Erases all places, puts the cursor to the first, and wishes that the next update paints the whole screen.
+    ///
+    /// Refused: NoWindow. X/Open Curses Issue 7, clear().
+    #[tactic(auto, unfolding(crate::specs::Calls::Erasing::clear_call))]
+    pub fn clear(&mut self, win: Win) -> Result<(), WinFault>
+        ensures { (self.new, result) ≡ clear_call self.old win.0 }
+    {
+        let pen = self.pen(win)?;
+        let mut cleared = pen.state;
+        self.draw(
+            pen.index,
+            &Drawing::Rows {
+                first: 0,
+                end: pen.area.rows,
+                cell: cleared.background,
+            },
+        );
+        cleared.cursor = (0, 0);
+        cleared.clear_ok = true;
+        self.set_state(pen.index, cleared);
+        Ok(())
+    }
+
+    // Erases from the cursor of the window at an index up to a column of the cursor's line.
+    pub(crate) fn erase_up_to(&mut self, index: usize, end: u32)
+        requires here { index < length self.old.windows }
+        requires from { (window_at self.old index).state.cursor.1 ≤ end }
+        requires inside { end ≤ (window_at self.old index).frame.area.columns }
+        ensures erased { self.new ≡ erased_up_to self.old index end }
+        ensures kept { IsKept self.old self.new index }
+    {
+        let pen = self.pen_at(index);
+        let (row, column) = pen.state.cursor;
+        self.draw(
+            index,
+            &Drawing::Run {
+                row,
+                from: column,
+                end,
+                cell: pen.state.background,
+            },
+        );
+    }
+}

@@ -1,0 +1,168 @@
+//! Calls that read: sizes, cells, cursors, touched lines, and a window lent whole. The definitions are in `specs/Calls/Reading.antt`.
+ghost use Rattle.std.specs.Prelude.{ℕ, ◌≡◌, ◌<◌, ◌≤◌, length, IfOk, MatchResult};
+ghost use Rattle.scr_windows.specs.Changes.{index_of};
+ghost use Rattle.scr_windows.specs.DeskViews.{IsDesk, window_at};
+ghost use Rattle.scr_windows.specs.Calls.Reading.{cell_at_answer, cursor_answer, size_answer, origin_answer, line_touched_answer, window_touched_answer, row_answer, row_at, nth_answer, window_answer, contents};
+
+use crate::desks::Desk;
+use crate::faults::{Win, WinFault};
+use crate::lent::WindowRef;
+use crate::sheets::index_of_sheet;
+use scr_cells::{Cell, Size};
+
+impl Desk {
+    /// The size of the screen. X/Open Curses Issue 7, LINES and COLS.
+    pub fn screen(&self) -> Size
+        ensures rows { result.rows ≡ self.now.rows }
+        ensures columns { result.columns ≡ self.now.columns }
+        ensures desk { IsDesk self.now }
+    {
+        Size {
+            rows: self.rows,
+            columns: self.columns,
+        }
+    }
+
+    /// How many windows there are.
+    pub fn count(&self) -> usize
+        ensures count { result ≡ length self.now.windows }
+        ensures few { result ≤ 1000 }
+    {
+        self.windows.len()
+    }
+
+    /// The window at an index among those that there are, by ascending numbers from index 0 on; `None` behind the last.
+    #[tactic(auto, unfolding(crate::specs::Calls::Reading::nth_answer))]
+    pub fn nth(&self, index: usize) -> Option<Win>
+        ensures { result ≡ nth_answer self.now index }
+    {
+        if index < self.windows.len() {
+            Some(Win(self.windows[index].frame().number))
+        } else {
+            None
+        }
+    }
+
+    /// Lends a window for reading.
+    ///
+    /// Refused: NoWindow.
+    #[tactic(auto, unfolding(crate::specs::Calls::Reading::window_answer))]
+    pub fn window(&self, win: Win) -> Result<WindowRef<'_>, WinFault>
+        ensures { result ≡ window_answer self.now win.0 }
+    {
+        let index = self.index_of(win)?;
+        Ok(self.lent(index))
+    }
+
+    // Lends the window at an index.
+    fn lent(&self, index: usize) -> WindowRef<'_>
+        requires { index < length self.now.windows }
+        ensures { result ≡ contents self.now index }
+    {
+        let window = &self.windows[index];
+        let sheet = index_of_sheet(&self.surfaces, window.frame().surface);
+        WindowRef::new(window, &self.surfaces[sheet].surface)
+    }
+
+    /// The cell in a row and a column of a window.
+    ///
+    /// Refused: NoWindow; OutOfWindow for a place outside the window. X/Open Curses Issue 7, inch().
+    #[tactic(auto, unfolding(crate::specs::Calls::Reading::cell_at_answer))]
+    pub fn cell_at(&self, win: Win, row: u32, column: u32) -> Result<Cell, WinFault>
+        ensures { result ≡ cell_at_answer self.now win.0 row column }
+    {
+        let pen = self.pen(win)?;
+        if row >= pen.area.rows || column >= pen.area.columns {
+            return Err(WinFault::OutOfWindow);
+        }
+        let cells = self.row_of(pen.index, row);
+        Ok(cells[column as usize])
+    }
+
+    /// The row and the column of the cursor of a window.
+    ///
+    /// Refused: NoWindow. X/Open Curses Issue 7, getyx().
+    #[tactic(auto, unfolding(crate::specs::Calls::Reading::cursor_answer))]
+    pub fn cursor(&self, win: Win) -> Result<(u32, u32), WinFault>
+        ensures { result ≡ cursor_answer self.now win.0 }
+    {
+        Ok(self.pen(win)?.state.cursor)
+    }
+
+    /// How many rows and columns a window has.
+    ///
+    /// Refused: NoWindow. X/Open Curses Issue 7, getmaxyx().
+    #[tactic(auto, unfolding(crate::specs::Calls::Reading::size_answer))]
+    pub fn size(&self, win: Win) -> Result<(u32, u32), WinFault>
+        ensures { result ≡ size_answer self.now win.0 }
+    {
+        let pen = self.pen(win)?;
+        Ok((pen.area.rows, pen.area.columns))
+    }
+
+    /// The place on the screen of a window's first row and column.
+    ///
+    /// Refused: NoWindow; IsPad. X/Open Curses Issue 7, getbegyx().
+    #[tactic(auto, unfolding(crate::specs::Calls::Reading::origin_answer))]
+    pub fn origin(&self, win: Win) -> Result<(u32, u32), WinFault>
+        ensures { result ≡ origin_answer self.now win.0 }
+    {
+        let index = self.index_of(win)?;
+        match self.window_at(index).frame().origin {
+            Some(origin) => Ok(origin),
+            None => Err(WinFault::IsPad),
+        }
+    }
+
+    /// Whether a line of a window is touched.
+    ///
+    /// Refused: NoWindow; OutOfWindow where the window has no such row. X/Open Curses Issue 7, is_linetouched().
+    #[tactic(auto, unfolding(crate::specs::Calls::Reading::line_touched_answer))]
+    pub fn line_touched(&self, win: Win, row: u32) -> Result<bool, WinFault>
+        ensures { result ≡ line_touched_answer self.now win.0 row }
+    {
+        let pen = self.pen(win)?;
+        if row >= pen.area.rows {
+            return Err(WinFault::OutOfWindow);
+        }
+        Ok(self.window_at(pen.index).is_touched(row))
+    }
+
+    /// Whether some line of a window is touched.
+    ///
+    /// Refused: NoWindow. X/Open Curses Issue 7, is_wintouched().
+    #[tactic(auto, unfolding(crate::specs::Calls::Reading::window_touched_answer))]
+    pub fn window_touched(&self, win: Win) -> Result<bool, WinFault>
+        ensures { result ≡ window_touched_answer self.now win.0 }
+    {
+        let index = self.index_of(win)?;
+        Ok(self.window_at(index).is_any_touched())
+    }
+
+    /// The cells of a row of a window from the left, lent. Curses has no such call.
+    ///
+    /// Refused: NoWindow; OutOfWindow where the window has no such row.
+    #[tactic(auto, unfolding(crate::specs::Calls::Reading::row_answer))]
+    pub fn line(&self, win: Win, row: u32) -> Result<&[Cell], WinFault>
+        ensures cells { MatchResult result (λ cells. row_answer self.now win.0 row ≡ Ok cells.now) (λ fault. row_answer self.now win.0 row ≡ Err fault) }
+        ensures width { IfOk result (λ cells. (i : ℕ) → index_of self.now win.0 ≡ Ok i → length cells.now ≡ (window_at self.now i).frame.area.columns) }
+    {
+        let pen = self.pen(win)?;
+        if row >= pen.area.rows {
+            return Err(WinFault::OutOfWindow);
+        }
+        Ok(self.row_of(pen.index, row))
+    }
+
+    // The cells of a row of the window at an index among the desk's.
+    fn row_of(&self, index: usize, row: u32) -> &[Cell]
+        requires here { index < length self.now.windows }
+        requires row { row < (window_at self.now index).frame.area.rows }
+        ensures cells { result.now ≡ row_at self.now index row }
+        ensures width { length result.now ≡ (window_at self.now index).frame.area.columns }
+    {
+        let frame = self.windows[index].frame();
+        let sheet = index_of_sheet(&self.surfaces, frame.surface);
+        self.surfaces[sheet].surface.line(frame.area, row)
+    }
+}

@@ -1,0 +1,106 @@
+//! Calls that move what stands in a line, or lines: deleting a byte, inserting and deleting lines, scrolling. The definitions are in
+//! `specs/Calls/Scrolling.antt`.
+ghost use Rattle.std.specs.Prelude.{◌≡◌};
+ghost use Rattle.scr_windows.specs.Calls.Scrolling.{delete_byte_call, insert_delete_lines_call, scroll_call};
+
+use crate::desks::Desk;
+use crate::faults::{Win, WinFault};
+use scr_surfaces::Drawing;
+
+impl Desk {
+    /// Deletes the byte at the cursor: what stands right of it in the line moves left by one, and the
+    /// background comes into the last column.
+    ///
+    /// Refused: NoWindow. X/Open Curses Issue 7, delch().
+    #[tactic(auto, unfolding(crate::specs::Calls::Scrolling::delete_byte_call))]
+    pub fn delete_byte(&mut self, win: Win) -> Result<(), WinFault>
+        ensures { (self.new, result) ≡ delete_byte_call self.old win.0 }
+    {
+        let pen = self.pen(win)?;
+        let (row, column) = pen.state.cursor;
+        self.draw(
+            pen.index,
+            &Drawing::Closed {
+                row,
+                column,
+                cell: pen.state.background,
+            },
+        );
+        Ok(())
+    }
+
+    /// Inserts n lines at the cursor's row where n is above 0, and deletes lines from it on where n is
+    /// below 0. The lines from the cursor's to the window's last move, and the background comes into
+    /// those left free. The cursor stays.
+    ///
+    /// Refused: NoWindow. X/Open Curses Issue 7, insdelln().
+    #[tactic(auto, unfolding(crate::specs::Calls::Scrolling::insert_delete_lines_call))]
+    pub fn insert_delete_lines(&mut self, win: Win, n: i32) -> Result<(), WinFault>
+        ensures { (self.new, result) ≡ insert_delete_lines_call self.old win.0 n }
+    {
+        let pen = self.pen(win)?;
+        let row = pen.state.cursor.0;
+        let rows = pen.area.rows;
+        let many = n.unsigned_abs();
+        if n > 0 {
+            self.draw(
+                pen.index,
+                &Drawing::Down {
+                    first: row,
+                    end: rows,
+                    count: many,
+                    cell: pen.state.background,
+                },
+            );
+        } else if n < 0 {
+            self.draw(
+                pen.index,
+                &Drawing::Up {
+                    first: row,
+                    end: rows,
+                    count: many,
+                    cell: pen.state.background,
+                },
+            );
+        }
+        Ok(())
+    }
+
+    /// Moves the lines of the scrolling region up by n, or down where n is below 0; the background comes
+    /// into those left free.
+    ///
+    /// Refused: NoWindow; NoScroll. X/Open Curses Issue 7, scrl().
+    #[tactic(auto, unfolding(crate::specs::Calls::Scrolling::scroll_call))]
+    pub fn scroll(&mut self, win: Win, n: i32) -> Result<(), WinFault>
+        ensures { (self.new, result) ≡ scroll_call self.old win.0 n }
+    {
+        let pen = self.pen(win)?;
+        if !pen.state.scroll_ok {
+            return Err(WinFault::NoScroll);
+        }
+        let (top, bottom) = pen.state.region;
+        let many = n.unsigned_abs();
+        if n > 0 {
+            self.draw(
+                pen.index,
+                &Drawing::Up {
+                    first: top,
+                    end: bottom + 1,
+                    count: many,
+                    cell: pen.state.background,
+                },
+            );
+        } else if n < 0 {
+            self.draw(
+                pen.index,
+                &Drawing::Down {
+                    first: top,
+                    end: bottom + 1,
+                    count: many,
+                    cell: pen.state.background,
+                },
+            );
+        }
+        Ok(())
+    }
+}

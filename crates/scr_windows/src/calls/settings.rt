@@ -1,0 +1,158 @@
+//! Calls that set something in a window: cursor, region, attributes, background, settings. The definitions are in
+//! `specs/Calls/Settings.antt`.
+ghost use Rattle.std.specs.Prelude.{◌≡◌};
+ghost use Rattle.scr_windows.specs.Calls.Settings.{move_cursor_call, set_region_call, scroll_ok_call, clear_ok_call, leave_ok_call, attr_on_call, attr_off_call, attr_set_call, set_background_call, change_background_call};
+
+use crate::desks::Desk;
+use crate::faults::{Win, WinFault};
+use bitflags::Flags;
+use scr_cells::{Attrs, Cell};
+use scr_surfaces::Drawing;
+
+impl Desk {
+    /// Moves the cursor of a window to a row and a column.
+    ///
+    /// Refused: NoWindow; OutOfWindow for a place outside the window. X/Open Curses Issue 7, move().
+    #[tactic(auto, unfolding(crate::specs::Calls::Settings::move_cursor_call))]
+    pub fn move_cursor(&mut self, win: Win, row: u32, column: u32) -> Result<(), WinFault>
+        ensures { (self.new, result) ≡ move_cursor_call self.old win.0 row column }
+    {
+        let mut pen = self.pen(win)?;
+        if row >= pen.area.rows || column >= pen.area.columns {
+            return Err(WinFault::OutOfWindow);
+        }
+        pen.state.cursor = (row, column);
+        self.set_state(pen.index, pen.state);
+        Ok(())
+    }
+
+    /// Sets the first and the last row of the scrolling region of a window.
+    ///
+    /// Refused: NoWindow; BadRegion where the first is below the last or the last is not in the window. X/Open
+    /// Curses Issue 7, setscrreg().
+    #[tactic(auto, unfolding(crate::specs::Calls::Settings::set_region_call))]
+    pub fn set_region(&mut self, win: Win, top: u32, bottom: u32) -> Result<(), WinFault>
+        ensures { (self.new, result) ≡ set_region_call self.old win.0 top bottom }
+    {
+        let mut pen = self.pen(win)?;
+        if top > bottom || bottom >= pen.area.rows {
+            return Err(WinFault::BadRegion);
+        }
+        pen.state.region = (top, bottom);
+        self.set_state(pen.index, pen.state);
+        Ok(())
+    }
+
+    /// Says whether the region of a window may scroll.
+    ///
+    /// Refused: NoWindow. X/Open Curses Issue 7, scrollok().
+    #[tactic(auto, unfolding(crate::specs::Calls::Settings::scroll_ok_call))]
+    pub fn scroll_ok(&mut self, win: Win, on: bool) -> Result<(), WinFault>
+        ensures { (self.new, result) ≡ scroll_ok_call self.old win.0 on }
+    {
+        let mut pen = self.pen(win)?;
+        pen.state.scroll_ok = on;
+        self.set_state(pen.index, pen.state);
+        Ok(())
+    }
+
+    /// Says whether the next update with a window paints the whole screen.
+    ///
+    /// Refused: NoWindow. X/Open Curses Issue 7, clearok().
+    #[tactic(auto, unfolding(crate::specs::Calls::Settings::clear_ok_call))]
+    pub fn clear_ok(&mut self, win: Win, on: bool) -> Result<(), WinFault>
+        ensures { (self.new, result) ≡ clear_ok_call self.old win.0 on }
+    {
+        let mut pen = self.pen(win)?;
+        pen.state.clear_ok = on;
+        self.set_state(pen.index, pen.state);
+        Ok(())
+    }
+
+    /// Says whether the terminal's cursor may stay where an update leaves it.
+    ///
+    /// Refused: NoWindow. X/Open Curses Issue 7, leaveok().
+    #[tactic(auto, unfolding(crate::specs::Calls::Settings::leave_ok_call))]
+    pub fn leave_ok(&mut self, win: Win, on: bool) -> Result<(), WinFault>
+        ensures { (self.new, result) ≡ leave_ok_call self.old win.0 on }
+    {
+        let mut pen = self.pen(win)?;
+        pen.state.leave_ok = on;
+        self.set_state(pen.index, pen.state);
+        Ok(())
+    }
+
+    /// Adds attributes to those that bytes are written with.
+    ///
+    /// Refused: NoWindow. X/Open Curses Issue 7, attron().
+    #[tactic(auto, unfolding(crate::specs::Calls::Settings::attr_on_call))]
+    pub fn attr_on(&mut self, win: Win, attrs: Attrs) -> Result<(), WinFault>
+        ensures { (self.new, result) ≡ attr_on_call self.old win.0 attrs }
+    {
+        let mut pen = self.pen(win)?;
+        pen.state.attrs = pen.state.attrs.union(attrs);
+        self.set_state(pen.index, pen.state);
+        Ok(())
+    }
+
+    /// Takes attributes off those that bytes are written with.
+    ///
+    /// Refused: NoWindow. X/Open Curses Issue 7, attroff().
+    #[tactic(auto, unfolding(crate::specs::Calls::Settings::attr_off_call))]
+    pub fn attr_off(&mut self, win: Win, attrs: Attrs) -> Result<(), WinFault>
+        ensures { (self.new, result) ≡ attr_off_call self.old win.0 attrs }
+    {
+        let mut pen = self.pen(win)?;
+        pen.state.attrs = pen.state.attrs.difference(attrs);
+        self.set_state(pen.index, pen.state);
+        Ok(())
+    }
+
+    /// Sets the attributes that bytes are written with.
+    ///
+    /// Refused: NoWindow. X/Open Curses Issue 7, attrset().
+    #[tactic(auto, unfolding(crate::specs::Calls::Settings::attr_set_call))]
+    pub fn attr_set(&mut self, win: Win, attrs: Attrs) -> Result<(), WinFault>
+        ensures { (self.new, result) ≡ attr_set_call self.old win.0 attrs }
+    {
+        let mut pen = self.pen(win)?;
+        pen.state.attrs = attrs;
+        self.set_state(pen.index, pen.state);
+        Ok(())
+    }
+
+    /// Sets the background of a window, and changes no cell.
+    ///
+    /// Refused: NoWindow. X/Open Curses Issue 7, bkgdset().
+    #[tactic(auto, unfolding(crate::specs::Calls::Settings::set_background_call))]
+    pub fn set_background(&mut self, win: Win, cell: Cell) -> Result<(), WinFault>
+        ensures { (self.new, result) ≡ set_background_call self.old win.0 cell }
+    {
+        let mut pen = self.pen(win)?;
+        pen.state.background = cell;
+        self.set_state(pen.index, pen.state);
+        Ok(())
+    }
+
+    /// Sets the background of a window, and exchanges it in every cell: the old background's byte becomes
+    /// the new one's, the old attributes are taken off and the new ones put on.
+    ///
+    /// Refused: NoWindow. X/Open Curses Issue 7, bkgd().
+    #[tactic(auto, unfolding(crate::specs::Calls::Settings::change_background_call))]
+    pub fn change_background(&mut self, win: Win, cell: Cell) -> Result<(), WinFault>
+        ensures { (self.new, result) ≡ change_background_call self.old win.0 cell }
+    {
+        let pen = self.pen(win)?;
+        let mut state = pen.state;
+        self.draw(
+            pen.index,
+            &Drawing::Exchanged {
+                old: state.background,
+                new: cell,
+            },
+        );
+        state.background = cell;
+        self.set_state(pen.index, state);
+        Ok(())
+    }
+}

@@ -1,0 +1,73 @@
+//! Calls that touch lines, make them untouched, or take them for an update. The definitions are in `specs/Calls/Touching.antt`.
+ghost use Rattle.std.specs.Prelude.{◌≡◌, true, false};
+ghost use Rattle.scr_windows.specs.Calls.Touching.{take_lines_call, touch_all_call, touch_lines_call};
+
+use crate::desks::Desk;
+use crate::faults::{Win, WinFault};
+
+impl Desk {
+    /// Touches all lines of a window.
+    ///
+    /// Refused: NoWindow. X/Open Curses Issue 7, touchwin().
+    #[tactic(auto, unfolding(crate::specs::Calls::Touching::touch_all_call))]
+    pub fn touch_window(&mut self, win: Win) -> Result<(), WinFault>
+        ensures { (self.new, result) ≡ touch_all_call self.old win.0 true }
+    {
+        let pen = self.pen(win)?;
+        self.mark(pen.index, 0, pen.area.rows, true);
+        Ok(())
+    }
+
+    /// Makes all lines of a window untouched.
+    ///
+    /// Refused: NoWindow. X/Open Curses Issue 7, untouchwin().
+    #[tactic(auto, unfolding(crate::specs::Calls::Touching::touch_all_call))]
+    pub fn untouch(&mut self, win: Win) -> Result<(), WinFault>
+        ensures { (self.new, result) ≡ touch_all_call self.old win.0 false }
+    {
+        let pen = self.pen(win)?;
+        self.mark(pen.index, 0, pen.area.rows, false);
+        Ok(())
+    }
+
+    /// Makes n lines of a window from one on touched, or untouched.
+    ///
+    /// Refused: NoWindow; OutOfWindow where the window has fewer than `first + n` lines. X/Open Curses Issue 7,
+    /// wtouchln().
+    #[tactic(auto, unfolding(crate::specs::Calls::Touching::touch_lines_call))]
+    pub fn touch_lines(
+        &mut self,
+        win: Win,
+        first: u32,
+        n: u32,
+        changed: bool,
+    ) -> Result<(), WinFault>
+        ensures { (self.new, result) ≡ touch_lines_call self.old win.0 first n changed }
+    {
+        let pen = self.pen(win)?;
+        if first > pen.area.rows || n > pen.area.rows - first {
+            return Err(WinFault::OutOfWindow);
+        }
+        self.mark(pen.index, first, first + n, changed);
+        Ok(())
+    }
+
+    /// Takes n lines of a window from one on for an update: they are no longer touched, and what `clear_ok` wished for
+    /// is answered and taken back.
+    ///
+    /// Refused: NoWindow; OutOfWindow where the window has fewer than `first + n` lines. curs_refresh(3X), wnoutrefresh().
+    #[tactic(auto, unfolding(crate::specs::Calls::Touching::take_lines_call))]
+    pub fn take_lines(&mut self, win: Win, first: u32, n: u32) -> Result<bool, WinFault>
+        ensures { (self.new, result) ≡ take_lines_call self.old win.0 first n }
+    {
+        let pen = self.pen(win)?;
+        if first > pen.area.rows || n > pen.area.rows - first {
+            return Err(WinFault::OutOfWindow);
+        }
+        self.mark(pen.index, first, first + n, false);
+        let mut state = pen.state;
+        state.clear_ok = false;
+        self.set_state(pen.index, state);
+        Ok(pen.state.clear_ok)
+    }
+}
