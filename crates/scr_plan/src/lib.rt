@@ -3,6 +3,8 @@
 
 mod painting;
 mod scratch_laws;
+mod scratch_texts;
 
 pub use painting::scratch;
 pub use scratch_laws::{scratch_bytes_show, scratch_shows};
+pub use scratch_texts::scratch_bytes;
