@@ -29,7 +29,7 @@ enum Failure {
 }
 
 impl Failure {
-    // 2 for wrong words, else 1.
+    // 2 for a usage error, else 1.
     fn status(&self) -> u8 {
         match self {
             Failure::Words(_) | Failure::NotText => 2,
