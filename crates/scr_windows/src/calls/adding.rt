@@ -271,6 +271,18 @@ impl Desk {
     }
 }
 
+// The written form of a byte 32 to 126.
+pub(crate) fn written(byte: u8, attrs: Attrs, state: WindowState) -> Cell
+    requires from { 32 ≤ byte }
+    requires to { byte ≤ 126 }
+    ensures { result ≡ written byte attrs state }
+{
+    let background = state.background;
+    let shown = if byte == 32 { background.byte() } else { byte };
+    let all = attrs.union(state.attrs).union(background.attrs());
+    Cell::new(shown, all).unwrap_or(Cell::blank())
+}
+
 // Stayed where either is.
 fn either(first: Added, second: Added) -> Added
     ensures { result ≡ either_stayed first second }
@@ -286,16 +298,4 @@ fn is_any_above(text: &[u8]) -> bool
     ensures { result ≡ list_any (λ byte. leb 128 byte) text.now }
 {
     text.iter().any(|byte| *byte >= 128)
-}
-
-// The written form of a byte 32 to 126.
-pub(crate) fn written(byte: u8, attrs: Attrs, state: WindowState) -> Cell
-    requires from { 32 ≤ byte }
-    requires to { byte ≤ 126 }
-    ensures { result ≡ written byte attrs state }
-{
-    let background = state.background;
-    let shown = if byte == 32 { background.byte() } else { byte };
-    let all = attrs.union(state.attrs).union(background.attrs());
-    Cell::new(shown, all).unwrap_or(Cell::blank())
 }

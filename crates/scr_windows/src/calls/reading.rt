@@ -54,16 +54,6 @@ impl Desk {
         Ok(self.lent(index))
     }
 
-    // Lends the window at an index.
-    fn lent(&self, index: usize) -> WindowRef<'_>
-        requires { index < length self.now.windows }
-        ensures { result ≡ contents self.now index }
-    {
-        let window = &self.windows[index];
-        let sheet = index_of_sheet(&self.surfaces, window.frame().surface);
-        WindowRef::new(window, &self.surfaces[sheet].surface)
-    }
-
     /// The cell in a row and a column of a window.
     ///
     /// Refused: NoWindow; OutOfWindow for a place outside the window. X/Open Curses Issue 7, inch().
@@ -152,6 +142,16 @@ impl Desk {
             return Err(WinFault::OutOfWindow);
         }
         Ok(self.row_of(pen.index, row))
+    }
+
+    // Lends the window at an index.
+    fn lent(&self, index: usize) -> WindowRef<'_>
+        requires { index < length self.now.windows }
+        ensures { result ≡ contents self.now index }
+    {
+        let window = &self.windows[index];
+        let sheet = index_of_sheet(&self.surfaces, window.frame().surface);
+        WindowRef::new(window, &self.surfaces[sheet].surface)
     }
 
     // The cells of a row of the window at an index among the desk's.
