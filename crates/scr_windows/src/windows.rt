@@ -28,7 +28,7 @@ impl Model for Window {
 }
 
 impl Window {
-    /// A window before anything was done with it. Refused for want of memory alone.
+    /// A window before anything was done with it. Fails only when memory runs out.
     pub fn fresh(
         alloc: Global,
         frame: Frame,

@@ -16,8 +16,8 @@ use Rattle.scr_windows.specs.Calls.Settings.{with_state, cursor_at}
 
 -- the written form of a byte: the background's byte in place of a blank, and its own attributes, the window's and the
 -- background's
-abbrev pub written : ℕ → Attrs → WindowState → CellView
-written byte attrs state =
+abbrev pub written_form : ℕ → Attrs → WindowState → CellView
+written_form byte attrs state =
     record {
       byte = if byte == 32 then state.background.byte else byte;
       attrs = bit_or (bit_or attrs.0 state.attrs.0) state.background.attrs;
@@ -46,7 +46,7 @@ character_added desk i byte attrs =
     let w : WindowView = window_at desk i in
     let y : ℕ = w.state.cursor.0 in
     let x : ℕ = w.state.cursor.1 in
-    let put : DeskView = write desk i y (y + 1) (run_put y x (x + 1) (written byte attrs w.state)) in
+    let put : DeskView = write desk i y (y + 1) (run_put y x (x + 1) (written_form byte attrs w.state)) in
     if ltb (x + 1) w.frame.area.columns then gone_to put i (y, x + 1) else line_begun put i
 
 -- newline: the rest of the line gets the background, and the next line is begun
@@ -107,7 +107,7 @@ add_text_call desk win bytes = on_window desk (index_of desk win) (λ i.
 unfoldable pub insert_byte_call : DeskView → ℕ → ℕ → Attrs → DeskView × Result (Unit {0}) WinFault
 insert_byte_call desk win byte attrs = on_window desk (index_of desk win) (λ i.
     let s : WindowState = (window_at desk i).state in
-    if is_character byte then (write desk i s.cursor.0 (s.cursor.0 + 1) (row_opened s.cursor.0 s.cursor.1 (written byte attrs s)), Ok tt)
+    if is_character byte then (write desk i s.cursor.0 (s.cursor.0 + 1) (row_opened s.cursor.0 s.cursor.1 (written_form byte attrs s)), Ok tt)
     else (desk, Err NotAscii))
 
 -- hline(): places from the cursor on, at most to the edge
@@ -117,7 +117,7 @@ line_across_call desk win byte n = on_window desk (index_of desk win) (λ i.
     let y : ℕ = w.state.cursor.0 in
     let x : ℕ = w.state.cursor.1 in
     if is_character byte then
-    ((if n == 0 then desk else write desk i y (y + 1) (run_put y x (min (x + n) w.frame.area.columns) (written byte no_attributes w.state))), Ok tt)
+    ((if n == 0 then desk else write desk i y (y + 1) (run_put y x (min (x + n) w.frame.area.columns) (written_form byte no_attributes w.state))), Ok tt)
     else (desk, Err NotAscii))
 
 -- vline(): places from the cursor down, at most to the edge
@@ -128,5 +128,5 @@ line_down_call desk win byte n = on_window desk (index_of desk win) (λ i.
     let x : ℕ = w.state.cursor.1 in
     let end : ℕ = min (y + n) w.frame.area.rows in
     if is_character byte then
-    ((if n == 0 then desk else write desk i y end (column_put x y end (written byte no_attributes w.state))), Ok tt)
+    ((if n == 0 then desk else write desk i y end (column_put x y end (written_form byte no_attributes w.state))), Ok tt)
     else (desk, Err NotAscii))

@@ -9,11 +9,11 @@ use Rattle.scr_windows.specs.declared.faults.WinFault.TheVariants.{NotAscii}
 use Rattle.scr_windows.specs.declared.frames.WindowState.{WindowState}
 use Rattle.scr_windows.specs.DeskViews.{WindowView, DeskView, window_at, no_attributes}
 use Rattle.scr_windows.specs.Changes.{index_of, on_window, write}
-use Rattle.scr_windows.specs.Calls.Adding.{written}
+use Rattle.scr_windows.specs.Calls.Adding.{written_form}
 
 -- the written form, without attributes of its own, of a byte among those of a border
 abbrev pub edge_cell : List ℕ → WindowState → ℕ → CellView
-edge_cell bytes state k = written (slice_index_or bytes k 0) no_attributes state
+edge_cell bytes state k = written_form (slice_index_or bytes k 0) no_attributes state
 
 -- the bytes are those of the left, right, top and bottom edge, and of the top left, top right, bottom left and bottom right
 -- corner

@@ -4,7 +4,7 @@
 ghost use Rattle.std.specs.Prelude.{◌≡◌, ◌+◌, ◌<◌, ◌≤◌, ◌⊎◌, length, leb, false};
 ghost use Rattle.std.specs.List.{list_any};
 ghost use Rattle.scr_windows.specs.DeskViews.{window_at, no_attributes};
-ghost use Rattle.scr_windows.specs.Calls.Adding.{written, gone_to, line_begun, character_added, newline_added, tab_added, either_stayed, shown_added, byte_added, text_added, add_byte_call, add_text_call, insert_byte_call, line_across_call, line_down_call};
+ghost use Rattle.scr_windows.specs.Calls.Adding.{written_form, gone_to, line_begun, character_added, newline_added, tab_added, either_stayed, shown_added, byte_added, text_added, add_byte_call, add_text_call, insert_byte_call, line_across_call, line_down_call};
 
 use crate::desks::Desk;
 use crate::faults::{Added, Win, WinFault};
@@ -67,7 +67,7 @@ impl Desk {
             &Drawing::Opened {
                 row,
                 column,
-                cell: written(byte, attrs, pen.state),
+                cell: written_form(byte, attrs, pen.state),
             },
         );
         Ok(())
@@ -88,7 +88,7 @@ impl Desk {
         let (row, column) = pen.state.cursor;
         if n > 0 {
             let end = column + n.min(pen.area.columns - column);
-            let cell = written(byte, Attrs(0), pen.state);
+            let cell = written_form(byte, Attrs(0), pen.state);
             self.draw(
                 pen.index,
                 &Drawing::Run {
@@ -117,7 +117,7 @@ impl Desk {
         let (row, column) = pen.state.cursor;
         if n > 0 {
             let end = row + n.min(pen.area.rows - row);
-            let cell = written(byte, Attrs(0), pen.state);
+            let cell = written_form(byte, Attrs(0), pen.state);
             self.draw(
                 pen.index,
                 &Drawing::Column {
@@ -188,7 +188,7 @@ impl Desk {
     {
         let pen = self.pen_at(index);
         let (row, column) = pen.state.cursor;
-        let cell = written(byte, attrs, pen.state);
+        let cell = written_form(byte, attrs, pen.state);
         self.put(index, row, column, cell);
         let end = column + 1;
         if end < pen.area.columns {
@@ -272,10 +272,10 @@ impl Desk {
 }
 
 // The written form of a byte 32 to 126.
-pub(crate) fn written(byte: u8, attrs: Attrs, state: WindowState) -> Cell
+pub(crate) fn written_form(byte: u8, attrs: Attrs, state: WindowState) -> Cell
     requires from { 32 ≤ byte }
     requires to { byte ≤ 126 }
-    ensures { result ≡ written byte attrs state }
+    ensures { result ≡ written_form byte attrs state }
 {
     let background = state.background;
     let shown = if byte == 32 { background.byte() } else { byte };

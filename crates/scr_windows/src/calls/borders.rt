@@ -3,10 +3,10 @@ ghost use Rattle.std.specs.Prelude.{◌≡◌, ◌<◌, length, slice_index_or, 
 ghost use Rattle.std.specs.List.{list_all};
 ghost use Rattle.scr_cells.specs.CellViews.{is_character};
 ghost use Rattle.scr_windows.specs.DeskViews.{no_attributes};
-ghost use Rattle.scr_windows.specs.Calls.Adding.{written};
+ghost use Rattle.scr_windows.specs.Calls.Adding.{written_form};
 ghost use Rattle.scr_windows.specs.Calls.Borders.{edge_cell, border_of, border_call};
 
-use crate::calls::adding::written;
+use crate::calls::adding::written_form;
 use crate::desks::Desk;
 use crate::faults::{Win, WinFault};
 use crate::frames::WindowState;
@@ -71,5 +71,5 @@ fn edge(bytes: &[u8], k: usize, state: &WindowState) -> Cell
     requires graphic { list_all is_character bytes.now ≡ true }
     ensures { result ≡ edge_cell bytes.now state.now k }
 {
-    written(bytes[k], Attrs(0), *state)
+    written_form(bytes[k], Attrs(0), *state)
 }
