@@ -1,6 +1,7 @@
 pub mod Described
 pub mod Escape
 pub mod Field
+pub mod Keyed
 pub mod Line
 pub mod Named
 pub mod Number

@@ -8,6 +8,7 @@ ghost use Rattle.ti_source.specs.Named.{alternatives_behind, found_from, has_nam
 ghost use Rattle.ti_source.specs.Result.{Gives};
 
 use crate::fault::SourceFault;
+use crate::keyed_hasher::KeyedHasher;
 use crate::statement::{SourceEntry, has_no_blank};
 use indexmap::IndexMap;
 use std::alloc::{AllocError, Global};
@@ -17,7 +18,7 @@ use std::marker::Model;
 #[derive(Debug, Drop)]
 pub(crate) struct Entries {
     items: Vec<SourceEntry>,
-    places: IndexMap<Vec<u8>, usize>,
+    places: IndexMap<Vec<u8>, usize, KeyedHasher>,
 }
 
 impl Model for Entries {
@@ -48,7 +49,7 @@ fn split_bar(names: &[u8]) -> (&[u8], Option<&[u8]>)
 /// Gives a place to a name without a blank that has none yet.
 fn put_name(
     alloc: Global,
-    places: &mut IndexMap<Vec<u8>, usize>,
+    places: &mut IndexMap<Vec<u8>, usize, KeyedHasher>,
     name: &[u8],
     place: usize,
 ) -> Result<(), AllocError>
@@ -65,7 +66,7 @@ fn put_name(
 /// Gives a place to the reference names among these names that have none yet.
 fn put_names(
     alloc: Global,
-    places: &mut IndexMap<Vec<u8>, usize>,
+    places: &mut IndexMap<Vec<u8>, usize, KeyedHasher>,
     names: &[u8],
     place: usize,
 ) -> Result<(), AllocError>
@@ -84,12 +85,12 @@ fn put_names(
 }
 
 impl Entries {
-    pub(crate) fn new(alloc: Global) -> Entries
+    pub(crate) fn new(alloc: Global, hasher: KeyedHasher) -> Entries
         ensures { result ≡ [] }
     {
         Entries {
             items: Vec::new(alloc),
-            places: IndexMap::new(alloc),
+            places: IndexMap::with_hasher(alloc, hasher),
         }
     }
 

@@ -7,6 +7,7 @@ mod fault;
 mod field;
 mod fields;
 mod filling;
+mod keyed_hasher;
 mod line;
 mod merge;
 mod note;

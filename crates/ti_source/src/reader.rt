@@ -11,6 +11,7 @@ ghost use Rattle.ti_source.specs.Seen.{seen_line};
 use crate::entries::Entries;
 use crate::fault::SourceFault;
 use crate::filling::Filling;
+use crate::keyed_hasher::KeyedHasher;
 use crate::line::{Line, line_of};
 use crate::note::Note;
 use crate::source::Source;
@@ -127,7 +128,7 @@ pub fn read(alloc: Global, bytes: &[u8]) -> Result<Source, SourceFault>
     ensures { Gives result (source_of bytes.now) }
 {
     let mut state = State {
-        done: Entries::new(alloc),
+        done: Entries::new(alloc, KeyedHasher::new(bytes)),
         current: None,
         notes: Vec::new(alloc),
     };

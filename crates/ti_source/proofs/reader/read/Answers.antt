@@ -12,7 +12,7 @@ start = record { done = []; current = None; notes = [] }
 
 pub loop-line-init : goal.loop-line-init
 loop-line-init c =
-    rw (c.into_iter-line-iterator.ensures.into_iter_gives, c.lines-line-items.ensures.value, c.new.ensures, c.new-2.ensures.items) refl
+    rw (c.into_iter-line-iterator.ensures.into_iter_gives, c.lines-line-items.ensures.value, c.new-2.ensures, c.new-3.ensures.items) refl
 
 pub returns-in_err-state : goal.returns-in_err-state
 unfolding read_through
