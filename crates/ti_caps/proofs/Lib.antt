@@ -1,3 +1,4 @@
 pub mod EntryLaws
+pub mod NamesLaws
 pub mod Once
 pub mod TableLaws

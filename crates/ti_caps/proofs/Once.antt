@@ -5,7 +5,7 @@ use Rattle.std.proofs.lemmas.Slice.Eq.{bytes_eq-Decides}
 use Rattle.std.proofs.lemmas.Bool.Decides.{nat_tests}
 use Rattle.ti_caps.specs.declared.table.Kind.{Kind}
 use Rattle.ti_caps.specs.declared.table.Kind.TheVariants.{Flag, Number, Text}
-use Rattle.ti_caps.specs.Table.{Names, runs, same_kind, or_else, name_in, name_among, name_at, place_from, place_in, found_among, capability_of}
+use Rattle.ti_caps.specs.Table.{Names, runs, flag_names, number_names, text_names_from_0, text_names_from_55, text_names_from_90, text_names_from_139, text_names_from_158, text_names_from_216, text_names_from_297, text_names_from_359, same_kind, or_else, name_in, name_among, name_at, place_from, place_in, found_among, capability_of}
 
 abbrev is_capability : Kind → ℕ → Option (Kind × ℕ) → Bool
 is_capability kind i None = false
@@ -25,7 +25,7 @@ runs_once [] = true
 runs_once (r ∷ rs) = all_once r.kind r.first r.names && runs_once rs
 
 computed : runs_once runs ≡ true
-unfolding runs capability_of name_at
+unfolding runs capability_of name_at flag_names number_names text_names_from_0 text_names_from_55 text_names_from_90 text_names_from_139 text_names_from_158 text_names_from_216 text_names_from_297 text_names_from_359
 computed = refl
 
 both : (a b : Bool) → (a && b) ≡ true → (a ≡ true) × (b ≡ true)

@@ -96,7 +96,7 @@ struct Run {
 
 const RUNS: usize = 10;
 
-#[tactic(auto, unfolding(crate::specs::Table::runs))]
+#[tactic(auto, using(crate::proofs::NamesLaws::names_are), unfolding(crate::specs::Table::runs))]
 fn run_at(index: usize) -> Option<Run>
     ensures run { option_map seen result ≡ slice_get runs index }
     ensures few { MatchOption result ⊤ (λ r. r.first + length r.names.now < 65536) }
