@@ -1,3 +1,4 @@
+pub mod BucketLaws
 pub mod EntryLaws
 pub mod NamesLaws
 pub mod Once
