@@ -1,3 +1,5 @@
+pub mod BucketLaws
 pub mod EntryLaws
+pub mod NamesLaws
 pub mod Once
 pub mod TableLaws

@@ -5,7 +5,7 @@ use Rattle.std.proofs.lemmas.Slice.Eq.{bytes_eq-Decides}
 use Rattle.std.proofs.lemmas.Bool.Decides.{nat_tests}
 use Rattle.ti_caps.specs.declared.table.Kind.{Kind}
 use Rattle.ti_caps.specs.declared.table.Kind.TheVariants.{Flag, Number, Text}
-use Rattle.ti_caps.specs.Table.{Names, runs, same_kind, or_else, name_in, name_among, name_at, place_from, place_in, found_among, capability_of}
+use Rattle.ti_caps.specs.Table.{Names, runs, flag_names, number_names, text_names_from_0, text_names_from_55, text_names_from_90, text_names_from_139, text_names_from_158, text_names_from_216, text_names_from_297, text_names_from_359, same_kind, or_else, name_in, name_among, name_at, place_from, place_in, found_among, capability_of}
 
 abbrev is_capability : Kind → ℕ → Option (Kind × ℕ) → Bool
 is_capability kind i None = false
@@ -16,23 +16,23 @@ is_name name None = false
 is_name name (Some n) = bytes_eq n name
 
 -- these names, the first at position i, are found there and read there
-abbrev all_once : Kind → ℕ → List (List ℕ) → Bool
+abbrev pub all_once : Kind → ℕ → List (List ℕ) → Bool
 all_once kind i [] = true
 all_once kind i (n ∷ ns) = is_capability kind i (capability_of n) && (is_name n (name_at kind i) && all_once kind (suc i) ns)
 
-abbrev runs_once : List Names → Bool
+abbrev pub runs_once : List Names → Bool
 runs_once [] = true
 runs_once (r ∷ rs) = all_once r.kind r.first r.names && runs_once rs
 
-computed : runs_once runs ≡ true
-unfolding runs capability_of name_at
+pub computed : runs_once runs ≡ true
+unfolding runs capability_of name_at flag_names number_names text_names_from_0 text_names_from_55 text_names_from_90 text_names_from_139 text_names_from_158 text_names_from_216 text_names_from_297 text_names_from_359
 computed = refl
 
-both : (a b : Bool) → (a && b) ≡ true → (a ≡ true) × (b ≡ true)
+pub both : (a b : Bool) → (a && b) ≡ true → (a ≡ true) × (b ≡ true)
 both true b e = (refl, e)
 both false b e = cc
 
-chosen : {A : Type 0} → (b : Bool) (x y z : A) → cond b x y ≡ z → ((b ≡ true) × (x ≡ z)) ⊎ ((b ≡ false) × (y ≡ z))
+pub chosen : {A : Type 0} → (b : Bool) (x y z : A) → cond b x y ≡ z → ((b ≡ true) × (x ≡ z)) ⊎ ((b ≡ false) × (y ≡ z))
 chosen true x y z e = inl (refl, e)
 chosen false x y z e = inr (refl, e)
 
@@ -40,11 +40,11 @@ guarded : {A : Type 0} → (b : Bool) (o : Option A) (x : A) → cond b o None �
 guarded true o x e = (refl, e)
 guarded false o x e = cc
 
-first_there : {A : Type 0} → (o p : Option A) (x : A) → or_else o p ≡ Some x → (o ≡ Some x) ⊎ ((o ≡ None) × (p ≡ Some x))
+pub first_there : {A : Type 0} → (o p : Option A) (x : A) → or_else o p ≡ Some x → (o ≡ Some x) ⊎ ((o ≡ None) × (p ≡ Some x))
 first_there None p x e = inr (refl, e)
 first_there (Some y) p x e = inl e
 
-mapped : {A B : Type 0} → (f : A → B) (o : Option A) (y : B) → option_map f o ≡ Some y → (x : A) × (o ≡ Some x) × (f x ≡ y)
+pub mapped : {A B : Type 0} → (f : A → B) (o : Option A) (y : B) → option_map f o ≡ Some y → (x : A) × (o ≡ Some x) × (f x ≡ y)
 mapped f None y e = cc
 mapped f (Some x) y e = let same : f x ≡ y = cc in (x, refl, same)
 
@@ -83,7 +83,7 @@ head_once kind i n ns e =
     let two = both (is_name n (name_at kind i)) (all_once kind (suc i) ns) one.1 in
     record { found = is_capability-true kind i (capability_of n) one.0; named = is_name-true n (name_at kind i) two.0; rest = two.1 }
 
-once_found : (kind : Kind) (i j : ℕ) (ns : List (List ℕ)) (n : List ℕ) → all_once kind i ns ≡ true → slice_get ns j ≡ Some n → capability_of n ≡ Some (kind, i + j)
+pub once_found : (kind : Kind) (i j : ℕ) (ns : List (List ℕ)) (n : List ℕ) → all_once kind i ns ≡ true → slice_get ns j ≡ Some n → capability_of n ≡ Some (kind, i + j)
 once_found kind i j [] n e at = cc
 once_found kind i zero (m ∷ ns) n e at =
     let same : n ≡ m = cc in rw (add-zero, same) (head_once kind i m ns e).found

@@ -1,22 +1,11 @@
 -- What a walk over the capability table shows.
 use Rattle.std.proofs.Common.{◌≡◌, ℕ, zero, suc, List, [], ◌∷◌, Some, None, slice_get, drop, refl}
 use Rattle.ti_caps.specs.declared.table.Kind.{Kind}
-use Rattle.ti_caps.specs.Table.{Names, runs, or_else, name_in, name_among, place_in, found_among}
+use Rattle.ti_caps.specs.Table.{Names, runs, or_else, name_in, name_among}
 
 pub past_runs : drop 10 runs ≡ []
 unfolding runs
 past_runs = refl
-
-pub found-step : (name : List ℕ) (rs : List Names) (i : ℕ) (r : Names) → Some r ≡ slice_get rs i → found_among name (drop i rs) ≡ or_else (place_in name r) (found_among name (drop (suc i) rs))
-found-step name [] i r e = cc
-found-step name (x ∷ xs) zero r e = let same : r ≡ x = cc in rw same refl
-found-step name (x ∷ xs) (suc i) r e = found-step name xs i r e
-
-pub found-end : (name : List ℕ) (rs : List Names) (i : ℕ) → None ≡ slice_get rs i → found_among name (drop i rs) ≡ None
-found-end name [] zero e = refl
-found-end name [] (suc i) e = refl
-found-end name (x ∷ xs) zero e = cc
-found-end name (x ∷ xs) (suc i) e = found-end name xs i e
 
 pub named-step : (kind : Kind) (at : ℕ) (rs : List Names) (i : ℕ) (r : Names) → Some r ≡ slice_get rs i → name_among kind at (drop i rs) ≡ or_else (name_in kind at r) (name_among kind at (drop (suc i) rs))
 named-step kind at [] i r e = cc

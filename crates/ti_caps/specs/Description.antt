@@ -1,5 +1,5 @@
 -- What an entry says: its names, and for each position of each kind what the terminal has there.
-use Rattle.std.specs.Prelude.{ℕ, suc, ◌+◌, ◌≤◌, ◌≡◌, Bool, true, false, List, [], ◌∷◌, Option, Some, None, IfSome, length, replicate, map, is_some, is_none, slice_index_or, ◌&&◌, ◌==◌, if◌then◌else◌}
+use Rattle.std.specs.Prelude.{ℕ, suc, ◌+◌, ◌<◌, ◌≤◌, ◌≡◌, Bool, true, false, List, [], ◌∷◌, Option, Some, None, IfSome, length, replicate, map, is_some, is_none, slice_index_or, ◌&&◌, ◌==◌, if◌then◌else◌}
 use Rattle.std.specs.List.{list_any}
 use Rattle.ti_caps.specs.declared.table.Kind.{Kind}
 use Rattle.ti_caps.specs.declared.table.Kind.TheVariants.{Flag, Number, Text}
@@ -23,6 +23,11 @@ number_at d slot = slice_index_or d.numbers slot None
 abbrev pub text_at : Description → ℕ → Option (List ℕ)
 text_at d slot = slice_index_or d.texts slot None
 
+-- each is a byte
+abbrev pub AreBytes : List ℕ → Type 0
+AreBytes [] = Unit {0}
+AreBytes (b ∷ bs) = (b < 256) × AreBytes bs
+
 abbrev pub has_nul : List ℕ → Bool
 has_nul bytes = list_any (λ b. b == 0) bytes
 
@@ -34,6 +39,7 @@ pub record IsDescription (d : Description) : Type 0 where
   pub texts : length d.texts ≡ 512
   pub small : (slot : ℕ) → IfSome (number_at d slot) (λ n. n ≤ 32767)
   pub whole : (slot : ℕ) → IfSome (text_at d slot) (λ t. has_nul t ≡ false)
+  pub bytes : (slot : ℕ) → IfSome (text_at d slot) AreBytes
 
 abbrev pub text_has_nul : Option (List ℕ) → Bool
 text_has_nul None = false

@@ -1,3 +1,4 @@
+pub mod Buckets
 pub mod Description
 pub mod Names
 pub mod Runs

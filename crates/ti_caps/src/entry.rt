@@ -3,7 +3,7 @@
 ghost use Rattle.std.specs.Prelude.{◌≡◌, ◌≤◌, ◌<◌, ◌↔◌, None, true, false, replicate, is_none, option_map, slice_set, length, map, is_some, IfSome, IfOk, OnOk, OnErr, IsOk, IsErrOf, IsOkUnless};
 ghost use Rattle.ti_caps.specs.Names.{are_names};
 ghost use Rattle.ti_caps.specs.Table.{name_at};
-ghost use Rattle.ti_caps.specs.Description.{IsDescription, bare, text_has_nul, flag_at, has_nul, number_at, text_at, unnamed_count, unnamed_from};
+ghost use Rattle.ti_caps.specs.Description.{AreBytes, IsDescription, bare, text_has_nul, flag_at, has_nul, number_at, text_at, unnamed_count, unnamed_from};
 
 use crate::bytes::Bytes;
 use crate::fault::CapFault;
@@ -12,13 +12,25 @@ use crate::table::{Kind, Slot, name_of};
 use std::alloc::{AllocError, Global};
 use std::marker::Model;
 
+/// How many positions there are for flags.
+pub const MOST_FLAGS: usize = 64;
+
+/// How many positions there are for numbers.
+pub const MOST_NUMBERS: usize = 64;
+
+/// How many positions there are for texts.
+pub const MOST_TEXTS: usize = 512;
+
+/// The greatest number that an entry has.
+pub const MOST_NUMBER: u16 = 32_767;
+
 /// A terminal description: names, and for each position of each kind what the terminal has there
 /// (terminfo(5)). It has room for 64 flags, 64 numbers and 512 texts.
 #[derive(Drop)]
 pub struct Entry {
     names: Bytes,
-    flags: [bool; 64],
-    numbers: [Option<u16>; 64],
+    flags: [bool; MOST_FLAGS],
+    numbers: [Option<u16>; MOST_NUMBERS],
     texts: Vec<Option<Bytes>>,
 }
 
@@ -35,19 +47,28 @@ impl Model for Entry {
 fn no_texts(alloc: Global) -> Result<Vec<Option<Bytes>>, AllocError>
     ensures { IfOk result (λ v. v.items ≡ replicate 512 None) }
 {
-    let mut texts = Vec::with_capacity(alloc, 512)?;
-    for filled in 0..512u16 {
+    let mut texts = Vec::with_capacity(alloc, MOST_TEXTS)?;
+    for filled in 0..MOST_TEXTS {
         texts.push(None)?;
     }
     Ok(texts)
 }
 
+/// What a text holds are bytes.
+fn holds_bytes(text: &[u8])
+    ensures { AreBytes text.now }
+{}
+
 fn owned(alloc: Global, text: Option<&[u8]>) -> Result<Option<Bytes>, AllocError>
     ensures ok { IfOk result (λ t. t ≡ option_map (λ s. s.now) text.entry) }
     ensures none { text.entry ≡ None → IsOk result }
+    ensures bytes { IfOk result (λ t. IfSome t AreBytes) }
 {
     match text {
-        Some(bytes) => Ok(Some(Bytes(Vec::from_slice(alloc, bytes)?))),
+        Some(bytes) => {
+            holds_bytes(bytes);
+            Ok(Some(Bytes(Vec::from_slice(alloc, bytes)?)))
+        }
         None => Ok(None),
     }
 }
@@ -74,8 +95,8 @@ impl Entry {
         let texts = no_texts(alloc)?;
         Ok(Entry {
             names,
-            flags: [false; 64],
-            numbers: [None; 64],
+            flags: [false; MOST_FLAGS],
+            numbers: [None; MOST_NUMBERS],
             texts,
         })
     }
@@ -127,10 +148,11 @@ impl Entry {
         ensures ok { OnOk result (self.new ≡ record self.old { flags = slice_set self.old.flags slot.0 present }) }
         ensures err { OnErr result (self.new ≡ self.old) }
     {
-        if slot.0 >= 64 {
+        let place = usize::from(slot.0);
+        if place >= MOST_FLAGS {
             return Err(CapFault::SlotTooBig);
         }
-        self.flags[usize::from(slot.0)] = present;
+        self.flags[place] = present;
         Ok(())
     }
 
@@ -142,10 +164,11 @@ impl Entry {
         ensures ok { OnOk result (self.new ≡ record self.old { numbers = slice_set self.old.numbers slot.0 number }) }
         ensures err { OnErr result (self.new ≡ self.old) }
     {
-        if slot.0 >= 64 {
+        let place = usize::from(slot.0);
+        if place >= MOST_NUMBERS {
             return Err(CapFault::SlotTooBig);
         }
-        self.numbers[usize::from(slot.0)] = number;
+        self.numbers[place] = number;
         Ok(())
     }
 
@@ -159,14 +182,15 @@ impl Entry {
         ensures ok { OnOk result (self.new ≡ record self.old { texts = slice_set self.old.texts slot.0 (option_map (λ t. t.now) text.entry) }) }
         ensures err { OnErr result (self.new ≡ self.old) }
     {
-        if slot.0 >= 512 {
+        let place = usize::from(slot.0);
+        if place >= MOST_TEXTS {
             return Err(CapFault::SlotTooBig);
         }
         if text.is_some_and(has_nul) {
             return Err(CapFault::NulInText);
         }
         let owned = owned(*self.texts.allocator(), text)?;
-        self.texts[usize::from(slot.0)] = owned;
+        self.texts[place] = owned;
         Ok(())
     }
 

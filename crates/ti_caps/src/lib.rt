@@ -1,14 +1,16 @@
 //! The capabilities of terminfo(5), and the entries that say which of them a terminal has.
 #![tactic(auto)]
 
+mod buckets;
 mod bytes;
 mod entry;
 mod fault;
 mod names;
 mod table;
 
+pub use buckets::find_name;
 pub use bytes::Bytes;
-pub use entry::Entry;
+pub use entry::{Entry, MOST_FLAGS, MOST_NUMBER, MOST_NUMBERS, MOST_TEXTS};
 pub use fault::CapFault;
-pub use names::{are_names, first_name};
-pub use table::{Kind, Slot, find_name, name_of, names_stand_once};
+pub use names::{are_names, first_name, has_no_blank};
+pub use table::{Kind, Slot, name_of, names_stand_once};

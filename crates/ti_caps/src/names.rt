@@ -24,7 +24,9 @@ pub fn first_name(names: &[u8]) -> &[u8]
     &names[..end]
 }
 
-fn has_no_blank(name: &[u8]) -> bool
+/// Whether no byte of a name is a blank: an alternative without one is a name of reference
+/// (term(5)).
+pub fn has_no_blank(name: &[u8]) -> bool
     ensures { result ≡ has_no_blank name.now }
 {
     name.iter().all(|b| *b != b' ')

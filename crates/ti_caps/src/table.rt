@@ -1,7 +1,8 @@
 //! The capability table: the names of terminfo(5) by kind and position, in runs without a gap.
 
 ghost use Rattle.std.specs.Prelude.{ℕ, List, Some, ◌≡◌, ◌+◌, ◌<◌, length, option_map, slice_get, MatchOption, ⊤};
-ghost use Rattle.ti_caps.specs.Table.{capability_of, name_at, name_in, place_from, runs};
+ghost use Rattle.ti_caps.specs.Buckets.{if_same};
+ghost use Rattle.ti_caps.specs.Table.{capability_of, name_at, name_in, runs};
 ghost use Rattle.ti_caps.specs.Runs.{seen};
 ghost use Rattle.ti_caps.specs.declared.table.Kind.{Kind};
 
@@ -88,16 +89,16 @@ pub struct Slot(pub u16);
 
 /// Names of one kind at neighbouring positions, the first of them at `first`.
 #[derive(Clone, Copy)]
-struct Run {
-    kind: Kind,
+pub(crate) struct Run {
+    pub(crate) kind: Kind,
     first: u16,
     names: &'static [&'static str],
 }
 
 const RUNS: usize = 10;
 
-#[tactic(auto, unfolding(crate::specs::Table::runs))]
-fn run_at(index: usize) -> Option<Run>
+#[tactic(auto, using(crate::proofs::NamesLaws::names_are), unfolding(crate::specs::Table::runs))]
+pub(crate) fn run_at(index: usize) -> Option<Run>
     ensures run { option_map seen result ≡ slice_get runs index }
     ensures few { MatchOption result ⊤ (λ r. r.first + length r.names.now < 65536) }
 {
@@ -124,18 +125,17 @@ impl Run {
         Run { kind, first, names }
     }
 
-    fn place_of(&self, name: &[u8]) -> Option<Slot>
+    /// The position of the name at a place of the run, where it is this name.
+    pub(crate) fn slot_of(&self, index: u8, name: &[u8]) -> Option<Slot>
         requires { self.now.first + length self.now.names.now < 65536 }
-        ensures { option_map (λ s. s.0) result ≡ place_from self.now.first name.now (seen self.now).names }
+        ensures { option_map (λ s. (self.now.kind, s.0)) result ≡ if_same name.now self.now.kind (self.now.first + index) (slice_get (seen self.now).names index) }
     {
-        let mut position = self.first;
-        for known in self.names {
-            if known.as_bytes() == name {
-                return Some(Slot(position));
-            }
-            position += 1;
+        let known = self.names.get(usize::from(index))?;
+        if known.as_bytes() == name {
+            Some(Slot(self.first + u16::from(index)))
+        } else {
+            None
         }
-        None
     }
 
     fn name_at(&self, kind: Kind, position: u16) -> Option<&'static str>
@@ -157,20 +157,6 @@ pub fn name_of(kind: Kind, slot: Slot) -> Option<&'static str>
         let names = run_at(index)?;
         if let Some(name) = names.name_at(kind, slot.0) {
             return Some(name);
-        }
-    }
-    None
-}
-
-/// The kind and the position of a capability by its name; None where the table has no such name
-/// (terminfo(5)).
-pub fn find_name(name: &[u8]) -> Option<(Kind, Slot)>
-    ensures { option_map (λ r. (r.0, r.1.0)) result ≡ capability_of name.now }
-{
-    for index in 0..RUNS {
-        let names = run_at(index)?;
-        if let Some(slot) = names.place_of(name) {
-            return Some((names.kind, slot));
         }
     }
     None

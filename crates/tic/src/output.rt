@@ -13,7 +13,12 @@ fn below<'a>(alloc: Global, directory: &str, path: &[u8]) -> Result<PathBuf, Fai
     Ok(Path::new(directory).join(alloc, path)?)
 }
 
+// Writes a file; the folders on its path are made only where it cannot be written without them.
 fn write_file(rt: &HostRuntime, path: &PathBuf, bytes: &[u8]) -> io::Result<()> {
+    match fs::write(rt, path.as_path(), bytes) {
+        Err(error) if error.kind() == ErrorKind::NotFound => {}
+        written => return written,
+    }
     if let Some(folder) = path.parent() {
         fs::create_dir_all(rt, folder)?;
     }
