@@ -12,12 +12,12 @@ use Rattle.ti_param.specs.declared.directives.Format.{Format}
 use Rattle.ti_param.specs.declared.tokens.Token.{Token}
 use Rattle.ti_param.specs.declared.tokens.Token.TheVariants.{Do, If, Then, Else, EndIf}
 use Rattle.ti_param.specs.declared.tokens.Flaw.TheVariants.{Cut, Text}
-use Rattle.ti_param.specs.Padding.{is_digit}
-use Rattle.ti_param.specs.Spelling.{is_flag, IsDirective, all_digits, decimal_value, IsFormat, AreInRange, conversion_letter, IsConstant, Spells, IsStringOperator, IsCut, in_format, in_number, before_byte, before_quote, before_parameter, before_set, before_get}
+use Rattle.ti_param.specs.Spelling.{is_flag, IsDirective, decimal_value, IsFormat, AreInRange, conversion_letter, IsConstant, Spells, IsStringOperator, IsCut, in_format, in_number, before_byte, before_quote, before_parameter, before_set, before_get}
 use Rattle.ti_param.specs.Faults.{HasStringOperator}
 use Rattle.ti_param.specs.Code.Tokens.{parameter, letter_of, closing, constant, finished, directive, token}
 use Rattle.ti_param.proofs.DigitLaws.{digits_through}
 use Rattle.ti_param.proofs.NumeralLaws.{IsEnd, Heads, number_through, format_read}
+use Rattle.ti_param.specs.Digits.{is_digit, all_digits}
 
 -- ---- numbers
 

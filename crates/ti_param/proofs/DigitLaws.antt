@@ -3,9 +3,9 @@ use Rattle.std.proofs.Common.{◌≡◌, ℕ, ◌+◌, ◌-◌, ◌*◌, ◌^◌
 use Rattle.std.specs.Prelude.{eqb}
 use Rattle.std.proofs.Math.Nat.{pow-suc, mul_comm, mul_left_comm, mul-add}
 use Rattle.std.proofs.lemmas.Bool.{cond_both, eqb-true, and_from, and_parts, true≢false}
-use Rattle.ti_param.specs.Padding.{is_digit}
-use Rattle.ti_param.specs.Spelling.{all_digits, decimal_value, begins_with}
+use Rattle.ti_param.specs.Spelling.{decimal_value, begins_with}
 use Rattle.ti_param.specs.Code.Tokens.{digits}
+use Rattle.ti_param.specs.Digits.{is_digit, all_digits}
 
 -- ---- digits
 

@@ -1,6 +1,5 @@
 pub mod NumberLaws
 pub mod FlatLaws
-pub mod PaddingLaws
 pub mod MeasureLaws
 pub mod BuilderLaws
 pub mod ScanLaws
@@ -8,6 +7,7 @@ pub mod GrammarLaws
 pub mod ValueLaws
 pub mod OneTreeLaws
 pub mod DigitLaws
+pub mod PaddingLaws
 pub mod FlagLaws
 pub mod SoundLaws
 pub mod NumeralLaws

@@ -1,3 +1,4 @@
+pub mod Digits
 pub mod Padding
 pub mod Spelling
 pub mod Grammar

@@ -1,44 +1,43 @@
--- Padding in a capability text: terminfo(5), 'Delays and Padding'. It is `$<`, digits, a point and one digit or
--- nothing, `*` and `/` in either order, either of them or nothing, and `>`.
-use Rattle.std.specs.Prelude.{ℕ, zero, suc, ◌+◌, Bool, ◌&&◌, ◌||◌, ◌==◌, nat_le, nat_lt, List, [], ◌∷◌, drop, slice_index, if◌then◌else◌}
+-- Padding in a capability's text: terminfo(5), 'Delays and Padding'. A delay in milliseconds may stand anywhere in a
+-- text, as `$<5>`, `$<2.5*>` or `$<10*/>`.
+use Rattle.std.specs.Prelude.{◌≡◌, ◌≢◌, ℕ, ◌⊎◌, true, List, [], ◌∷◌, ◌++◌, codes}
+use Rattle.ti_param.specs.Digits.{is_digit, all_digits}
 
-abbrev pub is_digit : ℕ → Bool
-is_digit b = nat_le 48 b && nat_le b 57
+-- the number may have one digit behind a point
+abbrev pub IsTenth : List ℕ → Type 0
+IsTenth text = (text ≡ []) ⊎ ((digit : ℕ) × (is_digit digit ≡ true) × (text ≡ codes "." ++ digit ∷ []))
 
--- how many digits a text begins with
-abbrev pub leading_digits : List ℕ → ℕ
-leading_digits [] = 0
-leading_digits (b ∷ text) = if is_digit b then suc (leading_digits text) else 0
+-- what may follow the number: `*`, the delay is for each line affected; `/`, it is mandatory; or both, in either order
+pub data AreMarks : List ℕ → Type 0 where
+  none : AreMarks []
+  for_each_line : AreMarks (codes "*")
+  mandatory : AreMarks (codes "/")
+  line_first : AreMarks (codes "*/")
+  line_last : AreMarks (codes "/*")
 
--- how many digits a text has from a place on
-abbrev pub digits_at : List ℕ → ℕ → ℕ
-digits_at text place = leading_digits (drop place text)
+-- a padding is `$<`, a number with at least one digit before the point, what may follow it, and `>`
+pub record IsPadding (text : List ℕ) : Type 0 where
+  pub digits : List ℕ
+  pub tenth : List ℕ
+  pub marks : List ℕ
+  pub whole : text ≡ codes "$<" ++ (digits ++ (tenth ++ (marks ++ codes ">")))
+  pub are_digits : all_digits digits ≡ true
+  pub some : digits ≢ []
+  pub is_tenth : IsTenth tenth
+  pub are_marks : AreMarks marks
 
--- how long the point and its digit are that a text has at a place
-abbrev pub point_at : List ℕ → ℕ → ℕ
-point_at text place = if slice_index text place == 46 && is_digit (slice_index text (place + 1)) then 2 else 0
+-- no padding stands at the beginning of a text
+abbrev pub BeginsWithout : List ℕ → Type 0
+BeginsWithout text = (padding rest : List ℕ) → text ≡ padding ++ rest → IsPadding padding → ⊥
 
-abbrev pub marks : ℕ → ℕ → ℕ
-marks a b = if (a == 42 && b == 47) || (a == 47 && b == 42) then 2 else (if a == 42 || a == 47 then 1 else 0)
+-- `Stripped text result`: the result is the text without its padding, once from the left. Where a padding begins, it is
+-- left out, and what is behind it is looked at next; every other byte stays. So bytes that only meet when a padding
+-- between them is left out are no padding.
+pub data Stripped : List ℕ → List ℕ → Type 0 where
+  ended : Stripped [] []
+  left_out : {text padding rest result : List ℕ} → text ≡ padding ++ rest → IsPadding padding → Stripped rest result → Stripped text result
+  kept : {byte : ℕ} {rest result : List ℕ} → BeginsWithout (byte ∷ rest) → Stripped rest result → Stripped (byte ∷ rest) (byte ∷ result)
 
--- how many of `*` and `/` a text has at a place
-abbrev pub marks_at : List ℕ → ℕ → ℕ
-marks_at text place = marks (slice_index text place) (slice_index text (place + 1))
-
--- how long the padding is with which a text begins, or 0 where it begins with none
-abbrev pub padding_length : List ℕ → ℕ
-padding_length text =
-    let digits = digits_at text 2 in
-    let point = 2 + digits + point_at text (2 + digits) in
-    let end = point + marks_at text point in
-    if slice_index text 0 == 36 && slice_index text 1 == 60 && nat_lt 0 digits && slice_index text end == 62 then end + 1 else 0
-
--- a text without its padding, once so many bytes are passed
-abbrev pub without : ℕ → List ℕ → List ℕ
-without k [] = []
-without (suc k) (b ∷ text) = without k text
-without zero (b ∷ text) = elim (padding_length (b ∷ text)) [ zero ↦ b ∷ without zero text | suc k ↦ without k text ]
-
--- a text without its padding, which is removed in one pass from the left
-abbrev pub stripped : List ℕ → List ℕ
-stripped text = without 0 text
+-- a text without its padding is one text
+abbrev pub IsStrippedOnce : Type 0
+IsStrippedOnce = (text one other : List ℕ) → Stripped text one → Stripped text other → one ≡ other

@@ -1,6 +1,7 @@
 //! Laws on texts and programs, each the contract of a call that does nothing.
 
 ghost use Rattle.ti_param.specs.ProgramLaws.{HasNotBoth, HasOneFault, HasOneTree, HasTreeOrFault, IsBounded, StackIsEnough};
+ghost use Rattle.ti_param.specs.Padding.{IsStrippedOnce};
 
 /// A text spells at most one tree.
 pub fn text_has_one_tree()
@@ -30,4 +31,9 @@ pub fn text_is_bounded()
 /// Where the depth of a program is at most 20, no run finds the stack full.
 pub fn stack_is_enough()
     ensures { StackIsEnough }
+{}
+
+/// A text without its padding is one text.
+pub fn padding_is_removed_once()
+    ensures { IsStrippedOnce }
 {}

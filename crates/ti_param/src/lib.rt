@@ -20,8 +20,8 @@ mod variables;
 
 pub use faults::{NoMemory, ParamFault, RunFault};
 pub use laws::{
-    stack_is_enough, text_has_not_both, text_has_one_fault, text_has_one_tree,
-    text_has_tree_or_fault, text_is_bounded,
+    padding_is_removed_once, stack_is_enough, text_has_not_both, text_has_one_fault,
+    text_has_one_tree, text_has_tree_or_fault, text_is_bounded,
 };
 pub use padding::strip_padding;
 pub use programs::Program;

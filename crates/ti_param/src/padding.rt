@@ -1,23 +1,25 @@
 //! Padding in capability texts: terminfo(5), 'Delays and Padding'.
 
-ghost use Rattle.std.specs.Prelude.{◌≡◌, ◌+◌, ◌≤◌, ℕ, length, IfOk, slice_index, IsTrue, ◌↔◌};
-ghost use Rattle.ti_param.specs.Padding.{is_digit, digits_at, point_at, marks_at, padding_length, stripped};
+ghost use Rattle.std.specs.Prelude.{◌≡◌, ◌+◌, ◌≤◌, length, IfOk, slice_index};
+ghost use Rattle.ti_param.specs.Padding.{Stripped};
+ghost use Rattle.ti_param.specs.Code.Padding.{digits_at, point_at, marks_at, padding_length};
 
 use crate::faults::NoMemory;
 use std::alloc::{AllocError, Global};
 
 /// A capability's text without its padding, which is removed in one pass from the left: `$<`, at least one digit,
-/// a point and one digit or nothing, `*` and `/` in either order, either of them or nothing, and `>`.
-/// Its only refusal is want of memory. terminfo(5), 'Delays and Padding'.
+/// a point and one digit or nothing, `*` and `/` in either order, either of them or nothing, and `>`. By
+/// `padding_is_removed_once` there is one such text. Its only refusal is want of memory. terminfo(5), 'Delays and
+/// Padding'.
 pub fn strip_padding(alloc: Global, bytes: &[u8]) -> Result<Vec<u8>, NoMemory>
-    ensures { IfOk result (λ text. text.items ≡ stripped bytes.now) }
+    ensures { IfOk result (λ text. Stripped bytes.now text.items) }
 {
     one_pass(alloc, bytes).map_err(|_| NoMemory)
 }
 
 // The text without the padding that one pass from the left meets.
 fn one_pass(alloc: Global, bytes: &[u8]) -> Result<Vec<u8>, AllocError>
-    ensures { IfOk result (λ text. text.items ≡ stripped bytes.now) }
+    ensures { IfOk result (λ text. Stripped bytes.now text.items) }
 {
     let mut text = Vec::new(alloc);
     let mut place = 0;

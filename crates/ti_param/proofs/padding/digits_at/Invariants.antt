@@ -1,5 +1,5 @@
 use Rattle.std.proofs.Common.{◌≡◌, ◌+◌, ◌-◌, ◌≤◌, length, drop}
-use Rattle.ti_param.specs.Padding.{leading_digits}
+use Rattle.ti_param.specs.Code.Padding.{leading_digits}
 use Rattle.ti_param.proofs.padding.digits_at.Given as goal
 
 abbrev pub invariant-loop-end : goal.invariant-loop-end
