@@ -6,7 +6,7 @@ use Rattle.ti_caps.specs.Table.{or_else}
 use Rattle.ti_source.specs.declared.statement.Said.{Said}
 use Rattle.ti_source.specs.declared.statement.Statement.{Statement}
 use Rattle.ti_source.specs.declared.walk.Mark.{Mark}
-use Rattle.ti_source.specs.declared.walk.Mark.TheVariants.{New, Open, Done}
+use Rattle.ti_source.specs.declared.walk.Mark.TheVariants.{New, Open, Done, Faulty}
 use Rattle.ti_source.specs.Described.{Described}
 use Rattle.ti_source.specs.Named.{place_of}
 use Rattle.ti_source.specs.Resolving.{Resolve, nothing, merged, said_of}
@@ -25,6 +25,7 @@ kept-at entries marks kept (Some j) k keeps at = (j, refl, keeps j k (by (slice_
     by None e = cc
     by (Some New) e = cc
     by (Some Open) e = cc
+    by (Some (Faulty f)) e = cc
     by (Some (Done m)) e = let same : m ≡ k = cc in rw same refl
 
 or-or : (a b c : Option Said) → or_else (or_else a b) c ≡ or_else a (or_else b c)

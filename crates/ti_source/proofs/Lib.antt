@@ -1,5 +1,6 @@
 pub mod AloneLaws
 pub mod BytesLaws
+pub mod ChainLaws
 pub mod InForceLaws
 pub mod EscapeLaws
 pub mod EscapesBackLaws

@@ -5,7 +5,7 @@ use Rattle.std.proofs.lemmas.List.{drop_more}
 use Rattle.ti_caps.specs.Description.{Description}
 use Rattle.ti_source.specs.declared.fault.SourceFault.{SourceFault}
 use Rattle.ti_source.specs.declared.walk.Mark.{Mark}
-use Rattle.ti_source.specs.declared.walk.Mark.TheVariants.{New, Open, Done}
+use Rattle.ti_source.specs.declared.walk.Mark.TheVariants.{New, Open, Done, Faulty}
 use Rattle.ti_source.specs.declared.walk.Task.{Task}
 use Rattle.ti_source.specs.declared.walk.Task.TheVariants.{Visit, Leave}
 use Rattle.ti_source.specs.Described.{Described}
@@ -33,6 +33,7 @@ not-new None e h = cc
 not-new (Some New) e h = cc
 not-new (Some Open) e h = cc
 not-new (Some (Done k)) e h = cc
+not-new (Some (Faulty f)) e h = cc
 
 pub count-open : (ms : List Mark) (i : ℕ) → slice_get ms i ≡ Some New → suc (count_new (set ms i Open)) ≡ count_new ms
 count-open [] i e = cc
@@ -133,7 +134,7 @@ resolve-cons entries name names d ds one rest = by one refl refl
 
 -- ---- faults
 
-no-fault : (entries : List Described) (chain : List ℕ) (names : List (List ℕ)) (fault : SourceFault) → Fault entries chain names fault → names ≡ [] → ⊥
+pub no-fault : (entries : List Described) (chain : List ℕ) (names : List (List ℕ)) (fault : SourceFault) → Fault entries chain names fault → names ≡ [] → ⊥
 no-fault entries chain names fault (unknown e) p = cc
 no-fault entries chain names fault (cycle e c) p = cc
 no-fault entries chain names fault (below e c f) p = cc

@@ -1,5 +1,5 @@
 -- The way through uses, task by task.
-use Rattle.std.proofs.Common.{◌≡◌, ◌≢◌, ◌∙◌, ℕ, zero, suc, ◌+◌, ◌*◌, ◌≤◌, ◌<◌, Bool, true, false, ◌||◌, eqb, List, [], ◌∷◌, ◌++◌, Option, Some, None, slice_get, map, set, length, replicate, refl, subst, sym, arith, inl, inr}
+use Rattle.std.proofs.Common.{◌≡◌, ◌≢◌, ◌∙◌, ℕ, zero, suc, ◌+◌, ◌*◌, ◌≤◌, ◌<◌, Bool, true, false, ◌||◌, eqb, List, [], ◌∷◌, ◌++◌, Option, Some, None, slice_get, map, set, length, replicate, reverse, refl, subst, ap, sym, arith, inl, inr}
 use Rattle.std.specs.List.{list_any}
 use Rattle.std.proofs.lemmas.List.{length-set, length-append, length-map, length-replicate}
 use Rattle.std.proofs.lemmas.Bool.Decides.{nat_tests}
@@ -7,13 +7,15 @@ use Rattle.ti_source.specs.declared.fault.SourceFault.{SourceFault}
 use Rattle.ti_source.specs.declared.fault.SourceFault.TheVariants.{UnknownName, UseCycle}
 use Rattle.ti_source.specs.declared.statement.Statement.{Statement}
 use Rattle.ti_source.specs.declared.walk.Mark.{Mark}
-use Rattle.ti_source.specs.declared.walk.Mark.TheVariants.{New, Open, Done}
+use Rattle.ti_source.specs.declared.walk.Mark.TheVariants.{New, Open, Done, Faulty}
 use Rattle.ti_source.specs.declared.walk.Task.{Task}
 use Rattle.ti_source.specs.declared.walk.Task.TheVariants.{Visit, Leave}
+use Rattle.ti_source.specs.declared.walk.Walk.{Walk}
 use Rattle.ti_source.specs.Described.{Described}
 use Rattle.ti_source.specs.Named.{place_of}
 use Rattle.ti_source.specs.Resolving.{unknown, cycle}
-use Rattle.ti_source.specs.Walk.{visits, leaves, places, FaultAt, FaultIn, known, AreKnown, Within, IsWalk, Kept, count_new, Stepped}
+use Rattle.ti_source.specs.Walk.{visits, leaves, places, FaultAt, FaultIn, known, AreKnown, Within, IsWalk, Kept, count_new, Stepped, StuckAt, with_fault}
+use Rattle.ti_source.proofs.ChainLaws.{awaited-done, awaited-entered, faulty-at, ready-again}
 use Rattle.ti_source.proofs.NamedLaws.{found-none}
 use Rattle.ti_source.proofs.PlaceLaws.{get-append, get-cases, get-lt, get-none, get-push, get-set, get-within}
 use Rattle.ti_source.proofs.TaskLaws.{all-from, all-known, count-done, count-open, enter-lifts, found-at, held-mono, held-visits, known-set, leaves-visits, not-new, place-there, places-visits}
@@ -38,6 +40,8 @@ entered-stepped entries marks after kept i d tasks left w new at few after-is le
           (d, at, all-from (set marks i Open) firsts (map (place_of entries) d.uses) (λ p a. sub p (inl a))),
           held-mono entries marks (set marks i Open) (Some i ∷ []) (Some i ∷ firsts) tasks (λ p x. by-place p firsts x) w.held,
         ));
+        awaited = awaited-entered entries i d tasks at (w.fresh i new) w.awaited;
+        faulty = λ j f e. elim (get-cases marks i Open j (Faulty f) e) [ inl h ↦ absurd (cc (h.1)) | inr h ↦ w.faulty j f h.1 ];
       };
       lifts = enter-lifts entries i d tasks at (w.fresh i new);
       carries = λ p x. places-visits (set marks i Open) entries d.uses (Leave i ∷ tasks) p (carried p x);
@@ -86,6 +90,8 @@ done-stepped entries marks kept i k tasks w at =
         fresh = w.fresh;
         keeps = w.keeps;
         held = held-mono entries marks marks (Some i ∷ []) [] tasks (λ p x. known-first p [] x) w.held;
+        awaited = let had = w.keeps i k at in awaited-done entries tasks [] (Some i) had.2.d had.2.resolved w.awaited;
+        faulty = w.faulty;
       };
       lifts = λ fault h. let had = w.keeps i k at in inr ((had.2.d, had.2.resolved), h);
       carries = λ p x. known-first p (places tasks) x;
@@ -122,6 +128,8 @@ left-stepped entries marks after kept after_kept i fields tasks w keep after-is 
               (had.0, get-append kept (fields ∷ []) k had.0 had.1, had.2)
         ];
         held = held-mono entries marks (set marks i (Done (length kept))) (Some i ∷ []) [] tasks (λ p x. known-first p [] x) w.held.1;
+        awaited = awaited-done entries tasks [] (Some i) keep.d keep.resolved w.awaited.1;
+        faulty = λ j f e. elim (get-cases marks i (Done (length kept)) j (Faulty f) e) [ inl h ↦ absurd (cc (h.1)) | inr h ↦ w.faulty j f h.1 ];
       };
       lifts = λ fault h. h;
       carries = λ p x. known-first p (places tasks) x;
@@ -153,19 +161,21 @@ left-stepped entries marks after kept after_kept i fields tasks w keep after-is 
 pub leave-known : (entries : List Described) (marks : List Mark) (kept : List (List Statement)) (i : ℕ) (tasks : List Task) → IsWalk entries marks kept (Leave i ∷ tasks) → (d : Described) × (slice_get entries i ≡ Some d) × AreKnown marks (map (place_of entries) d.uses)
 leave-known entries marks kept i tasks w = (w.held.0.0, w.held.0.1, all-known marks (map (place_of entries) w.held.0.0.uses) w.held.0.2)
 
-pub cycle-in : (entries : List Described) (marks : List Mark) (kept : List (List Statement)) (i : ℕ) (tasks : List Task) → IsWalk entries marks kept (Visit (Some i) ∷ tasks) → slice_get marks i ≡ Some Open → FaultIn entries (Visit (Some i) ∷ tasks) UseCycle
-cycle-in entries marks kept i tasks w at =
-    inl (λ name place.
+pub cycle-at : (entries : List Described) (marks : List Mark) (kept : List (List Statement)) (i : ℕ) (tasks : List Task) → IsWalk entries marks kept (Visit (Some i) ∷ tasks) → slice_get marks i ≡ Some Open → FaultAt entries (leaves tasks) (Some i) UseCycle
+cycle-at entries marks kept i tasks w at name place =
     let lt = place-there entries name i place in
     let d = get-within entries i lt in
-    cycle (found-at entries name i d.0 place d.1) (w.opened i at))
+    cycle (found-at entries name i d.0 place d.1) (w.opened i at)
 
-pub past-in : (entries : List Described) (marks : List Mark) (kept : List (List Statement)) (i : ℕ) (tasks : List Task) → IsWalk entries marks kept (Visit (Some i) ∷ tasks) → slice_get marks i ≡ None → FaultIn entries (Visit (Some i) ∷ tasks) UnknownName
-past-in entries marks kept i tasks w none =
-    inl (λ name place. let lt = place-there entries name i place in let all = w.sized in let past = get-none marks i none in absurd (omega arith))
+pub past-at : (entries : List Described) (marks : List Mark) (kept : List (List Statement)) (i : ℕ) (tasks : List Task) → IsWalk entries marks kept (Visit (Some i) ∷ tasks) → slice_get marks i ≡ None → FaultAt entries (leaves tasks) (Some i) UnknownName
+past-at entries marks kept i tasks w none name place =
+    let lt = place-there entries name i place in let all = w.sized in let past = get-none marks i none in absurd (omega arith)
 
-pub unknown-in : (entries : List Described) (tasks : List Task) → FaultIn entries (Visit None ∷ tasks) UnknownName
-unknown-in entries tasks = inl (λ name place. unknown (found-none name entries (sym place)))
+pub marked-at : (entries : List Described) (marks : List Mark) (kept : List (List Statement)) (i : ℕ) (fault : SourceFault) (tasks : List Task) → IsWalk entries marks kept (Visit (Some i) ∷ tasks) → slice_get marks i ≡ Some (Faulty fault) → FaultAt entries (leaves tasks) (Some i) fault
+marked-at entries marks kept i fault tasks w at = faulty-at entries tasks i fault w.awaited (w.faulty i fault at)
+
+pub unknown-at : (entries : List Described) (chain : List ℕ) → FaultAt entries chain None UnknownName
+unknown-at entries chain name place = unknown (found-none name entries (sym place))
 
 -- ---- the whole way to a place
 
@@ -177,7 +187,7 @@ pub record IsReaching (entries : List Described) (before : List Mark) (place : O
 pub reaching-init : (entries : List Described) (marks : List Mark) (kept : List (List Statement)) (place : Option ℕ) (tasks : List Task) → IsWalk entries marks kept [] → tasks ≡ Visit place ∷ [] → IsReaching entries marks place marks kept tasks
 reaching-init entries marks kept place tasks w is =
     rw is (record {
-      walk = record { sized = w.sized; opened = w.opened; fresh = w.fresh; keeps = w.keeps; held = tt };
+      walk = record { sized = w.sized; opened = w.opened; fresh = w.fresh; keeps = w.keeps; held = tt; awaited = tt; faulty = w.faulty };
       lifts = λ fault h. h;
       carries = λ p h. h;
     })
@@ -199,6 +209,17 @@ pub reaching-fault : (entries : List Described) (before : List Mark) (place : Op
 reaching-fault entries before place marks kept tasks fault r h =
     elim (r.lifts fault h) [ inl f ↦ f | inr x ↦ absurd x.1 ]
 
+pub stuck-fault : (entries : List Described) (before : List Mark) (place : Option ℕ) (w after : Walk) (task : Task) (fault : SourceFault) → IsReaching entries before place w.marks.items w.kept.items (task ∷ reverse w.tasks.items) → StuckAt entries w task fault after → FaultAt entries [] place fault
+stuck-fault entries before place w after task fault r s =
+    reaching-fault entries before place w.marks.items w.kept.items (task ∷ reverse w.tasks.items) fault r (rw (s.visit) (inl s.stuck))
+
+pub stuck-ready : (entries : List Described) (before : List Mark) (place : Option ℕ) (w after : Walk) (task : Task) (fault : SourceFault) (marks : List Mark) → IsReaching entries before place w.marks.items w.kept.items (task ∷ reverse w.tasks.items) → StuckAt entries w task fault after → marks ≡ with_fault fault (leaves (reverse after.tasks.items)) after.marks.items → IsWalk entries marks after.kept.items []
+stuck-ready entries before place w after task fault marks r s is =
+    let walk = subst (λ t. IsWalk entries w.marks.items w.kept.items (t ∷ reverse w.tasks.items)) s.visit r.walk in
+    let marked = is ∙ ap (λ (x : Walk). with_fault fault (leaves (reverse x.tasks.items)) x.marks.items) s.same in
+    let ready = ready-again entries w.marks.items marks w.kept.items s.place (reverse w.tasks.items) fault walk s.stuck marked in
+    subst (λ (x : Walk). IsWalk entries marks x.kept.items []) (sym s.same) ready
+
 pub walk-new : (entries : List Described) (marks : List Mark) (kept : List (List Statement)) → marks ≡ replicate (length entries) New → IsWalk entries marks kept []
 walk-new entries marks kept is =
     rw is (record {
@@ -207,6 +228,8 @@ walk-new entries marks kept is =
       fresh = λ i e. refl;
       keeps = λ i k e. absurd (only (length entries) i (Done k) e (λ p. cc));
       held = tt;
+      awaited = tt;
+      faulty = λ i fault e. absurd (only (length entries) i (Faulty fault) e (λ p. cc));
     })
   where
     only : (n i : ℕ) (m : Mark) → slice_get (replicate n New) i ≡ Some m → (m ≡ New → ⊥) → ⊥

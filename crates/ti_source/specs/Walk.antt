@@ -1,12 +1,12 @@
 -- What the marks and the list of work of a way through uses stand for.
-use Rattle.std.specs.Prelude.{◌≡◌, ◌⊎◌, ◌<◌, ℕ, ◌+◌, ◌*◌, Bool, true, false, List, [], ◌∷◌, Option, Some, None, length, map, reverse, slice_get, is_some, ◌==◌}
+use Rattle.std.specs.Prelude.{◌≡◌, ◌⊎◌, ◌<◌, ℕ, ◌+◌, ◌*◌, Bool, true, false, List, [], ◌∷◌, ◌++◌, Option, Some, None, length, map, reverse, slice_get, slice_set, is_some, ◌==◌}
 use Rattle.std.specs.List.{list_any}
 use Rattle.ti_caps.specs.declared.table.Kind.{Kind}
 use Rattle.ti_caps.specs.Description.{Description}
 use Rattle.ti_caps.specs.Table.{or_else}
 use Rattle.ti_source.specs.declared.fault.SourceFault.{SourceFault}
 use Rattle.ti_source.specs.declared.walk.Mark.{Mark}
-use Rattle.ti_source.specs.declared.walk.Mark.TheVariants.{New, Open, Done}
+use Rattle.ti_source.specs.declared.walk.Mark.TheVariants.{New, Open, Done, Faulty}
 use Rattle.ti_source.specs.declared.walk.Task.{Task}
 use Rattle.ti_source.specs.declared.walk.Task.TheVariants.{Visit, Leave}
 use Rattle.ti_source.specs.declared.walk.Walk.{Walk}
@@ -108,6 +108,24 @@ pub record Kept (entries : List Described) (i : ℕ) (fields : List Statement) :
 abbrev pub Keeps : List Described → List Mark → List (List Statement) → Type 0
 Keeps entries marks kept = (i k : ℕ) → slice_get marks i ≡ Some (Done k) → (fields : List Statement) × (slice_get kept k ≡ Some fields) × Kept entries i fields
 
+-- an entry that is left later, and is left once: those of its uses that come first are still to be visited, and those before them resolve
+pub record Awaits (entries : List Described) (first : List (Option ℕ)) (i : ℕ) (tasks : List Task) : Type 0 where
+  pub entry : Described
+  pub at : slice_get entries i ≡ Some entry
+  pub before : List (List ℕ)
+  pub behind : List (List ℕ)
+  pub uses : entry.uses ≡ before ++ behind
+  pub used : List Description
+  pub resolved : Resolve entries before used
+  pub awaited : map (place_of entries) behind ≡ first
+  pub once : list_any (λ j. j == i) (leaves tasks) ≡ false
+
+-- each entry that is left later awaits the visits before it, and the entry that is left before it
+abbrev pub Awaited : List Described → List (Option ℕ) → List Task → Type 0
+Awaited entries first [] = Unit {0}
+Awaited entries first (Visit p ∷ tasks) = Awaited entries (first ++ p ∷ []) tasks
+Awaited entries first (Leave i ∷ tasks) = Awaits entries first i tasks × Awaited entries (Some i ∷ []) tasks
+
 -- what holds between two tasks
 pub record IsWalk (entries : List Described) (marks : List Mark) (kept : List (List Statement)) (tasks : List Task) : Type 0 where
   pub sized : length marks ≡ length entries
@@ -115,6 +133,8 @@ pub record IsWalk (entries : List Described) (marks : List Mark) (kept : List (L
   pub fresh : (i : ℕ) → slice_get marks i ≡ Some New → list_any (λ j. j == i) (leaves tasks) ≡ false
   pub keeps : Keeps entries marks kept
   pub held : Held entries marks [] tasks
+  pub awaited : Awaited entries [] tasks
+  pub faulty : (i : ℕ) (fault : SourceFault) → slice_get marks i ≡ Some (Faulty fault) → FaultAt entries [] (Some i) fault
 
 -- how many entries are not entered yet
 abbrev pub one_if_new : Mark → ℕ
@@ -131,6 +151,18 @@ pub record Stepped (entries : List Described) (marks : List Mark) (tasks : List 
   pub lifts : (fault : SourceFault) → FaultIn entries left fault → FaultIn entries tasks fault
   pub carries : (p : Option ℕ) → Within marks (places tasks) p → Within after (places left) p
   pub less : 34 * count_new after + length left < 34 * count_new marks + length tasks
+
+-- a task that has a fault: a visit over the entries that are left later, and nothing has changed
+pub record StuckAt (entries : List Described) (before : Walk) (task : Task) (fault : SourceFault) (after : Walk) : Type 0 where
+  pub same : after ≡ before
+  pub place : Option ℕ
+  pub visit : task ≡ Visit place
+  pub stuck : FaultAt entries (leaves (reverse before.tasks.items)) place fault
+
+-- these entries are followed to a fault
+abbrev pub with_fault : SourceFault → List ℕ → List Mark → List Mark
+with_fault fault [] marks = marks
+with_fault fault (i ∷ is) marks = with_fault fault is (slice_set marks i (Faulty fault))
 
 -- a walk on which nothing is left to do
 abbrev pub IsReady : List Described → Walk → Type 0

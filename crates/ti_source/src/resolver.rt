@@ -1,9 +1,12 @@
 //! Entries with their uses taken in.
 
-ghost use Rattle.std.specs.Prelude.{◌≡◌, [], IfErr, IfOk, IfSome, IsOkUnless};
+ghost use Rattle.std.specs.Prelude.{◌≡◌, [], Err, IfErr, IfOk, IfSome, IsOkUnless, false};
+ghost use Rattle.std.specs.List.{list_any};
 ghost use Rattle.ti_caps.specs.Description.{Description};
 ghost use Rattle.ti_source.specs.Resolving.{FaultOnce, ResolveOnce, ResolveOrFault, Resolved, StandsAlone, Unresolved, merged};
+ghost use Rattle.ti_source.specs.Named.{has_name};
 ghost use Rattle.ti_source.specs.Result.{Stops};
+ghost use Rattle.ti_source.specs.Walk.{FaultAt, ResolvedAt};
 
 use crate::entries::Entries;
 use crate::fault::SourceFault;
@@ -40,12 +43,12 @@ fn alone(alloc: Global, entry: &SourceEntry) -> Result<Entry, SourceFault>
 }
 
 /// Resolves names of one source, one after another (terminfo(5), "Similar Terminals"). An entry with
-/// uses, and each that it uses, is followed once and the fields that are in force are kept, until a
-/// fault of following them, after which all are followed anew. Contracts see the source's entries.
+/// uses, and each that it uses, is followed once, and its fields in force or its fault are kept.
+/// Contracts see the source's entries.
 #[derive(Drop)]
 pub struct Resolver<'a> {
     entries: &'a Entries,
-    /// None until an entry with uses is followed, and after a fault.
+    /// None until an entry with uses is followed, and after want of memory.
     walk: Option<Walk<'a>>,
 }
 
@@ -72,25 +75,27 @@ impl<'a> Resolver<'a> {
         }
     }
 
-    fn resolved(&mut self, alloc: Global, name: &[u8]) -> Result<Entry, SourceFault>
+    fn resolved_at(&mut self, alloc: Global, place: Option<usize>) -> Result<Entry, SourceFault>
         ensures same { self.new ≡ self.old }
-        ensures ok { IfOk result (λ e. Resolved self.old name.now e) }
-        ensures err { IfErr result (λ f. Stops f (Unresolved self.old name.now f)) }
+        ensures ok { IfOk result (λ e. ResolvedAt self.old place e) }
+        ensures err { IfErr result (λ f. Stops f (FaultAt self.old [] place f)) }
     {
         let entries = self.entries;
-        let place = entries.place_of(name);
         if let Some(entry) = without_uses(entries, place) {
             return alone(alloc, entry);
         }
-        if place.is_none() {
-            return Err(SourceFault::UnknownName);
-        }
-        let walk = match self.walk.take() {
+        let mut walk = match self.walk.take() {
             Some(walk) => walk,
             None => Walk::new(alloc, entries)?,
         };
-        let walk = walk.reach(alloc, entries, place)?;
-        let entry = walk.entry(alloc, entries, place);
+        let reached = walk.reach(alloc, entries, place);
+        if reached == Err(SourceFault::NoMemory) {
+            return Err(SourceFault::NoMemory);
+        }
+        let entry = match reached {
+            Ok(()) => walk.entry(alloc, entries, place),
+            Err(fault) => Err(fault),
+        };
         self.walk = Some(walk);
         entry
     }
@@ -102,8 +107,13 @@ impl<'a> Resolver<'a> {
         ensures ok { IfOk result (λ e. Resolved self.old name.now e) }
         ensures err { IfErr result (λ f. Stops f (Unresolved self.old name.now f)) }
         ensures good { (d : Description) → Resolved self.old name.now d → IsOkUnless result SourceFault.NoMemory }
+        ensures unknown { list_any (has_name name.now) self.old ≡ false → result ≡ Err SourceFault.UnknownName }
     {
-        self.resolved(alloc, name)
+        let place = self.entries.place_of(name);
+        if place.is_none() {
+            return Err(SourceFault::UnknownName);
+        }
+        self.resolved_at(alloc, place)
     }
 }
 
@@ -112,11 +122,13 @@ impl<'a> Resolver<'a> {
 /// it present. A used entry is resolved by itself, whole before the next, and carries no
 /// cancellation. UnknownName where no entry has the name, or a used one; UseCycle where a use
 /// leads back to an entry on its own chain; the first fault from left to right; NoMemory where
-/// memory runs out. A `Resolver` is for many names of one source.
+/// memory runs out, which a name that no entry has does not come to. A `Resolver` is for many names
+/// of one source.
 pub fn resolve(alloc: Global, source: &Source, name: &[u8]) -> Result<Entry, SourceFault>
     ensures ok { IfOk result (λ e. Resolved source.now.entries name.now e) }
     ensures err { IfErr result (λ f. Stops f (Unresolved source.now.entries name.now f)) }
     ensures good { (d : Description) → Resolved source.now.entries name.now d → IsOkUnless result SourceFault.NoMemory }
+    ensures unknown { list_any (has_name name.now) source.now.entries ≡ false → result ≡ Err SourceFault.UnknownName }
 {
     Resolver::new(source).resolve(alloc, name)
 }

@@ -1,7 +1,7 @@
 //! The way through the uses of entries, each entry being entered at most once.
 
-ghost use Rattle.std.specs.Prelude.{◌≡◌, ◌<◌, ◌∷◌, [], ◌++◌, List, length, Some, None, true, IfOk, IfErr, OnOk, map, replicate, reverse, slice_get};
-ghost use Rattle.ti_source.specs.Walk.{AreKnown, FaultAt, FaultIn, Gathers, IsReady, IsWalk, Keeps, ResolvedAt, Stepped, done_at, known, visits};
+ghost use Rattle.std.specs.Prelude.{◌≡◌, ◌<◌, ◌∷◌, [], ◌++◌, List, length, Some, None, true, IfOk, IfErr, OnOk, map, replicate, reverse, slice_get, slice_set};
+ghost use Rattle.ti_source.specs.Walk.{AreKnown, FaultAt, Gathers, IsReady, IsWalk, Keeps, ResolvedAt, Stepped, StuckAt, done_at, known, leaves, visits, with_fault};
 ghost use Rattle.ti_source.specs.Named.{place_of};
 ghost use Rattle.ti_source.specs.Result.{Stops};
 
@@ -23,6 +23,8 @@ pub(crate) enum Mark {
     Open,
     /// Resolved; its fields are kept at this position.
     Done(usize),
+    /// Followed to this fault.
+    Faulty(SourceFault),
 }
 
 /// What is left to do.
@@ -34,7 +36,7 @@ pub(crate) enum Task {
     Leave(usize),
 }
 
-/// How far each entry is, the fields kept of the resolved ones, and what is left to do, the next last.
+/// How far each entry is, the fields kept of the resolved ones, and what is left to do, the next last. An entry is never New again.
 #[derive(Drop)]
 pub(crate) struct Walk<'a> {
     marks: Vec<Mark>,
@@ -61,6 +63,14 @@ fn done_at(marks: &[Mark], place: Option<usize>) -> Option<usize>
     match mark_at(marks, place?)? {
         Mark::Done(position) => Some(position),
         _ => None,
+    }
+}
+
+fn put_mark(marks: &mut [Mark], place: usize, mark: Mark)
+    ensures { marks.new ≡ slice_set marks.old place mark }
+{
+    if place < marks.len() {
+        marks[place] = mark;
     }
 }
 
@@ -100,6 +110,18 @@ fn gathered<'a>(
     Ok(fields)
 }
 
+/// Marks the entries that are left later as ones that are followed to a fault, and does nothing else of what is left.
+fn put_fault(marks: &mut [Mark], tasks: &mut Vec<Task>, fault: SourceFault)
+    ensures marks { marks.new ≡ with_fault fault (leaves (reverse tasks.old.items)) marks.old }
+    ensures tasks { tasks.new.items ≡ [] }
+{
+    while let Some(task) = tasks.pop() {
+        if let Task::Leave(i) = task {
+            put_mark(marks, i, Mark::Faulty(fault));
+        }
+    }
+}
+
 impl<'a> Walk<'a> {
     pub(crate) fn new(alloc: Global, entries: &Entries) -> Result<Walk<'a>, SourceFault>
         ensures ready { IfOk result (λ w. IsReady entries.now w) }
@@ -113,42 +135,38 @@ impl<'a> Walk<'a> {
     }
 
     /// Enters an entry: its uses are next, and it is left after them.
-    fn entered(mut self, entries: &'a Entries, i: usize) -> Result<Walk<'a>, SourceFault>
-        requires walk { IsWalk entries.now self.marks.items self.kept.items (Task.Visit (Some i) ∷ reverse self.tasks.items) }
-        requires new { slice_get self.marks.items i ≡ Some Mark.New }
-        ensures ok { IfOk result (λ w. Stepped entries.now self.entry.marks.items (Task.Visit (Some i) ∷ reverse self.entry.tasks.items) w.marks.items w.kept.items (reverse w.tasks.items)) }
+    fn enter(&mut self, entries: &'a Entries, i: usize) -> Result<(), SourceFault>
+        requires walk { IsWalk entries.now self.old.marks.items self.old.kept.items (Task.Visit (Some i) ∷ reverse self.old.tasks.items) }
+        requires new { slice_get self.old.marks.items i ≡ Some Mark.New }
+        ensures ok { OnOk result (Stepped entries.now self.old.marks.items (Task.Visit (Some i) ∷ reverse self.old.tasks.items) self.new.marks.items self.new.kept.items (reverse self.new.tasks.items)) }
         ensures err { IfErr result (λ f. f ≡ SourceFault.NoMemory) }
     {
         let entry = &entries.as_slice()[i];
-        self.marks[i] = Mark::Open;
         self.tasks.push(Task::Leave(i))?;
         put_visits(&mut self.tasks, entries, entry.uses())?;
-        Ok(self)
+        self.marks[i] = Mark::Open;
+        Ok(())
     }
 
-    fn visited(self, entries: &'a Entries, i: usize) -> Result<Walk<'a>, SourceFault>
-        requires { IsWalk entries.now self.marks.items self.kept.items (Task.Visit (Some i) ∷ reverse self.tasks.items) }
-        ensures ok { IfOk result (λ w. Stepped entries.now self.entry.marks.items (Task.Visit (Some i) ∷ reverse self.entry.tasks.items) w.marks.items w.kept.items (reverse w.tasks.items)) }
-        ensures err { IfErr result (λ f. Stops f (FaultIn entries.now (Task.Visit (Some i) ∷ reverse self.entry.tasks.items) f)) }
+    fn visit(&mut self, entries: &'a Entries, i: usize) -> Result<(), SourceFault>
+        requires { IsWalk entries.now self.old.marks.items self.old.kept.items (Task.Visit (Some i) ∷ reverse self.old.tasks.items) }
+        ensures ok { OnOk result (Stepped entries.now self.old.marks.items (Task.Visit (Some i) ∷ reverse self.old.tasks.items) self.new.marks.items self.new.kept.items (reverse self.new.tasks.items)) }
+        ensures err { IfErr result (λ f. Stops f (StuckAt entries.now self.old (Task.Visit (Some i)) f self.new)) }
     {
         match mark_at(&self.marks, i) {
-            Some(Mark::New) => self.entered(entries, i),
+            Some(Mark::New) => self.enter(entries, i),
             Some(Mark::Open) => Err(SourceFault::UseCycle),
-            Some(Mark::Done(_)) => Ok(self),
+            Some(Mark::Done(_)) => Ok(()),
+            Some(Mark::Faulty(fault)) => Err(fault),
             None => Err(SourceFault::UnknownName),
         }
     }
 
     /// Leaves an entry whose uses are done.
-    fn left(
-        mut self,
-        alloc: Global,
-        entries: &'a Entries,
-        i: usize,
-    ) -> Result<Walk<'a>, SourceFault>
+    fn leave(&mut self, alloc: Global, entries: &'a Entries, i: usize) -> Result<(), SourceFault>
         requires there { i < length entries.now }
-        requires walk { IsWalk entries.now self.marks.items self.kept.items (Task.Leave i ∷ reverse self.tasks.items) }
-        ensures ok { IfOk result (λ w. Stepped entries.now self.entry.marks.items (Task.Leave i ∷ reverse self.entry.tasks.items) w.marks.items w.kept.items (reverse w.tasks.items)) }
+        requires walk { IsWalk entries.now self.old.marks.items self.old.kept.items (Task.Leave i ∷ reverse self.old.tasks.items) }
+        ensures ok { OnOk result (Stepped entries.now self.old.marks.items (Task.Leave i ∷ reverse self.old.tasks.items) self.new.marks.items self.new.kept.items (reverse self.new.tasks.items)) }
         ensures err { IfErr result (λ f. f ≡ SourceFault.NoMemory) }
     {
         let position = self.kept.len();
@@ -156,41 +174,45 @@ impl<'a> Walk<'a> {
         let fields = gathered(alloc, entries, &self.marks, &self.kept, entry)?;
         self.kept.push(in_force(alloc, &fields)?)?;
         self.marks[i] = Mark::Done(position);
-        Ok(self)
+        Ok(())
     }
 
-    fn step(self, alloc: Global, entries: &'a Entries, task: Task) -> Result<Walk<'a>, SourceFault>
-        requires { IsWalk entries.now self.marks.items self.kept.items (task ∷ reverse self.tasks.items) }
-        ensures ok { IfOk result (λ w. Stepped entries.now self.entry.marks.items (task ∷ reverse self.entry.tasks.items) w.marks.items w.kept.items (reverse w.tasks.items)) }
-        ensures err { IfErr result (λ f. Stops f (FaultIn entries.now (task ∷ reverse self.entry.tasks.items) f)) }
+    fn step(&mut self, alloc: Global, entries: &'a Entries, task: Task) -> Result<(), SourceFault>
+        requires { IsWalk entries.now self.old.marks.items self.old.kept.items (task ∷ reverse self.old.tasks.items) }
+        ensures ok { OnOk result (Stepped entries.now self.old.marks.items (task ∷ reverse self.old.tasks.items) self.new.marks.items self.new.kept.items (reverse self.new.tasks.items)) }
+        ensures err { IfErr result (λ f. Stops f (StuckAt entries.now self.old task f self.new)) }
     {
         match task {
             Task::Visit(place) => match place {
-                Some(i) => self.visited(entries, i),
+                Some(i) => self.visit(entries, i),
                 None => Err(SourceFault::UnknownName),
             },
-            Task::Leave(i) => self.left(alloc, entries, i),
+            Task::Leave(i) => self.leave(alloc, entries, i),
         }
     }
 
-    /// Follows the entry of a place and keeps its fields; UnknownName where there is none.
+    /// Follows the entry of a place and keeps its fields; UnknownName where there is none. After a fault the entries that were
+    /// on the chain of uses are followed no more. Want of memory leaves the walk unfit for more.
     pub(crate) fn reach(
-        self,
+        &mut self,
         alloc: Global,
         entries: &'a Entries,
         place: Option<usize>,
-    ) -> Result<Walk<'a>, SourceFault>
-        requires { IsReady entries.now self }
-        ensures ready { IfOk result (λ w. IsReady entries.now w) }
-        ensures known { IfOk result (λ w. known w.marks.items place ≡ true) }
+    ) -> Result<(), SourceFault>
+        requires { IsReady entries.now self.old }
+        ensures ready { OnOk result (IsReady entries.now self.new) }
+        ensures known { OnOk result (known self.new.marks.items place ≡ true) }
         ensures err { IfErr result (λ f. Stops f (FaultAt entries.now [] place f)) }
+        ensures ready_again { IfErr result (λ f. Stops f (IsReady entries.now self.new)) }
     {
-        let mut walk = self;
-        walk.tasks.push(Task::Visit(place))?;
-        while let Some(task) = walk.tasks.pop() {
-            walk = walk.step(alloc, entries, task)?;
+        self.tasks.push(Task::Visit(place))?;
+        while let Some(task) = self.tasks.pop() {
+            if let Err(fault) = self.step(alloc, entries, task) {
+                put_fault(&mut self.marks, &mut self.tasks, fault);
+                return Err(fault);
+            }
         }
-        Ok(walk)
+        Ok(())
     }
 
     /// The resolved entry of a place that is done and kept.

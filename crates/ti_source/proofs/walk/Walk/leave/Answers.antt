@@ -6,25 +6,25 @@ use Rattle.ti_source.specs.Walk.{AreKnown}
 use Rattle.ti_source.proofs.GatherLaws.{kept-with}
 use Rattle.ti_source.proofs.NamedLaws.{slice_get-at}
 use Rattle.ti_source.proofs.WalkLaws.{left-stepped, leave-known}
-use Rattle.ti_source.proofs.walk.Walk.left.Goals as goal
+use Rattle.ti_source.proofs.walk.Walk.leave.Goals as goal
 
 pub gathered-requires-clause-known : goal.gathered-requires-clause-known
 gathered-requires-clause-known c =
     let entries = c.args.entries.now in
-    let k = leave-known entries c.args.self.marks.items c.args.self.kept.items c.args.i (reverse c.args.self.tasks.items) c.requires.walk in
+    let k = leave-known entries c.args.self.now.marks.items c.args.self.now.kept.items c.args.i (reverse c.args.self.now.tasks.items) c.requires.walk in
     let lt : c.args.i < length c.as_slice.result.now = rw c.as_slice.ensures c.requires.there in
     let at : slice_get entries c.args.i ≡ Some c.index-as_slice-i.result = rw (← c.as_slice.ensures) (slice_get-at c.as_slice.result.now c.args.i c.index-as_slice-i.result lt c.index-as_slice-i.is) in
     let same : k.0 ≡ c.index-as_slice-i.result = cc (k.1, at) in
-    let P : Described → Type 0 = λ d. AreKnown c.args.self.marks.items (map (place_of entries) d.uses) in
+    let P : Described → Type 0 = λ d. AreKnown c.args.self.now.marks.items (map (place_of entries) d.uses) in
     rw c.deref.ensures.value (subst P same k.2)
 
 pub returns-clause-ok : goal.returns-clause-ok
 returns-clause-ok c =
     let entries = c.args.entries.now in
-    let marks = c.args.self.marks.items in
-    let kept = c.args.self.kept.items in
-    let tasks = reverse c.args.self.tasks.items in
-    let sized : c.args.self.kept.len ≡ length kept = search rules in
+    let marks = c.args.self.now.marks.items in
+    let kept = c.args.self.now.kept.items in
+    let tasks = reverse c.args.self.now.tasks.items in
+    let sized : c.args.self.now.kept.len ≡ length kept = search rules in
     let lt : c.args.i < length c.as_slice.result.now = rw c.as_slice.ensures c.requires.there in
     let at : slice_get entries c.args.i ≡ Some c.index-as_slice-i.result = rw (← c.as_slice.ensures) (slice_get-at c.as_slice.result.now c.args.i c.index-as_slice-i.result lt c.index-as_slice-i.is) in
     let keep = kept-with entries c.args.i c.index-as_slice-i.result _ _ at c.in_ok-fields.ensures c.in_ok-in_force.ensures in
