@@ -7,7 +7,7 @@ ghost use Rattle.scr_term.specs.Steps.{has};
 
 use crate::Op;
 use bitflags::Flags;
-use scr_cells::{Attrs, NoMemory, Size};
+use scr_cells::{Attrs, NoMemory, Size, is_character};
 use std::alloc::Global;
 use std::marker::Model;
 
@@ -75,7 +75,7 @@ impl Profile {
             Op::Move(row, column) => row < self.size.rows && column < self.size.columns,
             Op::Clear | Op::Reset => true,
             Op::Enter(attribute) => is_attribute(attribute) && self.shown.contains(attribute),
-            Op::Put(byte) => (32..=126).contains(&byte),
+            Op::Put(byte) => is_character(byte),
         }
     }
 }
