@@ -1,6 +1,7 @@
 //! Texts in quotation marks: how they are read, and how bytes are written as one.
 
 use crate::troubles::Trouble;
+use scr_cells::is_character;
 
 // Where in a text its reader is.
 #[derive(Clone, Copy)]
@@ -158,7 +159,7 @@ pub fn write_byte(byte: u8, text: &mut Vec<u8>) -> Result<(), Trouble> {
         b'\t' => text.extend_from_slice(b"\\t")?,
         27 => text.extend_from_slice(b"\\e")?,
         b'"' | b'\\' => text.extend_from_slice(&[b'\\', byte])?,
-        32..=126 => text.push(byte)?,
+        _ if is_character(byte) => text.push(byte)?,
         _ => text.extend_from_slice(&[
             b'\\',
             b'x',

@@ -15,8 +15,7 @@ pub record CellView : Type 0 where
 
 -- the byte is a character
 pub record IsCell (cell : CellView) : Type 0 where
-  pub from_blank : 32 ≤ cell.byte
-  pub to_tilde : cell.byte ≤ 126
+  pub character : IsCharacter cell.byte
   pub attributes : cell.attrs < 256
 
 -- a blank without attributes

@@ -1,7 +1,7 @@
 -- What a terminal shows in one place. ECMA-48, 'graphic rendition'.
-use Rattle.std.specs.Prelude.{ℕ, ◌<◌, ◌≤◌, bit_and, List, map}
+use Rattle.std.specs.Prelude.{ℕ, ◌<◌, bit_and, List, map}
 use Rattle.scr_cells.specs.Attributes.{negative_set}
-use Rattle.scr_cells.specs.CellViews.{CellView}
+use Rattle.scr_cells.specs.CellViews.{CellView, IsCharacter}
 use Rattle.scr_cells.specs.Grids.{grid_of}
 
 -- a byte with the attributes that it is shown with
@@ -11,8 +11,7 @@ pub record LookView : Type 0 where
 
 -- the byte is a character
 pub record IsLook (look : LookView) : Type 0 where
-  pub from_blank : 32 ≤ look.byte
-  pub to_tilde : look.byte ≤ 126
+  pub character : IsCharacter look.byte
   pub attributes : look.attrs < 256
 
 -- byte 32 without attributes

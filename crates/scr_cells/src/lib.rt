@@ -9,7 +9,6 @@ mod cells;
 mod grids;
 mod laws;
 mod looks;
-mod out_of_memory;
 mod pictures;
 mod sizes;
 

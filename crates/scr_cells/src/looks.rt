@@ -6,7 +6,7 @@ ghost use Rattle.std.specs.Cmp.Rules.{comparing};
 ghost use Rattle.scr_cells.specs.CellViews.{IsCharacter};
 ghost use Rattle.scr_cells.specs.LookViews.{IsLook, blank};
 
-use crate::Attrs;
+use crate::{Attrs, is_character};
 use std::marker::Model;
 
 /// What a terminal shows in one place: a byte 32 to 126 and the attributes that it is shown with
@@ -37,7 +37,7 @@ impl Look {
         ensures character { IsSome result ↔ IsCharacter byte }
         ensures holds { IfSome result (λ look. look ≡ record { byte = byte; attrs = attrs.0 }) }
     {
-        if !(32..=126).contains(&byte) {
+        if !is_character(byte) {
             return None;
         }
         Some(Look {

@@ -76,7 +76,7 @@ cell_painted laws profile p old r c cell hr hc k =
     let placed : State = record { grid = old.grid; spot = At r c; attrs = 0 } in
     let lit : State = record { grid = old.grid; spot = At r c; attrs = with_each 0 (attributes_of shown) } in
     let place : (nat_lt r profile.rows && nat_lt c profile.columns) ≡ true = grind (arith, nat_tests) in
-    let graphic : (nat_le 32 cell.byte && nat_le cell.byte 126) ≡ true = grind (arith, nat_tests, k.from_blank, k.to_tilde) in
+    let graphic : (nat_le 32 cell.byte && nat_le cell.byte 126) ≡ true = grind (arith, nat_tests, k.character.0, k.character.1) in
     let moved : runs profile old (Move r c ∷ Reset ∷ []) ≡ Some placed = rw place refl in
     let entered : runs profile placed (map enter (attributes_of shown)) ≡ Some lit = enters profile cell.attrs all_attributes (refl, (refl, (refl, (refl, (refl, (refl, (refl, tt))))))) placed in
     let put : runs profile lit (Put cell.byte ∷ []) ≡ Some (record { grid = grid_with old.grid r c (seen profile.shown cell); spot = spot_after profile.columns r c; attrs = shown })

@@ -45,7 +45,7 @@ is_blank rows columns = record {
 
 pub all_blank : (rows columns : ℕ) → All (All IsLook) (blank_grid rows columns)
 all_blank rows columns =
-    let look : IsLook blank = record { from_blank = omega arith; to_tilde = omega arith; attributes = omega arith } in
+    let look : IsLook blank = record { character = (omega arith, omega arith); attributes = omega arith } in
     All-map (All IsLook) (λ (_ : ℕ). blank_line columns) (range_with_len 0 rows) (λ k d h. All-map IsLook (λ (_ : ℕ). blank) (range_with_len 0 columns) (λ i e j. look))
 
 -- the negative of blanks is blanks, and that of a look in a place is its negative in that place

@@ -47,7 +47,7 @@ keeps_put profile p old new s byte (At r c) inside low high h =
     let after : IsSpot profile.rows profile.columns (spot_after profile.columns r c) = next_spot (nat_lt (c + 1) profile.columns) refl in
     let kept : IsState profile.rows profile.columns profile.shown written = record {
       whole = put_is_grid profile.rows profile.columns old.grid r c look s.whole;
-      looks = put_all profile.rows profile.columns old.grid r c look s.whole inside.0 (record { from_blank = low; to_tilde = high; attributes = few }) s.looks;
+      looks = put_all profile.rows profile.columns old.grid r c look s.whole inside.0 (record { character = (low, high); attributes = few }) s.looks;
       spot = after;
       attrs = s.attrs;
     } in

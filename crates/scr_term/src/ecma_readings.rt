@@ -3,6 +3,8 @@ ghost use Rattle.std.specs.Prelude.{◌≡◌, [], ◌⊎◌};
 ghost use Rattle.scr_term.specs.EcmaUnits.{IsWaiting, is_parameter_byte};
 ghost use Rattle.scr_term.specs.EcmaReadings.{IsReading};
 
+use scr_cells::is_character;
+
 /// What the next byte of a text is.
 #[derive(Clone, Copy)]
 pub(crate) enum Reading {
@@ -33,7 +35,7 @@ pub(crate) fn read_byte(part: &[u8], byte: u8) -> Reading
 {
     let length = part.len();
     if length == 0 {
-        if (32..=126).contains(&byte) {
+        if is_character(byte) {
             Reading::Graphic
         } else if byte == 0x1B {
             Reading::Held

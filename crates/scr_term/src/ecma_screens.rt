@@ -3,6 +3,7 @@
 ghost use Rattle.std.specs.Prelude.{◌≡◌, ◌≤◌, ◌+◌, ◌<◌, ◌↔◌, false, length, [], ◌∷◌, bit_and, option_map, IfOk, IsOk, IsTrue};
 ghost use Rattle.std.specs.Option.{ForSome};
 ghost use Rattle.scr_cells.specs.Attributes.{every_attribute};
+ghost use Rattle.scr_cells.specs.CellViews.{IsCharacter};
 ghost use Rattle.scr_cells.specs.Grids.{grid_at, grid_row};
 ghost use Rattle.scr_cells.specs.LookViews.{IsLook, LookView};
 ghost use Rattle.scr_cells.specs.PictureViews.{IsPlace};
@@ -176,8 +177,7 @@ impl EcmaScreen {
 
     /// Writes a graphic character at the cursor, which goes right; undefined at the margin.
     fn write(&mut self, byte: u8)
-        requires from_blank { 32 ≤ byte }
-        requires to_tilde { byte ≤ 126 }
+        requires character { IsCharacter byte }
         requires whole { self.old.waiting ≡ [] }
         ensures { self.new ≡ acted self.old (written self.old.columns self.old.state byte) }
     {

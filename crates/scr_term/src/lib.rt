@@ -9,6 +9,7 @@ mod ecma_readings;
 mod ecma_screens;
 mod operation_laws;
 mod operations;
+mod profile_faults;
 mod profiles;
 mod rendering;
 
@@ -19,4 +20,5 @@ pub use operation_laws::{
     steps_keep_states,
 };
 pub use operations::{Op, Ops, Spot};
+pub use profile_faults::ProfileFault;
 pub use profiles::Profile;

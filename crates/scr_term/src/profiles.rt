@@ -1,13 +1,13 @@
 //! What is known of a terminal, and which operations it has.
-ghost use Rattle.std.specs.Prelude.{◌≡◌, ◌==◌, IfOk};
+ghost use Rattle.std.specs.Prelude.{◌≡◌, ◌==◌, IfErr, IfOk};
 ghost use Rattle.std.specs.List.{list_any};
 ghost use Rattle.scr_cells.specs.Attributes.{all_attributes};
 ghost use Rattle.scr_term.specs.Profiles.{IsEcma48, IsProfile};
 ghost use Rattle.scr_term.specs.Steps.{has};
 
-use crate::Op;
+use crate::{Op, ProfileFault};
 use bitflags::Flags;
-use scr_cells::{Attrs, NoMemory, Size};
+use scr_cells::{Attrs, Size, is_character};
 use std::alloc::Global;
 use std::marker::Model;
 
@@ -37,12 +37,13 @@ fn is_attribute(set: Attrs) -> bool
 }
 
 impl Profile {
-    /// The profile of the bundled ECMA-48 entry on a screen of this size. Fails only when memory
-    /// runs out.
-    pub fn ecma48(_alloc: Global, size: Size) -> Result<Profile, NoMemory>
+    /// The profile of the bundled ECMA-48 entry on a screen of this size. The entry has no other fault: the only
+    /// refusal is `NoMemory`.
+    pub fn ecma48(_alloc: Global, size: Size) -> Result<Profile, ProfileFault>
         ensures entry { IfOk result IsEcma48 }
         ensures rows { IfOk result (λ profile. profile.rows ≡ size.rows) }
         ensures columns { IfOk result (λ profile. profile.columns ≡ size.columns) }
+        ensures memory { IfErr result (λ fault. fault ≡ ProfileFault.NoMemory) }
     {
         Ok(Profile {
             size,
@@ -75,7 +76,7 @@ impl Profile {
             Op::Move(row, column) => row < self.size.rows && column < self.size.columns,
             Op::Clear | Op::Reset => true,
             Op::Enter(attribute) => is_attribute(attribute) && self.shown.contains(attribute),
-            Op::Put(byte) => (32..=126).contains(&byte),
+            Op::Put(byte) => is_character(byte),
         }
     }
 }

@@ -1,6 +1,7 @@
 //! Showing a surface: the bytes that paint it, and what a terminal then shows.
 ghost use Rattle.std.specs.Prelude.{◌≡◌, true, All, IsSome, IfSome, IfOk, OnOk};
 ghost use Rattle.std.specs.Option.{ForSome};
+ghost use Rattle.scr_term.specs.Profiles.{IsEcma48};
 ghost use Rattle.scr_term.specs.Steps.{has};
 ghost use Rattle.scr_term.specs.Texts.{all_bytes};
 ghost use Rattle.screen_scripts.specs.Stories.{Shown};
@@ -9,7 +10,7 @@ ghost use Rattle.screen_scripts.specs.Printing.{printed_event, profile_for, sent
 ghost use Rattle.screen_scripts.specs.Showing.{IsTerminalFor};
 
 use crate::printing::print_screen;
-use scr_cells::{NoMemory, Picture};
+use scr_cells::{NoMemory, Picture, Size};
 use scr_plan::{scratch, scratch_bytes_show, scratch_shows};
 use scr_term::{EcmaScreen, Op, Profile, blank_laws, run_laws, screens_follow_texts};
 use std::alloc::Global;
@@ -84,12 +85,21 @@ fn paint(surface: &Picture, bytes: &[u8], screen: &mut EcmaScreen)
 fn update_bytes(alloc: Global, surface: &Picture) -> Result<Vec<u8>, NoMemory>
     ensures { IfOk result (λ bytes. bytes.items ≡ sent_event (Shown surface.now)) }
 {
-    let profile = Profile::ecma48(alloc, surface.size())?;
+    let profile = bundled_profile(alloc, surface.size())?;
     let ops = scratch(alloc, &profile, surface)?;
     scratch_shows();
     run_laws();
     blank_laws();
     rendered(alloc, &profile, &ops.0)
+}
+
+// The profile of the bundled entry, which has no fault but want of memory.
+fn bundled_profile(alloc: Global, size: Size) -> Result<Profile, NoMemory>
+    ensures entry { IfOk result IsEcma48 }
+    ensures rows { IfOk result (λ profile. profile.rows ≡ size.rows) }
+    ensures columns { IfOk result (λ profile. profile.columns ≡ size.columns) }
+{
+    Profile::ecma48(alloc, size).map_err(|_| NoMemory)
 }
 
 // The bytes of operations that the profile has, one after another.

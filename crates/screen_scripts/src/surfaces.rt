@@ -5,7 +5,7 @@ ghost use Rattle.scr_cells.specs.PictureViews.{IsPlace};
 ghost use Rattle.scr_cells.specs.CellViews.{is_character};
 ghost use Rattle.screen_scripts.specs.Surfaces.{next_place as next_place_of, with_byte, with_text, blank_surface as blank_surface_of};
 
-use scr_cells::{Attrs, Cell, NoMemory, Picture, Size};
+use scr_cells::{Attrs, Cell, NoMemory, Picture, Size, is_character};
 use std::alloc::Global;
 
 /// A blank surface with the cursor in the first place.
@@ -21,7 +21,7 @@ pub fn blank_surface(alloc: Global, size: Size) -> Result<Picture, NoMemory>
 pub fn is_printed(text: &[u8]) -> bool
     ensures { result ≡ list_all is_character text.now }
 {
-    text.iter().all(|byte| (32..=126).contains(byte))
+    text.iter().all(|byte| is_character(*byte))
 }
 
 /// Adds the characters of a text at the cursor, which goes on (X/Open Curses Issue 7, waddstr()).

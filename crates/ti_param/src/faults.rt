@@ -2,11 +2,6 @@
 
 use thiserror::Error;
 
-/// Memory ran out, and nothing has changed.
-#[derive(Clone, Copy, Debug, PartialEq, Eq, Error)]
-#[error("out of memory")]
-pub struct NoMemory;
-
 /// Why a text is no parameter string: the leftmost fault. A place is that of the `%`, counted in bytes from 0.
 /// terminfo(5), 'Parameterized Strings'.
 #[derive(Clone, Copy, Debug, PartialEq, Eq, Error)]

@@ -4,7 +4,7 @@ ghost use Rattle.std.specs.Prelude.{◌≡◌, ◌+◌, ◌≤◌, length, IfOk,
 ghost use Rattle.ti_param.specs.Padding.{Stripped};
 ghost use Rattle.ti_param.specs.Code.Padding.{digits_at, point_at, marks_at, padding_length};
 
-use crate::faults::NoMemory;
+use out_of_memory::NoMemory;
 use std::alloc::{AllocError, Global};
 
 /// A capability's text without its padding, which is removed in one pass from the left: `$<`, at least one digit,

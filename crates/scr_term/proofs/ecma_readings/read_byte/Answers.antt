@@ -9,7 +9,7 @@ returns-then-byte-eq27 c = first_escape c.args.part.now c.args.byte (nil_from_le
 
 pub returns-else-byte-eq27 : goal.returns-else-byte-eq27
 returns-else-byte-eq27 c =
-    let off : (c.args.byte < 32) ⊎ (126 < c.args.byte) = grind (arith, nat_tests, c.if-contains.ensures.value) in
+    let off : (c.args.byte < 32) ⊎ (126 < c.args.byte) = grind (arith, nat_tests, c.is_character.ensures.value) in
     first_other c.args.part.now c.args.byte (nil_from_length c.args.part.now (omega arith)) off (omega arith)
 
 pub returns-then-byte-eq91 : goal.returns-then-byte-eq91
@@ -28,13 +28,13 @@ pub returns-else-length-lt-LONGEST : goal.returns-else-length-lt-LONGEST
 returns-else-length-lt-LONGEST c =
     later_full c.args.part.now c.args.byte (long_waits c.args.part.now c.requires (omega arith)) (omega arith) (sym c.is_parameter_byte.ensures ∙ c.if-is_parameter_byte.true) (omega arith)
 
-pub returns-then-contains-2 : goal.returns-then-contains-2
-returns-then-contains-2 c =
-    let low : 64 ≤ c.args.byte = grind (arith, nat_tests, c.if-contains-2.ensures.value) in
-    let high : c.args.byte ≤ 126 = grind (arith, nat_tests, c.if-contains-2.ensures.value) in
+pub returns-then-contains : goal.returns-then-contains
+returns-then-contains c =
+    let low : 64 ≤ c.args.byte = grind (arith, nat_tests, c.if-contains.ensures.value) in
+    let high : c.args.byte ≤ 126 = grind (arith, nat_tests, c.if-contains.ensures.value) in
     later_last c.args.part.now c.args.byte (long_waits c.args.part.now c.requires (omega arith)) (omega arith) low high
 
-pub returns-else-contains-2 : goal.returns-else-contains-2
-returns-else-contains-2 c =
-    let off : (c.args.byte < 64) ⊎ (126 < c.args.byte) = grind (arith, nat_tests, c.if-contains-2.ensures.value) in
+pub returns-else-contains : goal.returns-else-contains
+returns-else-contains c =
+    let off : (c.args.byte < 64) ⊎ (126 < c.args.byte) = grind (arith, nat_tests, c.if-contains.ensures.value) in
     later_other c.args.part.now c.args.byte (long_waits c.args.part.now c.requires (omega arith)) (omega arith) (sym c.is_parameter_byte.ensures ∙ c.if-is_parameter_byte.false) off

@@ -1,4 +1,6 @@
-//! The one way in which these types refuse a call.
+//! Want of memory: the one error of a call that can fail for nothing else.
+#![tactic(auto)]
+
 use std::alloc::{AllocError, AllocFailed};
 use thiserror::Error;
 
