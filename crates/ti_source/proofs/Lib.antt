@@ -22,6 +22,7 @@ pub mod PrintLaws
 pub mod PrintedBackLaws
 pub mod ReadingLaws
 pub mod ResolvingLaws
+pub mod SpellingLaws
 pub mod SpokenLaws
 pub mod StatementsBackLaws
 pub mod StepLaws

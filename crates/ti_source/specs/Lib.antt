@@ -11,6 +11,7 @@ pub mod Reading
 pub mod Resolving
 pub mod Result
 pub mod Seen
+pub mod Spelling
 pub mod Spoken
 pub mod Steps
 pub mod Walk

@@ -3,6 +3,7 @@
 ghost use Rattle.std.specs.Prelude.{◌≡◌, ◌≤◌, ◌<◌, false, length, IfOk, IsTrue};
 ghost use Rattle.ti_caps.specs.Description.{has_nul};
 ghost use Rattle.ti_source.specs.Escape.{begins_octal, control, decoded, is_octal, letter, meant, not_nul, octal, written_length};
+ghost use Rattle.ti_source.specs.Spelling.{AreSpelled};
 
 use std::alloc::{AllocError, Global};
 use ti_caps::Bytes;
@@ -117,3 +118,9 @@ pub(crate) fn decode(alloc: Global, text: &[u8]) -> Result<Bytes, AllocError>
     }
     Ok(Bytes(decoded))
 }
+
+/// The text of a string field is the one that the field's bytes spell, by a rule for each escape
+/// (terminfo(5), "Types of Capabilities"), and they spell no other.
+pub fn texts_are_spelled()
+    ensures { AreSpelled }
+{}

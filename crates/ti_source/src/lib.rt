@@ -20,6 +20,7 @@ mod spoken;
 mod statement;
 mod walk;
 
+pub use escape::texts_are_spelled;
 pub use fault::SourceFault;
 pub use note::{Cause, Note};
 pub use printer::{Printed, numbers_read_back, print, printed_reads_back, texts_read_back};
