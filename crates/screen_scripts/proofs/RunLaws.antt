@@ -10,7 +10,7 @@ use Rattle.scr_cells.specs.PictureViews.{PictureView}
 use Rattle.scr_term.specs.EcmaScreens.{ScreenView}
 use Rattle.screen_scripts.specs.Lines.{lines_of, parts_behind, without_empty_end}
 use Rattle.screen_scripts.specs.Stories.{Outcome, Story, line_outcome, story_from, story_on, story_of, next_number, Refused, Shown, added, continued, opened, outcome_of}
-use Rattle.screen_scripts.specs.Surfaces.{with_byte, with_text, moved, blank_surface}
+use Rattle.screen_scripts.specs.Canvases.{with_byte, with_text, moved, blank_canvas}
 use Rattle.screen_scripts.specs.Printing.{written_event, output_of, refused_event, refusals_of}
 use Rattle.screen_scripts.specs.declared.stage.Effect.{Effect}
 use Rattle.screen_scripts.specs.StageViews.{ActsOn, events_of}
@@ -48,13 +48,13 @@ first_of_more rest line after some split = first_line rest line (Some after) som
 
 -- ---- stories
 
-pub story_step : (n : ℕ) (surface : Option PictureView) (line : List ℕ) (lines : List (List ℕ)) (outcome : Outcome) → line_outcome surface line ≡ Some outcome
-    → story_on n surface (line ∷ lines) ≡ story_from n (Some outcome) (λ o. story_on (next_number n) (Some o.surface) lines)
-story_step n surface line lines outcome e = ap (λ o. story_from n o (λ o. story_on (next_number n) (Some o.surface) lines)) e
+pub story_step : (n : ℕ) (canvas : Option PictureView) (line : List ℕ) (lines : List (List ℕ)) (outcome : Outcome) → line_outcome canvas line ≡ Some outcome
+    → story_on n canvas (line ∷ lines) ≡ story_from n (Some outcome) (λ o. story_on (next_number n) (Some o.canvas) lines)
+story_step n canvas line lines outcome e = ap (λ o. story_from n o (λ o. story_on (next_number n) (Some o.canvas) lines)) e
 
-pub story_ends : (n : ℕ) (surface : Option PictureView) (line : List ℕ) (lines : List (List ℕ)) → line_outcome surface line ≡ None
-    → story_on n surface (line ∷ lines) ≡ record { events = []; bad_line = Some n }
-story_ends n surface line lines e = ap (λ o. story_from n o (λ o. story_on (next_number n) (Some o.surface) lines)) e
+pub story_ends : (n : ℕ) (canvas : Option PictureView) (line : List ℕ) (lines : List (List ℕ)) → line_outcome canvas line ≡ None
+    → story_on n canvas (line ∷ lines) ≡ record { events = []; bad_line = Some n }
+story_ends n canvas line lines e = ap (λ o. story_from n o (λ o. story_on (next_number n) (Some o.canvas) lines)) e
 
 -- ---- known bytes
 
@@ -74,59 +74,59 @@ appends_kept (Some a) None new x h k = absurd h
 appends_kept (Some a) (Some b) None x h k = absurd k
 appends_kept (Some a) (Some b) (Some c) x h k = k ∙ h
 
--- ---- the surface and the screen
+-- ---- the canvas and the screen
 
--- a surface of the same size that has a cursor
+-- a canvas of the same size that has a cursor
 record Follows (old new : PictureView) : Type 0 where
   rows : new.rows ≡ old.rows
   columns : new.columns ≡ old.columns
   cursor : IsSome new.wish
 
-text_follows : (surface : PictureView) (text : List ℕ) → IsSome surface.wish → Follows surface (with_text surface text)
-text_follows surface [] h = record { rows = refl; columns = refl; cursor = h }
-text_follows surface (byte ∷ text) h =
-    let rest = text_follows (with_byte surface byte) text refl in
+text_follows : (canvas : PictureView) (text : List ℕ) → IsSome canvas.wish → Follows canvas (with_text canvas text)
+text_follows canvas [] h = record { rows = refl; columns = refl; cursor = h }
+text_follows canvas (byte ∷ text) h =
+    let rest = text_follows (with_byte canvas byte) text refl in
     record { rows = rest.rows; columns = rest.columns; cursor = rest.cursor }
 
-added_follows : (surface : PictureView) (row column : ℕ) (text : List ℕ) → IsSome surface.wish → (inside printed : Bool)
-    → Follows surface (cond inside (cond printed (with_text (moved surface row column) text) (moved surface row column)) surface)
-added_follows surface row column text h true true =
-    let rest = text_follows (moved surface row column) text refl in
+added_follows : (canvas : PictureView) (row column : ℕ) (text : List ℕ) → IsSome canvas.wish → (inside printed : Bool)
+    → Follows canvas (cond inside (cond printed (with_text (moved canvas row column) text) (moved canvas row column)) canvas)
+added_follows canvas row column text h true true =
+    let rest = text_follows (moved canvas row column) text refl in
     record { rows = rest.rows; columns = rest.columns; cursor = rest.cursor }
-added_follows surface row column text h true false = record { rows = refl; columns = refl; cursor = refl }
-added_follows surface row column text h false printed = record { rows = refl; columns = refl; cursor = h }
+added_follows canvas row column text h true false = record { rows = refl; columns = refl; cursor = refl }
+added_follows canvas row column text h false printed = record { rows = refl; columns = refl; cursor = h }
 
-surface_of_cond : (inside printed : Bool) (a b c : Outcome) → (cond inside (cond printed a b) c).surface ≡ cond inside (cond printed a.surface b.surface) c.surface
-surface_of_cond true true a b c = refl
-surface_of_cond true false a b c = refl
-surface_of_cond false printed a b c = refl
+canvas_of_cond : (inside printed : Bool) (a b c : Outcome) → (cond inside (cond printed a b) c).canvas ≡ cond inside (cond printed a.canvas b.canvas) c.canvas
+canvas_of_cond true true a b c = refl
+canvas_of_cond true false a b c = refl
+canvas_of_cond false printed a b c = refl
 
-added_is : (surface : PictureView) (row column : ℕ) (text : List ℕ) → IsSome surface.wish → Follows surface (added surface row column text).surface
-added_is surface row column text h =
-    let inside : Bool = nat_lt row surface.rows && nat_lt column surface.columns in
+added_is : (canvas : PictureView) (row column : ℕ) (text : List ℕ) → IsSome canvas.wish → Follows canvas (added canvas row column text).canvas
+added_is canvas row column text h =
+    let inside : Bool = nat_lt row canvas.rows && nat_lt column canvas.columns in
     let printed : Bool = list_all is_character text in
-    subst (λ s. Follows surface s) (sym (surface_of_cond inside printed
-    (record { surface = with_text (moved surface row column) text; events = [] })
-    (record { surface = moved surface row column; events = Refused (codes "NotAscii") ∷ [] })
-    (record { surface = surface; events = Refused (codes "OutOfWindow") ∷ [] })))
-    (added_follows surface row column text h inside printed)
+    subst (λ s. Follows canvas s) (sym (canvas_of_cond inside printed
+    (record { canvas = with_text (moved canvas row column) text; events = [] })
+    (record { canvas = moved canvas row column; events = Refused (codes "NotAscii") ∷ [] })
+    (record { canvas = canvas; events = Refused (codes "OutOfWindow") ∷ [] })))
+    (added_follows canvas row column text h inside printed)
 
-continued_follows : (surface : PictureView) (command : CommandView) (outcome : Outcome) → continued surface command ≡ Some outcome → IsSome surface.wish → Follows surface outcome.surface
-continued_follows surface (SizeCommand rows columns) outcome h some = absurd (no_outcome h)
+continued_follows : (canvas : PictureView) (command : CommandView) (outcome : Outcome) → continued canvas command ≡ Some outcome → IsSome canvas.wish → Follows canvas outcome.canvas
+continued_follows canvas (SizeCommand rows columns) outcome h some = absurd (no_outcome h)
   where
     no_outcome : None ≡ Some outcome → ⊥
     no_outcome e = (cc)
-continued_follows surface (AddCommand row column text) outcome h some =
-    subst (λ o. Follows surface o.surface) (same_some (added surface row column text) outcome h) (added_is surface row column text some)
-continued_follows surface ShowCommand outcome h some =
-    let shown : Outcome = record { surface = surface; events = Shown surface ∷ [] } in
-    subst (λ o. Follows surface o.surface) (same_some shown outcome h) (record { rows = refl; columns = refl; cursor = some })
+continued_follows canvas (AddCommand row column text) outcome h some =
+    subst (λ o. Follows canvas o.canvas) (same_some (added canvas row column text) outcome h) (added_is canvas row column text some)
+continued_follows canvas ShowCommand outcome h some =
+    let shown : Outcome = record { canvas = canvas; events = Shown canvas ∷ [] } in
+    subst (λ o. Follows canvas o.canvas) (same_some shown outcome h) (record { rows = refl; columns = refl; cursor = some })
 
-opened_has_cursor : (command : CommandView) (outcome : Outcome) → opened command ≡ Some outcome → IsSome outcome.surface.wish
+opened_has_cursor : (command : CommandView) (outcome : Outcome) → opened command ≡ Some outcome → IsSome outcome.canvas.wish
 opened_has_cursor (SizeCommand rows columns) outcome h =
-    let blank : Outcome = record { surface = blank_surface rows columns; events = [] } in
+    let blank : Outcome = record { canvas = blank_canvas rows columns; events = [] } in
     let made = chosen (nat_le 1 rows && nat_le rows 500 && nat_le 1 columns && nat_le columns 500) (Some blank) outcome h in
-    subst (λ o. IsSome o.surface.wish) (same_some blank outcome made.1) refl
+    subst (λ o. IsSome o.canvas.wish) (same_some blank outcome made.1) refl
 opened_has_cursor (AddCommand row column text) outcome h = absurd (no_outcome h)
   where
     no_outcome : None ≡ Some outcome → ⊥
@@ -155,96 +155,96 @@ ready_behind old new (Some screen) f t = record { cursor = f.cursor; terminal = 
     nothing : Some new ≡ None → ⊥
     nothing e = (cc)
 
-ready_from : (old : Option PictureView) (line : List ℕ) (outcome : Outcome) (screen : Option ScreenView) → line_outcome old line ≡ Some outcome → IsReady old screen → IsReady (Some outcome.surface) screen
+ready_from : (old : Option PictureView) (line : List ℕ) (outcome : Outcome) (screen : Option ScreenView) → line_outcome old line ≡ Some outcome → IsReady old screen → IsReady (Some outcome.canvas) screen
 ready_from None line outcome screen h ready =
     let command = then_some (command_of line) (outcome_of None) outcome h in
-    subst (λ s. IsReady (Some outcome.surface) s) (sym (ready.closed refl))
+    subst (λ s. IsReady (Some outcome.canvas) s) (sym (ready.closed refl))
     (record { cursor = opened_has_cursor command.0 outcome command.2; terminal = tt; closed = λ e. refl })
 ready_from (Some old) line outcome screen h ready =
     let command = then_some (command_of line) (outcome_of (Some old)) outcome h in
-    ready_behind old outcome.surface screen (continued_follows old command.0 outcome command.2 ready.cursor) ready.terminal
+    ready_behind old outcome.canvas screen (continued_follows old command.0 outcome command.2 ready.cursor) ready.terminal
 
 pub ready_on : (old new : Option PictureView) (line : List ℕ) (effect : Effect) (screen : Option ScreenView) → ActsOn old line effect new → IsReady old screen → IsReady new screen
 ready_on old new line effect screen acts ready =
     subst (λ s. IsReady s screen) (sym acts.left)
-    (ready_from old line (record { surface = acts.surface; events = events_of effect acts.surface }) screen acts.outcome ready)
+    (ready_from old line (record { canvas = acts.canvas; events = events_of effect acts.canvas }) screen acts.outcome ready)
 
 -- ---- a run, line by line
 
 -- what is written so far and what the rest writes is what the script writes
-pub record SoFar (raw : Bool) (script : List ℕ) (old now : Option (List ℕ)) (number : ℕ) (surface : Option PictureView) (screen : Option ScreenView) (rest : List ℕ) : Type 0 where
-  pub ready : IsReady surface screen
+pub record SoFar (raw : Bool) (script : List ℕ) (old now : Option (List ℕ)) (number : ℕ) (canvas : Option PictureView) (screen : Option ScreenView) (rest : List ℕ) : Type 0 where
+  pub ready : IsReady canvas screen
   pub text : List ℕ
   pub written : Appends old now text
-  pub events : text ++ output_of raw (story_on number surface (lines_of rest)).events ≡ output_of raw (story_of script).events
-  pub bad_line : (story_on number surface (lines_of rest)).bad_line ≡ (story_of script).bad_line
+  pub events : text ++ output_of raw (story_on number canvas (lines_of rest)).events ≡ output_of raw (story_of script).events
+  pub bad_line : (story_on number canvas (lines_of rest)).bad_line ≡ (story_of script).bad_line
 
-so_far_events : (raw : Bool) (number : ℕ) (surface : Option PictureView) (rest line after : List ℕ) (outcome : Outcome) (new : Option PictureView)
-    → lines_of rest ≡ line ∷ lines_of after → line_outcome surface line ≡ Some outcome → new ≡ Some outcome.surface
-    → story_on number surface (lines_of rest) ≡ story_from number (Some outcome) (λ o. story_on (next_number number) new (lines_of after))
-so_far_events raw number surface rest line after outcome new e f left =
-    ap (story_on number surface) e ∙ story_step number surface line (lines_of after) outcome f
+so_far_events : (raw : Bool) (number : ℕ) (canvas : Option PictureView) (rest line after : List ℕ) (outcome : Outcome) (new : Option PictureView)
+    → lines_of rest ≡ line ∷ lines_of after → line_outcome canvas line ≡ Some outcome → new ≡ Some outcome.canvas
+    → story_on number canvas (lines_of rest) ≡ story_from number (Some outcome) (λ o. story_on (next_number number) new (lines_of after))
+so_far_events raw number canvas rest line after outcome new e f left =
+    ap (story_on number canvas) e ∙ story_step number canvas line (lines_of after) outcome f
     ∙ ap (λ s. story_from number (Some outcome) (λ o. story_on (next_number number) s (lines_of after))) (sym left)
 
 -- what is written so far, what one line more writes, and what follows it, are what the script writes
-pub so_far_text : (raw : Bool) (script : List ℕ) (old now : Option (List ℕ)) (number : ℕ) (surface new : Option PictureView) (screen : Option ScreenView) (rest line after text : List ℕ)
-    → (so : SoFar raw script old now number surface screen rest) → lines_of rest ≡ line ∷ lines_of after
-    → Writes raw surface line text new
+pub so_far_text : (raw : Bool) (script : List ℕ) (old now : Option (List ℕ)) (number : ℕ) (canvas new : Option PictureView) (screen : Option ScreenView) (rest line after text : List ℕ)
+    → (so : SoFar raw script old now number canvas screen rest) → lines_of rest ≡ line ∷ lines_of after
+    → Writes raw canvas line text new
     → so.text ++ (text ++ output_of raw (story_on (next_number number) new (lines_of after)).events) ≡ output_of raw (story_of script).events
-so_far_text raw script old now number surface new screen rest line after text so e writes =
+so_far_text raw script old now number canvas new screen rest line after text so e writes =
     let left : Story = story_on (next_number number) new (lines_of after) in
-    let story : story_on number surface (lines_of rest) ≡ record { events = writes.outcome.events ++ left.events; bad_line = left.bad_line } =
-    so_far_events raw number surface rest line after writes.outcome new e writes.is writes.left in
+    let story : story_on number canvas (lines_of rest) ≡ record { events = writes.outcome.events ++ left.events; bad_line = left.bad_line } =
+    so_far_events raw number canvas rest line after writes.outcome new e writes.is writes.left in
     ap (λ t. so.text ++ (t ++ output_of raw left.events)) writes.written
     ∙ ap (λ t. so.text ++ t) (sym (flat_map-append (written_event raw) writes.outcome.events left.events))
     ∙ ap (λ s. so.text ++ output_of raw s.events) (sym story)
     ∙ so.events
 
 -- one line more
-pub so_far_more : (raw : Bool) (script : List ℕ) (old now next : Option (List ℕ)) (number : ℕ) (surface new : Option PictureView) (screen after_screen : Option ScreenView) (rest line after text : List ℕ)
-    → SoFar raw script old now number surface screen rest → lines_of rest ≡ line ∷ lines_of after
-    → Writes raw surface line text new → IsReady new after_screen → Appends now next text
+pub so_far_more : (raw : Bool) (script : List ℕ) (old now next : Option (List ℕ)) (number : ℕ) (canvas new : Option PictureView) (screen after_screen : Option ScreenView) (rest line after text : List ℕ)
+    → SoFar raw script old now number canvas screen rest → lines_of rest ≡ line ∷ lines_of after
+    → Writes raw canvas line text new → IsReady new after_screen → Appends now next text
     → SoFar raw script old next (next_number number) new after_screen after
-so_far_more raw script old now next number surface new screen after_screen rest line after text so e writes ready appends =
+so_far_more raw script old now next number canvas new screen after_screen rest line after text so e writes ready appends =
     let left : Story = story_on (next_number number) new (lines_of after) in
-    let story : story_on number surface (lines_of rest) ≡ record { events = writes.outcome.events ++ left.events; bad_line = left.bad_line } =
-    so_far_events raw number surface rest line after writes.outcome new e writes.is writes.left in
+    let story : story_on number canvas (lines_of rest) ≡ record { events = writes.outcome.events ++ left.events; bad_line = left.bad_line } =
+    so_far_events raw number canvas rest line after writes.outcome new e writes.is writes.left in
     record {
       ready = ready;
       text = so.text ++ text;
       written = appends_more old now next so.text text so.written appends;
       events =
           append_assoc so.text text (output_of raw left.events)
-          ∙ so_far_text raw script old now number surface new screen rest line after text so e writes;
+          ∙ so_far_text raw script old now number canvas new screen rest line after text so e writes;
       bad_line = sym (ap (λ s. s.bad_line) story) ∙ so.bad_line;
     }
 
 -- a bad line: nothing more is written
-pub so_far_ends : (raw : Bool) (script : List ℕ) (old now : Option (List ℕ)) (number : ℕ) (surface : Option PictureView) (screen : Option ScreenView) (rest line after : List ℕ)
-    → (so : SoFar raw script old now number surface screen rest) → lines_of rest ≡ line ∷ lines_of after → line_outcome surface line ≡ None
+pub so_far_ends : (raw : Bool) (script : List ℕ) (old now : Option (List ℕ)) (number : ℕ) (canvas : Option PictureView) (screen : Option ScreenView) (rest line after : List ℕ)
+    → (so : SoFar raw script old now number canvas screen rest) → lines_of rest ≡ line ∷ lines_of after → line_outcome canvas line ≡ None
     → (so.text ≡ output_of raw (story_of script).events) × ((story_of script).bad_line ≡ Some number)
-so_far_ends raw script old now number surface screen rest line after so e bad =
-    let story : story_on number surface (lines_of rest) ≡ record { events = []; bad_line = Some number } = ap (story_on number surface) e ∙ story_ends number surface line (lines_of after) bad in
+so_far_ends raw script old now number canvas screen rest line after so e bad =
+    let story : story_on number canvas (lines_of rest) ≡ record { events = []; bad_line = Some number } = ap (story_on number canvas) e ∙ story_ends number canvas line (lines_of after) bad in
     (sym (append-nil so.text) ∙ ap (λ s. so.text ++ output_of raw s.events) (sym story) ∙ so.events, sym so.bad_line ∙ ap (λ s. s.bad_line) story)
 
 -- one line more of refusals
-pub refusals_more : (script : List ℕ) (number : ℕ) (surface new : Option PictureView) (rest line after before text : List ℕ)
-    → before ++ refusals_of (story_on number surface (lines_of rest)).events ≡ refusals_of (story_of script).events → lines_of rest ≡ line ∷ lines_of after
-    → AddsRefusals surface line before text new
+pub refusals_more : (script : List ℕ) (number : ℕ) (canvas new : Option PictureView) (rest line after before text : List ℕ)
+    → before ++ refusals_of (story_on number canvas (lines_of rest)).events ≡ refusals_of (story_of script).events → lines_of rest ≡ line ∷ lines_of after
+    → AddsRefusals canvas line before text new
     → text ++ refusals_of (story_on (next_number number) new (lines_of after)).events ≡ refusals_of (story_of script).events
-refusals_more script number surface new rest line after before text so e adds =
+refusals_more script number canvas new rest line after before text so e adds =
     let left : Story = story_on (next_number number) new (lines_of after) in
-    let story : story_on number surface (lines_of rest) ≡ record { events = adds.outcome.events ++ left.events; bad_line = left.bad_line } =
-    so_far_events true number surface rest line after adds.outcome new e adds.is adds.left in
+    let story : story_on number canvas (lines_of rest) ≡ record { events = adds.outcome.events ++ left.events; bad_line = left.bad_line } =
+    so_far_events true number canvas rest line after adds.outcome new e adds.is adds.left in
     ap (λ t. t ++ refusals_of left.events) adds.added
     ∙ append_assoc before (refusals_of adds.outcome.events) (refusals_of left.events)
     ∙ ap (λ t. before ++ t) (sym (flat_map-append refused_event adds.outcome.events left.events))
     ∙ ap (λ s. before ++ refusals_of s.events) (sym story)
     ∙ so
 
-pub refusals_end : (script : List ℕ) (number : ℕ) (surface : Option PictureView) (rest line after before : List ℕ)
-    → before ++ refusals_of (story_on number surface (lines_of rest)).events ≡ refusals_of (story_of script).events → lines_of rest ≡ line ∷ lines_of after
-    → line_outcome surface line ≡ None → before ≡ refusals_of (story_of script).events
-refusals_end script number surface rest line after before so e bad =
-    let story : story_on number surface (lines_of rest) ≡ record { events = []; bad_line = Some number } = ap (story_on number surface) e ∙ story_ends number surface line (lines_of after) bad in
+pub refusals_end : (script : List ℕ) (number : ℕ) (canvas : Option PictureView) (rest line after before : List ℕ)
+    → before ++ refusals_of (story_on number canvas (lines_of rest)).events ≡ refusals_of (story_of script).events → lines_of rest ≡ line ∷ lines_of after
+    → line_outcome canvas line ≡ None → before ≡ refusals_of (story_of script).events
+refusals_end script number canvas rest line after before so e bad =
+    let story : story_on number canvas (lines_of rest) ≡ record { events = []; bad_line = Some number } = ap (story_on number canvas) e ∙ story_ends number canvas line (lines_of after) bad in
     sym (append-nil before) ∙ ap (λ s. before ++ refusals_of s.events) (sym story) ∙ so

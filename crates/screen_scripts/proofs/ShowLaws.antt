@@ -1,17 +1,15 @@
--- The bytes that paint a surface bring a terminal to show it.
-use Rattle.std.proofs.Common.{◌≡◌, ℕ, true, refl, sym, ◌∙◌, ap, subst, List, inl}
-use Rattle.std.specs.List.{All}
+-- The bytes that paint a canvas bring a terminal to show it.
+use Rattle.std.proofs.Common.{◌≡◌, ℕ, refl, sym, ◌∙◌, ap, subst, List, inl}
 use Rattle.scr_cells.specs.Attributes.{every_attribute}
 use Rattle.scr_cells.specs.PictureViews.{PictureView, IsPicture}
 use Rattle.scr_term.specs.Profiles.{ProfileView, IsEcma48, IsProfile}
-use Rattle.scr_term.specs.States.{State, IsState, blank_state, negative_state}
-use Rattle.scr_term.specs.Steps.{has}
+use Rattle.scr_term.specs.States.{IsState, blank_state, negative_state}
 use Rattle.scr_term.specs.EcmaMeanings.{Leads}
 use Rattle.scr_term.specs.Painted.{ShowsNegative}
 use Rattle.scr_term.specs.EcmaScreens.{ScreenView, IsScreen, IsFed, blank_screen}
 use Rattle.scr_term.specs.EcmaLaws.{ScreensFollowTexts}
-use Rattle.scr_term.specs.OperationLaws.{BlankLaws, RunLaws}
-use Rattle.scr_plan.specs.Scratch.{scratch_of, Fits, ScratchShows, ScratchBytesShow}
+use Rattle.scr_term.specs.OperationLaws.{BlankLaws}
+use Rattle.scr_plan.specs.Scratch.{ScratchBytesShow}
 use Rattle.screen_scripts.specs.Stories.{Shown}
 use Rattle.screen_scripts.specs.Printing.{profile_for, sent_event}
 use Rattle.screen_scripts.specs.Showing.{IsTerminalFor}
@@ -36,14 +34,6 @@ blank_is_terminal laws picture p =
       nothing_waits = refl;
       defined = refl;
     }
-
--- painting from scratch takes only operations that the profile has
-pub scratch_had : ScratchShows → RunLaws → BlankLaws → (profile : ProfileView) → IsEcma48 profile → (picture : PictureView) → IsPicture picture → Fits profile picture
-    → All (λ op. has profile op ≡ true) (scratch_of profile picture)
-scratch_had scratch_law runs_law blank_law profile e picture p fits =
-    let blank : State = blank_state profile.rows profile.columns in
-    let shows = scratch_law profile (is_profile profile e) picture p fits blank (blank_law.state profile (is_profile profile e)) in
-    runs_law.had profile blank shows.new (scratch_of profile picture) shows.run
 
 pub is_profile_for : (profile : ProfileView) (picture : PictureView) → IsEcma48 profile → profile.rows ≡ picture.rows → profile.columns ≡ picture.columns → profile ≡ profile_for picture
 is_profile_for profile picture e r c = λ i. record { rows = r i; columns = c i; shown = e.shown i }

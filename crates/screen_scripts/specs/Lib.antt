@@ -1,7 +1,7 @@
 pub mod Lines
 pub mod Commands
 pub mod CommandViews
-pub mod Surfaces
+pub mod Canvases
 pub mod Stories
 pub mod StageViews
 pub mod Printing

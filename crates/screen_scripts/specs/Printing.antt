@@ -11,7 +11,7 @@ use Rattle.scr_term.specs.Profiles.{ProfileView}
 use Rattle.scr_term.specs.Painted.{painted}
 use Rattle.scr_term.specs.Texts.{all_bytes}
 use Rattle.scr_plan.specs.Scratch.{scratch_of}
-use Rattle.screen_scripts.specs.Surfaces.{cursor_of}
+use Rattle.screen_scripts.specs.Canvases.{cursor_of}
 use Rattle.screen_scripts.specs.Stories.{Event, Refused, Shown}
 
 -- a hexadecimal digit, in lower case

@@ -19,24 +19,24 @@ pub record IsTerminalFor (picture : PictureView) (screen : ScreenView) : Type 0 
   pub nothing_waits : screen.waiting ≡ []
   pub defined : screen.undefined ≡ false
 
--- the surface has a cursor, and the screen, where there is one, is a terminal for it
-pub record IsReady (surface : Option PictureView) (screen : Option ScreenView) : Type 0 where
-  pub cursor : IfSome surface (λ picture. IsSome picture.wish)
-  pub terminal : IfSome surface (λ picture. IfSome screen (λ s. IsTerminalFor picture s))
-  pub closed : surface ≡ None → screen ≡ None
+-- the canvas has a cursor, and the screen, where there is one, is a terminal for it
+pub record IsReady (canvas : Option PictureView) (screen : Option ScreenView) : Type 0 where
+  pub cursor : IfSome canvas (λ picture. IsSome picture.wish)
+  pub terminal : IfSome canvas (λ picture. IfSome screen (λ s. IsTerminalFor picture s))
+  pub closed : canvas ≡ None → screen ≡ None
 
 -- what a line did, and what is written of it
 pub record Writes (raw : Bool) (old : Option PictureView) (line : List ℕ) (text : List ℕ) (new : Option PictureView) : Type 0 where
   pub outcome : Outcome
   pub is : line_outcome old line ≡ Some outcome
-  pub left : new ≡ Some outcome.surface
+  pub left : new ≡ Some outcome.canvas
   pub written : text ≡ output_of raw outcome.events
 
 -- what a line did, and what it adds to the refusals
 pub record AddsRefusals (old : Option PictureView) (line before after : List ℕ) (new : Option PictureView) : Type 0 where
   pub outcome : Outcome
   pub is : line_outcome old line ≡ Some outcome
-  pub left : new ≡ Some outcome.surface
+  pub left : new ≡ Some outcome.canvas
   pub added : after ≡ before ++ refusals_of outcome.events
 
 -- what a writer holds grew by a beginning of this text

@@ -11,14 +11,14 @@ abbrev pub refusal_name : Refusal → List ℕ
 refusal_name OutOfWindow = codes "OutOfWindow"
 refusal_name NotAscii = codes "NotAscii"
 
--- the event of a line, if any, where it left this surface
+-- the event of a line, if any, where it left this canvas
 abbrev pub events_of : Effect → PictureView → List Event
-events_of Nothing surface = []
-events_of (Refused refusal) surface = RefusedEvent (refusal_name refusal) ∷ []
-events_of Shown surface = ShownEvent surface ∷ []
+events_of Nothing canvas = []
+events_of (Refused refusal) canvas = RefusedEvent (refusal_name refusal) ∷ []
+events_of Shown canvas = ShownEvent canvas ∷ []
 
--- the line left this surface, and that is its outcome
+-- the line left this canvas, and that is its outcome
 pub record ActsOn (old : Option PictureView) (line : List ℕ) (effect : Effect) (new : Option PictureView) : Type 0 where
-  pub surface : PictureView
-  pub left : new ≡ Some surface
-  pub outcome : line_outcome old line ≡ Some (record { surface = surface; events = events_of effect surface })
+  pub canvas : PictureView
+  pub left : new ≡ Some canvas
+  pub outcome : line_outcome old line ≡ Some (record { canvas = canvas; events = events_of effect canvas })

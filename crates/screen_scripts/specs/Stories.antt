@@ -5,50 +5,50 @@ use Rattle.scr_cells.specs.CellViews.{is_character}
 use Rattle.scr_cells.specs.PictureViews.{PictureView}
 use Rattle.screen_scripts.specs.Lines.{lines_of}
 use Rattle.screen_scripts.specs.Commands.{CommandView, SizeCommand, AddCommand, ShowCommand, command_of}
-use Rattle.screen_scripts.specs.Surfaces.{blank_surface, moved, with_text}
+use Rattle.screen_scripts.specs.Canvases.{blank_canvas, moved, with_text}
 
 -- a refused call, by its fault's name; an update that shows a picture
 pub data Event : Type 0 where
   Refused : (name : List ℕ) → Event
   Shown : (picture : PictureView) → Event
 
--- the surface after a line, and what came of it
+-- the canvas after a line, and what came of it
 pub record Outcome : Type 0 where
-  pub surface : PictureView
+  pub canvas : PictureView
   pub events : List Event
 
 -- the first line gives the size, 1 to 500 each
 abbrev pub opened : CommandView → Option Outcome
 opened (SizeCommand rows columns) =
     if nat_le 1 rows && nat_le rows 500 && nat_le 1 columns && nat_le columns 500
-    then Some (record { surface = blank_surface rows columns; events = [] })
+    then Some (record { canvas = blank_canvas rows columns; events = [] })
     else None
 opened _ = None
 
 -- A place outside is refused, and nothing changes. Else the cursor moves there; a text with other than
 -- printed characters is then refused, and any other is added.
 abbrev pub added : PictureView → ℕ → ℕ → List ℕ → Outcome
-added surface row column text =
-    if nat_lt row surface.rows && nat_lt column surface.columns
+added canvas row column text =
+    if nat_lt row canvas.rows && nat_lt column canvas.columns
     then (if list_all is_character text
-    then record { surface = with_text (moved surface row column) text; events = [] }
-    else record { surface = moved surface row column; events = Refused (codes "NotAscii") ∷ [] })
-    else record { surface = surface; events = Refused (codes "OutOfWindow") ∷ [] }
+    then record { canvas = with_text (moved canvas row column) text; events = [] }
+    else record { canvas = moved canvas row column; events = Refused (codes "NotAscii") ∷ [] })
+    else record { canvas = canvas; events = Refused (codes "OutOfWindow") ∷ [] }
 
 -- there is one size
 abbrev pub continued : PictureView → CommandView → Option Outcome
-continued surface (SizeCommand rows columns) = None
-continued surface (AddCommand row column text) = Some (added surface row column text)
-continued surface ShowCommand = Some (record { surface = surface; events = Shown surface ∷ [] })
+continued canvas (SizeCommand rows columns) = None
+continued canvas (AddCommand row column text) = Some (added canvas row column text)
+continued canvas ShowCommand = Some (record { canvas = canvas; events = Shown canvas ∷ [] })
 
--- the first command opens the surface, every other goes on with it
+-- the first command opens the canvas, every other goes on with it
 abbrev pub outcome_of : Option PictureView → CommandView → Option Outcome
 outcome_of None command = opened command
-outcome_of (Some surface) command = continued surface command
+outcome_of (Some canvas) command = continued canvas command
 
 -- what a line does, or none where it is bad
 abbrev pub line_outcome : Option PictureView → List ℕ → Option Outcome
-line_outcome surface line = option_and_then (outcome_of surface) (command_of line)
+line_outcome canvas line = option_and_then (outcome_of canvas) (command_of line)
 
 -- what happened, and the number of the first bad line, if any; numbers stay at the last one of 32 bits
 pub record Story : Type 0 where
@@ -65,9 +65,9 @@ story_from n (Some outcome) rest = record { events = outcome.events ++ (rest out
 
 -- the lines from the one with this number on
 abbrev pub story_on : ℕ → Option PictureView → List (List ℕ) → Story
-story_on n surface [] = record { events = []; bad_line = None }
-story_on n surface (line ∷ lines) =
-    story_from n (line_outcome surface line) (λ outcome. story_on (next_number n) (Some outcome.surface) lines)
+story_on n canvas [] = record { events = []; bad_line = None }
+story_on n canvas (line ∷ lines) =
+    story_from n (line_outcome canvas line) (λ outcome. story_on (next_number n) (Some outcome.canvas) lines)
 
 abbrev pub story_of : List ℕ → Story
 story_of script = story_on 1 None (lines_of script)

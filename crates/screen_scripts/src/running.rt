@@ -45,13 +45,13 @@ pub fn run<W: Write>(alloc: Global, script: &[u8], raw: bool, out: &mut W) -> Re
         → Appends (W.contents out.old) (W.contents out.new) (output_of raw (story_of script.now).events) }
     ensures beginning { GrewByBeginning (W.contents out.old) (W.contents out.new) (output_of raw (story_of script.now).events) }
 {
-    let mut surface = None;
+    let mut canvas = None;
     let mut terminal = None;
     let mut rest = script;
     let mut number: u32 = 1;
     while !rest.is_empty() {
         let (line, after) = cut_line(rest);
-        match line_text(alloc, raw, line, &mut surface, &mut terminal) {
+        match line_text(alloc, raw, line, &mut canvas, &mut terminal) {
             Ok(text) => write_text(&text, out)?,
             Err(LineFault::Bad) => {
                 flush(out)?;
@@ -98,38 +98,38 @@ fn line_text(
     alloc: Global,
     raw: bool,
     line: &[u8],
-    surface: &mut Option<Picture>,
+    canvas: &mut Option<Picture>,
     terminal: &mut Option<EcmaScreen>,
 ) -> Result<Vec<u8>, LineFault>
-    requires { IsReady surface.old terminal.old }
-    ensures text { IfOk result (λ text. Writes raw surface.old line.now text.items surface.new) }
-    ensures ready { OnOk result (IsReady surface.new terminal.new) }
-    ensures bad { IsErrOf result LineFault.Bad → line_outcome surface.old line.now ≡ None }
+    requires { IsReady canvas.old terminal.old }
+    ensures text { IfOk result (λ text. Writes raw canvas.old line.now text.items canvas.new) }
+    ensures ready { OnOk result (IsReady canvas.new terminal.new) }
+    ensures bad { IsErrOf result LineFault.Bad → line_outcome canvas.old line.now ≡ None }
 {
-    let effect = act_on(alloc, surface, line)?;
-    let text = effect_text(alloc, raw, effect, surface, terminal)?;
+    let effect = act_on(alloc, canvas, line)?;
+    let text = effect_text(alloc, raw, effect, canvas, terminal)?;
     Ok(text)
 }
 
-// What is written of what came of a line that left this surface.
+// What is written of what came of a line that left this canvas.
 fn effect_text(
     alloc: Global,
     raw: bool,
     effect: Effect,
-    surface: &Option<Picture>,
+    canvas: &Option<Picture>,
     terminal: &mut Option<EcmaScreen>,
 ) -> Result<Vec<u8>, NoMemory>
-    requires { IsReady surface.now terminal.old }
-    ensures text { IfOk result (λ text. IfSome surface.now (λ s. text.items ≡ output_of raw (events_of effect s))) }
-    ensures ready { OnOk result (IsReady surface.now terminal.new) }
+    requires { IsReady canvas.now terminal.old }
+    ensures text { IfOk result (λ text. IfSome canvas.now (λ s. text.items ≡ output_of raw (events_of effect s))) }
+    ensures ready { OnOk result (IsReady canvas.now terminal.new) }
 {
-    match (effect, surface) {
+    match (effect, canvas) {
         (Effect::Refused(refusal), _) if !raw => {
             let mut text = Vec::new(alloc);
             print_refusal(refusal.name(), &mut text)?;
             Ok(text)
         }
-        (Effect::Shown, Some(surface)) => show(alloc, raw, surface, terminal),
+        (Effect::Shown, Some(canvas)) => show(alloc, raw, canvas, terminal),
         _ => Ok(Vec::new(alloc)),
     }
 }
@@ -140,11 +140,11 @@ pub fn refusals(alloc: Global, script: &[u8]) -> Result<Vec<u8>, NoMemory>
     ensures { IfOk result (λ text. text.items ≡ refusals_of (story_of script.now).events) }
 {
     let mut text = Vec::new(alloc);
-    let mut surface = None;
+    let mut canvas = None;
     let mut rest = script;
     while !rest.is_empty() {
         let (line, after) = cut_line(rest);
-        match add_refusal(alloc, line, &mut surface, &mut text) {
+        match add_refusal(alloc, line, &mut canvas, &mut text) {
             Ok(()) => rest = after,
             Err(LineFault::Bad) => break,
             Err(LineFault::NoMemory) => return Err(NoMemory),
@@ -157,13 +157,13 @@ pub fn refusals(alloc: Global, script: &[u8]) -> Result<Vec<u8>, NoMemory>
 fn add_refusal(
     alloc: Global,
     line: &[u8],
-    surface: &mut Option<Picture>,
+    canvas: &mut Option<Picture>,
     text: &mut Vec<u8>,
 ) -> Result<(), LineFault>
-    ensures ok { OnOk result (AddsRefusals surface.old line.now text.old.items text.new.items surface.new) }
-    ensures bad { IsErrOf result LineFault.Bad → (line_outcome surface.old line.now ≡ None) × (text.new.items ≡ text.old.items) }
+    ensures ok { OnOk result (AddsRefusals canvas.old line.now text.old.items text.new.items canvas.new) }
+    ensures bad { IsErrOf result LineFault.Bad → (line_outcome canvas.old line.now ≡ None) × (text.new.items ≡ text.old.items) }
 {
-    if let Effect::Refused(refusal) = act_on(alloc, surface, line)? {
+    if let Effect::Refused(refusal) = act_on(alloc, canvas, line)? {
         print_refusal(refusal.name(), text)?;
     }
     Ok(())

@@ -1,4 +1,4 @@
-//! Showing a surface: the bytes that paint it, and what a terminal then shows.
+//! Showing a canvas: the bytes that paint it, and what a terminal then shows.
 ghost use Rattle.std.specs.Prelude.{◌≡◌, true, All, IsSome, IfSome, IfOk, OnOk};
 ghost use Rattle.std.specs.Option.{ForSome};
 ghost use Rattle.scr_term.specs.Profiles.{IsEcma48};
@@ -11,86 +11,82 @@ ghost use Rattle.screen_scripts.specs.Showing.{IsTerminalFor};
 
 use crate::printing::print_screen;
 use scr_cells::{NoMemory, Picture, Size};
-use scr_plan::{scratch, scratch_bytes_show, scratch_shows};
-use scr_term::{EcmaScreen, Op, Profile, blank_laws, run_laws, screens_follow_texts};
+use scr_plan::{scratch_bytes, scratch_bytes_show};
+use scr_term::{EcmaScreen, Profile, blank_laws, screens_follow_texts};
 use std::alloc::Global;
 
-/// What is written of a surface that is shown: raw, the bytes that paint it, else the lines that the
+/// What is written of a canvas that is shown: raw, the bytes that paint it, else the lines that the
 /// terminal then shows. There is a terminal after the first lines.
 pub fn show(
     alloc: Global,
     raw: bool,
-    surface: &Picture,
+    canvas: &Picture,
     terminal: &mut Option<EcmaScreen>,
 ) -> Result<Vec<u8>, NoMemory>
-    requires cursor { IsSome surface.now.wish }
-    requires terminal { ForSome terminal.old (λ screen. IsTerminalFor surface.now screen) }
-    ensures text { IfOk result (λ text. text.items ≡ written_event raw (Shown surface.now)) }
-    ensures ready { OnOk result (IfSome terminal.new (λ screen. IsTerminalFor surface.now screen)) }
+    requires cursor { IsSome canvas.now.wish }
+    requires terminal { ForSome terminal.old (λ screen. IsTerminalFor canvas.now screen) }
+    ensures text { IfOk result (λ text. text.items ≡ written_event raw (Shown canvas.now)) }
+    ensures ready { OnOk result (IfSome terminal.new (λ screen. IsTerminalFor canvas.now screen)) }
 {
     if raw {
-        return update_bytes(alloc, surface);
+        return update_bytes(alloc, canvas);
     }
     if let Some(screen) = terminal {
-        return shown_lines(alloc, surface, screen);
+        return shown_lines(alloc, canvas, screen);
     }
-    let mut screen = blank_terminal(alloc, surface)?;
-    let text = shown_lines(alloc, surface, &mut screen)?;
+    let mut screen = blank_terminal(alloc, canvas)?;
+    let text = shown_lines(alloc, canvas, &mut screen)?;
     *terminal = Some(screen);
     Ok(text)
 }
 
-// A blank terminal of a surface's size.
-fn blank_terminal(alloc: Global, surface: &Picture) -> Result<EcmaScreen, NoMemory>
-    ensures { IfOk result (λ screen. IsTerminalFor surface.now screen) }
+// A blank terminal of a canvas's size.
+fn blank_terminal(alloc: Global, canvas: &Picture) -> Result<EcmaScreen, NoMemory>
+    ensures { IfOk result (λ screen. IsTerminalFor canvas.now screen) }
 {
     blank_laws();
-    let screen = EcmaScreen::new(alloc, surface.size())?;
+    let screen = EcmaScreen::new(alloc, canvas.size())?;
     Ok(screen)
 }
 
-// The lines that a terminal shows after the bytes that paint a surface.
+// The lines that a terminal shows after the bytes that paint a canvas.
 fn shown_lines(
     alloc: Global,
-    surface: &Picture,
+    canvas: &Picture,
     screen: &mut EcmaScreen,
 ) -> Result<Vec<u8>, NoMemory>
-    requires cursor { IsSome surface.now.wish }
-    requires terminal { IsTerminalFor surface.now screen.old }
-    ensures text { IfOk result (λ text. text.items ≡ printed_event (Shown surface.now)) }
-    ensures ready { OnOk result (IsTerminalFor surface.now screen.new) }
+    requires cursor { IsSome canvas.now.wish }
+    requires terminal { IsTerminalFor canvas.now screen.old }
+    ensures text { IfOk result (λ text. text.items ≡ printed_event (Shown canvas.now)) }
+    ensures ready { OnOk result (IsTerminalFor canvas.now screen.new) }
 {
-    let bytes = update_bytes(alloc, surface)?;
-    paint(surface, &bytes, screen);
+    let bytes = update_bytes(alloc, canvas)?;
+    paint(canvas, &bytes, screen);
     let mut text = Vec::new(alloc);
     print_screen(screen, &mut text)?;
     Ok(text)
 }
 
-// Feeds a terminal the bytes that paint a surface.
-fn paint(surface: &Picture, bytes: &[u8], screen: &mut EcmaScreen)
-    requires terminal { IsTerminalFor surface.now screen.old }
-    requires bytes { bytes.now ≡ sent_event (Shown surface.now) }
-    ensures painted { ShowsNegative (profile_for surface.now) screen.new.state surface.now }
-    ensures ready { IsTerminalFor surface.now screen.new }
+// Feeds a terminal the bytes that paint a canvas.
+fn paint(canvas: &Picture, bytes: &[u8], screen: &mut EcmaScreen)
+    requires terminal { IsTerminalFor canvas.now screen.old }
+    requires bytes { bytes.now ≡ sent_event (Shown canvas.now) }
+    ensures painted { ShowsNegative (profile_for canvas.now) screen.new.state canvas.now }
+    ensures ready { IsTerminalFor canvas.now screen.new }
 {
-    let _size = surface.size();
+    let _size = canvas.size();
     scratch_bytes_show();
     screens_follow_texts();
     // The bytes are all defined, by these laws.
     let _ = screen.feed(bytes);
 }
 
-// The bytes that paint a surface from scratch.
-fn update_bytes(alloc: Global, surface: &Picture) -> Result<Vec<u8>, NoMemory>
-    ensures { IfOk result (λ bytes. bytes.items ≡ sent_event (Shown surface.now)) }
+// The bytes that paint a canvas from scratch.
+fn update_bytes(alloc: Global, canvas: &Picture) -> Result<Vec<u8>, NoMemory>
+    ensures { IfOk result (λ bytes. bytes.items ≡ sent_event (Shown canvas.now)) }
 {
-    let profile = bundled_profile(alloc, surface.size())?;
-    let ops = scratch(alloc, &profile, surface)?;
-    scratch_shows();
-    run_laws();
-    blank_laws();
-    rendered(alloc, &profile, &ops.0)
+    let profile = bundled_profile(alloc, canvas.size())?;
+    scratch_bytes(alloc, &profile, canvas)
 }
 
 // The profile of the bundled entry, which has no fault but want of memory.
@@ -100,16 +96,4 @@ fn bundled_profile(alloc: Global, size: Size) -> Result<Profile, NoMemory>
     ensures columns { IfOk result (λ profile. profile.columns ≡ size.columns) }
 {
     Profile::ecma48(alloc, size).map_err(|_| NoMemory)
-}
-
-// The bytes of operations that the profile has, one after another.
-fn rendered(alloc: Global, profile: &Profile, ops: &[Op]) -> Result<Vec<u8>, NoMemory>
-    requires { All (λ op. has profile.now op ≡ true) ops.now }
-    ensures { IfOk result (λ bytes. bytes.items ≡ all_bytes profile.now ops.now) }
-{
-    let mut bytes = Vec::new(alloc);
-    for op in ops {
-        profile.render(*op, &mut bytes)?;
-    }
-    Ok(bytes)
 }

@@ -1,10 +1,10 @@
-//! What each line of a script does to the surface.
+//! What each line of a script does to the canvas.
 ghost use Rattle.std.specs.Prelude.{◌≡◌, None, IfOk, OnErr, IsErrOf};
 ghost use Rattle.screen_scripts.specs.Stories.{line_outcome, added};
 ghost use Rattle.screen_scripts.specs.StageViews.{refusal_name, events_of, ActsOn};
 
+use crate::canvases::{add_text, blank_canvas, is_printed};
 use crate::commands::{Command, read_command};
-use crate::surfaces::{add_text, blank_surface, is_printed};
 use scr_cells::{NoMemory, Picture, Size};
 use std::alloc::Global;
 
@@ -36,7 +36,7 @@ pub enum Effect {
     Nothing,
     /// A refusal.
     Refused(Refusal),
-    /// The surface is to be shown.
+    /// The canvas is to be shown.
     Shown,
 }
 
@@ -59,21 +59,17 @@ impl From<NoMemory> for LineFault {
     }
 }
 
-/// Does what a line says to the surface, which is there once a size was given.
-pub fn act_on(
-    alloc: Global,
-    surface: &mut Option<Picture>,
-    line: &[u8],
-) -> Result<Effect, LineFault>
-    ensures ok { IfOk result (λ effect. ActsOn surface.old line.now effect surface.new) }
-    ensures bad { IsErrOf result LineFault.Bad → line_outcome surface.old line.now ≡ None }
-    ensures err { OnErr result (surface.new ≡ surface.old) }
+/// Does what a line says to the canvas, which is there once a size was given.
+pub fn act_on(alloc: Global, canvas: &mut Option<Picture>, line: &[u8]) -> Result<Effect, LineFault>
+    ensures ok { IfOk result (λ effect. ActsOn canvas.old line.now effect canvas.new) }
+    ensures bad { IsErrOf result LineFault.Bad → line_outcome canvas.old line.now ≡ None }
+    ensures err { OnErr result (canvas.new ≡ canvas.old) }
 {
     let command = read_command(line).ok_or(LineFault::Bad)?;
-    match (surface.as_mut(), command) {
+    match (canvas.as_mut(), command) {
         (None, Command::Size(rows, columns)) => {
             let size = Size::new(rows, columns).ok_or(LineFault::Bad)?;
-            *surface = Some(blank_surface(alloc, size)?);
+            *canvas = Some(blank_canvas(alloc, size)?);
             Ok(Effect::Nothing)
         }
         (Some(picture), Command::Add(row, column, text)) => Ok(add(picture, row, column, text)),
@@ -83,17 +79,17 @@ pub fn act_on(
 }
 
 // Moves the cursor and adds a text there, or says what is refused.
-fn add(surface: &mut Picture, row: u32, column: u32, text: &[u8]) -> Effect
-    ensures { added surface.old row column text.now ≡ record { surface = surface.new; events = events_of result surface.new } }
+fn add(canvas: &mut Picture, row: u32, column: u32, text: &[u8]) -> Effect
+    ensures { added canvas.old row column text.now ≡ record { canvas = canvas.new; events = events_of result canvas.new } }
 {
-    let size = surface.size();
+    let size = canvas.size();
     if row >= size.rows || column >= size.columns {
         return Effect::Refused(Refusal::OutOfWindow);
     }
-    surface.set_wish(Some((row, column)));
+    canvas.set_wish(Some((row, column)));
     if !is_printed(text) {
         return Effect::Refused(Refusal::NotAscii);
     }
-    add_text(surface, text);
+    add_text(canvas, text);
     Effect::Nothing
 }

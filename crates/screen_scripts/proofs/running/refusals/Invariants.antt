@@ -7,7 +7,7 @@ use Rattle.screen_scripts.proofs.running.refusals.Given as goal
 -- the refusals so far and those of what is left are those of the script, whatever number the line has
 abbrev pub invariant-loop-rest : goal.invariant-loop-rest
 invariant-loop-rest l =
-    (n : ℕ) × (l.text.items ++ refusals_of (story_on n l.surface (lines_of l.rest)).events ≡ refusals_of (story_of l.script).events)
+    (n : ℕ) × (l.text.items ++ refusals_of (story_on n l.canvas (lines_of l.rest)).events ≡ refusals_of (story_of l.script).events)
 
 abbrev pub decreases-loop-rest : goal.decreases-loop-rest
 decreases-loop-rest l = length l.rest

@@ -6,6 +6,6 @@ use Rattle.screen_scripts.proofs.showing.blank_terminal.Goals as goal
 
 pub returns : goal.returns
 returns c =
-    let picture = c.args.surface.now in
+    let picture = c.args.canvas.now in
     let size : blank_screen c.size.result.rows c.size.result.columns ≡ blank_screen picture.rows picture.columns = λ i. blank_screen (c.size.ensures.rows i) (c.size.ensures.columns i) in
     subst (λ s. IsTerminalFor picture s) (sym (c.in_ok-screen.ensures ∙ size)) (blank_is_terminal c.blank_laws.ensures picture c.size.ensures.picture)

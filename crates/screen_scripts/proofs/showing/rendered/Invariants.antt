@@ -1,6 +1,0 @@
-use Rattle.std.proofs.Common.{◌≡◌, take}
-use Rattle.scr_term.specs.Texts.{all_bytes}
-use Rattle.screen_scripts.proofs.showing.rendered.Given as goal
-
-abbrev pub invariant-loop-op : goal.invariant-loop-op
-invariant-loop-op l = l.bytes.items ≡ all_bytes l.profile (take l.op-index l.ops)
