@@ -1,6 +1,6 @@
 -- An entry that uses no other, and a name that has none.
 use Rattle.std.specs.Prelude.{is_none}
-use Rattle.std.proofs.Common.{None, ◌≡◌, ◌∙◌, ℕ, suc, Bool, true, false, cond, ◌||◌, option_map, eqb, nat_lt, List, [], ◌∷◌, length, Option, Some, Result, Ok, Err, IfOk, slice_get, slice_index_or, refl, sym, ap, arith}
+use Rattle.std.proofs.Common.{None, ◌≡◌, ◌∙◌, ℕ, true, false, eqb, nat_lt, List, [], ◌∷◌, length, Option, Some, is_some, Result, Ok, Err, IfOk, slice_get, slice_index_or, refl, sym, ap, arith}
 use Rattle.std.specs.List.{list_any}
 use Rattle.std.proofs.lemmas.Bool.{eqb-true, ltb-true}
 use Rattle.std.proofs.lemmas.Option.{slice_get-get_or}
@@ -8,10 +8,10 @@ use Rattle.ti_caps.specs.Description.{Description}
 use Rattle.ti_source.specs.declared.fault.SourceFault.TheVariants.{UnknownName}
 use Rattle.ti_source.specs.declared.statement.Statement.{Statement}
 use Rattle.ti_source.specs.Described.{Described}
-use Rattle.ti_source.specs.Named.{found_from, has_name, place_of}
+use Rattle.ti_source.specs.Named.{has_name, place_of}
 use Rattle.ti_source.specs.Resolving.{merged, nothing, unknown, Resolve, Resolved, StandsAlone, Unresolved}
 use Rattle.ti_source.specs.Walk.{of_fields}
-use Rattle.ti_source.proofs.NamedLaws.{found-none}
+use Rattle.ti_source.proofs.NamedLaws.{found-any, found-none}
 use Rattle.ti_source.proofs.TaskLaws.{resolved-at}
 
 pub is-empty : {A : Type 0} → (xs : List A) → true ≡ eqb (length xs) 0 → xs ≡ []
@@ -43,16 +43,11 @@ pub no-name : (entries : List Described) (name : List ℕ) (place : Option ℕ) 
 no-name entries name None is none = unknown (found-none name entries is)
 no-name entries name (Some i) is none = cc
 
-found-none-of : (i : ℕ) (name : List ℕ) (ds : List Described) → list_any (has_name name) ds ≡ false → found_from i name ds ≡ None
-found-none-of i name [] none = refl
-found-none-of i name (d ∷ ds) none = by (has_name name d) none (found-none-of (suc i) name ds)
-  where
-    by : (t : Bool) → (t || list_any (has_name name) ds) ≡ false → (list_any (has_name name) ds ≡ false → found_from (suc i) name ds ≡ None) → cond t (Some (i, d)) (found_from (suc i) name ds) ≡ None
-    by true e h = cc
-    by false e h = h e
-
 -- a name that has a place is a name of an entry
 pub has-place : (entries : List Described) (name : List ℕ) (place : Option ℕ) → place ≡ place_of entries name → is_none place ≡ false → list_any (has_name name) entries ≡ false → ⊥
 has-place entries name place is some none =
-    let same : place ≡ None = is ∙ ap (option_map (λ (f : ℕ × Described). f.0)) (found-none-of 0 name entries none) in
-    cc
+    by place (ap is_some is ∙ found-any 0 name entries ∙ none) some
+  where
+    by : (p : Option ℕ) → is_some p ≡ false → is_none p ≡ false → ⊥
+    by None e h = cc
+    by (Some i) e h = cc

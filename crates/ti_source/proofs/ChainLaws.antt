@@ -1,5 +1,5 @@
 -- Faults over chains of uses: over longer ones, over none, and those of all entries that are left later.
-use Rattle.std.proofs.Common.{◌≡◌, ◌≢◌, ◌∙◌, ℕ, Bool, true, false, ◌||◌, eqb, List, [], ◌∷◌, ◌++◌, Option, Some, None, option_map, slice_get, map, set, length, reverse, refl, ap, sym, subst, append_assoc, append-nil, arith, ◌⊎◌, inl, inr}
+use Rattle.std.proofs.Common.{◌≡◌, ◌≢◌, ◌∙◌, ℕ, ◌+◌, ◌≤◌, Bool, true, false, ◌||◌, eqb, List, [], ◌∷◌, ◌++◌, Option, Some, None, option_map, slice_get, map, set, length, reverse, refl, ap, sym, subst, append_assoc, append-nil, arith, ◌⊎◌, inl, inr}
 use Rattle.std.specs.List.{list_any}
 use Rattle.std.proofs.lemmas.Bool.{eqb-true}
 use Rattle.std.proofs.lemmas.Bool.Decides.{nat_tests}
@@ -15,9 +15,9 @@ use Rattle.ti_source.specs.declared.walk.Task.TheVariants.{Visit, Leave}
 use Rattle.ti_source.specs.Described.{Described}
 use Rattle.ti_source.specs.Named.{found_from, place_of}
 use Rattle.ti_source.specs.Resolving.{Resolve, nothing, more, Fault, unknown, cycle, below, later}
-use Rattle.ti_source.specs.Walk.{visits, leaves, FaultAt, ResolvedAt, Awaits, Awaited, IsWalk, with_fault}
+use Rattle.ti_source.specs.Walk.{visits, leaves, FaultAt, ResolvedAt, Awaits, Awaited, IsTakenBack, IsWalk, with_fault}
 use Rattle.ti_source.proofs.OnceLaws.{fault-is-once}
-use Rattle.ti_source.proofs.PlaceLaws.{get-cases, get-within, reverse-push}
+use Rattle.ti_source.proofs.PlaceLaws.{get-cases, get-lt, get-within, reverse-push}
 use Rattle.ti_source.proofs.TaskLaws.{fault-more, found-at, no-fault, place-there}
 
 -- ---- chains
@@ -258,3 +258,64 @@ faults-leave fault marks after whole all rest i popped put h =
 pub faults-visit : (fault : SourceFault) (marks whole : List Mark) (all rest : List Task) (p : Option ℕ) → all ≡ rest ++ Visit p ∷ [] → with_fault fault (leaves (reverse all)) marks ≡ whole → with_fault fault (leaves (reverse rest)) marks ≡ whole
 faults-visit fault marks whole all rest p popped h =
     sym (ap (λ ts. with_fault fault (leaves ts) marks) (ap reverse popped ∙ reverse-push rest (Visit p))) ∙ h
+
+-- ---- marks that are taken back
+
+-- the first of the marks are taken back
+abbrev pub AreTakenBack : ℕ → List Mark → List Mark → Type 0
+AreTakenBack i before now =
+    (length now ≡ length before) × ((j : ℕ) (m : Mark) → slice_get now j ≡ Some m → (m ≡ New) ⊎ ((slice_get before j ≡ Some m) × ((m ≢ Open) ⊎ (i ≤ j))))
+
+pub back-init : (marks : List Mark) → AreTakenBack 0 marks marks
+back-init marks = (refl, λ j m e. inr (e, inr (omega arith)))
+
+past : (i j : ℕ) → j ≢ i → i ≤ j → i + 1 ≤ j
+past i j ne le = grind (arith, nat_tests)
+
+pub back-open : (before now after : List Mark) (i : ℕ) → AreTakenBack i before now → after ≡ set now i New → AreTakenBack (i + 1) before after
+back-open before now after i h is =
+    rw is (
+      length-set now i New ∙ h.0,
+      λ j m e. elim (get-cases now i New j m e) [
+        | inl g ↦ inl g.1
+        | inr g ↦ elim (h.1 j m g.1) [
+          | inl x ↦ inl x
+          | inr y ↦ inr (y.0, elim y.1 [ inl z ↦ inl z | inr le ↦ inr (past i j g.0 le) ])
+        ]
+      ],
+    )
+
+pub back-other : (before now : List Mark) (i : ℕ) (x : Mark) → AreTakenBack i before now → slice_get now i ≡ Some x → x ≢ Open → AreTakenBack (i + 1) before now
+back-other before now i x h at ne = (h.0, λ j m e. elim (h.1 j m e) [
+  | inl y ↦ inl y
+  | inr y ↦ inr (y.0, elim y.1 [ inl z ↦ inl z | inr le ↦ by j m e (eqb j i) refl le ])
+])
+  where
+    by : (j : ℕ) (m : Mark) → slice_get now j ≡ Some m → (t : Bool) → eqb j i ≡ t → i ≤ j → (m ≢ Open) ⊎ (i + 1 ≤ j)
+    by j m e true is le =
+        let same : j ≡ i = eqb-true j i is in
+        let there : slice_get now i ≡ Some m = ap (slice_get now) (sym same) ∙ e in
+        let mark : x ≡ m = cc (at, there) in
+        inl (λ open_is. ne (mark ∙ open_is))
+    by j m e false is le = inr (grind (arith, nat_tests))
+
+pub back-end : (before now : List Mark) (i : ℕ) → AreTakenBack i before now → length before ≤ i → IsTakenBack before now
+back-end before now i h all = record {
+  sized = h.0;
+  stay = λ j m e. elim (h.1 j m e) [
+    | inl y ↦ inl y
+    | inr y ↦ inr (y.0, elim y.1 [ inl z ↦ z | inr le ↦ let lt = get-lt before j m y.0 in absurd (omega arith) ])
+  ];
+}
+
+-- a walk that ran out of memory
+pub ready-back : (entries : List Described) (marks after : List Mark) (kept : List (List Statement)) (tasks : List Task) → IsWalk entries marks kept tasks → IsTakenBack marks after → IsWalk entries after kept []
+ready-back entries marks after kept tasks w t = record {
+  sized = t.sized ∙ w.sized;
+  opened = λ i e. elim (t.stay i Open e) [ inl h ↦ absurd (cc (h)) | inr h ↦ absurd (h.1 refl) ];
+  fresh = λ i e. refl;
+  keeps = λ i k e. elim (t.stay i (Done k) e) [ inl h ↦ absurd (cc (h)) | inr h ↦ w.keeps i k h.0 ];
+  held = tt;
+  awaited = tt;
+  faulty = λ i fault e. elim (t.stay i (Faulty fault) e) [ inl h ↦ absurd (cc (h)) | inr h ↦ w.faulty i fault h.0 ];
+}

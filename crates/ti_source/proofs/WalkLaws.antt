@@ -14,8 +14,9 @@ use Rattle.ti_source.specs.declared.walk.Walk.{Walk}
 use Rattle.ti_source.specs.Described.{Described}
 use Rattle.ti_source.specs.Named.{place_of}
 use Rattle.ti_source.specs.Resolving.{unknown, cycle}
-use Rattle.ti_source.specs.Walk.{visits, leaves, places, FaultAt, FaultIn, known, AreKnown, Within, IsWalk, Kept, count_new, Stepped, StuckAt, with_fault}
-use Rattle.ti_source.proofs.ChainLaws.{awaited-done, awaited-entered, faulty-at, ready-again}
+use Rattle.ti_source.specs.Result.{Stops}
+use Rattle.ti_source.specs.Walk.{visits, leaves, places, FaultAt, FaultIn, known, AreKnown, Within, IsWalk, Kept, count_new, Stepped, StuckAt, IsReady, IsStopped, IsTakenBack, with_fault}
+use Rattle.ti_source.proofs.ChainLaws.{awaited-done, awaited-entered, faulty-at, ready-again, ready-back}
 use Rattle.ti_source.proofs.NamedLaws.{found-none}
 use Rattle.ti_source.proofs.PlaceLaws.{get-append, get-cases, get-lt, get-none, get-push, get-set, get-within}
 use Rattle.ti_source.proofs.TaskLaws.{all-from, all-known, count-done, count-open, enter-lifts, found-at, held-mono, held-visits, known-set, leaves-visits, not-new, place-there, places-visits}
@@ -219,6 +220,18 @@ stuck-ready entries before place w after task fault marks r s is =
     let marked = is ∙ ap (λ (x : Walk). with_fault fault (leaves (reverse x.tasks.items)) x.marks.items) s.same in
     let ready = ready-again entries w.marks.items marks w.kept.items s.place (reverse w.tasks.items) fault walk s.stuck marked in
     subst (λ (x : Walk). IsWalk entries marks x.kept.items []) (sym s.same) ready
+
+pub stopped-ready : (entries : List Described) (before : List Mark) (place : Option ℕ) (w after stopped : Walk) (task : Task) (fault : SourceFault) → IsReaching entries before place w.marks.items w.kept.items (task ∷ reverse w.tasks.items) → Stops fault (StuckAt entries w task fault after) → (after.marks.items ≡ w.marks.items) × (after.kept.items ≡ w.kept.items) → IsStopped fault (leaves (reverse after.tasks.items)) after.marks.items stopped.marks.items → stopped.kept.items ≡ after.kept.items → stopped.tasks.items ≡ [] → IsReady entries stopped
+stopped-ready entries before place w after stopped task fault r why same marks kept none =
+    (elim marks [
+      | inl h ↦
+          let back = subst (λ ms. IsTakenBack ms stopped.marks.items) same.0 h.1 in
+          subst (λ ks. IsWalk entries stopped.marks.items ks []) (sym (kept ∙ same.1)) (ready-back entries w.marks.items stopped.marks.items w.kept.items (task ∷ reverse w.tasks.items) r.walk back)
+      | inr h ↦ elim why [
+        | inl e ↦ absurd (h.0 e)
+        | inr s ↦ subst (λ ks. IsWalk entries stopped.marks.items ks []) (sym kept) (stuck-ready entries before place w after task fault stopped.marks.items r s h.1)
+      ]
+    ], ap reverse none)
 
 pub walk-new : (entries : List Described) (marks : List Mark) (kept : List (List Statement)) → marks ≡ replicate (length entries) New → IsWalk entries marks kept []
 walk-new entries marks kept is =

@@ -1,10 +1,11 @@
 -- What the marks and the list of work of a way through uses stand for.
-use Rattle.std.specs.Prelude.{◌≡◌, ◌⊎◌, ◌<◌, ℕ, ◌+◌, ◌*◌, Bool, true, false, List, [], ◌∷◌, ◌++◌, Option, Some, None, length, map, reverse, slice_get, slice_set, is_some, ◌==◌}
+use Rattle.std.specs.Prelude.{◌≡◌, ◌≢◌, ◌⊎◌, ◌<◌, ℕ, ◌+◌, ◌*◌, Bool, true, false, List, [], ◌∷◌, ◌++◌, Option, Some, None, length, map, reverse, slice_get, slice_set, is_some, ◌==◌}
 use Rattle.std.specs.List.{list_any}
 use Rattle.ti_caps.specs.declared.table.Kind.{Kind}
 use Rattle.ti_caps.specs.Description.{Description}
 use Rattle.ti_caps.specs.Table.{or_else}
 use Rattle.ti_source.specs.declared.fault.SourceFault.{SourceFault}
+use Rattle.ti_source.specs.declared.fault.SourceFault.TheVariants.{NoMemory}
 use Rattle.ti_source.specs.declared.walk.Mark.{Mark}
 use Rattle.ti_source.specs.declared.walk.Mark.TheVariants.{New, Open, Done, Faulty}
 use Rattle.ti_source.specs.declared.walk.Task.{Task}
@@ -163,6 +164,16 @@ pub record StuckAt (entries : List Described) (before : Walk) (task : Task) (fau
 abbrev pub with_fault : SourceFault → List ℕ → List Mark → List Mark
 with_fault fault [] marks = marks
 with_fault fault (i ∷ is) marks = with_fault fault is (slice_set marks i (Faulty fault))
+
+-- no entry is on a chain, and the marks of the others stay
+pub record IsTakenBack (before after : List Mark) : Type 0 where
+  pub sized : length after ≡ length before
+  pub stay : (i : ℕ) (mark : Mark) → slice_get after i ≡ Some mark → (mark ≡ New) ⊎ ((slice_get before i ≡ Some mark) × (mark ≢ Open))
+
+-- what a fault leaves of the marks, with these entries on the chain
+abbrev pub IsStopped : SourceFault → List ℕ → List Mark → List Mark → Type 0
+IsStopped fault chain before after =
+    ((fault ≡ NoMemory) × IsTakenBack before after) ⊎ ((fault ≢ NoMemory) × (after ≡ with_fault fault chain before))
 
 -- a walk on which nothing is left to do
 abbrev pub IsReady : List Described → Walk → Type 0

@@ -5,6 +5,7 @@ ghost use Rattle.std.specs.List.{list_any};
 ghost use Rattle.ti_caps.specs.Names.{alternatives};
 ghost use Rattle.ti_caps.specs.Table.{or_else};
 ghost use Rattle.ti_source.specs.Named.{alternatives_behind, found_from, has_name, named, place_of, placed};
+ghost use Rattle.ti_source.specs.Reading.{is_taken};
 ghost use Rattle.ti_source.specs.Result.{Gives};
 
 use crate::fault::SourceFault;
@@ -112,10 +113,27 @@ impl Entries {
     }
 
     /// Whether an entry has this reference name.
-    pub(crate) fn has_name(&self, name: &[u8]) -> bool
+    fn has_name(&self, name: &[u8]) -> bool
         ensures { result ≡ list_any (has_name name.now) self.now }
     {
         self.places.contains_key(name)
+    }
+
+    /// Whether an entry has one of these names as a reference name.
+    pub(crate) fn has_any_name(&self, names: &[u8]) -> bool
+        ensures { result ≡ is_taken names.now self.now }
+    {
+        let mut rest = names;
+        loop {
+            let (name, behind) = split_bar(rest);
+            if self.has_name(name) {
+                return true;
+            }
+            match behind {
+                Some(more) => rest = more,
+                None => return false,
+            }
+        }
     }
 
     /// The place of the first entry that has this reference name.

@@ -1,7 +1,7 @@
 //! Reading a source line by line.
 
 ghost use Rattle.std.specs.Prelude.{◌≡◌, None, Ok, [], option_map};
-ghost use Rattle.ti_source.specs.Reading.{is_taken, source_of};
+ghost use Rattle.ti_source.specs.Reading.{source_of};
 ghost use Rattle.ti_source.specs.Steps.{begun, continued, whole, with_line};
 ghost use Rattle.ti_source.specs.Field.{fields};
 ghost use Rattle.ti_source.specs.Line.{line_of};
@@ -35,14 +35,6 @@ impl Model for State {
     ghost Value = { State };
 
     ghost view = { λ s. record { done = s.done; current = s.current; notes = s.notes.items } };
-}
-
-fn is_taken(names: &[u8], entries: &Entries) -> bool
-    ensures { result ≡ is_taken names.now entries.now }
-{
-    names
-        .split(|b| *b == b'|')
-        .any(|name| entries.has_name(name))
 }
 
 impl State {
@@ -94,7 +86,7 @@ impl State {
             return Err(SourceFault::BadNames(line));
         }
         let (done, notes) = self.close(alloc)?.into_parts();
-        if is_taken(names, &done) {
+        if done.has_any_name(names) {
             return Err(SourceFault::DuplicateName(line));
         }
         let entry = SourceEntry::new(alloc, Bytes(Vec::from_slice(alloc, names)?));

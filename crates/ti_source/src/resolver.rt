@@ -48,7 +48,7 @@ fn alone(alloc: Global, entry: &SourceEntry) -> Result<Entry, SourceFault>
 #[derive(Drop)]
 pub struct Resolver<'a> {
     entries: &'a Entries,
-    /// None until an entry with uses is followed, and after want of memory.
+    /// None until an entry with uses is followed.
     walk: Option<Walk<'a>>,
 }
 
@@ -88,11 +88,7 @@ impl<'a> Resolver<'a> {
             Some(walk) => walk,
             None => Walk::new(alloc, entries)?,
         };
-        let reached = walk.reach(alloc, entries, place);
-        if reached == Err(SourceFault::NoMemory) {
-            return Err(SourceFault::NoMemory);
-        }
-        let entry = match reached {
+        let entry = match walk.reach(alloc, entries, place) {
             Ok(()) => walk.entry(alloc, entries, place),
             Err(fault) => Err(fault),
         };

@@ -1,7 +1,7 @@
 //! The way through the uses of entries, each entry being entered at most once.
 
-ghost use Rattle.std.specs.Prelude.{◌≡◌, ◌<◌, ◌∷◌, [], ◌++◌, List, length, Some, None, true, IfOk, IfErr, OnOk, map, replicate, reverse, slice_get, slice_set};
-ghost use Rattle.ti_source.specs.Walk.{AreKnown, FaultAt, Gathers, IsReady, IsWalk, Keeps, ResolvedAt, Stepped, StuckAt, done_at, known, leaves, visits, with_fault};
+ghost use Rattle.std.specs.Prelude.{◌≡◌, ◌<◌, ◌∷◌, [], ◌++◌, List, length, Some, None, true, IfOk, IfErr, OnErr, OnOk, map, replicate, reverse, slice_get, slice_set};
+ghost use Rattle.ti_source.specs.Walk.{AreKnown, FaultAt, Gathers, IsReady, IsStopped, IsTakenBack, IsWalk, Keeps, ResolvedAt, Stepped, StuckAt, done_at, known, leaves, visits, with_fault};
 ghost use Rattle.ti_source.specs.Named.{place_of};
 ghost use Rattle.ti_source.specs.Result.{Stops};
 
@@ -122,6 +122,17 @@ fn put_fault(marks: &mut [Mark], tasks: &mut Vec<Task>, fault: SourceFault)
     }
 }
 
+/// Takes the chain of uses back: its entries are not entered.
+fn take_back(marks: &mut [Mark])
+    ensures { IsTakenBack marks.old marks.new }
+{
+    for i in 0..marks.len() {
+        if let Mark::Open = marks[i] {
+            marks[i] = Mark::New;
+        }
+    }
+}
+
 impl<'a> Walk<'a> {
     pub(crate) fn new(alloc: Global, entries: &Entries) -> Result<Walk<'a>, SourceFault>
         ensures ready { IfOk result (λ w. IsReady entries.now w) }
@@ -140,6 +151,7 @@ impl<'a> Walk<'a> {
         requires new { slice_get self.old.marks.items i ≡ Some Mark.New }
         ensures ok { OnOk result (Stepped entries.now self.old.marks.items (Task.Visit (Some i) ∷ reverse self.old.tasks.items) self.new.marks.items self.new.kept.items (reverse self.new.tasks.items)) }
         ensures err { IfErr result (λ f. f ≡ SourceFault.NoMemory) }
+        ensures kept { OnErr result ((self.new.marks.items ≡ self.old.marks.items) × (self.new.kept.items ≡ self.old.kept.items)) }
     {
         let entry = &entries.as_slice()[i];
         self.tasks.push(Task::Leave(i))?;
@@ -152,6 +164,7 @@ impl<'a> Walk<'a> {
         requires { IsWalk entries.now self.old.marks.items self.old.kept.items (Task.Visit (Some i) ∷ reverse self.old.tasks.items) }
         ensures ok { OnOk result (Stepped entries.now self.old.marks.items (Task.Visit (Some i) ∷ reverse self.old.tasks.items) self.new.marks.items self.new.kept.items (reverse self.new.tasks.items)) }
         ensures err { IfErr result (λ f. Stops f (StuckAt entries.now self.old (Task.Visit (Some i)) f self.new)) }
+        ensures kept { OnErr result ((self.new.marks.items ≡ self.old.marks.items) × (self.new.kept.items ≡ self.old.kept.items)) }
     {
         match mark_at(&self.marks, i) {
             Some(Mark::New) => self.enter(entries, i),
@@ -168,6 +181,7 @@ impl<'a> Walk<'a> {
         requires walk { IsWalk entries.now self.old.marks.items self.old.kept.items (Task.Leave i ∷ reverse self.old.tasks.items) }
         ensures ok { OnOk result (Stepped entries.now self.old.marks.items (Task.Leave i ∷ reverse self.old.tasks.items) self.new.marks.items self.new.kept.items (reverse self.new.tasks.items)) }
         ensures err { IfErr result (λ f. f ≡ SourceFault.NoMemory) }
+        ensures kept { OnErr result ((self.new.marks.items ≡ self.old.marks.items) × (self.new.kept.items ≡ self.old.kept.items)) }
     {
         let position = self.kept.len();
         let entry = &entries.as_slice()[i];
@@ -181,6 +195,7 @@ impl<'a> Walk<'a> {
         requires { IsWalk entries.now self.old.marks.items self.old.kept.items (task ∷ reverse self.old.tasks.items) }
         ensures ok { OnOk result (Stepped entries.now self.old.marks.items (task ∷ reverse self.old.tasks.items) self.new.marks.items self.new.kept.items (reverse self.new.tasks.items)) }
         ensures err { IfErr result (λ f. Stops f (StuckAt entries.now self.old task f self.new)) }
+        ensures kept { OnErr result ((self.new.marks.items ≡ self.old.marks.items) × (self.new.kept.items ≡ self.old.kept.items)) }
     {
         match task {
             Task::Visit(place) => match place {
@@ -191,8 +206,21 @@ impl<'a> Walk<'a> {
         }
     }
 
-    /// Follows the entry of a place and keeps its fields; UnknownName where there is none. After a fault the entries that were
-    /// on the chain of uses are followed no more. Want of memory leaves the walk unfit for more.
+    /// Does nothing more of what is left after a fault. The entries on the chain of uses have it too, but for want of memory.
+    fn stop(&mut self, fault: SourceFault)
+        ensures kept { self.new.kept.items ≡ self.old.kept.items }
+        ensures tasks { self.new.tasks.items ≡ [] }
+        ensures marks { IsStopped fault (leaves (reverse self.old.tasks.items)) self.old.marks.items self.new.marks.items }
+    {
+        if let SourceFault::NoMemory = fault {
+            take_back(&mut self.marks);
+            self.tasks.clear();
+        } else {
+            put_fault(&mut self.marks, &mut self.tasks, fault);
+        }
+    }
+
+    /// Follows the entry of a place and keeps its fields; UnknownName where there is none. What was followed is kept past a fault.
     pub(crate) fn reach(
         &mut self,
         alloc: Global,
@@ -200,15 +228,14 @@ impl<'a> Walk<'a> {
         place: Option<usize>,
     ) -> Result<(), SourceFault>
         requires { IsReady entries.now self.old }
-        ensures ready { OnOk result (IsReady entries.now self.new) }
+        ensures ready { IsReady entries.now self.new }
         ensures known { OnOk result (known self.new.marks.items place ≡ true) }
         ensures err { IfErr result (λ f. Stops f (FaultAt entries.now [] place f)) }
-        ensures ready_again { IfErr result (λ f. Stops f (IsReady entries.now self.new)) }
     {
         self.tasks.push(Task::Visit(place))?;
         while let Some(task) = self.tasks.pop() {
             if let Err(fault) = self.step(alloc, entries, task) {
-                put_fault(&mut self.marks, &mut self.tasks, fault);
+                self.stop(fault);
                 return Err(fault);
             }
         }

@@ -1,10 +1,8 @@
-use Rattle.std.proofs.Common.{◌≡◌, ◌∙◌, ◌∷◌, [], ◌++◌, length, reverse, inl, inr, ap, subst, List, rules}
+use Rattle.std.proofs.Common.{◌≡◌, ◌∙◌, ◌∷◌, [], ◌++◌, reverse, inl, inr, ap, subst, List, rules}
 use Rattle.ti_source.specs.declared.walk.Task.{Task}
 use Rattle.ti_source.specs.declared.walk.Task.TheVariants.{Visit}
-use Rattle.std.proofs.lemmas.List.{with_items_is}
-use Rattle.ti_source.specs.Walk.{leaves, with_fault}
 use Rattle.ti_source.proofs.PlaceLaws.{reverse-push}
-use Rattle.ti_source.proofs.WalkLaws.{IsReaching, reaching-init, reaching-go, stuck-fault, stuck-ready}
+use Rattle.ti_source.proofs.WalkLaws.{IsReaching, reaching-init, reaching-go, stopped-ready, stuck-fault}
 use Rattle.ti_source.proofs.walk.Walk.reach.Goals as goal
 
 pub loop-task-init : goal.loop-task-init
@@ -23,19 +21,13 @@ returns-in-Err-clause-err c =
       | inr h ↦ inr (stuck-fault c.args.entries.now c.args.self.now.marks.items c.args.place _ _ c.in-Some.task c.in-Err.fault (subst P turned c.loop-task.invariant) h)
     ]
 
-pub returns-in-Err-clause-ready_again : goal.returns-in-Err-clause-ready_again
-returns-in-Err-clause-ready_again c =
+pub returns-in-Err-clause-ready : goal.returns-in-Err-clause-ready
+returns-in-Err-clause-ready c =
     let w = c.loop-task.self in
     let popped : w.tasks.items ≡ c.pop.new.self.items ++ c.in-Some.task ∷ [] = search rules in
     let turned = ap reverse popped ∙ reverse-push c.pop.new.self.items c.in-Some.task in
     let P : List Task → Type 0 = λ ts. IsReaching c.args.entries.now c.args.self.now.marks.items c.args.place w.marks.items w.kept.items ts in
-    let put = c.put_fault.ensures.marks ∙ ap (with_fault c.in-Err.fault (leaves (reverse c.step.new.self.tasks.items))) c.deref_mut.ensures.value in
-    let kept : length c.put_fault.new.marks ≡ c.step.new.self.marks.len = search rules in
-    let marks = with_items_is c.step.new.self.marks c.put_fault.new.marks kept ∙ put in
-    elim c.in-Err.ensures.err [
-      | inl h ↦ inl h
-      | inr h ↦ inr (stuck-ready c.args.entries.now c.args.self.now.marks.items c.args.place _ _ c.in-Some.task c.in-Err.fault _ (subst P turned c.loop-task.invariant) h marks, ap reverse c.put_fault.ensures.tasks)
-    ]
+    stopped-ready c.args.entries.now c.args.self.now.marks.items c.args.place _ c.step.new.self c.stop.new.self c.in-Some.task c.in-Err.fault (subst P turned c.loop-task.invariant) c.in-Err.ensures.err c.in-Err.ensures.kept c.stop.ensures.marks c.stop.ensures.kept c.stop.ensures.tasks
 
 pub loop-task-preserved : goal.loop-task-preserved
 loop-task-preserved c =
