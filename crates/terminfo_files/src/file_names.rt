@@ -2,17 +2,11 @@
 
 ghost use Rattle.std.specs.Prelude.{◌≡◌, IfOk, map};
 ghost use Rattle.std.specs.List.{list_all, list_any};
-ghost use Rattle.ti_caps.specs.Names.{has_no_blank, reference_names};
+ghost use Rattle.ti_caps.specs.Names.{reference_names};
 ghost use Rattle.terminfo_files.specs.FileNames.{is_dots, is_file_name, is_slash, path_of};
 
 use std::alloc::{AllocError, Global};
-use ti_caps::Bytes;
-
-fn has_no_blank(name: &[u8]) -> bool
-    ensures { result ≡ has_no_blank name.now }
-{
-    name.iter().all(|b| *b != b' ')
-}
+use ti_caps::{Bytes, has_no_blank};
 
 /// The alternatives without a blank, in their order.
 pub(crate) fn reference_names(alloc: Global, names: &[u8]) -> Result<Vec<&[u8]>, AllocError>

@@ -1,6 +1,6 @@
 //! Listing a compiled file (tic(1), infocmp(1)).
 
-ghost use Rattle.std.specs.Prelude.{◌≡◌, ◌⊎◌, IfErr, IfOk, IsOkUnless, None, Some};
+ghost use Rattle.std.specs.Prelude.{◌≡◌, ◌⊎◌, IfErr, IfOk, IsErrOf, IsOkUnless, None, Some};
 ghost use Rattle.ti_binary.specs.declared.faults.BinFault.{BinFault};
 ghost use Rattle.ti_binary.specs.Files.{Reads, refusal};
 ghost use Rattle.ti_caps.specs.Description.{Description, unnamed_count};
@@ -10,7 +10,7 @@ ghost use Rattle.terminfo_files.specs.Faults.{IsPlain};
 
 use crate::fault::TicFault;
 use std::alloc::Global;
-use ti_binary::decode;
+use ti_binary::{decode, files_are_not_refused};
 use ti_caps::Bytes;
 use ti_source::print;
 
@@ -29,14 +29,17 @@ pub struct Listing {
 /// are left out, and how many bytes follow its string table (term(5), 'Legacy Storage Format'). The text
 /// is a source of one entry, which resolves to the file's without its unnamed capabilities.
 ///
-/// `Decode` with the first reason for which the bytes are no file; `NoMemory` where memory runs out.
+/// `Decode` with the first reason for which the bytes are no file; `NoMemory` where memory runs out and there
+/// is no such reason.
 pub fn list(alloc: Global, bytes: &[u8]) -> Result<Listing, TicFault>
     ensures ok { IfOk result (λ l. (d : Description) × Reads bytes.now d l.skipped × (l.text ≡ printed d) × (l.unnamed ≡ unnamed_count d) × ReadsBack d) }
     ensures err { IfErr result (λ f. (f ≡ TicFault.NoMemory) ⊎ ((b : BinFault) × (refusal bytes.now ≡ Some b) × (f ≡ TicFault.Decode b))) }
+    ensures memory { IsErrOf result TicFault.NoMemory → refusal bytes.now ≡ None }
     ensures good { refusal bytes.now ≡ None → IsOkUnless result TicFault.NoMemory }
     ensures plain { IfErr result IsPlain }
 {
     let (entry, skipped) = decode(alloc, bytes)?;
+    files_are_not_refused();
     let printed = print(alloc, &entry)?;
     Ok(Listing {
         text: printed.text,

@@ -1,17 +1,18 @@
 //! How many flags, numbers and texts of an entry a file holds: up to the last that is present.
 ghost use Rattle.std.specs.Prelude.{◌≡◌, ◌≤◌, ◌<◌, ◌+◌, length, take, is_some, min};
+ghost use Rattle.ti_caps.specs.Description.{IsDescription};
 ghost use Rattle.ti_binary.specs.Canonical.{up_to_last, kept_flags, kept_numbers, kept_texts, table_of};
 
-use ti_caps::{Entry, Slot};
+use ti_caps::{Entry, MOST_FLAGS, MOST_NUMBERS, MOST_TEXTS, Slot};
 
 /// How many flags there are up to the last that is present.
 pub(crate) fn flag_count(entry: &Entry) -> u16
+    requires described { IsDescription entry.now }
     ensures kept { take result entry.now.flags ≡ kept_flags entry.now }
     ensures few { result ≤ 64 }
 {
-    let _names = entry.names();
     let mut count = 0;
-    for slot in 0..64 {
+    for slot in 0..MOST_FLAGS as u16 {
         if entry.flag(Slot(slot)) {
             count = slot + 1;
         }
@@ -21,12 +22,12 @@ pub(crate) fn flag_count(entry: &Entry) -> u16
 
 /// How many numbers there are up to the last that is present.
 pub(crate) fn number_count(entry: &Entry) -> u16
+    requires described { IsDescription entry.now }
     ensures kept { take result entry.now.numbers ≡ kept_numbers entry.now }
     ensures few { result ≤ 64 }
 {
-    let _names = entry.names();
     let mut count = 0;
-    for slot in 0..64 {
+    for slot in 0..MOST_NUMBERS as u16 {
         if entry.number(Slot(slot)).is_some() {
             count = slot + 1;
         }
@@ -36,12 +37,12 @@ pub(crate) fn number_count(entry: &Entry) -> u16
 
 /// How many texts there are up to the last that is present.
 pub(crate) fn text_count(entry: &Entry) -> u16
+    requires described { IsDescription entry.now }
     ensures kept { take result entry.now.texts ≡ kept_texts entry.now }
     ensures few { result ≤ 512 }
 {
-    let _names = entry.names();
     let mut count = 0;
-    for slot in 0..512 {
+    for slot in 0..MOST_TEXTS as u16 {
         if entry.text(Slot(slot)).is_some() {
             count = slot + 1;
         }
@@ -51,10 +52,10 @@ pub(crate) fn text_count(entry: &Entry) -> u16
 
 /// How many bytes the string table of the first texts has, or `most` where it has more.
 pub(crate) fn table_size(entry: &Entry, count: u16, most: u16) -> u16
+    requires described { IsDescription entry.now }
     requires few { count ≤ 512 }
     ensures { result ≡ min (length (table_of (take count entry.now.texts))) most }
 {
-    let _names = entry.names();
     let mut size = 0;
     for slot in 0..count {
         if let Some(text) = entry.text(Slot(slot)) {

@@ -1,5 +1,5 @@
 //! Reading a compiled file, refusal by refusal. The definition is in `specs/Files.antt`.
-ghost use Rattle.std.specs.Prelude.{◌≡◌, ◌≤◌, ◌*◌, ◌⊎◌, false, true, length, IfOk, IfErr, OnOk, None, Some, IsOkUnless};
+ghost use Rattle.std.specs.Prelude.{◌≡◌, ◌≤◌, ◌*◌, ◌⊎◌, false, true, length, IfOk, IfErr, OnOk, None, Some, IsErrOf, IsOkUnless};
 ghost use Rattle.std.specs.List.{before_first, list_any};
 ghost use Rattle.ti_caps.specs.Names.{are_names};
 ghost use Rattle.ti_binary.specs.Files.{Reads, has_bad_names, is_nul, is_outside, is_unended, refusal, words_in};
@@ -9,10 +9,7 @@ use crate::filler::{set_flags, set_numbers, set_texts, want_of_memory};
 use crate::parts::{check_header, cut, word};
 use crate::texts::{before_nul, has_nul, rest_from};
 use std::alloc::Global;
-use ti_caps::{Entry, are_names};
-
-/// The number from which on a 16-bit number is negative.
-const NEGATIVE: u16 = 32_768;
+use ti_caps::{Entry, MOST_NUMBER, are_names};
 
 // The names that a section has.
 fn names_in(section: &[u8]) -> Result<&[u8], BinFault>
@@ -34,14 +31,14 @@ fn names_in(section: &[u8]) -> Result<&[u8], BinFault>
 fn is_outside(table: &[u8], offset: u16) -> bool
     ensures { result ≡ is_outside table.now offset }
 {
-    offset < NEGATIVE && usize::from(offset) >= table.len()
+    offset <= MOST_NUMBER && usize::from(offset) >= table.len()
 }
 
 // Whether the text at an offset that is not negative has no NUL in the table.
 fn is_unended(table: &[u8], offset: u16) -> bool
     ensures { result ≡ is_unended table.now offset }
 {
-    offset < NEGATIVE && !has_nul(rest_from(table, usize::from(offset)))
+    offset <= MOST_NUMBER && !has_nul(rest_from(table, usize::from(offset)))
 }
 
 // Whether one of the first offsets is past the end of the table.
@@ -71,9 +68,11 @@ fn any_unended(table: &[u8], offsets: &[u8], count: u16) -> bool
 /// The entry of a compiled file, and how many bytes follow its string table (term(5), 'Legacy Storage
 /// Format'). Positions without a name are kept.
 ///
-/// Refused with the first fault of `BinFault` in its order; `NoMemory` where memory runs out.
+/// Refused with the first fault of `BinFault` in its order; `NoMemory` where memory runs out and
+/// nothing else is wrong.
 pub fn decode(alloc: Global, bytes: &[u8]) -> Result<(Entry, usize), BinFault>
     ensures refused { IfErr result (λ fault. (fault ≡ BinFault.NoMemory) ⊎ (refusal bytes.now ≡ Some fault)) }
+    ensures memory { IsErrOf result BinFault.NoMemory → refusal bytes.now ≡ None }
     ensures good { refusal bytes.now ≡ None → IsOkUnless result BinFault.NoMemory }
     ensures ok { IfOk result (λ read. Reads bytes.now read.0 read.1) }
 {

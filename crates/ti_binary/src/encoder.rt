@@ -1,5 +1,6 @@
 //! Writing an entry in its one form. The definition is in `specs/Canonical.antt`.
 ghost use Rattle.std.specs.Prelude.{◌≡◌, ◌≤◌, ◌<◌, ◌+◌, ◌↔◌, ◌++◌, length, nat_lt, IfOk, OnOk, IsErrOf, IsOkUnless};
+ghost use Rattle.ti_caps.specs.Description.{IsDescription};
 ghost use Rattle.ti_binary.specs.Canonical.{canonical, words};
 ghost use Rattle.ti_binary.specs.Shapes.{IsShape};
 
@@ -78,15 +79,16 @@ pub fn encode(alloc: Global, entry: &Entry) -> Result<Bytes, EncFault>
 
 // Whether a file of these sizes is longer than a file may be.
 fn is_too_large(entry: &Entry, shape: &Shape) -> bool
-    requires { IsShape entry.now shape.now }
+    requires described { IsDescription entry.now }
+    requires shape { IsShape entry.now shape.now }
     ensures { result ≡ nat_lt 4096 (length (canonical entry.now)) }
 {
-    let _names = entry.names();
     shape.file_size() > MOST_BYTES
 }
 
 // The sections of a file, one after another.
 fn file(alloc: Global, entry: &Entry, shape: &Shape) -> Result<Vec<u8>, AllocError>
+    requires described { IsDescription entry.now }
     requires shape { IsShape entry.now shape.now }
     requires small { length (canonical entry.now) ≤ 4096 }
     ensures { IfOk result (λ out. out.items ≡ canonical entry.now) }

@@ -6,10 +6,7 @@ ghost use Rattle.ti_binary.specs.Files.{flag_said, number_said, padded, text_sai
 use crate::faults::BinFault;
 use crate::parts::word;
 use crate::texts::{before_nul, rest_from};
-use ti_caps::{CapFault, Entry, Slot};
-
-/// The number from which on a 16-bit number is negative.
-const NEGATIVE: u16 = 32_768;
+use ti_caps::{CapFault, Entry, MOST_NUMBER, Slot};
 
 /// Sets the flags that a section says of an entry that has none.
 pub(crate) fn set_flags(entry: &mut Entry, flags: &[u8])
@@ -40,7 +37,11 @@ fn number_said(word: u16) -> Option<u16>
     ensures value { result ≡ number_said word }
     ensures small { IfSome result (λ n. n ≤ 32767) }
 {
-    if word < NEGATIVE { Some(word) } else { None }
+    if word <= MOST_NUMBER {
+        Some(word)
+    } else {
+        None
+    }
 }
 
 /// Sets the texts that offsets say of an entry that has none. Refused for want of memory alone.
@@ -70,7 +71,7 @@ fn text_said(table: &[u8], offset: u16) -> Option<&[u8]>
     ensures value { option_map (λ t. t.now) result ≡ text_said table.now offset }
     ensures whole { text_has_nul (option_map (λ t. t.now) result) ≡ false }
 {
-    if offset < NEGATIVE {
+    if offset <= MOST_NUMBER {
         Some(before_nul(rest_from(table, usize::from(offset))))
     } else {
         None

@@ -1,10 +1,11 @@
 //! The header of a compiled file, and where its sections begin and end.
-ghost use Rattle.std.specs.Prelude.{◌≡◌, ◌≤◌, ◌+◌, ◌*◌, length, drop, IfOk, IfErr, OnOk, None, Some};
+ghost use Rattle.std.specs.Prelude.{◌≡◌, ◌≤◌, ◌+◌, ◌*◌, length, drop, IfOk, IfErr, IsErrOf, OnOk, None, Some};
 ghost use Rattle.ti_binary.specs.Files.{end_place, flags_of, flags_place, has_bad_count, header_refusal, names_of, numbers_of, numbers_place, offsets_of, offsets_place, part, room_refusal, table_of, table_place, word_at};
 ghost use Rattle.ti_binary.specs.Shapes.{HasRoom};
 
 use crate::faults::BinFault;
 use byteorder::{ByteOrder, LittleEndian};
+use ti_caps::{MOST_FLAGS, MOST_NUMBER, MOST_NUMBERS, MOST_TEXTS};
 
 /// How many bytes are looked at at most.
 const MOST_BYTES: usize = 32_768;
@@ -14,9 +15,6 @@ const MAGIC: u16 = 0o432;
 
 /// The magic number of the format with 32-bit numbers.
 const WIDE_MAGIC: u16 = 0o1036;
-
-/// The greatest number that is not negative.
-const MOST: u16 = 32_767;
 
 /// The 16-bit number at a place, the lower byte first.
 pub(crate) fn word(bytes: &[u8], place: usize) -> u16
@@ -29,6 +27,7 @@ pub(crate) fn word(bytes: &[u8], place: usize) -> u16
 /// Refuses what is too large, has another magic number, or ends inside the header.
 pub(crate) fn check_header(bytes: &[u8]) -> Result<(), BinFault>
     ensures refused { IfErr result (λ fault. header_refusal bytes.now ≡ Some fault) }
+    ensures plain { IsErrOf result BinFault.NoMemory → ⊥ }
     ensures good { OnOk result (header_refusal bytes.now ≡ None) }
     ensures room { OnOk result (12 ≤ length bytes.now) }
     ensures short { OnOk result (length bytes.now ≤ 32768) }
@@ -76,6 +75,7 @@ pub(crate) fn cut(bytes: &[u8]) -> Result<Parts<'_>, BinFault>
     requires room { 12 ≤ length bytes.now }
     requires short { length bytes.now ≤ 32768 }
     ensures refused { IfErr result (λ fault. room_refusal bytes.now ≡ Some fault) }
+    ensures plain { IsErrOf result BinFault.NoMemory → ⊥ }
     ensures good { OnOk result (room_refusal bytes.now ≡ None) }
     ensures fits { OnOk result (HasRoom bytes.now) }
     ensures names { IfOk result (λ parts. parts.names.now ≡ part bytes.now 12 (names_of bytes.now)) }
@@ -90,7 +90,10 @@ pub(crate) fn cut(bytes: &[u8]) -> Result<Parts<'_>, BinFault>
 {
     let (names, flags) = (word(bytes, 2), word(bytes, 4));
     let (numbers, offsets, table) = (word(bytes, 6), word(bytes, 8), word(bytes, 10));
-    if names == 0 || names > MOST || flags > 64 || numbers > 64 || offsets > 512 || table > MOST {
+    if names == 0 || names > MOST_NUMBER || table > MOST_NUMBER {
+        return Err(BinFault::BadCount);
+    }
+    if flags > MOST_FLAGS as u16 || numbers > MOST_NUMBERS as u16 || offsets > MOST_TEXTS as u16 {
         return Err(BinFault::BadCount);
     }
     let (names, flags, table) = (usize::from(names), usize::from(flags), usize::from(table));

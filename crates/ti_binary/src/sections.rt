@@ -1,5 +1,6 @@
 //! Writing the sections of a file: flags, numbers, offsets and texts.
 ghost use Rattle.std.specs.Prelude.{◌≡◌, ◌≤◌, ◌++◌, length, take, map, option_map, OnOk};
+ghost use Rattle.ti_caps.specs.Description.{IsDescription};
 ghost use Rattle.ti_binary.specs.Canonical.{ended, flag_byte, number_word, offset_of, offsets_from, table_of, word, words};
 
 use byteorder::{ByteOrder, LittleEndian};
@@ -21,10 +22,10 @@ pub(crate) fn put_word(n: u16, out: &mut Vec<u8>) -> Result<(), AllocError>
 
 /// Appends the first flags of an entry, a byte each.
 pub(crate) fn put_flags(entry: &Entry, count: u16, out: &mut Vec<u8>) -> Result<(), AllocError>
-    requires { count ≤ 64 }
+    requires described { IsDescription entry.now }
+    requires few { count ≤ 64 }
     ensures { OnOk result (out.new.items ≡ out.old.items ++ map flag_byte (take count entry.now.flags)) }
 {
-    let _names = entry.names();
     for slot in 0..count {
         out.push(u8::from(entry.flag(Slot(slot))))?;
     }
@@ -33,10 +34,10 @@ pub(crate) fn put_flags(entry: &Entry, count: u16, out: &mut Vec<u8>) -> Result<
 
 /// Appends the first numbers of an entry.
 pub(crate) fn put_numbers(entry: &Entry, count: u16, out: &mut Vec<u8>) -> Result<(), AllocError>
-    requires { count ≤ 64 }
+    requires described { IsDescription entry.now }
+    requires few { count ≤ 64 }
     ensures { OnOk result (out.new.items ≡ out.old.items ++ words (map number_word (take count entry.now.numbers))) }
 {
-    let _names = entry.names();
     for slot in 0..count {
         put_word(entry.number(Slot(slot)).unwrap_or(ABSENT), out)?;
     }
@@ -45,11 +46,11 @@ pub(crate) fn put_numbers(entry: &Entry, count: u16, out: &mut Vec<u8>) -> Resul
 
 /// Appends where each of the first texts of an entry begins in the string table, which is small.
 pub(crate) fn put_offsets(entry: &Entry, count: u16, out: &mut Vec<u8>) -> Result<(), AllocError>
+    requires described { IsDescription entry.now }
     requires few { count ≤ 512 }
     requires small { length (table_of (take count entry.now.texts)) ≤ 4096 }
     ensures { OnOk result (out.new.items ≡ out.old.items ++ words (offsets_from 0 (take count entry.now.texts))) }
 {
-    let _names = entry.names();
     let mut size: usize = 0;
     for slot in 0..count {
         let text = entry.text(Slot(slot));
@@ -83,10 +84,10 @@ fn ended_length(text: Option<&[u8]>) -> usize
 
 /// Appends the first texts of an entry, each with its NUL.
 pub(crate) fn put_texts(entry: &Entry, count: u16, out: &mut Vec<u8>) -> Result<(), AllocError>
-    requires { count ≤ 512 }
+    requires described { IsDescription entry.now }
+    requires few { count ≤ 512 }
     ensures { OnOk result (out.new.items ≡ out.old.items ++ table_of (take count entry.now.texts)) }
 {
-    let _names = entry.names();
     for slot in 0..count {
         if let Some(text) = entry.text(Slot(slot)) {
             out.extend_from_slice(text)?;

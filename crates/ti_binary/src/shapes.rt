@@ -1,5 +1,6 @@
 //! The sizes of a file's sections, as its header has them.
 ghost use Rattle.std.specs.Prelude.{◌≡◌, ◌≤◌, ◌+◌, ◌*◌, ◌%◌, ◌==◌, length};
+ghost use Rattle.ti_caps.specs.Description.{IsDescription};
 ghost use Rattle.ti_binary.specs.Shapes.{IsShape};
 
 use crate::counts::{flag_count, number_count, table_size, text_count};
@@ -26,7 +27,8 @@ impl Shape {
 
     /// The sizes of the sections of an entry's file.
     pub(crate) fn of(entry: &Entry) -> Shape
-        requires { length entry.now.names ≤ 127 }
+        requires described { IsDescription entry.now }
+        requires names { length entry.now.names ≤ 127 }
         ensures { IsShape entry.now result }
     {
         let texts = text_count(entry);

@@ -1,15 +1,12 @@
 -- The texts of an entry are bytes, none of which is 0.
-use Rattle.std.proofs.Common.{◌≡◌, ℕ, suc, ◌<◌, Bool, true, false, ◌||◌, eqb, List, [], ◌∷◌, Option, Some, None, IfSome, slice_index_or, Fits, w8, refl, arith}
+use Rattle.std.proofs.Common.{◌≡◌, ℕ, ◌<◌, Bool, true, false, ◌||◌, eqb, List, [], ◌∷◌, Option, Some, None, IfSome, refl, arith}
 use Rattle.std.proofs.lemmas.Bool.Decides.{nat_tests}
-use Rattle.ti_caps.specs.Description.{Description, IsDescription, has_nul, text_at}
-use Rattle.ti_source.specs.Escape.{AreBytes, IsText}
-use Rattle.ti_source.specs.ReadBack.{HasBytes, HasTexts}
+use Rattle.ti_caps.specs.Description.{AreBytes, Description, IsDescription, has_nul, text_at}
+use Rattle.ti_source.specs.Escape.{IsText}
 
-pub are-bytes : (xs : List ℕ) → ((i : ℕ) → Fits w8 (slice_index_or xs i 0)) → AreBytes xs
-are-bytes [] fits = tt
-are-bytes (x ∷ xs) fits =
-    let first : x < 256 = (fits 0).fits in
-    (first, are-bytes xs (λ i. fits (suc i)))
+-- the texts are bytes, none of which is 0
+abbrev pub HasTexts : Description → Type 0
+HasTexts d = (slot : ℕ) → IfSome (text_at d slot) IsText
 
 is-text : (xs : List ℕ) → AreBytes xs → has_nul xs ≡ false → IsText xs
 is-text [] bytes none = tt
@@ -21,8 +18,8 @@ is-text (x ∷ xs) bytes none = by (eqb x 0) (is-text xs bytes.1) refl none
         let some : 0 < x = grind (arith, nat_tests) in
         (some, bytes.0, rest n)
 
-pub has-texts : (d : Description) → IsDescription d → HasBytes d → HasTexts d
-has-texts d is bytes slot = by (text_at d slot) (is.whole slot) (bytes slot)
+pub has-texts : (d : Description) → IsDescription d → HasTexts d
+has-texts d is slot = by (text_at d slot) (is.whole slot) (is.bytes slot)
   where
     by : (o : Option (List ℕ)) → IfSome o (λ t. has_nul t ≡ false) → IfSome o AreBytes → IfSome o IsText
     by None w b = tt

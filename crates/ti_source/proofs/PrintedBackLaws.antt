@@ -19,7 +19,8 @@ use Rattle.ti_source.specs.Reading.{speaks_of}
 use Rattle.ti_source.specs.Steps.{State, read_through, whole, with_fields, with_form, with_line, with_lines}
 use Rattle.ti_source.specs.Resolving.{Resolved, more, nothing}
 use Rattle.ti_source.specs.Result.{◌>>=◌}
-use Rattle.ti_source.specs.ReadBack.{HasTexts, ReadsBack}
+use Rattle.ti_source.specs.ReadBack.{ReadsBack}
+use Rattle.ti_source.proofs.BytesLaws.{has-texts}
 use Rattle.ti_source.proofs.TableBytesLaws.{both}
 use Rattle.ti_source.proofs.LinesBackLaws.{ended, no-lines, no_feed}
 use Rattle.ti_source.proofs.FieldsBackLaws.{not-all-blank}
@@ -202,8 +203,8 @@ at-end : (n : ℕ) (s : State) → with_lines n (lines []) s ≡ Ok s
 unfolding with_lines
 at-end n s = ap (λ ls. with_lines n ls s) no-lines
 
-lines-read : (d : Description) → IsDescription d → HasTexts d → with_lines 1 (lines (printed d)) start ≡ Ok (reading d.names (all_statements d))
-lines-read d is texts =
+lines-read : (d : Description) → IsDescription d → with_lines 1 (lines (printed d)) start ≡ Ok (reading d.names (all_statements d))
+lines-read d is =
     let fs = map flag_said d.flags in
     let ns = map number_said d.numbers in
     let ts = map text_said d.texts in
@@ -213,12 +214,12 @@ lines-read d is texts =
     let first = Goes-line 1 d.names (flags_of d ++ (numbers_of d ++ (texts_of d ++ []))) start (reading d.names []) (all-no_feed d.names names.letters) (names-begin d.names is.named) in
     let second = goes-on Flag fs first.line 0 d.names [] (numbers_of d ++ (texts_of d ++ [])) (flags-fit d.flags) (λ j le. refl) in
     let third = goes-on Number ns second.line 0 d.names flags (texts_of d ++ []) (numbers-fit d.numbers is.small) (λ j le. of-other-kind Flag Number 0 j fs refl) in
-    let fourth = goes-on Text ts third.line 0 d.names (flags ++ numbers) [] (texts-fit d.texts texts) (λ j le. list_any-append (speaks_of Text j) flags numbers ∙ rw (of-other-kind Flag Text 0 j fs refl, of-other-kind Number Text 0 j ns refl) refl) in
+    let fourth = goes-on Text ts third.line 0 d.names (flags ++ numbers) [] (texts-fit d.texts (has-texts d is)) (λ j le. list_any-append (speaks_of Text j) flags numbers ∙ rw (of-other-kind Flag Text 0 j fs refl, of-other-kind Number Text 0 j ns refl) refl) in
     ap (λ x. with_lines 1 (lines x) start) (printed-is d) ∙ first.goes ∙ second.goes ∙ third.goes ∙ fourth.goes ∙ at-end fourth.line (reading d.names (all_statements d))
 
-lines-through : (d : Description) → IsDescription d → HasTexts d → read_through (printed d) ≡ Ok (record { entries = entry_of d ∷ []; notes = [] })
+lines-through : (d : Description) → IsDescription d → read_through (printed d) ≡ Ok (record { entries = entry_of d ∷ []; notes = [] })
 unfolding read_through
-lines-through d is texts = ap (λ r. r >>= whole) (lines-read d is texts)
+lines-through d is = ap (λ r. r >>= whole) (lines-read d is)
 
 first-part : (p : ℕ → Bool) (bs : List ℕ) → (behind : List (List ℕ)) × (slice_split p bs ≡ before_first p bs ∷ behind)
 first-part p [] = ([], refl)
@@ -249,5 +250,5 @@ resolves d e =
     let found : found_from 0 (first_name d.names) (entry_of d ∷ []) ≡ Some (0, entry_of d) = ap (λ t. cond t (Some (0, entry_of d)) None) (is-first d e) in
     more found nothing (sym (merged-back d)) nothing
 
-pub reads-back : (d : Description) → IsDescription d → HasTexts d → ReadsBack d
-reads-back d is texts = (entry_of d, sym (read-through (printed d)) ∙ lines-through d is texts, resolves d is.named)
+pub reads-back : (d : Description) → IsDescription d → ReadsBack d
+reads-back d is = (entry_of d, sym (read-through (printed d)) ∙ lines-through d is, resolves d is.named)

@@ -3,7 +3,7 @@ use Rattle.std.proofs.Common.{◌≡◌, ℕ, zero, suc, ◌-◌, Bool, true, fa
 use Rattle.std.specs.List.{list_all}
 use Rattle.std.specs.Str.{bytes_eq}
 use Rattle.ti_caps.specs.declared.table.Kind.{Kind}
-use Rattle.ti_caps.specs.Table.{Names, runs, same_kind, or_else, name_in, name_among, name_at}
+use Rattle.ti_caps.specs.Table.{Names, runs, flag_names, number_names, text_names_from_0, text_names_from_55, text_names_from_90, text_names_from_139, text_names_from_158, text_names_from_216, text_names_from_297, text_names_from_359, same_kind, or_else, name_in, name_among, name_at}
 use Rattle.ti_source.specs.Field.{ends_name, takes_next}
 
 -- a graphic byte of ASCII, no blank
@@ -27,7 +27,7 @@ all_written [] = true
 all_written (r ∷ rs) = list_all is_written r.names && all_written rs
 
 computed : all_written runs ≡ true
-unfolding runs
+unfolding runs flag_names number_names text_names_from_0 text_names_from_55 text_names_from_90 text_names_from_139 text_names_from_158 text_names_from_216 text_names_from_297 text_names_from_359
 computed = refl
 
 pub both : (a b : Bool) → (a && b) ≡ true → (a ≡ true) × (b ≡ true)

@@ -80,8 +80,3 @@ printed_text bytes = flat_map printed_byte bytes
 abbrev pub IsText : List ℕ → Type 0
 IsText [] = Unit {0}
 IsText (b ∷ bs) = (0 < b) × (b < 256) × IsText bs
-
--- bytes
-abbrev pub AreBytes : List ℕ → Type 0
-AreBytes [] = Unit {0}
-AreBytes (b ∷ bs) = (b < 256) × AreBytes bs

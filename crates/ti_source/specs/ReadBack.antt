@@ -1,20 +1,11 @@
 -- A printed text as it is read again.
-use Rattle.std.specs.Prelude.{◌≡◌, ℕ, [], ◌∷◌, Ok, IfSome}
+use Rattle.std.specs.Prelude.{◌≡◌, [], ◌∷◌, Ok}
 use Rattle.ti_caps.specs.Names.{first_name}
-use Rattle.ti_caps.specs.Description.{Description, IsDescription, text_at}
+use Rattle.ti_caps.specs.Description.{Description, IsDescription}
 use Rattle.ti_source.specs.Described.{Described}
-use Rattle.ti_source.specs.Escape.{AreBytes, IsText}
 use Rattle.ti_source.specs.Print.{named_only, printed}
 use Rattle.ti_source.specs.Reading.{source_of}
 use Rattle.ti_source.specs.Resolving.{Resolved}
-
--- the texts are bytes
-abbrev pub HasBytes : Description → Type 0
-HasBytes d = (slot : ℕ) → IfSome (text_at d slot) AreBytes
-
--- the texts are bytes, none of which is 0
-abbrev pub HasTexts : Description → Type 0
-HasTexts d = (slot : ℕ) → IfSome (text_at d slot) IsText
 
 -- the printed text is a source of one entry without a note, whose resolved entry is the description without its unnamed capabilities
 abbrev pub ReadsBack : Description → Type 0
@@ -22,4 +13,4 @@ ReadsBack d =
     (entry : Described) × (source_of (printed d) ≡ Ok (record { entries = entry ∷ []; notes = [] })) × Resolved (entry ∷ []) (first_name d.names) (named_only d)
 
 abbrev pub EachReadsBack : Type 0
-EachReadsBack = (d : Description) → IsDescription d → HasTexts d → ReadsBack d
+EachReadsBack = (d : Description) → IsDescription d → ReadsBack d

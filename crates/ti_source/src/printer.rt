@@ -1,13 +1,13 @@
 //! The source text of an entry.
 
 ghost use Rattle.std.specs.Fmt.{decimal};
-ghost use Rattle.std.specs.Prelude.{◌<◌, ◌^◌, Some, IfSome, List, ℕ, ◌≡◌, ◌++◌, IfOk, OnOk, IsOkUnless, length, option_map};
+ghost use Rattle.std.specs.Prelude.{◌<◌, ◌^◌, Some, List, ℕ, ◌≡◌, ◌++◌, IfOk, OnOk, IsOkUnless, length, option_map};
 ghost use Rattle.ti_caps.specs.Description.{IsDescription, unnamed_count};
 ghost use Rattle.ti_caps.specs.Table.{name_at};
-ghost use Rattle.ti_source.specs.Escape.{AreBytes, IsText, decoded, printed_byte, printed_text};
+ghost use Rattle.ti_source.specs.Escape.{IsText, decoded, printed_byte, printed_text};
 ghost use Rattle.ti_source.specs.Number.{number};
 ghost use Rattle.ti_source.specs.Print.{flag_line, lines_from, number_line, printed, text_line};
-ghost use Rattle.ti_source.specs.ReadBack.{EachReadsBack, HasBytes, ReadsBack};
+ghost use Rattle.ti_source.specs.ReadBack.{EachReadsBack, ReadsBack};
 
 use crate::fault::SourceFault;
 use std::alloc::{AllocError, Global};
@@ -83,19 +83,12 @@ fn push_number(
     out.extend_from_slice(b",\n")
 }
 
-/// What a text holds are bytes.
-fn holds_bytes(text: &[u8])
-    ensures { AreBytes text.now }
-{}
-
 fn push_text(out: &mut Vec<u8>, slot: u16, text: Option<&[u8]>) -> Result<(), AllocError>
-    ensures bytes { IfSome (option_map (λ t. t.now) text.entry) AreBytes }
-    ensures line { OnOk result (out.new.items ≡ out.old.items ++ text_line slot (option_map (λ t. t.now) text.entry)) }
+    ensures { OnOk result (out.new.items ≡ out.old.items ++ text_line slot (option_map (λ t. t.now) text.entry)) }
 {
     let Some(text) = text else {
         return Ok(());
     };
-    holds_bytes(text);
     let Some(name) = name_of(Kind::Text, Slot(slot)) else {
         return Ok(());
     };
@@ -128,8 +121,7 @@ fn push_numbers(alloc: Global, out: &mut Vec<u8>, entry: &Entry) -> Result<(), A
 
 fn push_texts(out: &mut Vec<u8>, entry: &Entry) -> Result<(), AllocError>
     requires { length entry.now.texts ≡ 512 }
-    ensures lines { OnOk result (out.new.items ≡ out.old.items ++ lines_from text_line 0 entry.now.texts) }
-    ensures bytes { OnOk result (HasBytes entry.now) }
+    ensures { OnOk result (out.new.items ≡ out.old.items ++ lines_from text_line 0 entry.now.texts) }
 {
     for slot in 0..512u16 {
         push_text(out, slot, entry.text(Slot(slot)))?;
@@ -141,7 +133,6 @@ fn push_texts(out: &mut Vec<u8>, entry: &Entry) -> Result<(), AllocError>
 fn text_of(alloc: Global, entry: &Entry) -> Result<Vec<u8>, AllocError>
     ensures text { IfOk result (λ text. text.items ≡ printed entry.now) }
     ensures described { IsDescription entry.now }
-    ensures bytes { IfOk result (λ _. HasBytes entry.now) }
 {
     let mut text = Vec::from_slice(alloc, entry.names())?;
     text.extend_from_slice(b",\n")?;

@@ -8,7 +8,7 @@ pub loop-slot-preserved : goal.loop-slot-preserved
 loop-slot-preserved c =
     let xs = c.args.entry.now.flags in
     let i = c.loop-slot.slot in
-    let inside : i < length xs = omega (arith, c.loop-slot-test.true, c.names-names.ensures.described.flags) in
+    let inside : i < length xs = omega (arith, c.loop-slot-test.true, c.requires.described.flags) in
     elim c.if-flag.branch [
       | then-flag w ↦ record {
         few = omega (arith, w.count-is);

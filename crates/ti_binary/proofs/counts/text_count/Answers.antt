@@ -8,7 +8,7 @@ pub loop-slot-preserved : goal.loop-slot-preserved
 loop-slot-preserved c =
     let xs = c.args.entry.now.texts in
     let i = c.loop-slot.slot in
-    let inside : i < length xs = omega (arith, c.loop-slot-test.true, c.names-names.ensures.described.texts) in
+    let inside : i < length xs = omega (arith, c.loop-slot-test.true, c.requires.described.texts) in
     elim c.if-is_some.branch [
       | then-is_some w ↦ record {
         few = omega (arith, w.count-is);

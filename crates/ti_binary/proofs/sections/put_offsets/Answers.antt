@@ -5,19 +5,19 @@ use Rattle.ti_binary.proofs.sections.put_offsets.Goals as goal
 
 pub offset-requires : goal.offset-requires
 offset-requires c =
-    let few : c.args.count ≤ length c.args.entry.now.texts = omega (arith, c.requires.few, c.names-names.ensures.described.texts) in
+    let few : c.args.count ≤ length c.args.entry.now.texts = omega (arith, c.requires.few, c.requires.described.texts) in
     omega (arith, c.loop-slot.invariant.size, text_fits c.args.entry.now.texts c.args.count c.loop-slot.slot c.loop-slot-test.true few c.requires.small)
 
 pub ended_length-size-requires : goal.ended_length-size-requires
 ended_length-size-requires c =
-    let few : c.args.count ≤ length c.args.entry.now.texts = omega (arith, c.requires.few, c.names-names.ensures.described.texts) in
+    let few : c.args.count ≤ length c.args.entry.now.texts = omega (arith, c.requires.few, c.requires.described.texts) in
     omega (arith, ap (λ t. length (ended t)) c.text-text.ensures.value, text_fits c.args.entry.now.texts c.args.count c.loop-slot.slot c.loop-slot-test.true few c.requires.small)
 
 pub loop-slot-preserved : goal.loop-slot-preserved
 loop-slot-preserved c =
     let texts = c.args.entry.now.texts in
     let i = c.loop-slot.slot in
-    let inside : i < length texts = omega (arith, c.loop-slot-test.true, c.requires.few, c.names-names.ensures.described.texts) in
+    let inside : i < length texts = omega (arith, c.loop-slot-test.true, c.requires.few, c.requires.described.texts) in
     let before = table_of (take i texts) in
     let text = get_or texts i None in
     record {
