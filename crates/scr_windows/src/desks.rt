@@ -1,8 +1,8 @@
 //! The desk, and the small methods that its calls are made of. What is true of every desk is in `specs/DeskViews.antt`.
 //!
 //! The calls are in the files of their kinds: `making`, `adding`, `erasing` and the others.
-ghost use Rattle.std.specs.Prelude.{◌≡◌, ◌+◌, ◌<◌, ◌≤◌, true, length, IfOk, MatchResult};
-ghost use Rattle.scr_windows.specs.DeskViews.{IsDesk, IsState, IsThere, window_at, surface_at};
+ghost use Rattle.std.specs.Prelude.{◌≡◌, ◌<◌, length, IfOk, MatchResult};
+ghost use Rattle.scr_windows.specs.DeskViews.{IsDesk, IsState, IsThere, window_at};
 ghost use Rattle.scr_windows.specs.Code.Pens.{IsPen, IsPenAt};
 ghost use Rattle.scr_windows.specs.Changes.{index_of, with_window, marked};
 

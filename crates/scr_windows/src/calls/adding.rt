@@ -3,7 +3,7 @@
 //! The definitions are in `specs/Calls/Adding.antt`; what is drawn of them is a matter of `scr_surfaces`.
 ghost use Rattle.std.specs.Prelude.{◌≡◌, ◌+◌, ◌<◌, ◌≤◌, ◌⊎◌, length, leb, false};
 ghost use Rattle.std.specs.List.{list_any};
-ghost use Rattle.scr_windows.specs.DeskViews.{window_at, no_attributes};
+ghost use Rattle.scr_windows.specs.DeskViews.{window_at};
 ghost use Rattle.scr_windows.specs.Calls.Adding.{written_form, gone_to, line_begun, character_added, newline_added, tab_added, either_stayed, shown_added, byte_added, text_added, add_byte_call, add_text_call, insert_byte_call, line_across_call, line_down_call};
 
 use crate::desks::Desk;

@@ -1,8 +1,7 @@
 //! The call that draws a border. The definition is in `specs/Calls/Borders.antt`.
-ghost use Rattle.std.specs.Prelude.{◌≡◌, ◌<◌, length, slice_index_or, true};
+ghost use Rattle.std.specs.Prelude.{◌≡◌, ◌<◌, length, true};
 ghost use Rattle.std.specs.List.{list_all};
 ghost use Rattle.scr_cells.specs.CellViews.{is_character};
-ghost use Rattle.scr_windows.specs.DeskViews.{no_attributes};
 ghost use Rattle.scr_windows.specs.Calls.Adding.{written_form};
 ghost use Rattle.scr_windows.specs.Calls.Borders.{edge_cell, border_of, border_call};
 

@@ -1,5 +1,5 @@
 //! Calls that copy cells from one window to another. The definitions are in `specs/Calls/Copying.antt`.
-ghost use Rattle.std.specs.Prelude.{◌≡◌, ◌+◌, ◌*◌, ◌<◌, ◌≤◌, length, true, false, MatchResult, Ok};
+ghost use Rattle.std.specs.Prelude.{◌≡◌, ◌+◌, ◌<◌, ◌≤◌, length, true, false, MatchResult, Ok};
 ghost use Rattle.scr_surfaces.specs.SurfaceViews.{inside_at};
 ghost use Rattle.scr_surfaces.specs.Formulas.{block_at, part_laid, part_of};
 ghost use Rattle.scr_windows.specs.Changes.{write};

@@ -1,5 +1,5 @@
 //! Calls that move a window on the screen, or a subwindow in its parent. The definitions are in `specs/Calls/Moving.antt`.
-ghost use Rattle.std.specs.Prelude.{◌≡◌, ◌+◌, ◌-◌, ◌<◌, ◌≤◌, All, MatchOption, length, leb, map};
+ghost use Rattle.std.specs.Prelude.{◌≡◌, ◌+◌, ◌-◌, ◌<◌, All, MatchOption, length, leb, map};
 ghost use Rattle.scr_windows.specs.DeskViews.{WindowView, window_at};
 ghost use Rattle.scr_windows.specs.Code.Families.{IsNear, IsNearFrame, IsNearShift, IsShift, descends, family_frame, family_shifted, link_of};
 ghost use Rattle.scr_windows.specs.Calls.Moving.{area_shifted, move_derived_call, move_window_call, moved, origin_shifted, place_shifted, shifted, with_family_shifted};
