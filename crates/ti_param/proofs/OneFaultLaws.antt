@@ -41,38 +41,38 @@ compared (t ∷ a) (u ∷ b) text r s x y =
     go head (inr z) = inr (ahead_more u t b a s r (sym head) z)
 
 -- where the scan stops, nothing fits
-no_more : (fault : ParamFault) (t : Token) (rest more : List ℕ) (parts out : List Part) (place : ℕ) → Stops fault rest parts place → token rest ≡ Ok (t, more) → entered t parts ≡ Ok out → ⊥
-no_more (Truncated at) t rest more parts out place s e o = ok_or_err (token rest) (t, more) Cut e s.1
-no_more (BadDirective at) t rest more parts out place (h, inl s) e o = ok_or_err (token rest) (t, more) Wrong e s
-no_more (BadDirective at) t rest more parts out place (h, inr m) e o =
+no_more : (fault : ParamFault) (t : Token) (rest more : List ℕ) (parts out : List Part) (index : ℕ) → Stops fault rest parts index → token rest ≡ Ok (t, more) → entered t parts ≡ Ok out → ⊥
+no_more (Truncated at) t rest more parts out index s e o = ok_or_err (token rest) (t, more) Cut e s.1
+no_more (BadDirective at) t rest more parts out index (h, inl s) e o = ok_or_err (token rest) (t, more) Wrong e s
+no_more (BadDirective at) t rest more parts out index (h, inr m) e o =
     let same : t ≡ m.0 = ap (λ (p : Token × List ℕ). p.0) (ok_same (token rest) (t, more) (m.0, m.1.0) e m.1.1) in
     ok_or_err (entered t parts) out Misplaced o (ap (λ x. entered x parts) same ∙ m.1.2)
-no_more (StringOperator at) t rest more parts out place s e o = ok_or_err (token rest) (t, more) Text e s.1
-no_more TooDeep t rest more parts out place m e o =
+no_more (StringOperator at) t rest more parts out index s e o = ok_or_err (token rest) (t, more) Text e s.1
+no_more TooDeep t rest more parts out index m e o =
     let same : t ≡ m.0 = ap (λ (p : Token × List ℕ). p.0) (ok_same (token rest) (t, more) (m.0, m.1.0) e m.1.1) in
     ok_or_err (entered t parts) out Deep o (ap (λ x. entered x parts) same ∙ m.1.2)
-no_more NoMemory t rest more parts out place s e o = s
+no_more NoMemory t rest more parts out index s e o = s
 
 -- the fault with which the scan stops
 abbrev placed : Result (List Part) Misfit → ℕ → ParamFault
-placed (Ok parts) place = NoMemory
-placed (Err Misplaced) place = BadDirective place
-placed (Err Deep) place = TooDeep
+placed (Ok parts) index = NoMemory
+placed (Err Misplaced) index = BadDirective index
+placed (Err Deep) index = TooDeep
 
 abbrev fault_at : Reading → List Part → ℕ → ParamFault
-fault_at (Err Cut) parts place = Truncated place
-fault_at (Err Wrong) parts place = BadDirective place
-fault_at (Err Text) parts place = StringOperator place
-fault_at (Ok r) parts place = placed (entered r.0 parts) place
+fault_at (Err Cut) parts index = Truncated index
+fault_at (Err Wrong) parts index = BadDirective index
+fault_at (Err Text) parts index = StringOperator index
+fault_at (Ok r) parts index = placed (entered r.0 parts) index
 
-stop_is : (fault : ParamFault) (rest : List ℕ) (parts : List Part) (place : ℕ) → Stops fault rest parts place → fault ≡ fault_at (token rest) parts place
-stop_is (Truncated at) rest parts place s = ap Truncated s.0 ∙ sym (ap (λ r. fault_at r parts place) s.1)
-stop_is (BadDirective at) rest parts place (h, inl e) = ap BadDirective h ∙ sym (ap (λ r. fault_at r parts place) e)
-stop_is (BadDirective at) rest parts place (h, inr m) =
-    ap BadDirective h ∙ sym (ap (λ r. fault_at r parts place) m.1.1 ∙ ap (λ q. placed q place) m.1.2)
-stop_is (StringOperator at) rest parts place s = ap StringOperator s.0 ∙ sym (ap (λ r. fault_at r parts place) s.1)
-stop_is TooDeep rest parts place m = sym (ap (λ r. fault_at r parts place) m.1.1 ∙ ap (λ q. placed q place) m.1.2)
-stop_is NoMemory rest parts place s = absurd s
+stop_is : (fault : ParamFault) (rest : List ℕ) (parts : List Part) (index : ℕ) → Stops fault rest parts index → fault ≡ fault_at (token rest) parts index
+stop_is (Truncated at) rest parts index s = ap Truncated s.0 ∙ sym (ap (λ r. fault_at r parts index) s.1)
+stop_is (BadDirective at) rest parts index (h, inl e) = ap BadDirective h ∙ sym (ap (λ r. fault_at r parts index) e)
+stop_is (BadDirective at) rest parts index (h, inr m) =
+    ap BadDirective h ∙ sym (ap (λ r. fault_at r parts index) m.1.1 ∙ ap (λ q. placed q index) m.1.2)
+stop_is (StringOperator at) rest parts index s = ap StringOperator s.0 ∙ sym (ap (λ r. fault_at r parts index) s.1)
+stop_is TooDeep rest parts index m = sym (ap (λ r. fault_at r parts index) m.1.1 ∙ ap (λ q. placed q index) m.1.2)
+stop_is NoMemory rest parts index s = absurd s
 
 one_way : (f g : ParamFault) (text : List ℕ) (x : IsStop f text) (y : IsStop g text) (gs : List Token) → y.front ≡ x.front ++ gs → Scanned gs x.rest y.rest → f ≡ g
 one_way f g text x y [] e s =

@@ -12,7 +12,7 @@ data Behind : Type 0 where
   Second : (second rest : Tree) → Behind
   Both : (first second rest : Tree) → Behind
 
--- the tree of what stands behind a place, and what stands behind the conditionals that are open there
+-- the tree of what stands behind an index, and what stands behind the conditionals that are open there
 record Grown : Type 0 where
   tree : Tree
   frames : List Behind

@@ -281,21 +281,21 @@ found text =
 -- ---- a text without its padding
 
 -- padding that was measured is left out
-pub passed_over : (place n : ℕ) (bytes result : List ℕ) → n ≡ padding_length (drop place bytes) → (n ≡ 0 → ⊥) → Stripped (drop (place + n) bytes) result → Stripped (drop place bytes) result
-passed_over place n bytes result e some s =
-    let text = drop place bytes in
+pub passed_over : (index n : ℕ) (bytes result : List ℕ) → n ≡ padding_length (drop index bytes) → (n ≡ 0 → ⊥) → Stripped (drop (index + n) bytes) result → Stripped (drop index bytes) result
+passed_over index n bytes result e some s =
+    let text = drop index bytes in
     let f = found text (λ z. some (e ∙ z)) in
-    let behind : drop (place + n) bytes ≡ f.rest = sym (drop-drop n place bytes) ∙ ap (drop n) f.whole ∙ drop_at f.padding f.rest n (f.long ∙ sym e) in
+    let behind : drop (index + n) bytes ≡ f.rest = sym (drop-drop n index bytes) ∙ ap (drop n) f.whole ∙ drop_at f.padding f.rest n (f.long ∙ sym e) in
     left_out f.whole f.is (subst (λ l. Stripped l result) behind s)
 
 -- a byte at which nothing was measured stays
-pub passed_by : (text : List ℕ) (place : ℕ) (result : List ℕ) → place < length text → padding_length (drop place text) ≡ 0 → Stripped (drop (place + 1) text) result → Stripped (drop place text) (slice_index text place ∷ result)
-passed_by text place result le e s =
-    let more : drop place text ≡ slice_index text place ∷ drop (place + 1) text = drop_more text place 0 le in
-    subst (λ l. Stripped l (slice_index text place ∷ result)) (sym more) (kept (measured_none _ (ap padding_length (sym more) ∙ e)) s)
+pub passed_by : (text : List ℕ) (index : ℕ) (result : List ℕ) → index < length text → padding_length (drop index text) ≡ 0 → Stripped (drop (index + 1) text) result → Stripped (drop index text) (slice_index text index ∷ result)
+passed_by text index result le e s =
+    let more : drop index text ≡ slice_index text index ∷ drop (index + 1) text = drop_more text index 0 le in
+    subst (λ l. Stripped l (slice_index text index ∷ result)) (sym more) (kept (measured_none _ (ap padding_length (sym more) ∙ e)) s)
 
-pub passed_all : (text : List ℕ) (place : ℕ) → length text ≡ place → Stripped (drop place text) []
-passed_all text place e = subst (λ l. Stripped l []) (sym (drop_all place text (omega (arith, e)))) ended
+pub passed_all : (text : List ℕ) (index : ℕ) → length text ≡ index → Stripped (drop index text) []
+passed_all text index e = subst (λ l. Stripped l []) (sym (drop_all index text (omega (arith, e)))) ended
 
 -- behind a padding with which a text begins the rest is looked at
 behind_padding : (text other padding rest : List ℕ) → text ≡ padding ++ rest → IsPadding padding → Stripped text other → Stripped rest other

@@ -61,18 +61,18 @@ abbrev Goes : List ℕ → List Part → Type 0
 Goes rest parts = (t : Token) × (more : List ℕ) × (out : List Part) × (token rest ≡ Ok (t, more)) × (entered t parts ≡ Ok out)
 
 abbrev Faulty : List ℕ → List Part → ℕ → Type 0
-Faulty rest parts place = (fault : ParamFault) × (fault ≢ NoMemory) × Stops fault rest parts place
+Faulty rest parts index = (fault : ParamFault) × (fault ≢ NoMemory) × Stops fault rest parts index
 
-entered_or_not : (t : Token) (rest more : List ℕ) (parts : List Part) (place : ℕ) (q : Result (List Part) Misfit) → token rest ≡ Ok (t, more) → entered t parts ≡ q → Goes rest parts ⊎ Faulty rest parts place
-entered_or_not t rest more parts place (Ok out) e h = inl (t, more, out, e, h)
-entered_or_not t rest more parts place (Err Misplaced) e h = inr (BadDirective place, λ x. cc, (refl, inr (t, (more, e, h))))
-entered_or_not t rest more parts place (Err Deep) e h = inr (TooDeep, λ x. cc, (t, (more, e, h)))
+entered_or_not : (t : Token) (rest more : List ℕ) (parts : List Part) (index : ℕ) (q : Result (List Part) Misfit) → token rest ≡ Ok (t, more) → entered t parts ≡ q → Goes rest parts ⊎ Faulty rest parts index
+entered_or_not t rest more parts index (Ok out) e h = inl (t, more, out, e, h)
+entered_or_not t rest more parts index (Err Misplaced) e h = inr (BadDirective index, λ x. cc, (refl, inr (t, (more, e, h))))
+entered_or_not t rest more parts index (Err Deep) e h = inr (TooDeep, λ x. cc, (t, (more, e, h)))
 
-goes_or_not : (rest : List ℕ) (parts : List Part) (place : ℕ) (r : Reading) → token rest ≡ r → Goes rest parts ⊎ Faulty rest parts place
-goes_or_not rest parts place (Ok (t, more)) e = entered_or_not t rest more parts place (entered t parts) e refl
-goes_or_not rest parts place (Err Cut) e = inr (Truncated place, λ x. cc, (refl, e))
-goes_or_not rest parts place (Err Wrong) e = inr (BadDirective place, λ x. cc, (refl, inl e))
-goes_or_not rest parts place (Err Text) e = inr (StringOperator place, λ x. cc, (refl, e))
+goes_or_not : (rest : List ℕ) (parts : List Part) (index : ℕ) (r : Reading) → token rest ≡ r → Goes rest parts ⊎ Faulty rest parts index
+goes_or_not rest parts index (Ok (t, more)) e = entered_or_not t rest more parts index (entered t parts) e refl
+goes_or_not rest parts index (Err Cut) e = inr (Truncated index, λ x. cc, (refl, e))
+goes_or_not rest parts index (Err Wrong) e = inr (BadDirective index, λ x. cc, (refl, inl e))
+goes_or_not rest parts index (Err Text) e = inr (StringOperator index, λ x. cc, (refl, e))
 
 -- ---- the whole text
 

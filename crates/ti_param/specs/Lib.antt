@@ -4,7 +4,7 @@ pub mod Spelling
 pub mod Grammar
 pub mod Faults
 pub mod Numbers
-pub mod State
+pub mod States
 pub mod Tree
 pub mod Programs
 pub mod Runs

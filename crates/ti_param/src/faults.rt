@@ -2,18 +2,18 @@
 
 use thiserror::Error;
 
-/// Why a text is no parameter string: the leftmost fault. A place is that of the `%`, counted in bytes from 0.
+/// Why a text is no parameter string: the leftmost fault. An index is that of the `%`, counted in bytes from 0.
 /// terminfo(5), 'Parameterized Strings'.
 #[derive(Clone, Copy, Debug, PartialEq, Eq, Error)]
 pub enum ParamFault {
-    /// The text ends inside the directive that begins at this place, whatever the size of its numbers.
+    /// The text ends inside the directive that begins at this index, whatever the size of its numbers.
     #[error("truncated directive at byte {0}")]
     Truncated(usize),
-    /// At this place stands no directive; or a `%t`, `%e` or `%;` that has no place there; or a width or precision
+    /// At this index stands no directive; or a `%t`, `%e` or `%;` that has no place there; or a width or precision
     /// above 99, or a constant above 2,147,483,647.
     #[error("bad directive at byte {0}")]
     BadDirective(usize),
-    /// At this place stands `%s`, with flags, width and precision too, or `%l`: no parameter is a text here.
+    /// At this index stands `%s`, with flags, width and precision too, or `%l`: no parameter is a text here.
     #[error("string operator at byte {0}")]
     StringOperator(usize),
     /// A 33rd `%?` is open at once.

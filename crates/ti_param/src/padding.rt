@@ -22,14 +22,14 @@ fn one_pass(alloc: Global, bytes: &[u8]) -> Result<Vec<u8>, AllocError>
     ensures { IfOk result (λ text. Stripped bytes.now text.items) }
 {
     let mut text = Vec::new(alloc);
-    let mut place = 0;
-    while place < bytes.len() {
-        let passed = padding_length(&bytes[place..]);
+    let mut index = 0;
+    while index < bytes.len() {
+        let passed = padding_length(&bytes[index..]);
         if passed == 0 {
-            text.push(bytes[place])?;
-            place += 1;
+            text.push(bytes[index])?;
+            index += 1;
         } else {
-            place += passed;
+            index += passed;
         }
     }
     Ok(text)
@@ -53,46 +53,46 @@ fn padding_length(text: &[u8]) -> usize
     }
 }
 
-// The byte at a place, or 0 past the end.
-fn byte_at(text: &[u8], place: usize) -> u8
-    ensures { result ≡ slice_index text.now place }
+// The byte at an index, or 0 past the end.
+fn byte_at(text: &[u8], index: usize) -> u8
+    ensures { result ≡ slice_index text.now index }
 {
-    if place < text.len() { text[place] } else { 0 }
+    if index < text.len() { text[index] } else { 0 }
 }
 
-// How many digits a text has from a place on.
-fn digits_at(text: &[u8], place: usize) -> usize
-    ensures value { result ≡ digits_at text.now place }
+// How many digits a text has from an index on.
+fn digits_at(text: &[u8], index: usize) -> usize
+    ensures value { result ≡ digits_at text.now index }
     ensures bound { result ≤ length text.now }
 {
-    let mut end = place;
+    let mut end = index;
     while end < text.len() && text[end].is_ascii_digit() {
         end += 1;
     }
-    end - place
+    end - index
 }
 
-// How long the point and its digit are that a text has at a place.
-fn point_at(text: &[u8], place: usize) -> usize
-    requires { place ≤ length text.now + 2 }
-    ensures value { result ≡ point_at text.now place }
+// How long the point and its digit are that a text has at an index.
+fn point_at(text: &[u8], index: usize) -> usize
+    requires { index ≤ length text.now + 2 }
+    ensures value { result ≡ point_at text.now index }
     ensures bound { result ≤ 2 }
 {
-    if byte_at(text, place) == b'.' && byte_at(text, place + 1).is_ascii_digit() {
+    if byte_at(text, index) == b'.' && byte_at(text, index + 1).is_ascii_digit() {
         2
     } else {
         0
     }
 }
 
-// How many of `*` and `/` a text has at a place.
-fn marks_at(text: &[u8], place: usize) -> usize
-    requires { place ≤ length text.now + 4 }
-    ensures value { result ≡ marks_at text.now place }
+// How many of `*` and `/` a text has at an index.
+fn marks_at(text: &[u8], index: usize) -> usize
+    requires { index ≤ length text.now + 4 }
+    ensures value { result ≡ marks_at text.now index }
     ensures bound { result ≤ 2 }
 {
-    let first = byte_at(text, place);
-    let second = byte_at(text, place + 1);
+    let first = byte_at(text, index);
+    let second = byte_at(text, index + 1);
     if (first == b'*' && second == b'/') || (first == b'/' && second == b'*') {
         2
     } else if first == b'*' || first == b'/' {

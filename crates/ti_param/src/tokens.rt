@@ -202,14 +202,14 @@ fn digits(text: &[u8]) -> (u32, &[u8])
     ensures bound { length result.1.now ≤ length text.now }
 {
     let mut value = 0u32;
-    let mut place = 0;
-    while place < text.len() && text[place].is_ascii_digit() {
+    let mut index = 0;
+    while index < text.len() && text[index].is_ascii_digit() {
         value = value
             .saturating_mul(10)
-            .saturating_add(u32::from(text[place] - b'0'));
-        place += 1;
+            .saturating_add(u32::from(text[index] - b'0'));
+        index += 1;
     }
-    (value, &text[place..])
+    (value, &text[index..])
 }
 
 // Flags, width, precision and the letter of a conversion.
@@ -254,18 +254,18 @@ fn flags(colon: bool, text: &[u8]) -> (Format, &[u8])
     ensures bound { length result.1.now ≤ length text.now }
 {
     let mut format = PLAIN;
-    let mut place = 0;
-    while place < text.len() {
-        match text[place] {
+    let mut index = 0;
+    while index < text.len() {
+        match text[index] {
             b'#' => format.alternate = true,
             b' ' => format.blank = true,
             b'-' if colon => format.left = true,
             b'+' if colon => format.plus = true,
             _ => break,
         }
-        place += 1;
+        index += 1;
     }
-    (format, &text[place..])
+    (format, &text[index..])
 }
 
 // A format before its conversion is known.

@@ -7,21 +7,21 @@ abbrev pub leading_digits : List ℕ → ℕ
 leading_digits [] = 0
 leading_digits (b ∷ text) = if is_digit b then suc (leading_digits text) else 0
 
--- how many digits a text has from a place on
+-- how many digits a text has from an index on
 abbrev pub digits_at : List ℕ → ℕ → ℕ
-digits_at text place = leading_digits (drop place text)
+digits_at text index = leading_digits (drop index text)
 
--- how long the point and its digit are that a text has at a place
+-- how long the point and its digit are that a text has at an index
 abbrev pub point_at : List ℕ → ℕ → ℕ
-point_at text place = if slice_index text place == 46 && is_digit (slice_index text (place + 1)) then 2 else 0
+point_at text index = if slice_index text index == 46 && is_digit (slice_index text (index + 1)) then 2 else 0
 
 -- how many marks two bytes are
 abbrev pub marks_of_two : ℕ → ℕ → ℕ
 marks_of_two a b = if (a == 42 && b == 47) || (a == 47 && b == 42) then 2 else (if a == 42 || a == 47 then 1 else 0)
 
--- how many of `*` and `/` a text has at a place
+-- how many of `*` and `/` a text has at an index
 abbrev pub marks_at : List ℕ → ℕ → ℕ
-marks_at text place = marks_of_two (slice_index text place) (slice_index text (place + 1))
+marks_at text index = marks_of_two (slice_index text index) (slice_index text (index + 1))
 
 -- where the `>` has to stand behind so many digits
 abbrev pub padding_end : List ℕ → ℕ → ℕ

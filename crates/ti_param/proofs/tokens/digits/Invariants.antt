@@ -2,9 +2,9 @@ use Rattle.std.proofs.Common.{◌≡◌, ℕ, ◌-◌, ◌^◌, ◌≤◌, min, 
 use Rattle.ti_param.specs.Code.Tokens.{digits}
 use Rattle.ti_param.proofs.tokens.digits.Given as goal
 
-abbrev pub invariant-loop-place : goal.invariant-loop-place
-invariant-loop-place l =
-    (n : ℕ) × (l.value ≡ min n (2 ^ 32 - 1)) × (digits n (drop l.place l.text) ≡ digits 0 l.text) × (l.place ≤ length l.text)
+abbrev pub invariant-loop-index : goal.invariant-loop-index
+invariant-loop-index l =
+    (n : ℕ) × (l.value ≡ min n (2 ^ 32 - 1)) × (digits n (drop l.index l.text) ≡ digits 0 l.text) × (l.index ≤ length l.text)
 
-abbrev pub decreases-loop-place : goal.decreases-loop-place
-decreases-loop-place l = length l.text - l.place
+abbrev pub decreases-loop-index : goal.decreases-loop-index
+decreases-loop-index l = length l.text - l.index
