@@ -116,8 +116,7 @@ awaited-done entries [] first p d r h = tt
 awaited-done entries (Visit q ∷ tasks) first p d r h = awaited-done entries tasks (first ++ q ∷ []) p d r h
 awaited-done entries (Leave i ∷ tasks) first p d r h =
     let a = h.0 in
-    let next = next-of entries p first a.behind a.awaited in
-    (
+    let next = next-of entries p first a.behind a.awaited in (
       record {
         entry = a.entry;
         at = a.at;
@@ -286,10 +285,13 @@ back-open before now after i h is =
     )
 
 pub back-other : (before now : List Mark) (i : ℕ) (x : Mark) → AreTakenBack i before now → slice_get now i ≡ Some x → x ≢ Open → AreTakenBack (i + 1) before now
-back-other before now i x h at ne = (h.0, λ j m e. elim (h.1 j m e) [
-  | inl y ↦ inl y
-  | inr y ↦ inr (y.0, elim y.1 [ inl z ↦ inl z | inr le ↦ by j m e (eqb j i) refl le ])
-])
+back-other before now i x h at ne = (
+  h.0,
+  λ j m e. elim (h.1 j m e) [
+    | inl y ↦ inl y
+    | inr y ↦ inr (y.0, elim y.1 [ inl z ↦ inl z | inr le ↦ by j m e (eqb j i) refl le ])
+  ],
+)
   where
     by : (j : ℕ) (m : Mark) → slice_get now j ≡ Some m → (t : Bool) → eqb j i ≡ t → i ≤ j → (m ≢ Open) ⊎ (i + 1 ≤ j)
     by j m e true is le =
