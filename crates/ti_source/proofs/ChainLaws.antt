@@ -1,12 +1,12 @@
 -- Faults over chains of uses: over longer ones, over none, and those of all entries that are left later.
-use Rattle.std.proofs.Common.{◌≡◌, ◌≢◌, ◌∙◌, ℕ, ◌+◌, ◌≤◌, Bool, true, false, ◌||◌, eqb, List, [], ◌∷◌, ◌++◌, Option, Some, None, option_map, slice_get, map, set, length, reverse, refl, ap, sym, subst, append_assoc, append-nil, arith, ◌⊎◌, inl, inr}
+use Rattle.std.proofs.Common.{◌≡◌, ◌≢◌, ◌∙◌, ℕ, ◌+◌, ◌≤◌, Bool, true, false, ◌||◌, eqb, List, [], ◌∷◌, ◌++◌, Option, Some, option_map, slice_get, map, set, length, reverse, refl, ap, sym, subst, append_assoc, append-nil, arith, ◌⊎◌, inl, inr}
 use Rattle.std.specs.List.{list_any}
 use Rattle.std.proofs.lemmas.Bool.{eqb-true}
 use Rattle.std.proofs.lemmas.Bool.Decides.{nat_tests}
 use Rattle.std.proofs.lemmas.List.{length-set}
 use Rattle.ti_caps.specs.Description.{Description}
 use Rattle.ti_source.specs.declared.fault.SourceFault.{SourceFault}
-use Rattle.ti_source.specs.declared.fault.SourceFault.TheVariants.{UnknownName, UseCycle}
+use Rattle.ti_source.specs.declared.fault.SourceFault.TheVariants.{UseCycle}
 use Rattle.ti_source.specs.declared.statement.Statement.{Statement}
 use Rattle.ti_source.specs.declared.walk.Mark.{Mark}
 use Rattle.ti_source.specs.declared.walk.Mark.TheVariants.{New, Open, Done, Faulty}

@@ -1,9 +1,9 @@
 -- The fields that are read are those of the line.
-use Rattle.std.proofs.Common.{◌≡◌, ◌≢◌, ◌∙◌, ℕ, Bool, true, false, cond, eqb, ◌||◌, List, [], ◌∷◌, ◌++◌, refl, ap, sym, subst, arith, append-nil}
+use Rattle.std.proofs.Common.{◌≡◌, ◌≢◌, ◌∙◌, ℕ, Bool, true, false, eqb, List, [], ◌∷◌, ◌++◌, refl, ap, sym, subst, arith, append-nil}
 use Rattle.std.specs.List.{onto_first}
 use Rattle.std.proofs.lemmas.Bool.{eqb-true}
 use Rattle.std.proofs.lemmas.Bool.Decides.{nat_tests}
-use Rattle.ti_source.specs.Field.{takes_next, fields, fields_after}
+use Rattle.ti_source.specs.Field.{takes_next, fields}
 use Rattle.ti_source.specs.Cutting.{IsField, AreFields, more, last, cut, AreCut}
 use Rattle.ti_source.specs.Cutting as cutting
 
