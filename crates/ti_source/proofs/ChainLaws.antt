@@ -1,12 +1,12 @@
 -- Faults over chains of uses: over longer ones, over none, and those of all entries that are left later.
-use Rattle.std.proofs.Common.{◌≡◌, ◌≢◌, ◌∙◌, ℕ, ◌+◌, ◌≤◌, Bool, true, false, ◌||◌, eqb, List, [], ◌∷◌, ◌++◌, Option, Some, None, option_map, slice_get, map, set, length, reverse, refl, ap, sym, subst, append_assoc, append-nil, arith, ◌⊎◌, inl, inr}
+use Rattle.std.proofs.Common.{◌≡◌, ◌≢◌, ◌∙◌, ℕ, ◌+◌, ◌≤◌, Bool, true, false, ◌||◌, eqb, List, [], ◌∷◌, ◌++◌, Option, Some, option_map, slice_get, map, set, length, reverse, refl, ap, sym, subst, append_assoc, append-nil, arith, ◌⊎◌, inl, inr}
 use Rattle.std.specs.List.{list_any}
 use Rattle.std.proofs.lemmas.Bool.{eqb-true}
 use Rattle.std.proofs.lemmas.Bool.Decides.{nat_tests}
 use Rattle.std.proofs.lemmas.List.{length-set}
 use Rattle.ti_caps.specs.Description.{Description}
 use Rattle.ti_source.specs.declared.fault.SourceFault.{SourceFault}
-use Rattle.ti_source.specs.declared.fault.SourceFault.TheVariants.{UnknownName, UseCycle}
+use Rattle.ti_source.specs.declared.fault.SourceFault.TheVariants.{UseCycle}
 use Rattle.ti_source.specs.declared.statement.Statement.{Statement}
 use Rattle.ti_source.specs.declared.walk.Mark.{Mark}
 use Rattle.ti_source.specs.declared.walk.Mark.TheVariants.{New, Open, Done, Faulty}
@@ -116,8 +116,7 @@ awaited-done entries [] first p d r h = tt
 awaited-done entries (Visit q ∷ tasks) first p d r h = awaited-done entries tasks (first ++ q ∷ []) p d r h
 awaited-done entries (Leave i ∷ tasks) first p d r h =
     let a = h.0 in
-    let next = next-of entries p first a.behind a.awaited in
-    (
+    let next = next-of entries p first a.behind a.awaited in (
       record {
         entry = a.entry;
         at = a.at;
@@ -286,10 +285,13 @@ back-open before now after i h is =
     )
 
 pub back-other : (before now : List Mark) (i : ℕ) (x : Mark) → AreTakenBack i before now → slice_get now i ≡ Some x → x ≢ Open → AreTakenBack (i + 1) before now
-back-other before now i x h at ne = (h.0, λ j m e. elim (h.1 j m e) [
-  | inl y ↦ inl y
-  | inr y ↦ inr (y.0, elim y.1 [ inl z ↦ inl z | inr le ↦ by j m e (eqb j i) refl le ])
-])
+back-other before now i x h at ne = (
+  h.0,
+  λ j m e. elim (h.1 j m e) [
+    | inl y ↦ inl y
+    | inr y ↦ inr (y.0, elim y.1 [ inl z ↦ inl z | inr le ↦ by j m e (eqb j i) refl le ])
+  ],
+)
   where
     by : (j : ℕ) (m : Mark) → slice_get now j ≡ Some m → (t : Bool) → eqb j i ≡ t → i ≤ j → (m ≢ Open) ⊎ (i + 1 ≤ j)
     by j m e true is le =

@@ -1,6 +1,7 @@
 pub mod AloneLaws
 pub mod BytesLaws
 pub mod ChainLaws
+pub mod CuttingLaws
 pub mod InForceLaws
 pub mod EscapeLaws
 pub mod EscapesBackLaws

@@ -222,16 +222,18 @@ stuck-ready entries before place w after task fault marks r s is =
     subst (λ (x : Walk). IsWalk entries marks x.kept.items []) (sym s.same) ready
 
 pub stopped-ready : (entries : List Described) (before : List Mark) (place : Option ℕ) (w after stopped : Walk) (task : Task) (fault : SourceFault) → IsReaching entries before place w.marks.items w.kept.items (task ∷ reverse w.tasks.items) → Stops fault (StuckAt entries w task fault after) → (after.marks.items ≡ w.marks.items) × (after.kept.items ≡ w.kept.items) → IsStopped fault (leaves (reverse after.tasks.items)) after.marks.items stopped.marks.items → stopped.kept.items ≡ after.kept.items → stopped.tasks.items ≡ [] → IsReady entries stopped
-stopped-ready entries before place w after stopped task fault r why same marks kept none =
-    (elim marks [
-      | inl h ↦
-          let back = subst (λ ms. IsTakenBack ms stopped.marks.items) same.0 h.1 in
-          subst (λ ks. IsWalk entries stopped.marks.items ks []) (sym (kept ∙ same.1)) (ready-back entries w.marks.items stopped.marks.items w.kept.items (task ∷ reverse w.tasks.items) r.walk back)
-      | inr h ↦ elim why [
-        | inl e ↦ absurd (h.0 e)
-        | inr s ↦ subst (λ ks. IsWalk entries stopped.marks.items ks []) (sym kept) (stuck-ready entries before place w after task fault stopped.marks.items r s h.1)
-      ]
-    ], ap reverse none)
+stopped-ready entries before place w after stopped task fault r why same marks kept none = (
+  elim marks [
+    | inl h ↦
+        let back = subst (λ ms. IsTakenBack ms stopped.marks.items) same.0 h.1 in
+        subst (λ ks. IsWalk entries stopped.marks.items ks []) (sym (kept ∙ same.1)) (ready-back entries w.marks.items stopped.marks.items w.kept.items (task ∷ reverse w.tasks.items) r.walk back)
+    | inr h ↦ elim why [
+      | inl e ↦ absurd (h.0 e)
+      | inr s ↦ subst (λ ks. IsWalk entries stopped.marks.items ks []) (sym kept) (stuck-ready entries before place w after task fault stopped.marks.items r s h.1)
+    ]
+  ],
+  ap reverse none,
+)
 
 pub walk-new : (entries : List Described) (marks : List Mark) (kept : List (List Statement)) → marks ≡ replicate (length entries) New → IsWalk entries marks kept []
 walk-new entries marks kept is =

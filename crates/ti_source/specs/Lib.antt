@@ -1,3 +1,4 @@
+pub mod Cutting
 pub mod Described
 pub mod Escape
 pub mod Field

@@ -1,6 +1,7 @@
 //! The fields of a line and their forms.
 
 ghost use Rattle.std.specs.Prelude.{◌≡◌, ◌≤◌, ◌<◌, ◌+◌, ◌∷◌, IfSome, ◌&&◌, ◌==◌, not, length, take, drop, option_map};
+ghost use Rattle.ti_source.specs.Cutting.{AreCut};
 ghost use Rattle.ti_source.specs.Field.{ends_name, fields, fields_behind, form_by, form_of, is_blank, name_length, takes_next, without_lead, without_trail};
 ghost use Rattle.ti_source.specs.Seen.{seen_form};
 
@@ -124,3 +125,9 @@ fn form_by<'a>(trimmed: &'a [u8], whole: &'a [u8]) -> Form<'a>
         _ => Form::Odd(name),
     }
 }
+
+/// A line's fields are the parts between its commas, where a comma behind `\` or `^` ends nothing
+/// (terminfo(5), "Preparing Descriptions"), and a line has no others.
+pub fn fields_are_cut()
+    ensures { AreCut }
+{}

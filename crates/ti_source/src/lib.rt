@@ -22,6 +22,7 @@ mod walk;
 
 pub use escape::texts_are_spelled;
 pub use fault::SourceFault;
+pub use field::fields_are_cut;
 pub use note::{Cause, Note};
 pub use printer::{Printed, numbers_read_back, print, printed_reads_back, texts_read_back};
 pub use reader::read;

@@ -1,5 +1,5 @@
 use Rattle.std.specs.Prelude.{is_none}
-use Rattle.std.proofs.Common.{◌≡◌, ◌∙◌, ap, false, inl, inr, subst, sym, rules}
+use Rattle.std.proofs.Common.{◌≡◌, ◌∙◌, ap, false, inr, subst, sym, rules}
 use Rattle.ti_source.specs.declared.fault.SourceFault.TheVariants.{UnknownName}
 use Rattle.ti_source.specs.Named.{place_of}
 use Rattle.ti_source.specs.Resolving.{Unresolved}

@@ -1,1 +1,0 @@
-use Rattle.ti_source.proofs.entries.Entries.has_any_name.Goals as goal
