@@ -1,21 +1,37 @@
 //! The names and paths of compiled files (term(5), 'Storage Location').
 
-ghost use Rattle.std.specs.Prelude.{◌≡◌, IfOk, map};
+ghost use Rattle.std.specs.Prelude.{◌≡◌, ◌++◌, ◌∷◌, [], IfOk, OnOk, filter, map};
 ghost use Rattle.std.specs.List.{list_all, list_any};
-ghost use Rattle.ti_caps.specs.Names.{reference_names};
+ghost use Rattle.ti_caps.specs.Names.{has_no_blank, reference_names};
 ghost use Rattle.terminfo_files.specs.FileNames.{is_dots, is_file_name, is_slash, path_of};
 
 use std::alloc::{AllocError, Global};
-use ti_caps::{Bytes, has_no_blank};
+use ti_caps::{Bytes, cut_name, has_no_blank};
+
+// Appends a name of an entry, where it has no blank.
+fn put_reference<'a>(found: &mut Vec<&'a [u8]>, name: &'a [u8]) -> Result<(), AllocError>
+    ensures { OnOk result (map (λ name. name.now) found.new.items ≡ map (λ name. name.now) found.old.items ++ filter has_no_blank (name.entry.now ∷ [])) }
+{
+    if has_no_blank(name) {
+        found.push(name)?;
+    }
+    Ok(())
+}
 
 /// The alternatives without a blank, in their order.
 pub(crate) fn reference_names(alloc: Global, names: &[u8]) -> Result<Vec<&[u8]>, AllocError>
     ensures { IfOk result (λ found. map (λ name. name.now) found.items ≡ reference_names names.now) }
 {
-    names
-        .split(|b| *b == b'|')
-        .filter(|name| has_no_blank(name))
-        .collect(alloc)
+    let mut found = Vec::new(alloc);
+    let mut rest = names;
+    loop {
+        let (name, behind) = cut_name(rest);
+        put_reference(&mut found, name)?;
+        match behind {
+            Some(more) => rest = more,
+            None => return Ok(found),
+        }
+    }
 }
 
 fn has_slash(name: &[u8]) -> bool

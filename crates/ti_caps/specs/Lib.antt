@@ -1,4 +1,5 @@
 pub mod Buckets
+pub mod Cuts
 pub mod Description
 pub mod Names
 pub mod Runs

@@ -12,5 +12,5 @@ pub use buckets::find_name;
 pub use bytes::Bytes;
 pub use entry::{Entry, MOST_FLAGS, MOST_NUMBER, MOST_NUMBERS, MOST_TEXTS};
 pub use fault::CapFault;
-pub use names::{are_names, first_name, has_no_blank};
+pub use names::{are_names, cut_name, first_name, has_no_blank};
 pub use table::{Kind, Slot, name_of, names_stand_once};

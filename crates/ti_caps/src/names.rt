@@ -1,7 +1,8 @@
 //! The names of an entry.
 
-ghost use Rattle.std.specs.Prelude.{◌≡◌};
+ghost use Rattle.std.specs.Prelude.{◌≡◌, ◌<◌, ◌∷◌, IfSome, length, option_map};
 ghost use Rattle.std.specs.List.{list_all};
+ghost use Rattle.ti_caps.specs.Cuts.{alternatives_behind};
 ghost use Rattle.ti_caps.specs.Names.{alternatives, are_names, begins_with_hash, first_name, has_bytes, has_no_blank, is_name_byte};
 
 fn are_name_bytes(names: &[u8]) -> bool
@@ -10,18 +11,37 @@ fn are_name_bytes(names: &[u8]) -> bool
     names.iter().all(|b| (32..=126).contains(b) && *b != b',')
 }
 
+/// The first alternative of some names, and what stands behind its `|`.
+pub fn cut_name(names: &[u8]) -> (&[u8], Option<&[u8]>)
+    ensures first { result.0.now ≡ first_name names.now }
+    ensures cut { alternatives names.now ≡ result.0.now ∷ alternatives_behind (option_map (λ s. s.now) result.1) }
+    ensures shorter { IfSome result.1 (λ rest. length rest.now < length names.now) }
+{
+    let end = names.iter().position(|b| *b == b'|').unwrap_or(names.len());
+    (&names[..end], names.get(end + 1..))
+}
+
 fn are_alternatives_there(names: &[u8]) -> bool
     ensures { result ≡ list_all has_bytes (alternatives names.now) }
 {
-    names.split(|b| *b == b'|').all(|name| !name.is_empty())
+    let mut rest = names;
+    loop {
+        let (name, behind) = cut_name(rest);
+        if name.is_empty() {
+            return false;
+        }
+        match behind {
+            Some(more) => rest = more,
+            None => return true,
+        }
+    }
 }
 
 /// The first alternative of some names, by which their entry is listed: all up to the first `|`.
 pub fn first_name(names: &[u8]) -> &[u8]
     ensures { result.now ≡ first_name names.now }
 {
-    let end = names.iter().position(|b| *b == b'|').unwrap_or(names.len());
-    &names[..end]
+    cut_name(names).0
 }
 
 /// Whether no byte of a name is a blank: an alternative without one is a name of reference
