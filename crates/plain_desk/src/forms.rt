@@ -117,15 +117,6 @@ pub fn find(word: &[u8]) -> Option<Form> {
     None
 }
 
-fn find_among(forms: &[Form], word: &[u8]) -> Option<Form> {
-    for form in forms {
-        if form.0.as_bytes() == word {
-            return Some(*form);
-        }
-    }
-    None
-}
-
 /// The call that a number stands for, where each stands for as many as it is often, and what is left of the number
 /// where there is none.
 pub fn pick(forms: &[Form], number: u64) -> Result<Form, u64> {
@@ -137,4 +128,13 @@ pub fn pick(forms: &[Form], number: u64) -> Result<Form, u64> {
         left -= form.2;
     }
     Err(left)
+}
+
+fn find_among(forms: &[Form], word: &[u8]) -> Option<Form> {
+    for form in forms {
+        if form.0.as_bytes() == word {
+            return Some(*form);
+        }
+    }
+    None
 }

@@ -55,10 +55,6 @@ impl Grid {
         }
     }
 
-    fn place(&self, row: u64, column: u64) -> usize {
-        row.saturating_mul(self.columns).saturating_add(column) as usize
-    }
-
     /// Puts what a formula says in each place of a row of a window.
     pub fn write_row(
         &mut self,
@@ -78,6 +74,10 @@ impl Grid {
                 *there = cell;
             }
         }
+    }
+
+    fn place(&self, row: u64, column: u64) -> usize {
+        row.saturating_mul(self.columns).saturating_add(column) as usize
     }
 }
 

@@ -30,6 +30,14 @@ impl Plain {
         }
     }
 
+    /// The number of a window's parent.
+    pub fn parent_of(&self, number: Option<u64>) -> Option<u64> {
+        match self.window(number?) {
+            Ok(window) => window.parent,
+            Err(_) => None,
+        }
+    }
+
     fn new_window(&mut self, alloc: Global, part: Part) -> Answered {
         match part_of((self.rows, self.columns), part) {
             Some(size) => self.add_root(alloc, size, Some(part.1)),
@@ -201,14 +209,6 @@ impl Plain {
             at = self.parent_of(at);
         }
         false
-    }
-
-    /// The number of a window's parent.
-    pub fn parent_of(&self, number: Option<u64>) -> Option<u64> {
-        match self.window(number?) {
-            Ok(window) => window.parent,
-            Err(_) => None,
-        }
     }
 }
 

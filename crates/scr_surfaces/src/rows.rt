@@ -1,5 +1,5 @@
 //! Runs of cells in one row of a surface: the steps that every drawing is made of.
-ghost use Rattle.std.specs.Prelude.{ℕ, ◌≡◌, ◌+◌, ◌-◌, ◌<◌, ◌≤◌, length, slice_index_or};
+ghost use Rattle.std.specs.Prelude.{◌≡◌, ◌+◌, ◌-◌, ◌<◌, ◌≤◌, length, slice_index_or};
 ghost use Rattle.scr_cells.specs.CellViews.{blank_cell};
 ghost use Rattle.scr_surfaces.specs.SurfaceViews.{cell_of};
 ghost use Rattle.scr_surfaces.specs.Formulas.{exchanged, laid, over};
@@ -57,6 +57,19 @@ impl Surface {
         }
     }
 
+    // Columns `start..end` of a row in a row from column `to` on, also where the two overlap.
+    pub(crate) fn move_row(&mut self, source: u32, start: u32, end: u32, row: u32, to: u32)
+        requires source { source < self.old.rows }
+        requires row { row < self.old.rows }
+        requires order { start ≤ end }
+        requires end { end ≤ self.old.columns }
+        requires to { to + (end - start) ≤ self.old.columns }
+        ensures { RunIs self.old self.new row to (to + (end - start)) (λ c. cell_of self.old source (start + (c - to))) }
+    {
+        grid_laws::<Cell>();
+        self.grid.copy(source, start, end, row, to);
+    }
+
     // Cells in place of those in columns `from..end` of a row.
     fn overwrite_row(&mut self, row: u32, from: u32, end: u32, cells: &[Cell])
         requires row { row < self.old.rows }
@@ -81,19 +94,6 @@ impl Surface {
             ensures { result ≡ over (slice_index_or cells.entry.now (column - from) blank_cell) under }
         { over(cells[(column - from) as usize], under) };
         self.grid.change(row, from, end, laid);
-    }
-
-    // Columns `start..end` of a row in a row from column `to` on, also where the two overlap.
-    pub(crate) fn move_row(&mut self, source: u32, start: u32, end: u32, row: u32, to: u32)
-        requires source { source < self.old.rows }
-        requires row { row < self.old.rows }
-        requires order { start ≤ end }
-        requires end { end ≤ self.old.columns }
-        requires to { to + (end - start) ≤ self.old.columns }
-        ensures { RunIs self.old self.new row to (to + (end - start)) (λ c. cell_of self.old source (start + (c - to))) }
-    {
-        grid_laws::<Cell>();
-        self.grid.copy(source, start, end, row, to);
     }
 }
 

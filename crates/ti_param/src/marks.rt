@@ -1,6 +1,6 @@
 //! The marks of conditionals, `%? %t %e %;`, as they follow one another: terminfo(5), 'Parameterized Strings'.
 
-ghost use Rattle.std.specs.Prelude.{◌≡◌, [], length, MatchResult, Ok, Err};
+ghost use Rattle.std.specs.Prelude.{◌≡◌, [], length, Ok, Err};
 ghost use Rattle.ti_param.specs.Code.Marks.{entered};
 ghost use Rattle.ti_param.specs.Code.Fits.{Enters};
 
