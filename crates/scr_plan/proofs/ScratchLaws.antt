@@ -13,14 +13,14 @@ use Rattle.scr_cells.specs.CellViews.{CellView, IsCell}
 use Rattle.scr_cells.specs.Grids.{GridLaws, IsGrid, grid_row, grid_with}
 use Rattle.scr_cells.specs.LookViews.{LookView, seen, blank, blank_grid, negative_grid}
 use Rattle.scr_cells.specs.PictureViews.{PictureView, IsPlace}
-use Rattle.scr_term.specs.declared.operations.Op.{Op}
-use Rattle.scr_term.specs.declared.operations.Op.TheVariants.{Move, Reset, Put}
-use Rattle.scr_term.specs.declared.operations.Spot.TheVariants.{At}
-use Rattle.scr_term.specs.Profiles.{ProfileView, IsProfile}
-use Rattle.scr_term.specs.States.{State, spot_after}
-use Rattle.scr_term.specs.Steps.{step, runs}
-use Rattle.scr_term.specs.Painted.{painted}
-use Rattle.scr_term.specs.OperationLaws.{BytesActAsTheirOperations, RunLaws}
+use Rattle.scr_term.specs.declared.operations.operation.Op.{Op}
+use Rattle.scr_term.specs.declared.operations.operation.Op.TheVariants.{Move, Reset, Put}
+use Rattle.scr_term.specs.declared.operations.operation.Spot.TheVariants.{At}
+use Rattle.scr_term.specs.Operations.Profiles.{ProfileView, IsProfile}
+use Rattle.scr_term.specs.Operations.States.{State, spot_after}
+use Rattle.scr_term.specs.Operations.Steps.{step, runs}
+use Rattle.scr_term.specs.Operations.Painted.{painted}
+use Rattle.scr_term.specs.Operations.Laws.{BytesActAsTheirOperations, RunLaws}
 use Rattle.scr_plan.specs.Scratch.{enter, paints_cell, paints_cells, paints_row, paints_rows, places_cursor, scratch_of, Fits, ScratchShows, ScratchBytesShow}
 
 -- a set and these attributes

@@ -5,14 +5,14 @@ use Rattle.scr_cells.specs.Attributes.{attributes_of}
 use Rattle.scr_cells.specs.CellViews.{CellView}
 use Rattle.scr_cells.specs.Grids.{grid_row}
 use Rattle.scr_cells.specs.PictureViews.{PictureView, IsPicture}
-use Rattle.scr_term.specs.Profiles.{ProfileView, IsProfile, IsEcma48}
-use Rattle.scr_term.specs.States.{State, IsState, negative_state}
-use Rattle.scr_term.specs.Steps.{runs}
-use Rattle.scr_term.specs.Texts.{all_bytes}
-use Rattle.scr_term.specs.Painted.{Shows, ShowsNegative}
-use Rattle.scr_term.specs.EcmaMeanings.{Leads}
-use Rattle.scr_term.specs.declared.operations.Op.{Op}
-use Rattle.scr_term.specs.declared.operations.Op.TheVariants.{Move, Clear, Reset, Enter, Put}
+use Rattle.scr_term.specs.Operations.Profiles.{ProfileView, IsProfile, IsEcma48}
+use Rattle.scr_term.specs.Operations.States.{State, IsState, negative_state}
+use Rattle.scr_term.specs.Operations.Steps.{runs}
+use Rattle.scr_term.specs.Operations.Texts.{all_bytes}
+use Rattle.scr_term.specs.Operations.Painted.{Shows, ShowsNegative}
+use Rattle.scr_term.specs.Ecma.Meanings.{Leads}
+use Rattle.scr_term.specs.declared.operations.operation.Op.{Op}
+use Rattle.scr_term.specs.declared.operations.operation.Op.TheVariants.{Move, Clear, Reset, Enter, Put}
 
 -- turns on one attribute
 abbrev pub enter : ℕ → Op

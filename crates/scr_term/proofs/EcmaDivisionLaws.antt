@@ -3,11 +3,11 @@ use Rattle.std.proofs.Common.{◌≡◌, ℕ, Bool, true, false, List, [], ◌�
 use Rattle.std.specs.Prelude.{option_and_then}
 use Rattle.std.specs.List.{AllByRecursion, flat_map}
 use Rattle.std.proofs.lemmas.List.{append-nil}
-use Rattle.scr_term.specs.States.{State}
-use Rattle.scr_term.specs.EcmaUnits.{EcmaUnit, Graphic, Control, Sequence, spelling, IsUnit, IsWaiting}
-use Rattle.scr_term.specs.EcmaMeanings.{meaning, meanings}
-use Rattle.scr_term.specs.EcmaScreens.{ScreenView, GoesOn, Stops, IsUndefinedAt, IsFed}
-use Rattle.scr_term.specs.EcmaLaws.{HasOneDivision}
+use Rattle.scr_term.specs.Operations.States.{State}
+use Rattle.scr_term.specs.Ecma.Units.{EcmaUnit, Graphic, Control, Sequence, spelling, IsUnit, IsWaiting}
+use Rattle.scr_term.specs.Ecma.Meanings.{meaning, meanings}
+use Rattle.scr_term.specs.Ecma.Screens.{ScreenView, GoesOn, Stops, IsUndefinedAt, IsFed}
+use Rattle.scr_term.specs.Ecma.Laws.{HasOneDivision}
 use Rattle.scr_term.proofs.EcmaUnitLaws.{one_unit, waiting_has_no_unit, waiting_begins_unit}
 
 -- how a text ends where it is defined

@@ -2,13 +2,13 @@
 use Rattle.std.proofs.Common.{◌≡◌, ℕ, ◌+◌, ◌<◌, ◌≤◌, Bool, true, false, List, [], ◌∷◌, ◌++◌, length, take, get_or, Option, Some, None, inl, inr, refl, sym, ap, ◌∙◌, subst}
 use Rattle.std.specs.Prelude.{option_and_then, option_map}
 use Rattle.std.proofs.lemmas.List.{append-nil, take_more}
-use Rattle.scr_term.specs.States.{State, written}
-use Rattle.scr_term.specs.EcmaUnits.{EcmaUnit, Graphic, Control, Sequence, spelling, IsUnit, IsSequence, IsWaiting, BeginsNoUnit}
-use Rattle.scr_term.specs.EcmaMeanings.{meaning}
-use Rattle.scr_term.specs.EcmaScreens.{ScreenView, IsScreen, IsFed}
-use Rattle.scr_term.specs.EcmaReadings.{IsReading, acted, changed}
-use Rattle.scr_term.specs.declared.ecma_controls.Change.{Change}
-use Rattle.scr_term.specs.declared.ecma_readings.Reading.TheVariants as reading
+use Rattle.scr_term.specs.Operations.States.{State, written}
+use Rattle.scr_term.specs.Ecma.Units.{EcmaUnit, Graphic, Control, Sequence, spelling, IsUnit, IsSequence, IsWaiting, BeginsNoUnit}
+use Rattle.scr_term.specs.Ecma.Meanings.{meaning}
+use Rattle.scr_term.specs.Ecma.Screens.{ScreenView, IsScreen, IsFed}
+use Rattle.scr_term.specs.Code.Readings.{IsReading, acted, changed}
+use Rattle.scr_term.specs.declared.ecma.controls.Change.{Change}
+use Rattle.scr_term.specs.declared.ecma.readings.Reading.TheVariants as reading
 use Rattle.scr_term.proofs.EcmaPieceLaws.{fed_cut}
 
 -- nothing comes

@@ -3,11 +3,11 @@ use Rattle.std.proofs.Common.{◌≡◌, ℕ, true, List, [], ◌∷◌, ◌++�
 use Rattle.std.specs.Prelude.{option_and_then}
 use Rattle.std.specs.List.{AllByRecursion, flat_map}
 use Rattle.std.proofs.lemmas.List.Concat.{flat_map-append}
-use Rattle.scr_term.specs.States.{State}
-use Rattle.scr_term.specs.EcmaUnits.{EcmaUnit, spelling, IsUnit, IsDivision, BeginsNoUnit}
-use Rattle.scr_term.specs.EcmaMeanings.{meanings}
-use Rattle.scr_term.specs.EcmaScreens.{ScreenView, GoesOn, Stops, IsUndefinedAt, IsFed}
-use Rattle.scr_term.specs.EcmaLaws.{PiecesDoNotMatter}
+use Rattle.scr_term.specs.Operations.States.{State}
+use Rattle.scr_term.specs.Ecma.Units.{EcmaUnit, spelling, IsUnit, IsDivision, BeginsNoUnit}
+use Rattle.scr_term.specs.Ecma.Meanings.{meanings}
+use Rattle.scr_term.specs.Ecma.Screens.{ScreenView, GoesOn, Stops, IsUndefinedAt, IsFed}
+use Rattle.scr_term.specs.Ecma.Laws.{PiecesDoNotMatter}
 use Rattle.scr_term.proofs.EcmaDivisionLaws.{meanings_first, fed_once}
 
 each_append : (us vs : List EcmaUnit) → AllByRecursion IsUnit us → AllByRecursion IsUnit vs → AllByRecursion IsUnit (us ++ vs)

@@ -11,18 +11,18 @@ use Rattle.scr_cells.specs.Attributes.{negative_set, all_attributes}
 use Rattle.scr_cells.specs.LookViews.{LookView, blank_grid, negative, negative_grid}
 use Rattle.scr_cells.specs.Grids.{grid_with}
 use Rattle.scr_cells.specs.PictureViews.{IsSize}
-use Rattle.scr_term.specs.declared.operations.Op.{Op}
-use Rattle.scr_term.specs.declared.operations.Op.TheVariants.{Move, Clear, Reset, Enter, Put}
-use Rattle.scr_term.specs.declared.operations.Spot.{Spot}
-use Rattle.scr_term.specs.declared.operations.Spot.TheVariants.{At, Margin}
-use Rattle.scr_term.specs.Profiles.{ProfileView, IsEcma48}
-use Rattle.scr_term.specs.States.{State, IsState, negative_state, written_at, spot_after}
-use Rattle.scr_term.specs.Steps.{has, act}
-use Rattle.scr_term.specs.Texts.{control_sequence, rendition_of, bytes_of}
-use Rattle.scr_term.specs.EcmaUnits.{EcmaUnit, Graphic, Sequence, spelling, is_parameter_byte, IsUnit, IsDivision}
-use Rattle.scr_term.specs.EcmaMeanings.{cursor_at, meanings}
-use Rattle.scr_term.specs.EcmaMeanings.{Leads}
-use Rattle.scr_term.specs.OperationLaws.{BytesActAsTheirOperation}
+use Rattle.scr_term.specs.declared.operations.operation.Op.{Op}
+use Rattle.scr_term.specs.declared.operations.operation.Op.TheVariants.{Move, Clear, Reset, Enter, Put}
+use Rattle.scr_term.specs.declared.operations.operation.Spot.{Spot}
+use Rattle.scr_term.specs.declared.operations.operation.Spot.TheVariants.{At, Margin}
+use Rattle.scr_term.specs.Operations.Profiles.{ProfileView, IsEcma48}
+use Rattle.scr_term.specs.Operations.States.{State, IsState, negative_state, written_at, spot_after}
+use Rattle.scr_term.specs.Operations.Steps.{has, act}
+use Rattle.scr_term.specs.Operations.Texts.{control_sequence, rendition_of, bytes_of}
+use Rattle.scr_term.specs.Ecma.Units.{EcmaUnit, Graphic, Sequence, spelling, is_parameter_byte, IsUnit, IsDivision}
+use Rattle.scr_term.specs.Ecma.Meanings.{cursor_at, meanings}
+use Rattle.scr_term.specs.Ecma.Meanings.{Leads}
+use Rattle.scr_term.specs.Operations.Laws.{BytesActAsTheirOperation}
 use Rattle.scr_term.proofs.Attributes.{each_attribute, negative-or_standout, negative-or_underline, negative-or_reverse, negative-or_blink, negative-or_dim, negative-or_bold, negative-or_invis}
 use Rattle.scr_term.proofs.LookGridLaws.{negative_blank, negative_put}
 use Rattle.scr_term.proofs.Parameters.{parameter_bytes, parameter_bytes_of_two, parameters_of_two}

@@ -11,18 +11,18 @@ use Rattle.std.proofs.lemmas.Bool.{eqb-true}
 use Rattle.std.proofs.lemmas.Bool.Decides.{nat_tests}
 use Rattle.scr_cells.specs.Grids.{grid_with}
 use Rattle.scr_cells.specs.LookViews.{LookView, blank_grid}
-use Rattle.scr_term.specs.declared.operations.Op.{Op}
-use Rattle.scr_term.specs.declared.operations.Op.TheVariants.{Move, Clear, Reset, Enter, Put}
-use Rattle.scr_term.specs.declared.operations.Spot.{Spot}
-use Rattle.scr_term.specs.declared.operations.Spot.TheVariants.{At, Margin}
-use Rattle.scr_term.specs.Profiles.{ProfileView, IsProfile, IsEcma48}
-use Rattle.scr_term.specs.States.{State, IsSpot, IsState, negative_state, written_at, spot_after}
-use Rattle.scr_term.specs.Steps.{has, act, step, runs}
-use Rattle.scr_term.specs.Texts.{bytes_of, all_bytes}
-use Rattle.scr_term.specs.EcmaUnits.{EcmaUnit, spelling, IsUnit}
-use Rattle.scr_term.specs.EcmaMeanings.{meaning, meanings}
-use Rattle.scr_term.specs.EcmaMeanings.{Leads}
-use Rattle.scr_term.specs.OperationLaws.{BlankLaws, BytesActAsTheirOperations, RunLaws, StepsKeepStates}
+use Rattle.scr_term.specs.declared.operations.operation.Op.{Op}
+use Rattle.scr_term.specs.declared.operations.operation.Op.TheVariants.{Move, Clear, Reset, Enter, Put}
+use Rattle.scr_term.specs.declared.operations.operation.Spot.{Spot}
+use Rattle.scr_term.specs.declared.operations.operation.Spot.TheVariants.{At, Margin}
+use Rattle.scr_term.specs.Operations.Profiles.{ProfileView, IsProfile, IsEcma48}
+use Rattle.scr_term.specs.Operations.States.{State, IsSpot, IsState, negative_state, written_at, spot_after}
+use Rattle.scr_term.specs.Operations.Steps.{has, act, step, runs}
+use Rattle.scr_term.specs.Operations.Texts.{bytes_of, all_bytes}
+use Rattle.scr_term.specs.Ecma.Units.{EcmaUnit, spelling, IsUnit}
+use Rattle.scr_term.specs.Ecma.Meanings.{meaning, meanings}
+use Rattle.scr_term.specs.Ecma.Meanings.{Leads}
+use Rattle.scr_term.specs.Operations.Laws.{BlankLaws, BytesActAsTheirOperations, RunLaws, StepsKeepStates}
 use Rattle.scr_term.proofs.LookGridLaws.{all_blank, is_blank, negative_blank, put_all, put_is_grid}
 use Rattle.scr_term.proofs.OperationLaws.{chosen, same_some, both_true, bytes_act_as_their_operation}
 

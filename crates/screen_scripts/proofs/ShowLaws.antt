@@ -3,14 +3,14 @@ use Rattle.std.proofs.Common.{◌≡◌, ℕ, true, refl, sym, ◌∙◌, ap, su
 use Rattle.std.specs.List.{All}
 use Rattle.scr_cells.specs.Attributes.{every_attribute}
 use Rattle.scr_cells.specs.PictureViews.{PictureView, IsPicture}
-use Rattle.scr_term.specs.Profiles.{ProfileView, IsEcma48, IsProfile}
-use Rattle.scr_term.specs.States.{State, IsState, blank_state, negative_state}
-use Rattle.scr_term.specs.Steps.{has}
-use Rattle.scr_term.specs.EcmaMeanings.{Leads}
-use Rattle.scr_term.specs.Painted.{ShowsNegative}
-use Rattle.scr_term.specs.EcmaScreens.{ScreenView, IsScreen, IsFed, blank_screen}
-use Rattle.scr_term.specs.EcmaLaws.{ScreensFollowTexts}
-use Rattle.scr_term.specs.OperationLaws.{BlankLaws, RunLaws}
+use Rattle.scr_term.specs.Operations.Profiles.{ProfileView, IsEcma48, IsProfile}
+use Rattle.scr_term.specs.Operations.States.{State, IsState, blank_state, negative_state}
+use Rattle.scr_term.specs.Operations.Steps.{has}
+use Rattle.scr_term.specs.Ecma.Meanings.{Leads}
+use Rattle.scr_term.specs.Operations.Painted.{ShowsNegative}
+use Rattle.scr_term.specs.Ecma.Screens.{ScreenView, IsScreen, IsFed, blank_screen}
+use Rattle.scr_term.specs.Ecma.Laws.{ScreensFollowTexts}
+use Rattle.scr_term.specs.Operations.Laws.{BlankLaws, RunLaws}
 use Rattle.scr_plan.specs.Scratch.{scratch_of, Fits, ScratchShows, ScratchBytesShow}
 use Rattle.screen_scripts.specs.Stories.{Shown}
 use Rattle.screen_scripts.specs.Printing.{profile_for, sent_event}

@@ -3,8 +3,8 @@ use Rattle.std.specs.Prelude.{ℕ, ◌≡◌, ◌++◌, Bool, false, List, [], O
 use Rattle.std.specs.Io.KnownBytes.{Appends}
 use Rattle.scr_cells.specs.Attributes.{every_attribute}
 use Rattle.scr_cells.specs.PictureViews.{PictureView}
-use Rattle.scr_term.specs.States.{State, IsState, negative_state}
-use Rattle.scr_term.specs.EcmaScreens.{ScreenView, IsScreen}
+use Rattle.scr_term.specs.Operations.States.{State, IsState, negative_state}
+use Rattle.scr_term.specs.Ecma.Screens.{ScreenView, IsScreen}
 use Rattle.screen_scripts.specs.Stories.{Outcome, line_outcome}
 use Rattle.screen_scripts.specs.Printing.{output_of, refusals_of}
 

@@ -1,5 +1,5 @@
 use Rattle.std.proofs.Common.{◌≡◌, take}
-use Rattle.scr_term.specs.Texts.{all_bytes}
+use Rattle.scr_term.specs.Operations.Texts.{all_bytes}
 use Rattle.screen_scripts.proofs.showing.rendered.Given as goal
 
 abbrev pub invariant-loop-op : goal.invariant-loop-op

@@ -1,6 +1,6 @@
 use Rattle.std.proofs.Common.{◌≡◌, true, subst, sym, ◌∙◌}
 use Rattle.std.specs.List.{All}
-use Rattle.scr_term.specs.Steps.{has}
+use Rattle.scr_term.specs.Operations.Steps.{has}
 use Rattle.scr_plan.specs.Scratch.{Fits}
 use Rattle.screen_scripts.proofs.ShowLaws.{scratch_had}
 use Rattle.screen_scripts.proofs.showing.update_bytes.Goals as goal
