@@ -5,6 +5,7 @@ use crate::troubles::Trouble;
 use crate::words::Words;
 use plain_desk::calls::{Answer, Answered};
 use scr_cells::NoMemory;
+use scr_term::ProfileFault;
 use scr_windows::{Added, WinFault};
 
 /// Adds a word.
@@ -85,6 +86,20 @@ pub fn fault_name(fault: WinFault) -> &'static str {
         WinFault::TooBig => "TooBig",
         WinFault::TooMany => "TooMany",
         WinFault::NoMemory => "NoMemory",
+    }
+}
+
+/// The name of the reason for which there is no profile.
+pub fn profile_fault_name(fault: ProfileFault) -> &'static str {
+    match fault {
+        ProfileFault::Unsuitable(_) => "Unsuitable",
+        ProfileFault::AutoMargin => "AutoMargin",
+        ProfileFault::Missing(_) => "Missing",
+        ProfileFault::NoSize => "NoSize",
+        ProfileFault::BadSize => "BadSize",
+        ProfileFault::BadString(_) => "BadString",
+        ProfileFault::LongString(_) => "LongString",
+        ProfileFault::NoMemory => "NoMemory",
     }
 }
 

@@ -13,6 +13,7 @@ mod generated;
 mod generating;
 mod lent_lines;
 mod lent_windows;
+mod painting_lines;
 mod picture_lines;
 mod random;
 mod screen_lines;

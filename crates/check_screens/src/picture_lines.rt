@@ -1,17 +1,15 @@
-//! Lines about a picture, and about what paints it from scratch.
+//! Lines about a picture.
 
-use crate::answers::{add_done, add_number, add_place, add_text, add_word};
+use crate::answers::{add_place, add_word};
+use crate::cell_lines::add_held;
 use crate::desk_lines::add_text_of;
-use crate::terminal_lines::{add_op, render};
 use crate::troubles::Trouble;
 use crate::words::Words;
 use scr_cells::{Attrs, Cell, NoMemory, Picture, Size};
-use scr_plan::scratch;
-use scr_term::{Ops, Profile};
 use std::alloc::Global;
 
-/// The lines `picture R C`, `put R C B A`, `put_row R C B A`, `wish R C`, `wish none`, `wished`, `picture_size`, `picture_rows`,
-/// `scratch` and `painted`.
+/// The lines `picture R C`, `put R C B A`, `put_row R C B A`, `wish R C`, `wish none`, `wished`, `picture_size`, `picture_rows`
+/// and `picture_at R C`.
 pub fn answer_of_picture(
     alloc: Global,
     picture: &mut Option<Picture>,
@@ -30,8 +28,7 @@ pub fn answer_of_picture(
             add_place(size.rows, size.columns, came)?;
         }
         b"picture_rows" => add_picture_rows(ready(picture)?, came)?,
-        b"scratch" => add_scratch(alloc, ready(picture)?, came)?,
-        b"painted" => add_painted(alloc, ready(picture)?, came)?,
+        b"picture_at" => add_picture_at(ready(picture)?, words, came)?,
         _ => return Ok(false),
     }
     Ok(true)
@@ -53,7 +50,8 @@ fn make_picture(
     }
 }
 
-fn ready(picture: &Option<Picture>) -> Result<&Picture, Trouble> {
+/// The picture, which a line asks for.
+pub fn ready(picture: &Option<Picture>) -> Result<&Picture, Trouble> {
     picture.as_ref().ok_or(Trouble::Bad("no picture"))
 }
 
@@ -121,43 +119,18 @@ fn add_picture_rows(picture: &Picture, came: &mut Vec<u8>) -> Result<(), Trouble
     Ok(())
 }
 
-// Adds the operations that paint the picture from scratch.
-fn add_scratch(alloc: Global, picture: &Picture, came: &mut Vec<u8>) -> Result<(), Trouble> {
-    match painting(alloc, picture) {
-        Ok((_, ops)) => {
-            for op in &ops.0 {
-                add_op(*op, came)?;
-            }
-            Ok(())
-        }
-        Err(NoMemory) => add_word("NoMemory", came),
+fn add_picture_at(
+    picture: &Picture,
+    words: &mut Words<'_>,
+    came: &mut Vec<u8>,
+) -> Result<(), Trouble> {
+    let (row, column) = (words.number()?, words.number()?);
+    let size = picture.size();
+    if row >= size.rows || column >= size.columns {
+        return Err(Trouble::Bad("no place of the picture"));
     }
-}
-
-// Adds the bytes of each of them, and how many there are in all.
-fn add_painted(alloc: Global, picture: &Picture, came: &mut Vec<u8>) -> Result<(), Trouble> {
-    let (profile, ops) = match painting(alloc, picture) {
-        Ok(painting) => painting,
-        Err(NoMemory) => return add_word("NoMemory", came),
-    };
-    let mut bytes = Vec::new(alloc);
-    let mut count: u32 = 0;
-    for op in &ops.0 {
-        bytes.clear();
-        match render(&profile, *op, &mut bytes)? {
-            Ok(()) => add_text(&bytes, came)?,
-            refused => return add_done(refused, came),
-        }
-        count = count.saturating_add(u32::try_from(bytes.len()).unwrap_or(0));
-    }
-    add_number(i64::from(count), came)
-}
-
-// The bundled profile at a picture's size, and the operations that paint it.
-fn painting(alloc: Global, picture: &Picture) -> Result<(Profile, Ops), NoMemory> {
-    let profile = Profile::ecma48(alloc, picture.size())?;
-    let ops = scratch(alloc, &profile, picture)?;
-    Ok((profile, ops))
+    let cell = picture.row(row)[column as usize];
+    add_held(cell.byte(), cell.attrs(), came)
 }
 
 /// Reads a size of a screen.

@@ -12,8 +12,8 @@ use std::alloc::Global;
 use std::io;
 use std::io::{ErrorKind, Write};
 
-/// The lines `run TEXT`, `run_raw TEXT`, `refusals TEXT`, `run_writing N TEXT`, `run_flushing TEXT` and `feed_run TEXT`,
-/// where the text is a script.
+/// The lines `run TEXT`, `run_raw TEXT`, `refusals TEXT`, `run_writing N TEXT`, `run_stuck N TEXT`, `run_flushing TEXT` and
+/// `feed_run TEXT`, where the text is a script.
 pub fn answer_of_script(
     alloc: Global,
     screen: &mut Option<EcmaScreen>,
@@ -22,17 +22,21 @@ pub fn answer_of_script(
     words: &mut Words<'_>,
     came: &mut Vec<u8>,
 ) -> Result<bool, Trouble> {
-    let room = match word {
-        b"run" | b"run_raw" | b"refusals" | b"run_flushing" | b"feed_run" => usize::MAX,
-        b"run_writing" => words.number()? as usize,
+    let fails = match word {
+        b"run" | b"run_raw" | b"refusals" | b"feed_run" => None,
+        b"run_writing" => Some(Fails::Behind(words.number()? as usize)),
+        b"run_stuck" => Some(Fails::StuckBehind(words.number()? as usize)),
+        b"run_flushing" => Some(Fails::Flushed),
         _ => return Ok(false),
     };
     text.clear();
     read_text(words.next(), text)?;
+    if let Some(fails) = fails {
+        run_into(alloc, fails, text, came)?;
+        return Ok(true);
+    }
     match word {
         b"refusals" => add_refusals(alloc, text, came)?,
-        b"run_writing" => run_into(alloc, room, false, text, came)?,
-        b"run_flushing" => run_into(alloc, room, true, text, came)?,
         b"feed_run" => feed_run(alloc, ready_mut(screen)?, text, came)?,
         _ => add_run(alloc, word == b"run_raw".as_slice(), text, came)?,
     }
@@ -54,18 +58,11 @@ fn add_refusals(alloc: Global, text: &[u8], came: &mut Vec<u8>) -> Result<(), Tr
     }
 }
 
-// Runs a script into a writer that takes so many bytes and then fails, or that fails where it is flushed.
-fn run_into(
-    alloc: Global,
-    room: usize,
-    fails_to_flush: bool,
-    text: &[u8],
-    came: &mut Vec<u8>,
-) -> Result<(), Trouble> {
+// Runs a script into a writer that fails, and adds what was taken and how the run ends.
+fn run_into(alloc: Global, fails: Fails, text: &[u8], came: &mut Vec<u8>) -> Result<(), Trouble> {
     let mut out = Failing {
         taken: Vec::new(alloc),
-        room,
-        fails_to_flush,
+        fails,
     };
     let ended = run(alloc, text, false, &mut out);
     add_text(&out.taken, came)?;
@@ -99,33 +96,51 @@ fn add_end(ended: Result<(), DemoFault>, came: &mut Vec<u8>) -> Result<(), Troub
         Err(DemoFault::NoMemory) | Err(DemoFault::Write(ErrorKind::OutOfMemory)) => {
             add_word("NoMemory", came)
         }
-        Err(DemoFault::Write(_)) => add_word("Write", came),
+        Err(DemoFault::Write(ErrorKind::BrokenPipe)) => add_word("Write(BrokenPipe)", came),
+        Err(DemoFault::Write(ErrorKind::WriteZero)) => add_word("Write(WriteZero)", came),
+        Err(DemoFault::Write(ErrorKind::Other)) => add_word("Write(Other)", came),
+        Err(DemoFault::Write(_)) => add_word("Write(another)", came),
     }
 }
 
-// Takes so many bytes, and then fails; or fails when it is flushed.
+// When a writer fails, and how.
+#[derive(Clone, Copy)]
+enum Fails {
+    // Behind so many bytes, with `BrokenPipe`.
+    Behind(usize),
+    // Behind so many bytes, by taking nothing.
+    StuckBehind(usize),
+    // When it is flushed, with `Other`.
+    Flushed,
+}
+
+// A writer that fails.
 #[derive(Drop)]
 struct Failing {
     taken: Vec<u8>,
-    room: usize,
-    fails_to_flush: bool,
+    fails: Fails,
 }
 
 impl Write for Failing {
     fn write(&mut self, piece: &[u8]) -> io::Result<usize> {
-        if self.room == 0 && !piece.is_empty() {
+        let room = match self.fails {
+            Fails::Behind(bytes) | Fails::StuckBehind(bytes) => {
+                bytes.saturating_sub(self.taken.len())
+            }
+            Fails::Flushed => usize::MAX,
+        };
+        if room == 0 && !piece.is_empty() && matches!(self.fails, Fails::Behind(_)) {
             return Err(io::Error::from(ErrorKind::BrokenPipe));
         }
-        let count = self.room.min(piece.len());
+        let count = room.min(piece.len());
         self.taken.extend_from_slice(&piece[..count])?;
-        self.room -= count;
         Ok(count)
     }
 
     fn flush(&mut self) -> io::Result<()> {
-        if self.fails_to_flush {
-            return Err(io::Error::from(ErrorKind::BrokenPipe));
+        match self.fails {
+            Fails::Flushed => Err(io::Error::from(ErrorKind::Other)),
+            _ => Ok(()),
         }
-        Ok(())
     }
 }

@@ -5,6 +5,7 @@ use crate::answers::add_answer;
 use crate::cell_lines::answer_of_cells;
 use crate::desk_calls::call_desk;
 use crate::desk_lines::answer_of_desk;
+use crate::painting_lines::answer_of_painting;
 use crate::picture_lines::answer_of_picture;
 use crate::screen_lines::answer_of_screen;
 use crate::script_lines::answer_of_script;
@@ -72,6 +73,7 @@ impl Stage {
             answer_of_desk(alloc, &mut self.desk, text, word, words, came)?
                 || answer_of_cells(word, words, came)?
                 || answer_of_picture(alloc, &mut self.picture, word, words, came)?
+                || answer_of_painting(alloc, &self.picture, &mut self.screen, word, came)?
                 || answer_of_terminal(alloc, &mut self.profile, word, words, came)?
                 || answer_of_screen(
                     alloc,

@@ -1,6 +1,8 @@
 //! Lines about a terminal's operations and their bytes.
 
-use crate::answers::{add_done, add_flag, add_number, add_place, add_text, add_word};
+use crate::answers::{
+    add_done, add_flag, add_number, add_place, add_text, add_word, profile_fault_name,
+};
 use crate::picture_lines::read_size;
 use crate::troubles::Trouble;
 use crate::words::Words;
@@ -43,7 +45,7 @@ fn make_profile(
             *profile = Some(made);
             add_word("Ok", came)
         }
-        Err(NoMemory) => add_word("NoMemory", came),
+        Err(fault) => add_word(profile_fault_name(fault), came),
     }
 }
 

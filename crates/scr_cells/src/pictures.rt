@@ -96,7 +96,8 @@ impl Picture {
     }
 }
 
-// What holds of every cell holds of each of these.
+// What holds of every cell holds of each of these. The loop is for the proof alone, which learns what holds of a cell from a
+// call on it. It does nothing, and LLVM leaves it out.
 fn each_is_cell(cells: &[Cell])
     ensures { All IsCell cells.now }
 {

@@ -13,14 +13,14 @@ use Rattle.scr_cells.specs.CellViews.{CellView, IsCell}
 use Rattle.scr_cells.specs.Grids.{GridLaws, IsGrid, grid_row, grid_with}
 use Rattle.scr_cells.specs.LookViews.{LookView, seen, blank, blank_grid, negative_grid}
 use Rattle.scr_cells.specs.PictureViews.{PictureView, IsPlace}
-use Rattle.scr_term.specs.declared.operations.Op.{Op}
-use Rattle.scr_term.specs.declared.operations.Op.TheVariants.{Move, Reset, Put}
-use Rattle.scr_term.specs.declared.operations.Spot.TheVariants.{At}
-use Rattle.scr_term.specs.Profiles.{ProfileView, IsProfile}
-use Rattle.scr_term.specs.States.{State, spot_after}
-use Rattle.scr_term.specs.Steps.{step, runs}
-use Rattle.scr_term.specs.Painted.{painted}
-use Rattle.scr_term.specs.OperationLaws.{BytesActAsTheirOperations, RunLaws}
+use Rattle.scr_term.specs.declared.operations.operation.Op.{Op}
+use Rattle.scr_term.specs.declared.operations.operation.Op.TheVariants.{Move, Reset, Put}
+use Rattle.scr_term.specs.declared.operations.operation.Spot.TheVariants.{At}
+use Rattle.scr_term.specs.Operations.Profiles.{ProfileView, IsProfile}
+use Rattle.scr_term.specs.Operations.States.{TerminalState, spot_after}
+use Rattle.scr_term.specs.Operations.Steps.{step, runs}
+use Rattle.scr_term.specs.Operations.Painted.{painted}
+use Rattle.scr_term.specs.Operations.Laws.{BytesActAsTheirOperations, RunLaws}
 use Rattle.scr_plan.specs.Scratch.{enter, paints_cell, paints_cells, paints_row, paints_rows, places_cursor, scratch_of, Fits, ScratchShows, ScratchBytesShow}
 
 -- a set and these attributes
@@ -41,7 +41,7 @@ shown_member shown set a h = same_from_bits _ _ (λ i.
     let e : bit_at (bit_and (bit_and shown set) a) i ≡ bit_at a i = ap (λ n. bit_at n i) h in
     rw (bit_at_and shown a i) (omega (arith, bit_at_and (bit_and shown set) a i, bit_at_and shown set i)))
 
-enters_one : (profile : ProfileView) (old : State) (a : ℕ) → IsAttribute a → bit_and profile.shown a ≡ a
+enters_one : (profile : ProfileView) (old : TerminalState) (a : ℕ) → IsAttribute a → bit_and profile.shown a ≡ a
     → step profile old (enter a) ≡ Some (record { grid = old.grid; spot = old.spot; attrs = bit_or old.attrs a })
 enters_one profile old a one shown = rw (one, eq-eqb _ _ shown) refl
 
@@ -52,7 +52,7 @@ seen_of shown set attributes = filter (λ a. bit_and (bit_and shown set) a == a)
 -- these operations turn these attributes on, from any state
 abbrev Enters : ProfileView → List ℕ → Type 0
 Enters profile attributes =
-    (old : State) → runs profile old (map enter attributes) ≡ Some (record { grid = old.grid; spot = old.spot; attrs = with_each old.attrs attributes })
+    (old : TerminalState) → runs profile old (map enter attributes) ≡ Some (record { grid = old.grid; spot = old.spot; attrs = with_each old.attrs attributes })
 
 enters_more : (profile : ProfileView) (set a : ℕ) (rest : List ℕ) → IsAttribute a → Enters profile rest
     → (b : Bool) → (bit_and (bit_and profile.shown set) a == a) ≡ b → Enters profile (cond b (a ∷ rest) rest)
@@ -67,14 +67,14 @@ enters profile set (a ∷ rest) each =
     enters_more profile set a (seen_of profile.shown set rest) each.0 (enters profile set rest each.1) (bit_and (bit_and profile.shown set) a == a) refl
 
 -- one cell is painted in its place
-cell_painted : RunLaws → (profile : ProfileView) → IsProfile profile → (old : State) (r c : ℕ) (cell : CellView) → r < profile.rows → c < profile.columns → IsCell cell
+cell_painted : RunLaws → (profile : ProfileView) → IsProfile profile → (old : TerminalState) (r c : ℕ) (cell : CellView) → r < profile.rows → c < profile.columns → IsCell cell
     → runs profile old (paints_cell profile r c cell)
     ≡ Some (record { grid = grid_with old.grid r c (seen profile.shown cell); spot = spot_after profile.columns r c; attrs = bit_and profile.shown cell.attrs })
 cell_painted laws profile p old r c cell hr hc k =
     let shown : ℕ = bit_and profile.shown cell.attrs in
     let small : shown < 128 = omega (arith, p.shown, and_le_l profile.shown cell.attrs, and_le_l 127 profile.shown) in
-    let placed : State = record { grid = old.grid; spot = At r c; attrs = 0 } in
-    let lit : State = record { grid = old.grid; spot = At r c; attrs = with_each 0 (attributes_of shown) } in
+    let placed : TerminalState = record { grid = old.grid; spot = At r c; attrs = 0 } in
+    let lit : TerminalState = record { grid = old.grid; spot = At r c; attrs = with_each 0 (attributes_of shown) } in
     let place : (nat_lt r profile.rows && nat_lt c profile.columns) ≡ true = grind (arith, nat_tests) in
     let graphic : (nat_le 32 cell.byte && nat_le cell.byte 126) ≡ true = grind (arith, nat_tests, k.character.0, k.character.1) in
     let moved : runs profile old (Move r c ∷ Reset ∷ []) ≡ Some placed = rw place refl in
@@ -106,12 +106,12 @@ put_behind above below front back old new r c hr hc =
     ∙ set_behind above below line (set line c new) r hr ∙ ap (λ row. above ++ row ∷ below) (set_behind front back old new c hc)
 
 -- where a run leads: to a state with this grid
-pub record LeadsToGrid (profile : ProfileView) (old : State) (ops : List Op) (grid : List (List LookView)) : Type 0 where
-  pub new : State
+pub record LeadsToGrid (profile : ProfileView) (old : TerminalState) (ops : List Op) (grid : List (List LookView)) : Type 0 where
+  pub new : TerminalState
   pub run : runs profile old ops ≡ Some new
   pub grid_is : new.grid ≡ grid
 
-leads_on : RunLaws → (profile : ProfileView) (old next : State) (xs ys : List Op) (grid : List (List LookView))
+leads_on : RunLaws → (profile : ProfileView) (old next : TerminalState) (xs ys : List Op) (grid : List (List LookView))
     → runs profile old xs ≡ Some next → LeadsToGrid profile next ys grid → LeadsToGrid profile old (xs ++ ys) grid
 leads_on laws profile old next xs ys grid h l = record {
   new = l.new;
@@ -120,7 +120,7 @@ leads_on laws profile old next xs ys grid h l = record {
 }
 
 -- the cells of a row are painted from one on, and nothing before them or in other rows
-cells_painted : RunLaws → (profile : ProfileView) → IsProfile profile → (r c : ℕ) (cells : List CellView) (above below : List (List LookView)) (front olds : List LookView) (old : State)
+cells_painted : RunLaws → (profile : ProfileView) → IsProfile profile → (r c : ℕ) (cells : List CellView) (above below : List (List LookView)) (front olds : List LookView) (old : TerminalState)
     → AllByRecursion IsCell cells → r < profile.rows → c + length cells ≤ profile.columns
     → length above ≡ r → length front ≡ c → length olds ≡ length cells → old.grid ≡ above ++ (front ++ olds) ∷ below
     → LeadsToGrid profile old (paints_cells profile r c cells) (above ++ (front ++ map (seen profile.shown) cells) ∷ below)
@@ -129,7 +129,7 @@ cells_painted laws profile p r c [] above below front (o ∷ olds) old k hr hc h
 cells_painted laws profile p r c (cell ∷ cells) above below front [] old k hr hc ha hf ho hg = absurd (omega arith)
 cells_painted laws profile p r c (cell ∷ cells) above below front (o ∷ olds) old k hr hc ha hf ho hg =
     let look : LookView = seen profile.shown cell in
-    let next : State = record { grid = grid_with old.grid r c look; spot = spot_after profile.columns r c; attrs = bit_and profile.shown cell.attrs } in
+    let next : TerminalState = record { grid = grid_with old.grid r c look; spot = spot_after profile.columns r c; attrs = bit_and profile.shown cell.attrs } in
     let painted_one : runs profile old (paints_cell profile r c cell) ≡ Some next = cell_painted laws profile p old r c cell hr (omega arith) k.0 in
     let grid_now : next.grid ≡ above ++ ((front ++ look ∷ []) ++ olds) ∷ below =
     ap (λ g. grid_with g r c look) hg ∙ put_behind above below front olds o look r c ha hf ∙ ap (λ line. above ++ line ∷ below) (sym (append_assoc front (look ∷ []) olds)) in
@@ -158,7 +158,7 @@ rows_painted : RunLaws → (profile : ProfileView) → IsProfile profile → (pi
     → (before after : List (List CellView)) → picture.lines ≡ before ++ after → length before ≡ r → length after ≡ n
     → AllByRecursion (All IsCell) after → AreWide profile.columns after
     → (rest : List (List LookView)) → length rest ≡ n → AreWide profile.columns rest
-    → (old : State) → old.grid ≡ map (map (seen profile.shown)) before ++ rest
+    → (old : TerminalState) → old.grid ≡ map (map (seen profile.shown)) before ++ rest
     → LeadsToGrid profile old (flat_map (paints_row profile picture) (range_with_len r n)) (map (map (seen profile.shown)) picture.lines)
 rows_painted laws profile p picture zero r er before after split hb ha k w rest hr v old hg =
     let all : List (List CellView) → List (List LookView) = map (map (seen profile.shown)) in
@@ -178,7 +178,7 @@ rows_painted laws profile p picture (suc n) r er before (row ∷ after) split hb
     let painted_row : LeadsToGrid profile old (paints_row profile picture r) (all before ++ map (seen profile.shown) row ∷ rest) =
     subst (λ t. LeadsToGrid profile old (paints_cells profile r 0 t) (all before ++ map (seen profile.shown) row ∷ rest)) (sym row_is)
     (cells_painted laws profile p r 0 row (all before) rest [] line old (recursion_from_All IsCell row k.0) (omega arith) (omega (arith, w.0)) above_long refl (v.0 ∙ sym w.0) hg) in
-    let next : State = painted_row.new in
+    let next : TerminalState = painted_row.new in
     let grid_now : next.grid ≡ all (before ++ row ∷ []) ++ rest =
     painted_row.grid_is ∙ sym (append_assoc (all before) (map (seen profile.shown) row ∷ []) rest) ∙ ap (λ t. t ++ rest) (sym (map-append (map (seen profile.shown)) before (row ∷ []))) in
     let rows_left = rows_painted laws profile p picture n (r + 1) (omega arith) (before ++ row ∷ []) after
@@ -188,8 +188,8 @@ rows_painted laws profile p picture (suc n) r er before (row ∷ after) split hb
 
 -- at the end no attribute is on, and the cursor is where it is wished
 cursor_placed : (profile : ProfileView) (picture : PictureView) → Fits profile picture → (wish : Option (ℕ × ℕ)) → IfSome wish (IsPlace picture.rows picture.columns)
-    → (old : State)
-    → (new : State) × (runs profile old (Reset ∷ places_cursor wish) ≡ Some new) × (new.grid ≡ old.grid) × IfSome wish (λ place. new.spot ≡ At place.0 place.1)
+    → (old : TerminalState)
+    → (new : TerminalState) × (runs profile old (Reset ∷ places_cursor wish) ≡ Some new) × (new.grid ≡ old.grid) × IfSome wish (λ place. new.spot ≡ At place.0 place.1)
 cursor_placed profile picture fits None inside old = (record { grid = old.grid; spot = old.spot; attrs = 0 }, refl, refl, tt)
 cursor_placed profile picture fits (Some place) inside old =
     let in_rows : place.0 < profile.rows = omega (arith, inside.0, fits.rows) in
@@ -201,7 +201,7 @@ pub scratch_shows : RunLaws → GridLaws LookView → ScratchShows
 scratch_shows laws grids profile p picture k fits old s =
     let blanks : List (List LookView) = blank_grid profile.rows profile.columns in
     let blanks_are : IsGrid profile.rows profile.columns blanks = grids.sized profile.rows profile.columns (λ _ _. blank) in
-    let cleared : State = record { grid = blanks; spot = At 0 0; attrs = 0 } in
+    let cleared : TerminalState = record { grid = blanks; spot = At 0 0; attrs = 0 } in
     let wide : AreWide profile.columns picture.lines = subst (λ columns. AreWide columns picture.lines) fits.columns (grid_is_wide picture.rows picture.columns picture.lines k.grid) in
     let rows_first : LeadsToGrid profile cleared (flat_map (paints_row profile picture) (range_with_len 0 profile.rows)) (painted profile picture) =
     rows_painted laws profile p picture profile.rows 0 (omega arith) [] picture.lines refl refl (k.grid.high ∙ fits.rows) (recursion_from_All (All IsCell) picture.lines k.cells) wide

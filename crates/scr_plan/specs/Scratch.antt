@@ -5,14 +5,14 @@ use Rattle.scr_cells.specs.Attributes.{attributes_of}
 use Rattle.scr_cells.specs.CellViews.{CellView}
 use Rattle.scr_cells.specs.Grids.{grid_row}
 use Rattle.scr_cells.specs.PictureViews.{PictureView, IsPicture}
-use Rattle.scr_term.specs.Profiles.{ProfileView, IsProfile, IsEcma48}
-use Rattle.scr_term.specs.States.{State, IsState, negative_state}
-use Rattle.scr_term.specs.Steps.{runs}
-use Rattle.scr_term.specs.Texts.{all_bytes}
-use Rattle.scr_term.specs.Painted.{Shows, ShowsNegative}
-use Rattle.scr_term.specs.EcmaMeanings.{Leads}
-use Rattle.scr_term.specs.declared.operations.Op.{Op}
-use Rattle.scr_term.specs.declared.operations.Op.TheVariants.{Move, Clear, Reset, Enter, Put}
+use Rattle.scr_term.specs.Operations.Profiles.{ProfileView, IsProfile, IsEcma48}
+use Rattle.scr_term.specs.Operations.States.{TerminalState, IsState, negative_state}
+use Rattle.scr_term.specs.Operations.Steps.{runs}
+use Rattle.scr_term.specs.Operations.Texts.{all_bytes}
+use Rattle.scr_term.specs.Operations.Painted.{Shows, ShowsNegative}
+use Rattle.scr_term.specs.Ecma.Meanings.{Leads}
+use Rattle.scr_term.specs.declared.operations.operation.Op.{Op}
+use Rattle.scr_term.specs.declared.operations.operation.Op.TheVariants.{Move, Clear, Reset, Enter, Put}
 
 -- turns on one attribute
 abbrev pub enter : ℕ → Op
@@ -51,8 +51,8 @@ pub record Fits (profile : ProfileView) (picture : PictureView) : Type 0 where
   pub columns : picture.columns ≡ profile.columns
 
 -- from this state the operations are all defined, and show the picture
-pub record RunsToShow (profile : ProfileView) (old : State) (ops : List Op) (picture : PictureView) : Type 0 where
-  pub new : State
+pub record RunsToShow (profile : ProfileView) (old : TerminalState) (ops : List Op) (picture : PictureView) : Type 0 where
+  pub new : TerminalState
   pub run : runs profile old ops ≡ Some new
   pub shows : Shows profile new picture
   pub state : IsState profile.rows profile.columns profile.shown new
@@ -62,13 +62,13 @@ abbrev pub ScratchShows : Type 0
 ScratchShows =
     (profile : ProfileView) → IsProfile profile
     → (picture : PictureView) → IsPicture picture → Fits profile picture
-    → (old : State) → IsState profile.rows profile.columns profile.shown old
+    → (old : TerminalState) → IsState profile.rows profile.columns profile.shown old
     → RunsToShow profile old (scratch_of profile picture) picture
 
 -- as an ECMA-48 text, from the negative of this state, the bytes are all defined, and lead to the negative of a state
 -- of the profile that shows the picture
-pub record LeadsToShow (profile : ProfileView) (old : State) (text : List ℕ) (picture : PictureView) : Type 0 where
-  pub new : State
+pub record LeadsToShow (profile : ProfileView) (old : TerminalState) (text : List ℕ) (picture : PictureView) : Type 0 where
+  pub new : TerminalState
   pub leads : Leads profile.rows profile.columns (negative_state old) text (negative_state new)
   pub shows : ShowsNegative profile (negative_state new) picture
   pub state : IsState profile.rows profile.columns profile.shown new
@@ -78,5 +78,5 @@ abbrev pub ScratchBytesShow : Type 0
 ScratchBytesShow =
     (profile : ProfileView) → IsEcma48 profile
     → (picture : PictureView) → IsPicture picture → Fits profile picture
-    → (old : State) → IsState profile.rows profile.columns profile.shown old
+    → (old : TerminalState) → IsState profile.rows profile.columns profile.shown old
     → LeadsToShow profile old (all_bytes profile (scratch_of profile picture)) picture

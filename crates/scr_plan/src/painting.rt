@@ -1,6 +1,6 @@
 //! The operations that paint a whole picture, row by row and cell by cell.
 ghost use Rattle.std.specs.Prelude.{◌≡◌, ◌≤◌, ◌++◌, ◌==◌, length, IfOk, OnOk, map, filter, bit_and};
-ghost use Rattle.scr_term.specs.declared.operations.Op.TheVariants.{Enter};
+ghost use Rattle.scr_term.specs.declared.operations.operation.Op.TheVariants.{Enter};
 ghost use Rattle.scr_plan.specs.Scratch.{scratch_of, paints_cell, paints_cells, Fits};
 
 use scr_cells::{Attrs, Cell, NoMemory, Picture};

@@ -3,11 +3,11 @@ use Rattle.std.proofs.Common.{◌≡◌, ℕ, Bool, true, false, List, [], ◌�
 use Rattle.std.specs.Prelude.{option_and_then}
 use Rattle.std.specs.List.{AllByRecursion, flat_map}
 use Rattle.std.proofs.lemmas.List.{append-nil}
-use Rattle.scr_term.specs.States.{State}
-use Rattle.scr_term.specs.EcmaUnits.{EcmaUnit, Graphic, Control, Sequence, spelling, IsUnit, IsWaiting}
-use Rattle.scr_term.specs.EcmaMeanings.{meaning, meanings}
-use Rattle.scr_term.specs.EcmaScreens.{ScreenView, GoesOn, Stops, IsUndefinedAt, IsFed}
-use Rattle.scr_term.specs.EcmaLaws.{HasOneDivision}
+use Rattle.scr_term.specs.Operations.States.{TerminalState}
+use Rattle.scr_term.specs.Ecma.Units.{EcmaUnit, Graphic, Control, Sequence, spelling, IsUnit, IsWaiting}
+use Rattle.scr_term.specs.Ecma.Meanings.{meaning, meanings}
+use Rattle.scr_term.specs.Ecma.Screens.{ScreenView, GoesOn, Stops, IsUndefinedAt, IsFed}
+use Rattle.scr_term.specs.Ecma.Laws.{HasOneDivision}
 use Rattle.scr_term.proofs.EcmaUnitLaws.{one_unit, waiting_has_no_unit, waiting_begins_unit}
 
 -- how a text ends where it is defined
@@ -49,18 +49,18 @@ pub one_division_holds : HasOneDivision
 one_division_holds text units others rest other d ends e ends2 =
     one_ending units others rest other d.each e.each ends ends2 (sym d.whole ∙ e.whole)
 
-some_first : (o : Option State) (f : State → Option State) (t : State) → option_and_then f o ≡ Some t
-    → (next : State) × (o ≡ Some next) × (f next ≡ Some t)
+some_first : (o : Option TerminalState) (f : TerminalState → Option TerminalState) (t : TerminalState) → option_and_then f o ≡ Some t
+    → (next : TerminalState) × (o ≡ Some next) × (f next ≡ Some t)
 some_first None f t e = cc
 some_first (Some next) f t e = (next, refl, e)
 
-pub meanings_first : (rows columns : ℕ) (s t : State) (u : EcmaUnit) (us : List EcmaUnit) → meanings rows columns s (u ∷ us) ≡ Some t
-    → (next : State) × (meaning rows columns s u ≡ Some next) × (meanings rows columns next us ≡ Some t)
+pub meanings_first : (rows columns : ℕ) (s t : TerminalState) (u : EcmaUnit) (us : List EcmaUnit) → meanings rows columns s (u ∷ us) ≡ Some t
+    → (next : TerminalState) × (meaning rows columns s u ≡ Some next) × (meanings rows columns next us ≡ Some t)
 meanings_first rows columns s t u us e =
     some_first (meaning rows columns s u) (λ next. meanings rows columns next us) t e
 
 -- what is defined is not undefined
-defined_at : (screen : ScreenView) (next : State) (u : EcmaUnit) (rest more : List ℕ) → IsUnit u → rest ≡ spelling u ++ more
+defined_at : (screen : ScreenView) (next : TerminalState) (u : EcmaUnit) (rest more : List ℕ) → IsUnit u → rest ≡ spelling u ++ more
     → meaning screen.rows screen.columns screen.state u ≡ Some next → IsUndefinedAt screen rest → ⊥
 defined_at screen next u rest more h e m (inl (v, others, k, f, none)) =
     let same = one_unit u v more others h k (sym e ∙ f) in
@@ -75,7 +75,7 @@ ending_is_defined screen rest (inl nil) (inr begins_none) = begins_none.0 nil
 ending_is_defined screen rest (inr waits) (inr begins_none) = waiting_begins_unit rest waits begins_none
 
 -- a text that is defined to its end is nowhere undefined
-not_both : (old : ScreenView) (s t₁ t₂ : State) (us vs : List EcmaUnit) (x y : List ℕ)
+not_both : (old : ScreenView) (s t₁ t₂ : TerminalState) (us vs : List EcmaUnit) (x y : List ℕ)
     → AllByRecursion IsUnit us → AllByRecursion IsUnit vs
     → meanings old.rows old.columns s us ≡ Some t₁ → meanings old.rows old.columns s vs ≡ Some t₂
     → Ends x → IsUndefinedAt (record old { state = t₂ }) y
@@ -89,7 +89,7 @@ not_both old s t₁ t₂ (u ∷ us) [] x y h k m n ends off e =
     let same : s ≡ t₂ = cc in
     defined_at (record old { state = t₂ }) step.0 u y (flat_map spelling us ++ x) h.0
     (sym e ∙ append_assoc (spelling u) (flat_map spelling us) x)
-    (subst (λ (z : State). meaning old.rows old.columns z u ≡ Some step.0) same step.1) off
+    (subst (λ (z : TerminalState). meaning old.rows old.columns z u ≡ Some step.0) same step.1) off
 not_both old s t₁ t₂ (u ∷ us) (v ∷ vs) x y h k m n ends off e =
     let tails = first_units u v us vs x y h.0 k.0 e in
     let a = meanings_first old.rows old.columns s t₁ u us m in
@@ -99,10 +99,10 @@ not_both old s t₁ t₂ (u ∷ us) (v ∷ vs) x y h k m n ends off e =
     let right : meaning old.rows old.columns s v ≡ Some b.0 = b.1 in
     let nexts : b.0 ≡ a.0 = cc in
     not_both old a.0 t₁ t₂ us vs x y h.1 k.1 a.2
-    (subst (λ (z : State). meanings old.rows old.columns z vs ≡ Some t₂) nexts b.2) ends off tails.1
+    (subst (λ (z : TerminalState). meanings old.rows old.columns z vs ≡ Some t₂) nexts b.2) ends off tails.1
 
 -- a text is undefined in one state
-one_stop : (old : ScreenView) (s t₁ t₂ : State) (us vs : List EcmaUnit) (x y : List ℕ)
+one_stop : (old : ScreenView) (s t₁ t₂ : TerminalState) (us vs : List EcmaUnit) (x y : List ℕ)
     → AllByRecursion IsUnit us → AllByRecursion IsUnit vs
     → meanings old.rows old.columns s us ≡ Some t₁ → meanings old.rows old.columns s vs ≡ Some t₂
     → IsUndefinedAt (record old { state = t₁ }) x → IsUndefinedAt (record old { state = t₂ }) y
@@ -113,13 +113,13 @@ one_stop old s t₁ t₂ [] (v ∷ vs) x y h k m n on off e =
     let same : s ≡ t₁ = cc in
     absurd (defined_at (record old { state = t₁ }) step.0 v x (flat_map spelling vs ++ y) k.0
     (e ∙ append_assoc (spelling v) (flat_map spelling vs) y)
-    (subst (λ (z : State). meaning old.rows old.columns z v ≡ Some step.0) same step.1) on)
+    (subst (λ (z : TerminalState). meaning old.rows old.columns z v ≡ Some step.0) same step.1) on)
 one_stop old s t₁ t₂ (u ∷ us) [] x y h k m n on off e =
     let step = meanings_first old.rows old.columns s t₁ u us m in
     let same : s ≡ t₂ = cc in
     absurd (defined_at (record old { state = t₂ }) step.0 u y (flat_map spelling us ++ x) h.0
     (sym e ∙ append_assoc (spelling u) (flat_map spelling us) x)
-    (subst (λ (z : State). meaning old.rows old.columns z u ≡ Some step.0) same step.1) off)
+    (subst (λ (z : TerminalState). meaning old.rows old.columns z u ≡ Some step.0) same step.1) off)
 one_stop old s t₁ t₂ (u ∷ us) (v ∷ vs) x y h k m n on off e =
     let tails = first_units u v us vs x y h.0 k.0 e in
     let a = meanings_first old.rows old.columns s t₁ u us m in
@@ -129,9 +129,9 @@ one_stop old s t₁ t₂ (u ∷ us) (v ∷ vs) x y h k m n on off e =
     let right : meaning old.rows old.columns s v ≡ Some b.0 = b.1 in
     let nexts : b.0 ≡ a.0 = cc in
     one_stop old a.0 t₁ t₂ us vs x y h.1 k.1 a.2
-    (subst (λ (z : State). meanings old.rows old.columns z vs ≡ Some t₂) nexts b.2) on off tails.1
+    (subst (λ (z : TerminalState). meanings old.rows old.columns z vs ≡ Some t₂) nexts b.2) on off tails.1
 
-same_fields : (r₁ r₂ c₁ c₂ : ℕ) (s₁ s₂ : State) (w₁ w₂ : List ℕ) (u₁ u₂ : Bool)
+same_fields : (r₁ r₂ c₁ c₂ : ℕ) (s₁ s₂ : TerminalState) (w₁ w₂ : List ℕ) (u₁ u₂ : Bool)
     → r₁ ≡ r₂ → c₁ ≡ c₂ → s₁ ≡ s₂ → w₁ ≡ w₂ → u₁ ≡ u₂
     → (let a : ScreenView = record { rows = r₁; columns = c₁; state = s₁; waiting = w₁; undefined = u₁ } in a)
     ≡ record { rows = r₂; columns = c₂; state = s₂; waiting = w₂; undefined = u₂ }

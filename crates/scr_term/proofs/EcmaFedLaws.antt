@@ -2,13 +2,13 @@
 use Rattle.std.proofs.Common.{◌≡◌, ℕ, ◌+◌, ◌<◌, ◌≤◌, Bool, true, false, List, [], ◌∷◌, ◌++◌, length, take, get_or, Option, Some, None, inl, inr, refl, sym, ap, ◌∙◌, subst}
 use Rattle.std.specs.Prelude.{option_and_then, option_map}
 use Rattle.std.proofs.lemmas.List.{append-nil, take_more}
-use Rattle.scr_term.specs.States.{State, written}
-use Rattle.scr_term.specs.EcmaUnits.{EcmaUnit, Graphic, Control, Sequence, spelling, IsUnit, IsSequence, IsWaiting, BeginsNoUnit}
-use Rattle.scr_term.specs.EcmaMeanings.{meaning}
-use Rattle.scr_term.specs.EcmaScreens.{ScreenView, IsScreen, IsFed}
-use Rattle.scr_term.specs.EcmaReadings.{IsReading, acted, changed}
-use Rattle.scr_term.specs.declared.ecma_controls.Change.{Change}
-use Rattle.scr_term.specs.declared.ecma_readings.Reading.TheVariants as reading
+use Rattle.scr_term.specs.Operations.States.{TerminalState, character_written}
+use Rattle.scr_term.specs.Ecma.Units.{EcmaUnit, Graphic, Control, Sequence, spelling, IsUnit, IsSequence, IsWaiting, BeginsNoUnit}
+use Rattle.scr_term.specs.Ecma.Meanings.{meaning}
+use Rattle.scr_term.specs.Ecma.Screens.{ScreenView, IsScreen, IsFed}
+use Rattle.scr_term.specs.Code.Readings.{IsReading, acted, changed}
+use Rattle.scr_term.specs.declared.ecma.controls.Change.{Change}
+use Rattle.scr_term.specs.declared.ecma.readings.Reading.TheVariants as reading
 use Rattle.scr_term.proofs.EcmaPieceLaws.{fed_cut}
 
 -- nothing comes
@@ -55,7 +55,7 @@ whole_unit : (s : ScreenView) (b : ℕ) (u : EcmaUnit) → s.waiting ++ b ∷ []
 whole_unit s b u e = e ∙ sym (append-nil (spelling u)) ∙ sym (append-nil (spelling u ++ []))
 
 -- the last byte of a unit
-fed_unit_by : (s : ScreenView) (b : ℕ) (u : EcmaUnit) (o : Option State) → s.undefined ≡ false → IsUnit u → s.waiting ++ b ∷ [] ≡ spelling u
+fed_unit_by : (s : ScreenView) (b : ℕ) (u : EcmaUnit) (o : Option TerminalState) → s.undefined ≡ false → IsUnit u → s.waiting ++ b ∷ [] ≡ spelling u
     → meaning s.rows s.columns s.state u ≡ o → IsFed s (b ∷ []) (acted s o)
 fed_unit_by s b u (Some next) is h e m = record {
   rows = refl;
@@ -64,7 +64,7 @@ fed_unit_by s b u (Some next) is h e m = record {
   acts = λ d. inl (record {
     units = u ∷ [];
     division = record { whole = whole_unit s b u e; each = (h, tt) };
-    meaning = ap (option_and_then (λ (x : State). Some x)) m;
+    meaning = ap (option_and_then (λ (x : TerminalState). Some x)) m;
     waiting = inl refl;
     defined = d;
   });
@@ -89,7 +89,7 @@ fed_unit : (s : ScreenView) (b : ℕ) (u : EcmaUnit) → s.undefined ≡ false �
 fed_unit s b u is h e = fed_unit_by s b u (meaning s.rows s.columns s.state u) is h e refl
 
 pub fed_graphic : (s : ScreenView) (b : ℕ) → s.undefined ≡ false → s.waiting ≡ [] → 32 ≤ b → b ≤ 126
-    → IsFed s (b ∷ []) (acted s (written s.columns s.state b))
+    → IsFed s (b ∷ []) (acted s (character_written s.columns s.state b))
 fed_graphic s b is none low high = fed_unit s b (Graphic b) is (low, high) (ap (λ w. w ++ b ∷ []) none)
 
 pub fed_last : (s : ScreenView) (b : ℕ) (ps : List ℕ) → s.undefined ≡ false → s.waiting ≡ 27 ∷ 91 ∷ ps → IsSequence ps b
@@ -126,7 +126,7 @@ fed_more old between new piece i b lt is a e =
 -- what each reading of a byte leads to
 
 pub took_graphic : (s new : ScreenView) (b : ℕ) (part : List ℕ) → s.undefined ≡ false → part ≡ s.waiting → IsReading part b reading.Graphic
-    → new ≡ acted s (written s.columns s.state b) → IsFed s (b ∷ []) new
+    → new ≡ acted s (character_written s.columns s.state b) → IsFed s (b ∷ []) new
 took_graphic s new b part is same read e =
     subst (λ (n : ScreenView). IsFed s (b ∷ []) n) (sym e) (fed_graphic s b is (sym same ∙ read.0) read.1.0 read.1.1)
 
@@ -136,7 +136,7 @@ took_held s new b part is same read e =
     subst (λ (n : ScreenView). IsFed s (b ∷ []) n) (sym e) (fed_held s b is (subst (λ p. IsWaiting (p ++ b ∷ [])) same read))
 
 -- the view of a screen's fields, after a push
-pub held_view : (rows columns : ℕ) (state : State) (waiting pushed : List ℕ) (b : ℕ) (undefined : Bool) (s : ScreenView)
+pub held_view : (rows columns : ℕ) (state : TerminalState) (waiting pushed : List ℕ) (b : ℕ) (undefined : Bool) (s : ScreenView)
     → pushed ≡ waiting ++ b ∷ []
     → (let inside : ScreenView = record { rows = rows; columns = columns; state = state; waiting = waiting; undefined = undefined } in inside) ≡ s
     → (let after : ScreenView = record { rows = rows; columns = columns; state = state; waiting = pushed; undefined = undefined } in after)
@@ -150,7 +150,7 @@ held_view rows columns state waiting pushed b undefined s e view =
 pub took_last : (s new : ScreenView) (b : ℕ) (part : List ℕ) (rows columns attrs : ℕ) (change : Option Change)
     → s.undefined ≡ false → part ≡ s.waiting → IsReading part b reading.Last
     → s.rows ≡ rows → s.columns ≡ columns → s.state.attrs ≡ attrs
-    → ((ps : List ℕ) (state : State) → part ≡ 27 ∷ 91 ∷ ps → state.attrs ≡ attrs
+    → ((ps : List ℕ) (state : TerminalState) → part ≡ 27 ∷ 91 ∷ ps → state.attrs ≡ attrs
     → option_map (changed rows columns state) change ≡ meaning rows columns state (Sequence ps b))
     → new ≡ acted s (option_map (changed s.rows s.columns s.state) change) → IsFed s (b ∷ []) new
 took_last s new b part rows columns attrs change is same read r c a means e =

@@ -1,14 +1,14 @@
 -- A screen follows a text that leads from its state to another.
 use Rattle.std.proofs.Common.{◌≡◌, ℕ, false, List, [], ◌++◌, inl, refl, sym, ap, ◌∙◌}
 use Rattle.std.specs.List.{flat_map}
-use Rattle.scr_term.specs.States.{State}
-use Rattle.scr_term.specs.EcmaUnits.{spelling}
-use Rattle.scr_term.specs.EcmaScreens.{ScreenView, IsFed}
-use Rattle.scr_term.specs.EcmaMeanings.{Leads}
-use Rattle.scr_term.specs.EcmaLaws.{ScreensFollowTexts}
+use Rattle.scr_term.specs.Operations.States.{TerminalState}
+use Rattle.scr_term.specs.Ecma.Units.{spelling}
+use Rattle.scr_term.specs.Ecma.Screens.{ScreenView, IsFed}
+use Rattle.scr_term.specs.Ecma.Meanings.{Leads}
+use Rattle.scr_term.specs.Ecma.Laws.{ScreensFollowTexts}
 use Rattle.scr_term.proofs.EcmaDivisionLaws.{fed_once}
 
-fed_led : (old : ScreenView) (text : List ℕ) (state : State) → old.undefined ≡ false → old.waiting ≡ []
+fed_led : (old : ScreenView) (text : List ℕ) (state : TerminalState) → old.undefined ≡ false → old.waiting ≡ []
     → Leads old.rows old.columns old.state text state → IsFed old text (record old { state = state })
 fed_led old text state defined none leads = record {
   rows = refl;

@@ -7,8 +7,8 @@ use Rattle.std.specs.Str.Parse.{digits_value, digits_value_after}
 use Rattle.std.proofs.lemmas.Bool.Decides.{nat_tests, eqb_tells}
 use Rattle.std.proofs.lemmas.List.{take_more, take_all}
 use Rattle.std.proofs.lemmas.List.Splits.{slice_split-cons_yes, slice_split-cons_no}
-use Rattle.scr_term.specs.EcmaUnits.{is_parameter_byte}
-use Rattle.scr_term.specs.EcmaMeanings.{parameter, each_parameter}
+use Rattle.scr_term.specs.Ecma.Units.{is_parameter_byte}
+use Rattle.scr_term.specs.Ecma.Meanings.{parameter, each_parameter}
 use Rattle.scr_term.proofs.EcmaUnitLaws.{AreParameterBytes}
 
 abbrev pub AreDigits : List ℕ → Type 0

@@ -3,23 +3,23 @@ use Rattle.std.proofs.Common.{◌≡◌, ℕ, true, List, [], ◌∷◌, ◌++�
 use Rattle.std.specs.Prelude.{option_and_then}
 use Rattle.std.specs.List.{AllByRecursion, flat_map}
 use Rattle.std.proofs.lemmas.List.Concat.{flat_map-append}
-use Rattle.scr_term.specs.States.{State}
-use Rattle.scr_term.specs.EcmaUnits.{EcmaUnit, spelling, IsUnit, IsDivision, BeginsNoUnit}
-use Rattle.scr_term.specs.EcmaMeanings.{meanings}
-use Rattle.scr_term.specs.EcmaScreens.{ScreenView, GoesOn, Stops, IsUndefinedAt, IsFed}
-use Rattle.scr_term.specs.EcmaLaws.{PiecesDoNotMatter}
+use Rattle.scr_term.specs.Operations.States.{TerminalState}
+use Rattle.scr_term.specs.Ecma.Units.{EcmaUnit, spelling, IsUnit, IsDivision, BeginsNoUnit}
+use Rattle.scr_term.specs.Ecma.Meanings.{meanings}
+use Rattle.scr_term.specs.Ecma.Screens.{ScreenView, GoesOn, Stops, IsUndefinedAt, IsFed}
+use Rattle.scr_term.specs.Ecma.Laws.{PiecesDoNotMatter}
 use Rattle.scr_term.proofs.EcmaDivisionLaws.{meanings_first, fed_once}
 
 each_append : (us vs : List EcmaUnit) → AllByRecursion IsUnit us → AllByRecursion IsUnit vs → AllByRecursion IsUnit (us ++ vs)
 each_append [] vs h k = k
 each_append (u ∷ us) vs h k = (h.0, each_append us vs h.1 k)
 
-meanings_go_on : (rows columns : ℕ) (s t : State) (us vs : List EcmaUnit) → meanings rows columns s us ≡ Some t
+meanings_go_on : (rows columns : ℕ) (s t : TerminalState) (us vs : List EcmaUnit) → meanings rows columns s us ≡ Some t
     → meanings rows columns s (us ++ vs) ≡ meanings rows columns t vs
-meanings_go_on rows columns s t [] vs e = let same : s ≡ t = cc in ap (λ (z : State). meanings rows columns z vs) same
+meanings_go_on rows columns s t [] vs e = let same : s ≡ t = cc in ap (λ (z : TerminalState). meanings rows columns z vs) same
 meanings_go_on rows columns s t (u ∷ us) vs e =
     let step = meanings_first rows columns s t u us e in
-    ap (option_and_then (λ (next : State). meanings rows columns next (us ++ vs))) step.1
+    ap (option_and_then (λ (next : TerminalState). meanings rows columns next (us ++ vs))) step.1
     ∙ meanings_go_on rows columns step.0 t us vs step.2
 
 -- a division of a text whose rest is divided further

@@ -2,9 +2,9 @@
 use Rattle.std.proofs.Common.{◌≡◌, ◌≢◌, ℕ, ◌+◌, ◌<◌, ◌≤◌, true, false, List, [], ◌∷◌, ◌++◌, length, ◌⊎◌, inl, inr, refl, sym, ap, ◌∙◌, subst, append_assoc, arith, eqb}
 use Rattle.std.specs.Prelude.{IsTrue}
 use Rattle.std.proofs.lemmas.Bool.Decides.{eqb_tells}
-use Rattle.scr_term.specs.EcmaUnits.{EcmaUnit, Graphic, Control, Sequence, spelling, is_parameter_byte, IsSequence, IsUnit, IsWaiting, BeginsNoUnit}
-use Rattle.scr_term.specs.EcmaReadings.{IsReading}
-use Rattle.scr_term.specs.declared.ecma_readings.Reading.TheVariants.{Last, Other}
+use Rattle.scr_term.specs.Ecma.Units.{EcmaUnit, Graphic, Control, Sequence, spelling, is_parameter_byte, IsSequence, IsUnit, IsWaiting, BeginsNoUnit}
+use Rattle.scr_term.specs.Code.Readings.{IsReading}
+use Rattle.scr_term.specs.declared.ecma.readings.Reading.TheVariants.{Last, Other}
 use Rattle.scr_term.proofs.EcmaUnitLaws.{AreParameterBytes, parameter_byte_lt, sequence_append, append_is_nil}
 
 -- ESC [ and parameters that can still be followed by a final byte

@@ -3,9 +3,9 @@ use Rattle.std.proofs.Common.{◌≡◌, ℕ, ◌%◌, ◌<◌, Bool, true, fals
 use Rattle.std.specs.Prelude.{option_and_then, unwrap_or}
 use Rattle.std.proofs.lemmas.Nat.{and_le_l, and_comm, and_mask, or_lt}
 use Rattle.std.specs.Option.{ForSome}
-use Rattle.scr_term.specs.EcmaMeanings.{rendition, renditions}
-use Rattle.scr_term.specs.EcmaReadings.{IsChange}
-use Rattle.scr_term.specs.declared.ecma_controls.Change.{Change}
+use Rattle.scr_term.specs.Ecma.Meanings.{rendition, renditions}
+use Rattle.scr_term.specs.Code.Readings.{IsChange}
+use Rattle.scr_term.specs.declared.ecma.controls.Change.{Change}
 
 -- attributes that a terminal shows are below 128
 pub shown_lt : (a : ℕ) → bit_and 127 a ≡ a → a < 128

@@ -4,7 +4,7 @@ use Rattle.std.specs.Prelude.{IsTrue}
 use Rattle.std.specs.List.{AllByRecursion}
 use Rattle.std.proofs.lemmas.List.{append-nil}
 use Rattle.std.proofs.lemmas.Bool.Decides.{nat_tests}
-use Rattle.scr_term.specs.EcmaUnits.{EcmaUnit, Graphic, Control, Sequence, spelling, is_parameter_byte, IsUnit, IsWaiting, BeginsNoUnit}
+use Rattle.scr_term.specs.Ecma.Units.{EcmaUnit, Graphic, Control, Sequence, spelling, is_parameter_byte, IsUnit, IsWaiting, BeginsNoUnit}
 
 abbrev pub AreParameterBytes : List ℕ → Type 0
 AreParameterBytes bytes = AllByRecursion (λ byte. IsTrue (is_parameter_byte byte)) bytes

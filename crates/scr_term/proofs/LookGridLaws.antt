@@ -8,7 +8,7 @@ use Rattle.std.proofs.lemmas.List.FromFn.{get_or-map-range_with_len, length-map-
 use Rattle.std.proofs.lemmas.List.Elements.{All-get_or, All-map, All-set}
 use Rattle.scr_cells.specs.Grids.{GridView, IsGrid, grid_row, grid_with}
 use Rattle.scr_cells.specs.LookViews.{IsLook, LookView, blank, blank_grid, negative, negative_grid}
-use Rattle.scr_term.specs.EcmaScreens.{ScreenView, IsScreen}
+use Rattle.scr_term.specs.Ecma.Screens.{ScreenView, IsScreen}
 
 same_or_not : (a b : ℕ) → (a ≡ b) ⊎ (a ≢ b)
 same_or_not a b = grind arith

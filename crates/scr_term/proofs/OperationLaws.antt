@@ -11,18 +11,18 @@ use Rattle.scr_cells.specs.Attributes.{negative_set, all_attributes}
 use Rattle.scr_cells.specs.LookViews.{LookView, blank_grid, negative, negative_grid}
 use Rattle.scr_cells.specs.Grids.{grid_with}
 use Rattle.scr_cells.specs.PictureViews.{IsSize}
-use Rattle.scr_term.specs.declared.operations.Op.{Op}
-use Rattle.scr_term.specs.declared.operations.Op.TheVariants.{Move, Clear, Reset, Enter, Put}
-use Rattle.scr_term.specs.declared.operations.Spot.{Spot}
-use Rattle.scr_term.specs.declared.operations.Spot.TheVariants.{At, Margin}
-use Rattle.scr_term.specs.Profiles.{ProfileView, IsEcma48}
-use Rattle.scr_term.specs.States.{State, IsState, negative_state, written_at, spot_after}
-use Rattle.scr_term.specs.Steps.{has, act}
-use Rattle.scr_term.specs.Texts.{control_sequence, rendition_of, bytes_of}
-use Rattle.scr_term.specs.EcmaUnits.{EcmaUnit, Graphic, Sequence, spelling, is_parameter_byte, IsUnit, IsDivision}
-use Rattle.scr_term.specs.EcmaMeanings.{cursor_at, meanings}
-use Rattle.scr_term.specs.EcmaMeanings.{Leads}
-use Rattle.scr_term.specs.OperationLaws.{BytesActAsTheirOperation}
+use Rattle.scr_term.specs.declared.operations.operation.Op.{Op}
+use Rattle.scr_term.specs.declared.operations.operation.Op.TheVariants.{Move, Clear, Reset, Enter, Put}
+use Rattle.scr_term.specs.declared.operations.operation.Spot.{Spot}
+use Rattle.scr_term.specs.declared.operations.operation.Spot.TheVariants.{At, Margin}
+use Rattle.scr_term.specs.Operations.Profiles.{ProfileView, IsEcma48}
+use Rattle.scr_term.specs.Operations.States.{TerminalState, IsState, negative_state, written_at, spot_after}
+use Rattle.scr_term.specs.Operations.Steps.{has, act}
+use Rattle.scr_term.specs.Operations.Texts.{control_sequence, rendition_of, bytes_of}
+use Rattle.scr_term.specs.Ecma.Units.{EcmaUnit, Graphic, Sequence, spelling, is_parameter_byte, IsUnit, IsDivision}
+use Rattle.scr_term.specs.Ecma.Meanings.{cursor_at, meanings}
+use Rattle.scr_term.specs.Ecma.Meanings.{Leads}
+use Rattle.scr_term.specs.Operations.Laws.{BytesActAsTheirOperation}
 use Rattle.scr_term.proofs.Attributes.{each_attribute, negative-or_standout, negative-or_underline, negative-or_reverse, negative-or_blink, negative-or_dim, negative-or_bold, negative-or_invis}
 use Rattle.scr_term.proofs.LookGridLaws.{negative_blank, negative_put}
 use Rattle.scr_term.proofs.Parameters.{parameter_bytes, parameter_bytes_of_two, parameters_of_two}
@@ -46,14 +46,14 @@ one_unit unit h = record {
   each = (h, tt);
 }
 
-placed : (rows columns : ℕ) (state : State) (r c : ℕ) → r < rows → c < columns → cursor_at rows columns state (r + 1) (c + 1) ≡ Some (record { grid = state.grid; spot = At r c; attrs = state.attrs })
+placed : (rows columns : ℕ) (state : TerminalState) (r c : ℕ) → r < rows → c < columns → cursor_at rows columns state (r + 1) (c + 1) ≡ Some (record { grid = state.grid; spot = At r c; attrs = state.attrs })
 placed rows columns state r c hr hc =
     let inside : (nat_le 1 (r + 1) && nat_le (r + 1) rows && nat_le 1 (c + 1) && nat_le (c + 1) columns) ≡ true = grind (arith, nat_tests) in
     let row : r + 1 - 1 ≡ r = omega arith in
     let column : c + 1 - 1 ≡ c = omega arith in
     rw (inside, row, column) refl
 
-move_leads : (rows columns : ℕ) (state : State) (r c : ℕ) → IsSize rows columns → r < rows → c < columns
+move_leads : (rows columns : ℕ) (state : TerminalState) (r c : ℕ) → IsSize rows columns → r < rows → c < columns
     → Leads rows columns state (control_sequence (decimal (r + 1) ++ 59 ∷ decimal (c + 1)) 72) (record { grid = state.grid; spot = At r c; attrs = state.attrs })
 move_leads rows columns state r c size hr hc =
     let few_r : r + 1 < 2 ^ 64 = omega (arith, size.few_rows) in
@@ -72,7 +72,7 @@ move_leads rows columns state r c size hr hc =
     }
 
 -- SGR of one digit
-rendition_leads : (rows columns : ℕ) (state : State) (digit next : ℕ) → IsTrue (is_parameter_byte digit)
+rendition_leads : (rows columns : ℕ) (state : TerminalState) (digit next : ℕ) → IsTrue (is_parameter_byte digit)
     → meanings rows columns state (Sequence (digit ∷ []) 109 ∷ []) ≡ Some (record { grid = state.grid; spot = state.spot; attrs = next })
     → Leads rows columns state (control_sequence (digit ∷ []) 109) (record { grid = state.grid; spot = state.spot; attrs = next })
 rendition_leads rows columns state digit next d h = record {
@@ -87,7 +87,7 @@ rendition_leads rows columns state digit next d h = record {
 }
 
 -- a character on the negative screen is the negative of the character
-put_leads : (rows columns byte : ℕ) (old new : State) (spot : Spot) → old.spot ≡ spot → 32 ≤ byte → byte ≤ 126
+put_leads : (rows columns byte : ℕ) (old new : TerminalState) (spot : Spot) → old.spot ≡ spot → 32 ≤ byte → byte ≤ 126
     → written_at columns old byte spot ≡ Some new
     → Leads rows columns (negative_state old) (byte ∷ []) (negative_state new)
 put_leads rows columns byte old new (Margin r) e low high h = absurd (no_state h)
@@ -96,24 +96,24 @@ put_leads rows columns byte old new (Margin r) e low high h = absurd (no_state h
     no_state n = (cc)
 put_leads rows columns byte old new (At r c) e low high h =
     let look : LookView = record { byte = byte; attrs = old.attrs } in
-    let written : State = record { grid = grid_with old.grid r c look; spot = spot_after columns r c; attrs = old.attrs } in
+    let character_written : TerminalState = record { grid = grid_with old.grid r c look; spot = spot_after columns r c; attrs = old.attrs } in
     let grid : negative_grid (grid_with old.grid r c look) ≡ grid_with (negative_grid old.grid) r c (negative look) = negative_put old.grid r c look in
-    let acts : meanings rows columns (negative_state old) (Graphic byte ∷ []) ≡ Some (negative_state written) =
+    let acts : meanings rows columns (negative_state old) (Graphic byte ∷ []) ≡ Some (negative_state character_written) =
     ap (λ s. option_and_then (λ next. Some next) (written_at columns (negative_state old) byte s)) e
     ∙ ap (λ g. Some (record { grid = g; spot = spot_after columns r c; attrs = negative_set old.attrs })) (sym grid) in
-    let leads : Leads rows columns (negative_state old) (byte ∷ []) (negative_state written) = record {
+    let leads : Leads rows columns (negative_state old) (byte ∷ []) (negative_state character_written) = record {
       units = Graphic byte ∷ [];
       division = one_unit (Graphic byte) (low, high);
       meaning = acts;
     } in
-    subst (λ s. Leads rows columns (negative_state old) (byte ∷ []) (negative_state s)) (same_some written new h) leads
+    subst (λ s. Leads rows columns (negative_state old) (byte ∷ []) (negative_state s)) (same_some character_written new h) leads
 
 -- the cursor to the first place, and then every place erased
-clear_leads : (rows columns : ℕ) (old : State) → IsSize rows columns → old.attrs ≡ 0
+clear_leads : (rows columns : ℕ) (old : TerminalState) → IsSize rows columns → old.attrs ≡ 0
     → Leads rows columns (negative_state old) (control_sequence [] 72 ++ control_sequence (codes "2") 74)
     (negative_state (record { grid = blank_grid rows columns; spot = At 0 0; attrs = 0 }))
 clear_leads rows columns old size none =
-    let home : State = record { grid = negative_grid old.grid; spot = At 0 0; attrs = negative_set old.attrs } in
+    let home : TerminalState = record { grid = negative_grid old.grid; spot = At 0 0; attrs = negative_set old.attrs } in
     let first : cursor_at rows columns (negative_state old) 1 1 ≡ Some home = placed rows columns (negative_state old) 0 0 size.some_rows size.some_columns in
     let blanks : negative_grid (blank_grid rows columns) ≡ blank_grid rows columns = negative_blank rows columns in
     record {
@@ -129,11 +129,11 @@ clear_leads rows columns old size none =
     }
 
 -- SGR turns on what the operation turns on
-enter_leads : (rows columns a : ℕ) (old : State) → old.attrs < 128 → list_any (λ x. x == a) all_attributes ≡ true
+enter_leads : (rows columns a : ℕ) (old : TerminalState) → old.attrs < 128 → list_any (λ x. x == a) all_attributes ≡ true
     → Leads rows columns (negative_state old) (control_sequence (rendition_of a) 109)
     (negative_state (record { grid = old.grid; spot = old.spot; attrs = bit_or old.attrs a }))
 enter_leads rows columns a old small one =
-    let state : State = negative_state old in
+    let state : TerminalState = negative_state old in
     let P : ℕ → Type 0 = λ n. Leads rows columns state (control_sequence (rendition_of n) 109) (record { grid = state.grid; spot = state.spot; attrs = negative_set (bit_or old.attrs n) }) in
     let leads : (digit next same : ℕ) → IsTrue (is_parameter_byte digit) → next ≡ same
     → meanings rows columns state (Sequence (digit ∷ []) 109 ∷ []) ≡ Some (record { grid = state.grid; spot = state.spot; attrs = next })
@@ -153,27 +153,27 @@ enter_leads rows columns a old small one =
 pub small_set : (set : ℕ) → bit_and 127 set ≡ set → set < 128
 small_set set h = omega (arith, h, and_le_l 127 set)
 
-leads_by : (profile : ProfileView) → IsEcma48 profile → (old new : State) → IsState profile.rows profile.columns profile.shown old
+leads_by : (profile : ProfileView) → IsEcma48 profile → (old new : TerminalState) → IsState profile.rows profile.columns profile.shown old
     → (op : Op) → has profile op ≡ true → act profile old op ≡ Some new
     → Leads profile.rows profile.columns (negative_state old) (bytes_of profile op) (negative_state new)
 leads_by profile p old new s (Move r c) had h =
     let hr : r < profile.rows = grind (arith, nat_tests) in
     let hc : c < profile.columns = grind (arith, nat_tests) in
-    let next : State = record { grid = old.grid; spot = At r c; attrs = old.attrs } in
+    let next : TerminalState = record { grid = old.grid; spot = At r c; attrs = old.attrs } in
     subst (λ z. Leads profile.rows profile.columns (negative_state old) (bytes_of profile (Move r c)) (negative_state z)) (same_some next new h)
     (move_leads profile.rows profile.columns (negative_state old) r c p.size hr hc)
 leads_by profile p old new s Clear had h =
-    let next : State = record { grid = blank_grid profile.rows profile.columns; spot = At 0 0; attrs = 0 } in
+    let next : TerminalState = record { grid = blank_grid profile.rows profile.columns; spot = At 0 0; attrs = 0 } in
     let c = chosen (old.attrs == 0) (Some next) new h in
     let none : old.attrs ≡ 0 = eqb-true old.attrs 0 c.0 in
     subst (λ z. Leads profile.rows profile.columns (negative_state old) (bytes_of profile Clear) (negative_state z)) (same_some next new c.1)
     (clear_leads profile.rows profile.columns old p.size none)
 leads_by profile p old new s Reset had h =
-    let next : State = record { grid = old.grid; spot = old.spot; attrs = 0 } in
+    let next : TerminalState = record { grid = old.grid; spot = old.spot; attrs = 0 } in
     subst (λ z. Leads profile.rows profile.columns (negative_state old) (bytes_of profile Reset) (negative_state z)) (same_some next new h)
     (rendition_leads profile.rows profile.columns (negative_state old) 48 0 refl refl)
 leads_by profile p old new s (Enter a) had h =
-    let next : State = record { grid = old.grid; spot = old.spot; attrs = bit_or old.attrs a.0 } in
+    let next : TerminalState = record { grid = old.grid; spot = old.spot; attrs = bit_or old.attrs a.0 } in
     let small : old.attrs < 128 = small_set old.attrs (let e : profile.shown ≡ 127 = p.shown in rw e at s.attrs) in
     let one : list_any (λ x. x == a.0) all_attributes ≡ true = (both_true _ _ had).0 in
     subst (λ z. Leads profile.rows profile.columns (negative_state old) (bytes_of profile (Enter a)) (negative_state z)) (same_some next new h)

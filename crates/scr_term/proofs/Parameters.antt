@@ -7,8 +7,8 @@ use Rattle.std.proofs.lemmas.Fmt.{decimal_by_steps, decimal_is_IsNumeral, decima
 use Rattle.std.proofs.lemmas.List.Elements.{All-from_recursion}
 use Rattle.std.proofs.lemmas.List.Splits.{slice_split_at, slice_split_none}
 use Rattle.std.proofs.lemmas.Bool.Decides.{nat_tests}
-use Rattle.scr_term.specs.EcmaUnits.{is_parameter_byte}
-use Rattle.scr_term.specs.EcmaMeanings.{parameter, each_parameter, parameters_of}
+use Rattle.scr_term.specs.Ecma.Units.{is_parameter_byte}
+use Rattle.scr_term.specs.Ecma.Meanings.{parameter, each_parameter, parameters_of}
 
 -- a byte of a decimal number
 pub record IsDigit (byte : ℕ) : Type 0 where

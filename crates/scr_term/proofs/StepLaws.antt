@@ -11,18 +11,18 @@ use Rattle.std.proofs.lemmas.Bool.{eqb-true}
 use Rattle.std.proofs.lemmas.Bool.Decides.{nat_tests}
 use Rattle.scr_cells.specs.Grids.{grid_with}
 use Rattle.scr_cells.specs.LookViews.{LookView, blank_grid}
-use Rattle.scr_term.specs.declared.operations.Op.{Op}
-use Rattle.scr_term.specs.declared.operations.Op.TheVariants.{Move, Clear, Reset, Enter, Put}
-use Rattle.scr_term.specs.declared.operations.Spot.{Spot}
-use Rattle.scr_term.specs.declared.operations.Spot.TheVariants.{At, Margin}
-use Rattle.scr_term.specs.Profiles.{ProfileView, IsProfile, IsEcma48}
-use Rattle.scr_term.specs.States.{State, IsSpot, IsState, negative_state, written_at, spot_after}
-use Rattle.scr_term.specs.Steps.{has, act, step, runs}
-use Rattle.scr_term.specs.Texts.{bytes_of, all_bytes}
-use Rattle.scr_term.specs.EcmaUnits.{EcmaUnit, spelling, IsUnit}
-use Rattle.scr_term.specs.EcmaMeanings.{meaning, meanings}
-use Rattle.scr_term.specs.EcmaMeanings.{Leads}
-use Rattle.scr_term.specs.OperationLaws.{BlankLaws, BytesActAsTheirOperations, RunLaws, StepsKeepStates}
+use Rattle.scr_term.specs.declared.operations.operation.Op.{Op}
+use Rattle.scr_term.specs.declared.operations.operation.Op.TheVariants.{Move, Clear, Reset, Enter, Put}
+use Rattle.scr_term.specs.declared.operations.operation.Spot.{Spot}
+use Rattle.scr_term.specs.declared.operations.operation.Spot.TheVariants.{At, Margin}
+use Rattle.scr_term.specs.Operations.Profiles.{ProfileView, IsProfile, IsEcma48}
+use Rattle.scr_term.specs.Operations.States.{TerminalState, IsSpot, IsState, negative_state, written_at, spot_after}
+use Rattle.scr_term.specs.Operations.Steps.{has, act, step, runs}
+use Rattle.scr_term.specs.Operations.Texts.{bytes_of, all_bytes}
+use Rattle.scr_term.specs.Ecma.Units.{EcmaUnit, spelling, IsUnit}
+use Rattle.scr_term.specs.Ecma.Meanings.{meaning, meanings}
+use Rattle.scr_term.specs.Ecma.Meanings.{Leads}
+use Rattle.scr_term.specs.Operations.Laws.{BlankLaws, BytesActAsTheirOperations, RunLaws, StepsKeepStates}
 use Rattle.scr_term.proofs.LookGridLaws.{all_blank, is_blank, negative_blank, put_all, put_is_grid}
 use Rattle.scr_term.proofs.OperationLaws.{chosen, same_some, both_true, bytes_act_as_their_operation}
 
@@ -33,7 +33,7 @@ within-or s x a hx ha = same_from_bits _ _ (λ i.
     let ea : bit_at (bit_and s a) i ≡ bit_at a i = ap (λ n. bit_at n i) ha in
     rw (bit_at_and s (bit_or x a) i, bit_at_or x a i) (omega (arith, bit_at_and s x i, bit_at_and s a i)))
 
-keeps_put : (profile : ProfileView) → IsProfile profile → (old new : State) → IsState profile.rows profile.columns profile.shown old
+keeps_put : (profile : ProfileView) → IsProfile profile → (old new : TerminalState) → IsState profile.rows profile.columns profile.shown old
     → (byte : ℕ) (spot : Spot) → IsSpot profile.rows profile.columns spot → 32 ≤ byte → byte ≤ 126
     → written_at profile.columns old byte spot ≡ Some new → IsState profile.rows profile.columns profile.shown new
 keeps_put profile p old new s byte (Margin r) inside low high h = absurd (no_state h)
@@ -42,31 +42,31 @@ keeps_put profile p old new s byte (Margin r) inside low high h = absurd (no_sta
     no_state n = (cc)
 keeps_put profile p old new s byte (At r c) inside low high h =
     let look : LookView = record { byte = byte; attrs = old.attrs } in
-    let written : State = record { grid = grid_with old.grid r c look; spot = spot_after profile.columns r c; attrs = old.attrs } in
+    let character_written : TerminalState = record { grid = grid_with old.grid r c look; spot = spot_after profile.columns r c; attrs = old.attrs } in
     let few : old.attrs < 256 = omega (arith, s.attrs, p.shown, and_le_l profile.shown old.attrs, and_le_l 127 profile.shown) in
     let after : IsSpot profile.rows profile.columns (spot_after profile.columns r c) = next_spot (nat_lt (c + 1) profile.columns) refl in
-    let kept : IsState profile.rows profile.columns profile.shown written = record {
+    let kept : IsState profile.rows profile.columns profile.shown character_written = record {
       whole = put_is_grid profile.rows profile.columns old.grid r c look s.whole;
       looks = put_all profile.rows profile.columns old.grid r c look s.whole inside.0 (record { character = (low, high); attributes = few }) s.looks;
       spot = after;
       attrs = s.attrs;
     } in
-    subst (λ z. IsState profile.rows profile.columns profile.shown z) (same_some written new h) kept
+    subst (λ z. IsState profile.rows profile.columns profile.shown z) (same_some character_written new h) kept
   where
     next_spot : (b : Bool) → nat_lt (c + 1) profile.columns ≡ b → IsSpot profile.rows profile.columns (cond b (At r (c + 1)) (Margin r))
     next_spot true e = (inside.0, grind (arith, nat_tests))
     next_spot false e = inside.0
 
-keeps : (profile : ProfileView) → IsProfile profile → (old new : State) → IsState profile.rows profile.columns profile.shown old
+keeps : (profile : ProfileView) → IsProfile profile → (old new : TerminalState) → IsState profile.rows profile.columns profile.shown old
     → (op : Op) → has profile op ≡ true → act profile old op ≡ Some new → IsState profile.rows profile.columns profile.shown new
 keeps profile p old new s (Move r c) had h =
     let hr : r < profile.rows = grind (arith, nat_tests) in
     let hc : c < profile.columns = grind (arith, nat_tests) in
-    let next : State = record { grid = old.grid; spot = At r c; attrs = old.attrs } in
+    let next : TerminalState = record { grid = old.grid; spot = At r c; attrs = old.attrs } in
     subst (λ z. IsState profile.rows profile.columns profile.shown z) (same_some next new h)
     (record { whole = s.whole; looks = s.looks; spot = (hr, hc); attrs = s.attrs })
 keeps profile p old new s Clear had h =
-    let next : State = record { grid = blank_grid profile.rows profile.columns; spot = At 0 0; attrs = 0 } in
+    let next : TerminalState = record { grid = blank_grid profile.rows profile.columns; spot = At 0 0; attrs = 0 } in
     let c = chosen (old.attrs == 0) (Some next) new h in
     subst (λ z. IsState profile.rows profile.columns profile.shown z) (same_some next new c.1)
     (record {
@@ -76,11 +76,11 @@ keeps profile p old new s Clear had h =
       attrs = omega (arith, and_le_r profile.shown 0);
     })
 keeps profile p old new s Reset had h =
-    let next : State = record { grid = old.grid; spot = old.spot; attrs = 0 } in
+    let next : TerminalState = record { grid = old.grid; spot = old.spot; attrs = 0 } in
     subst (λ z. IsState profile.rows profile.columns profile.shown z) (same_some next new h)
     (record { whole = s.whole; looks = s.looks; spot = s.spot; attrs = omega (arith, and_le_r profile.shown 0) })
 keeps profile p old new s (Enter a) had h =
-    let next : State = record { grid = old.grid; spot = old.spot; attrs = bit_or old.attrs a.0 } in
+    let next : TerminalState = record { grid = old.grid; spot = old.spot; attrs = bit_or old.attrs a.0 } in
     let shown : bit_and profile.shown a.0 ≡ a.0 = eqb-true _ _ ((both_true _ _ had).1) in
     subst (λ z. IsState profile.rows profile.columns profile.shown z) (same_some next new h)
     (record { whole = s.whole; looks = s.looks; spot = s.spot; attrs = within-or profile.shown old.attrs a.0 s.attrs shown })
@@ -102,7 +102,7 @@ then_some None f y h = absurd (nothing h)
     nothing : None ≡ Some y → ⊥
     nothing n = (cc)
 
-pub meanings-append : (rows columns : ℕ) (old next : State) (us vs : List EcmaUnit) → meanings rows columns old us ≡ Some next
+pub meanings-append : (rows columns : ℕ) (old next : TerminalState) (us vs : List EcmaUnit) → meanings rows columns old us ≡ Some next
     → meanings rows columns old (us ++ vs) ≡ meanings rows columns next vs
 meanings-append rows columns old next [] vs h = ap (λ s. meanings rows columns s vs) (same_some old next h)
 meanings-append rows columns old next (u ∷ us) vs h =
@@ -113,7 +113,7 @@ all_units_append : (us vs : List EcmaUnit) → AllByRecursion IsUnit us → AllB
 all_units_append [] vs hu hv = hv
 all_units_append (u ∷ us) vs hu hv = (hu.0, all_units_append us vs hu.1 hv)
 
-pub leads-append : (rows columns : ℕ) (a b d : State) (x y : List ℕ) → Leads rows columns a x b → Leads rows columns b y d → Leads rows columns a (x ++ y) d
+pub leads-append : (rows columns : ℕ) (a b d : TerminalState) (x y : List ℕ) → Leads rows columns a x b → Leads rows columns b y d → Leads rows columns a (x ++ y) d
 leads-append rows columns a b d x y first second = record {
   units = first.units ++ second.units;
   division = record {
@@ -141,14 +141,14 @@ bytes_act_as_their_operations profile p old new s (op ∷ ops) h =
     (bytes_act_as_their_operation profile p old first.0 s op first.1)
     (bytes_act_as_their_operations profile p first.0 new kept ops first.2)
 
-pub runs-append : (profile : ProfileView) (old next : State) (xs ys : List Op) → runs profile old xs ≡ Some next
+pub runs-append : (profile : ProfileView) (old next : TerminalState) (xs ys : List Op) → runs profile old xs ≡ Some next
     → runs profile old (xs ++ ys) ≡ runs profile next ys
 runs-append profile old next [] ys h = ap (λ s. runs profile s ys) (same_some old next h)
 runs-append profile old next (op ∷ ops) ys h =
     let first = then_some (step profile old op) (λ s. runs profile s ops) next h in
     ap (option_and_then (λ s. runs profile s (ops ++ ys))) first.1 ∙ runs-append profile first.0 next ops ys first.2
 
-pub runs_keep : (profile : ProfileView) → IsProfile profile → (old new : State) → IsState profile.rows profile.columns profile.shown old
+pub runs_keep : (profile : ProfileView) → IsProfile profile → (old new : TerminalState) → IsState profile.rows profile.columns profile.shown old
     → (ops : List Op) → runs profile old ops ≡ Some new → IsState profile.rows profile.columns profile.shown new
 runs_keep profile p old new s [] h = subst (λ z. IsState profile.rows profile.columns profile.shown z) (same_some old new h) s
 runs_keep profile p old new s (op ∷ ops) h =
@@ -156,7 +156,7 @@ runs_keep profile p old new s (op ∷ ops) h =
     runs_keep profile p first.0 new (steps_keep_states profile p old first.0 s op first.1) ops first.2
 
 -- a run that is defined has only operations that the profile has
-each_had : (profile : ProfileView) (old new : State) (ops : List Op) → runs profile old ops ≡ Some new → AllByRecursion (λ op. has profile op ≡ true) ops
+each_had : (profile : ProfileView) (old new : TerminalState) (ops : List Op) → runs profile old ops ≡ Some new → AllByRecursion (λ op. has profile op ≡ true) ops
 each_had profile old new [] h = tt
 each_had profile old new (op ∷ ops) h =
     let first = then_some (step profile old op) (λ next. runs profile next ops) new h in

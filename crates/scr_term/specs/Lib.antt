@@ -3,14 +3,6 @@ pub use Rattle.scr_cells.specs.CellViews
 pub use Rattle.scr_cells.specs.Grids
 pub use Rattle.scr_cells.specs.LookViews
 pub use Rattle.scr_cells.specs.PictureViews
-pub mod Profiles
-pub mod States
-pub mod Steps
-pub mod Texts
-pub mod Painted
-pub mod EcmaUnits
-pub mod EcmaMeanings
-pub mod EcmaScreens
-pub mod EcmaReadings
-pub mod EcmaLaws
-pub mod OperationLaws
+pub mod Operations
+pub mod Ecma
+pub mod Code

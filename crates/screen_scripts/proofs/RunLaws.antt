@@ -7,7 +7,7 @@ use Rattle.std.proofs.lemmas.List.Splits.{length-slice_split}
 use Rattle.std.proofs.lemmas.List.Concat.{flat_map-append}
 use Rattle.scr_cells.specs.CellViews.{is_character}
 use Rattle.scr_cells.specs.PictureViews.{PictureView}
-use Rattle.scr_term.specs.EcmaScreens.{ScreenView}
+use Rattle.scr_term.specs.Ecma.Screens.{ScreenView}
 use Rattle.screen_scripts.specs.Lines.{lines_of, parts_behind, without_empty_end}
 use Rattle.screen_scripts.specs.Stories.{Outcome, Story, line_outcome, story_from, story_on, story_of, next_number, Refused, Shown, added, continued, opened, outcome_of}
 use Rattle.screen_scripts.specs.Canvases.{with_byte, with_text, moved, blank_canvas}
@@ -16,7 +16,7 @@ use Rattle.screen_scripts.specs.declared.stage.Effect.{Effect}
 use Rattle.screen_scripts.specs.StageViews.{ActsOn, events_of}
 use Rattle.screen_scripts.specs.Commands.{CommandView, SizeCommand, AddCommand, ShowCommand, command_of}
 use Rattle.screen_scripts.specs.Showing.{IsReady, IsTerminalFor, Writes, AddsRefusals}
-use Rattle.scr_term.specs.States.{IsState}
+use Rattle.scr_term.specs.Operations.States.{IsState}
 use Rattle.screen_scripts.proofs.OptionLaws.{chosen, same_some, then_some}
 
 -- ---- lines

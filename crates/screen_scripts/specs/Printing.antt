@@ -5,11 +5,11 @@ use Rattle.std.specs.Fmt.{decimal}
 use Rattle.scr_cells.specs.Attributes.{every_attribute}
 use Rattle.scr_cells.specs.LookViews.{LookView, negative_grid}
 use Rattle.scr_cells.specs.PictureViews.{PictureView}
-use Rattle.scr_term.specs.declared.operations.Spot.{Spot}
-use Rattle.scr_term.specs.declared.operations.Spot.TheVariants.{At, Margin}
-use Rattle.scr_term.specs.Profiles.{ProfileView}
-use Rattle.scr_term.specs.Painted.{painted}
-use Rattle.scr_term.specs.Texts.{all_bytes}
+use Rattle.scr_term.specs.declared.operations.operation.Spot.{Spot}
+use Rattle.scr_term.specs.declared.operations.operation.Spot.TheVariants.{At, Margin}
+use Rattle.scr_term.specs.Operations.Profiles.{ProfileView}
+use Rattle.scr_term.specs.Operations.Painted.{painted}
+use Rattle.scr_term.specs.Operations.Texts.{all_bytes}
 use Rattle.scr_plan.specs.Scratch.{scratch_of}
 use Rattle.screen_scripts.specs.Canvases.{cursor_of}
 use Rattle.screen_scripts.specs.Stories.{Event, Refused, Shown}

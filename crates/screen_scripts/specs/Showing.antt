@@ -3,8 +3,8 @@ use Rattle.std.specs.Prelude.{ℕ, ◌≡◌, ◌++◌, Bool, false, List, [], O
 use Rattle.std.specs.Io.KnownBytes.{Appends}
 use Rattle.scr_cells.specs.Attributes.{every_attribute}
 use Rattle.scr_cells.specs.PictureViews.{PictureView}
-use Rattle.scr_term.specs.States.{State, IsState, negative_state}
-use Rattle.scr_term.specs.EcmaScreens.{ScreenView, IsScreen}
+use Rattle.scr_term.specs.Operations.States.{TerminalState, IsState, negative_state}
+use Rattle.scr_term.specs.Ecma.Screens.{ScreenView, IsScreen}
 use Rattle.screen_scripts.specs.Stories.{Outcome, line_outcome}
 use Rattle.screen_scripts.specs.Printing.{output_of, refusals_of}
 
@@ -13,7 +13,7 @@ pub record IsTerminalFor (picture : PictureView) (screen : ScreenView) : Type 0 
   pub rows : screen.rows ≡ picture.rows
   pub columns : screen.columns ≡ picture.columns
   pub valid : IsScreen screen
-  pub state : State
+  pub state : TerminalState
   pub is_state : IsState picture.rows picture.columns every_attribute state
   pub negative : screen.state ≡ negative_state state
   pub nothing_waits : screen.waiting ≡ []

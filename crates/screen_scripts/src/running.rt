@@ -35,8 +35,9 @@ pub enum DemoFault {
 /// bytes that are sent to the terminal.
 ///
 /// Refused at the first bad line, where what came before it is written; where a write or a flush of
-/// `out` fails, or a write takes nothing; and where memory runs out. Whatever it answers, what was written
-/// is a beginning of the script's output.
+/// `out` fails, or a write takes nothing; and where memory runs out. The output is flushed at the end of the
+/// script and before a bad line is answered; where that flush fails, the answer is its fault, at a bad line too.
+/// Whatever it answers, what was written is a beginning of the script's output.
 pub fn run<W: Write>(alloc: Global, script: &[u8], raw: bool, out: &mut W) -> Result<(), DemoFault>
     ensures whole { OnOk result ((story_of script.now).bad_line ≡ None) }
     ensures written { OnOk result (Appends (W.contents out.old) (W.contents out.new) (output_of raw (story_of script.now).events)) }

@@ -1,9 +1,9 @@
 //! Showing a canvas: the bytes that paint it, and what a terminal then shows.
 ghost use Rattle.std.specs.Prelude.{◌≡◌, IsSome, IfSome, IfOk, OnOk};
 ghost use Rattle.std.specs.Option.{ForSome};
-ghost use Rattle.scr_term.specs.Profiles.{IsEcma48};
+ghost use Rattle.scr_term.specs.Operations.Profiles.{IsEcma48};
 ghost use Rattle.screen_scripts.specs.Stories.{Shown};
-ghost use Rattle.scr_term.specs.Painted.{ShowsNegative};
+ghost use Rattle.scr_term.specs.Operations.Painted.{ShowsNegative};
 ghost use Rattle.screen_scripts.specs.Printing.{printed_event, profile_for, sent_event, written_event};
 ghost use Rattle.screen_scripts.specs.Showing.{IsTerminalFor};
 

@@ -1,5 +1,5 @@
 use Rattle.std.proofs.Common.{◌≡◌, ◌++◌, ◌==◌, take, map, filter, bit_and}
-use Rattle.scr_term.specs.declared.operations.Op.TheVariants.{Enter}
+use Rattle.scr_term.specs.declared.operations.operation.Op.TheVariants.{Enter}
 use Rattle.scr_plan.proofs.painting.enter_each.Given as goal
 
 abbrev pub invariant-loop-attribute : goal.invariant-loop-attribute

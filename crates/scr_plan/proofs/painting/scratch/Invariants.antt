@@ -1,6 +1,6 @@
 use Rattle.std.proofs.Common.{◌≡◌, ◌∷◌}
 use Rattle.std.specs.List.{flat_map, range_with_len}
-use Rattle.scr_term.specs.declared.operations.Op.TheVariants.{Reset, Clear}
+use Rattle.scr_term.specs.declared.operations.operation.Op.TheVariants.{Reset, Clear}
 use Rattle.scr_plan.specs.Scratch.{paints_row}
 use Rattle.scr_plan.proofs.painting.scratch.Given as goal
 

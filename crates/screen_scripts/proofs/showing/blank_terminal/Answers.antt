@@ -1,5 +1,5 @@
 use Rattle.std.proofs.Common.{◌≡◌, subst, sym, ◌∙◌}
-use Rattle.scr_term.specs.EcmaScreens.{blank_screen}
+use Rattle.scr_term.specs.Ecma.Screens.{blank_screen}
 use Rattle.screen_scripts.specs.Showing.{IsTerminalFor}
 use Rattle.screen_scripts.proofs.ShowLaws.{blank_is_terminal}
 use Rattle.screen_scripts.proofs.showing.blank_terminal.Goals as goal

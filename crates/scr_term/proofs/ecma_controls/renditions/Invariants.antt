@@ -1,6 +1,0 @@
-use Rattle.std.proofs.Common.{◌≡◌, drop}
-use Rattle.scr_term.specs.EcmaMeanings.{renditions}
-use Rattle.scr_term.proofs.ecma_controls.renditions.Given as goal
-
-abbrev pub invariant-loop-parameter : goal.invariant-loop-parameter
-invariant-loop-parameter l = renditions l.attrs.0 (drop l.parameter-index l.parameters) ≡ renditions l.fn.attrs.0 l.parameters

@@ -1,5 +1,0 @@
-use Rattle.scr_term.proofs.OperationLaws as laws
-use Rattle.scr_term.proofs.operation_laws.bytes_act_as_their_operation.Goals as goal
-
-pub returns : goal.returns
-returns c = laws.bytes_act_as_their_operation

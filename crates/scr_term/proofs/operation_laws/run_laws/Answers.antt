@@ -1,5 +1,0 @@
-use Rattle.scr_term.proofs.StepLaws.{run_laws_hold}
-use Rattle.scr_term.proofs.operation_laws.run_laws.Goals as goal
-
-pub returns : goal.returns
-returns c = run_laws_hold

@@ -1,0 +1,7 @@
+-- The operations of a terminal: what is known of it, its states, what an operation does and which bytes are sent for it.
+pub mod Profiles
+pub mod States
+pub mod Steps
+pub mod Texts
+pub mod Painted
+pub mod Laws

@@ -1,0 +1,10 @@
+//! The emulated screen: which bytes make a control function, what that changes, and the laws about texts.
+
+mod controls;
+mod laws;
+mod parameters;
+mod readings;
+mod screens;
+
+pub use laws::{one_division, pieces_do_not_matter, screens_follow_texts};
+pub use screens::{EcmaScreen, Undefined};

@@ -1,0 +1,118 @@
+//! Control functions: what a whole control sequence changes. How its parameters are read is in `parameters`, and the
+//! change is made in `screens`.
+ghost use Rattle.std.specs.Prelude.{◌≡◌, ℕ, List, ◌∷◌, option_map, bit_and, IfSome};
+ghost use Rattle.scr_cells.specs.Attributes.{every_attribute};
+ghost use Rattle.scr_term.specs.Operations.States.{TerminalState};
+ghost use Rattle.scr_term.specs.Ecma.Units.{Sequence};
+ghost use Rattle.scr_term.specs.Ecma.Meanings.{meaning, control_function, cursor_at, cursor_position, erase_in_page, rendition, renditions};
+ghost use Rattle.scr_term.specs.Code.Readings.{IsChange, IsReading, changed};
+
+use crate::Spot;
+use crate::ecma::parameters::parameters;
+use crate::ecma::readings::Reading;
+use bitflags::Flags;
+use scr_cells::{Attrs, Size};
+
+/// What a control sequence changes.
+#[derive(Clone, Copy)]
+pub(crate) enum Change {
+    /// The cursor goes there.
+    Moved(Spot),
+    /// Every place is erased.
+    Erased,
+    /// These attributes are on.
+    Rendered(Attrs),
+}
+
+/// The spot at a row and a column, which count from 1; `None` off the screen.
+fn cursor_at(size: Size, row: u16, column: u16) -> Option<Change>
+    ensures value { (state : TerminalState) → option_map (changed size.rows size.columns state) result ≡ cursor_at size.rows size.columns state row column }
+    ensures change { IfSome result (IsChange size.rows size.columns) }
+{
+    let (row, column) = (u32::from(row), u32::from(column));
+    if (1..=size.rows).contains(&row) && (1..=size.columns).contains(&column) {
+        Some(Change::Moved(Spot::At(row - 1, column - 1)))
+    } else {
+        None
+    }
+}
+
+/// CUP: the cursor goes to a row and a column, each 1 where it is absent (ECMA-48, 8.3.21).
+fn cursor_position(size: Size, parameters: &[Option<u16>]) -> Option<Change>
+    ensures value { (state : TerminalState) → option_map (changed size.rows size.columns state) result ≡ cursor_position size.rows size.columns state parameters.now }
+    ensures change { IfSome result (IsChange size.rows size.columns) }
+{
+    match parameters {
+        [row] => cursor_at(size, row.unwrap_or(1), 1),
+        [row, column] => cursor_at(size, row.unwrap_or(1), column.unwrap_or(1)),
+        _ => None,
+    }
+}
+
+/// ED 2: every place is erased (ECMA-48, 8.3.39).
+fn erase_in_page(parameters: &[Option<u16>]) -> Option<Change>
+    ensures value { (rows columns : ℕ) (state : TerminalState) → option_map (changed rows columns state) result ≡ erase_in_page rows columns state parameters.now }
+    ensures change { (rows columns : ℕ) → IfSome result (IsChange rows columns) }
+{
+    match parameters {
+        [Some(2)] => Some(Change::Erased),
+        _ => None,
+    }
+}
+
+/// One parameter of SGR: no attribute, or one more (ECMA-48, 8.3.117).
+fn rendition(attrs: Attrs, parameter: u16) -> Option<Attrs>
+    ensures { option_map (λ new. new.0) result ≡ rendition attrs.0 parameter }
+{
+    match parameter {
+        0 => Some(Attrs::empty()),
+        1 => Some(attrs.union(Attrs::BOLD)),
+        2 => Some(attrs.union(Attrs::DIM)),
+        4 => Some(attrs.union(Attrs::UNDERLINE)),
+        5 => Some(attrs.union(Attrs::BLINK)),
+        7 => Some(attrs.union(Attrs::REVERSE)),
+        8 => Some(attrs.union(Attrs::INVIS)),
+        _ => None,
+    }
+}
+
+/// SGR: its parameters one after another, each 0 where it is absent (ECMA-48, 8.3.117).
+fn renditions(mut attrs: Attrs, parameters: &[Option<u16>]) -> Option<Attrs>
+    ensures { option_map (λ new. new.0) result ≡ renditions attrs.0 parameters.now }
+{
+    for parameter in parameters {
+        attrs = rendition(attrs, parameter.unwrap_or(0))?;
+    }
+    Some(attrs)
+}
+
+/// What a control sequence changes, by its final byte; `None` where it is undefined (ECMA-48, 8.3).
+fn control_function(
+    size: Size,
+    attrs: Attrs,
+    parameters: &[Option<u16>],
+    last: u8,
+) -> Option<Change>
+    requires { bit_and every_attribute attrs.0 ≡ attrs.0 }
+    ensures value { (state : TerminalState) → state.attrs ≡ attrs.0 → option_map (changed size.rows size.columns state) result ≡ control_function size.rows size.columns state parameters.now last }
+    ensures change { IfSome result (IsChange size.rows size.columns) }
+{
+    match last {
+        b'H' => cursor_position(size, parameters),
+        b'J' => erase_in_page(parameters),
+        b'm' => Some(Change::Rendered(renditions(attrs, parameters)?)),
+        _ => None,
+    }
+}
+
+/// What a control sequence changes, by the part of it before its last byte; `None` where it is
+/// undefined (ECMA-48, 5.4 'Control sequences').
+pub(crate) fn control_sequence(size: Size, attrs: Attrs, part: &[u8], last: u8) -> Option<Change>
+    requires shown { bit_and every_attribute attrs.0 ≡ attrs.0 }
+    requires sequence { IsReading part.now last Reading.Last }
+    ensures value { (ps : List ℕ) (state : TerminalState) → part.now ≡ 27 ∷ 91 ∷ ps → state.attrs ≡ attrs.0 → option_map (changed size.rows size.columns state) result ≡ meaning size.rows size.columns state (Sequence ps last) }
+    ensures change { IfSome result (IsChange size.rows size.columns) }
+{
+    let list = parameters(&part[2..])?;
+    control_function(size, attrs, list.as_slice(), last)
+}

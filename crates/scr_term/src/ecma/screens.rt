@@ -1,0 +1,220 @@
+//! A screen that is fed the bytes of a text. Which bytes make a control function, and what that changes, is in the files
+//! beside this one.
+ghost use Rattle.std.specs.Prelude.{◌≡◌, ◌≤◌, ◌+◌, ◌<◌, ◌↔◌, false, length, [], ◌∷◌, bit_and, option_map, IfOk, IsOk, IsTrue};
+ghost use Rattle.std.specs.Option.{ForSome};
+ghost use Rattle.scr_cells.specs.Attributes.{every_attribute};
+ghost use Rattle.scr_cells.specs.CellViews.{IsCharacter};
+ghost use Rattle.scr_cells.specs.Grids.{grid_at, grid_row};
+ghost use Rattle.scr_cells.specs.LookViews.{IsLook, LookView};
+ghost use Rattle.scr_cells.specs.PictureViews.{IsPlace};
+ghost use Rattle.scr_term.specs.Operations.States.{IsSpot, character_written};
+ghost use Rattle.scr_term.specs.Ecma.Units.{IsWaiting};
+ghost use Rattle.scr_term.specs.Ecma.Screens.{IsScreen, IsFed, blank_screen};
+ghost use Rattle.scr_term.specs.Code.Readings.{IsChange, acted, changed};
+
+use crate::Spot;
+use crate::ecma::controls::{Change, control_sequence};
+use crate::ecma::readings::{Reading, read_byte};
+use arrayvec::ArrayVec;
+use bitflags::Flags;
+use scr_cells::{Attrs, Grid, Look, NoMemory, Size, grid_laws};
+use std::alloc::Global;
+use std::marker::Model;
+use thiserror::Error;
+
+/// The text has something that is undefined (ECMA-48): a control function that this screen does not
+/// know, one that leads off the screen, or a byte that belongs to no unit.
+#[derive(Clone, Copy, Debug, PartialEq, Eq, Error)]
+#[error("undefined")]
+pub struct Undefined;
+
+/// A screen that is fed an ECMA-48 text in pieces, and shows what the text does.
+///
+/// Graphic characters, CUP, ED 2 and SGR have a meaning; every other unit is undefined. After the
+/// first undefined one the screen stays as it is.
+#[derive(Drop)]
+pub struct EcmaScreen {
+    grid: Grid<Look>,
+    spot: Spot,
+    attrs: Attrs,
+    // The part of a control sequence that came after the last whole unit.
+    waiting: ArrayVec<u8, 64>,
+    undefined: bool,
+}
+
+impl Model for EcmaScreen {
+    ghost use Rattle.scr_term.specs.Ecma.Screens.{ScreenView, IsScreen};
+
+    ghost Value = { ScreenView };
+
+    ghost view = { λ a. record {
+      rows = a.grid.rows;
+      columns = a.grid.columns;
+      state = record { grid = a.grid.lines; spot = a.spot; attrs = a.attrs.0 };
+      waiting = a.waiting.items;
+      undefined = a.undefined;
+    } };
+
+    ghost invariant = { λ a. IsScreen (record {
+      rows = a.grid.rows;
+      columns = a.grid.columns;
+      state = record { grid = a.grid.lines; spot = a.spot; attrs = a.attrs.0 };
+      waiting = a.waiting.items;
+      undefined = a.undefined;
+    }) };
+}
+
+impl EcmaScreen {
+    /// A blank screen with the cursor at 0 0 and no attribute on. Fails only when
+    /// memory runs out.
+    pub fn new(alloc: Global, size: Size) -> Result<EcmaScreen, NoMemory>
+        ensures { IfOk result (λ screen. screen ≡ blank_screen size.rows size.columns) }
+    {
+        grid_laws::<Look>();
+        Ok(EcmaScreen {
+            grid: Grid::new(alloc, size.rows, size.columns, Look::blank())?,
+            spot: Spot::At(0, 0),
+            attrs: Attrs::empty(),
+            waiting: ArrayVec::new(),
+            undefined: false,
+        })
+    }
+
+    /// Feeds the next piece of the text, which may end anywhere. `Undefined` where something in the
+    /// text so far is undefined: the screen then stays as after the last unit before that, and every
+    /// later piece is answered so too (ECMA-48, 5.4 'Control sequences').
+    pub fn feed(&mut self, piece: &[u8]) -> Result<(), Undefined>
+        ensures fed { IsFed self.old piece.now self.new }
+        ensures answer { IsOk result ↔ (self.new.undefined ≡ false) }
+        ensures screen { IsScreen self.new }
+    {
+        if self.undefined {
+            return Err(Undefined);
+        }
+        for byte in piece {
+            self.feed_byte(*byte);
+        }
+        if self.undefined {
+            Err(Undefined)
+        } else {
+            Ok(())
+        }
+    }
+
+    /// How many rows and columns there are.
+    pub fn size(&self) -> Size
+        ensures rows { result.rows ≡ self.now.rows }
+        ensures columns { result.columns ≡ self.now.columns }
+        ensures screen { IsScreen self.now }
+    {
+        Size {
+            rows: self.grid.rows(),
+            columns: self.grid.columns(),
+        }
+    }
+
+    /// What is shown at a row and a column, which count from 0 at the top left.
+    pub fn cell(&self, row: u32, column: u32) -> Look
+        requires { IsPlace self.now.rows self.now.columns (row, column) }
+        ensures value { (other : LookView) → result ≡ grid_at other self.now.state.grid row column }
+        ensures look { IsLook result }
+    {
+        let look = self.grid.at(row, column);
+        let _byte = look.byte();
+        look
+    }
+
+    /// What is shown in a row, counted from 0 at the top.
+    pub fn row(&self, row: u32) -> &[Look]
+        requires { row < self.now.rows }
+        ensures cells { result.now ≡ grid_row self.now.state.grid row }
+        ensures width { length result.now ≡ self.now.columns }
+    {
+        self.grid.row(row)
+    }
+
+    /// Where the cursor is (ECMA-48, 'active presentation position').
+    pub fn spot(&self) -> Spot
+        ensures value { result ≡ self.now.state.spot }
+        ensures inside { IsSpot self.now.rows self.now.columns result }
+    {
+        self.spot
+    }
+
+    /// The attributes that are on (ECMA-48, 8.3.117 SGR).
+    pub fn rendition(&self) -> Attrs
+        ensures value { result.0 ≡ self.now.state.attrs }
+        ensures shown { bit_and every_attribute result.0 ≡ result.0 }
+    {
+        self.attrs
+    }
+
+    /// Whether the text so far ends inside a control sequence (ECMA-48, 5.4 'Control sequences').
+    pub fn waiting(&self) -> bool
+        ensures { IsTrue result ↔ IsWaiting self.now.waiting }
+    {
+        !self.waiting.as_slice().is_empty()
+    }
+
+    /// Takes the next byte.
+    fn feed_byte(&mut self, byte: u8)
+        ensures { IsFed self.old (byte ∷ []) self.new }
+    {
+        if self.undefined {
+            return;
+        }
+        let part = self.waiting.as_slice();
+        match read_byte(part, byte) {
+            Reading::Graphic => self.write(byte),
+            Reading::Held => self.waiting.push(byte),
+            Reading::Last => {
+                let change = control_sequence(self.size(), self.attrs, part, byte);
+                self.apply(change);
+            }
+            Reading::Other => self.apply(None),
+        }
+    }
+
+    /// Writes a graphic character at the cursor, which goes right; undefined at the margin.
+    fn write(&mut self, byte: u8)
+        requires character { IsCharacter byte }
+        requires whole { self.old.waiting ≡ [] }
+        ensures { self.new ≡ acted self.old (character_written self.old.columns self.old.state byte) }
+    {
+        match (self.spot, Look::new(byte, self.attrs)) {
+            (Spot::At(row, column), Some(look)) => {
+                self.grid.put(row, column, look);
+                self.spot = if column + 1 < self.grid.columns() {
+                    Spot::At(row, column + 1)
+                } else {
+                    Spot::Margin(row)
+                };
+            }
+            _ => self.undefined = true,
+        }
+    }
+
+    /// Makes a change, or becomes undefined where there is none.
+    fn apply(&mut self, change: Option<Change>)
+        requires { ForSome change (IsChange self.old.rows self.old.columns) }
+        ensures { self.new ≡ acted self.old (option_map (changed self.old.rows self.old.columns self.old.state) change) }
+    {
+        self.waiting.clear();
+        match change {
+            Some(change) => self.make(change),
+            None => self.undefined = true,
+        }
+    }
+
+    /// Makes a change.
+    fn make(&mut self, change: Change)
+        requires { IsChange self.old.rows self.old.columns change }
+        ensures { self.new ≡ record self.old { state = changed self.old.rows self.old.columns self.old.state change } }
+    {
+        match change {
+            Change::Moved(spot) => self.spot = spot,
+            Change::Erased => self.grid.fill_every(Look::blank()),
+            Change::Rendered(attrs) => self.attrs = attrs,
+        }
+    }
+}
