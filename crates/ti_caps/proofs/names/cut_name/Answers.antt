@@ -1,4 +1,4 @@
-use Rattle.std.proofs.Common.{◌≡◌, ◌∙◌, ℕ, zero, suc, ◌<◌, ◌≤◌, ◌+◌, ◌-◌, ◌⊎◌, inl, inr, Bor, MatchOption, take_all, length-drop, not, Bool, true, false, List, [], ◌∷◌, Option, Some, None, length, cond, ltb, eqb, take, drop, unwrap_or, refl, ap, sym, rules, arith, option_map}
+use Rattle.std.proofs.Common.{◌≡◌, ◌∙◌, ℕ, suc, ◌<◌, ◌≤◌, ◌+◌, ◌-◌, ◌⊎◌, inl, inr, Bor, MatchOption, take_all, length-drop, not, Bool, true, false, List, [], ◌∷◌, Option, Some, None, length, cond, ltb, take, drop, unwrap_or, refl, ap, sym, rules, arith, option_map}
 use Rattle.std.specs.List.{position_or_len, onto_first, slice_range}
 use Rattle.std.proofs.lemmas.List.Sums.{prefix_len-le-length}
 use Rattle.std.proofs.lemmas.Iterator.Search.{position_from_yields_List}
