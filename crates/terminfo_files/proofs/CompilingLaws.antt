@@ -7,7 +7,7 @@ use Rattle.std.proofs.lemmas.List.Folds.{list_all-append}
 use Rattle.std.proofs.lemmas.Grind.{flat_map-append}
 use Rattle.ti_caps.specs.Description.{Description}
 use Rattle.ti_source.specs.Described.{Described}
-use Rattle.ti_source.specs.Resolving.{Resolve, Resolved}
+use Rattle.ti_source.specs.Resolving.Uses.{Resolve, Resolved}
 use Rattle.terminfo_files.specs.declared.fault.TicFault.{TicFault}
 use Rattle.terminfo_files.specs.Compiling.{AreCompiled, IsFirstRefused, Refused, files_of, refusal_of, size_of}
 use Rattle.terminfo_files.specs.Progress.{with_entry, written_of}

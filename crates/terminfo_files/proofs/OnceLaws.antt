@@ -4,7 +4,7 @@ use Rattle.std.specs.Prelude.{is_none, IfErr, IsOkUnless, Result}
 use Rattle.std.specs.List.{list_all, flat_map}
 use Rattle.ti_caps.specs.Description.{Description}
 use Rattle.ti_source.specs.Described.{Described}
-use Rattle.ti_source.specs.Resolving.{Resolve, nothing, more, Resolved, ResolveOnce, FaultOnce, ResolveOrFault}
+use Rattle.ti_source.specs.Resolving.Uses.{Resolve, nothing, more, Resolved, ResolveOnce, FaultOnce, ResolveOrFault}
 use Rattle.terminfo_files.specs.declared.compiler.Compiled.{Compiled}
 use Rattle.terminfo_files.specs.declared.fault.TicFault.{TicFault}
 use Rattle.terminfo_files.specs.declared.fault.TicFault.TheVariants.{Source, NoMemory}

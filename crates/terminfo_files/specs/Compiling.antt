@@ -8,8 +8,8 @@ use Rattle.ti_binary.specs.Canonical.{canonical}
 use Rattle.ti_binary.specs.declared.encoder.EncFault.TheVariants.{NamesTooLong, TooLarge}
 use Rattle.ti_source.specs.declared.fault.SourceFault.{SourceFault}
 use Rattle.ti_source.specs.Described.{Described}
-use Rattle.ti_source.specs.Reading.{Whole, source_of}
-use Rattle.ti_source.specs.Resolving.{Resolve, Resolved, Unresolved}
+use Rattle.ti_source.specs.Reading.Sources.{Whole, source_of}
+use Rattle.ti_source.specs.Resolving.Uses.{Resolve, Resolved, Unresolved}
 use Rattle.terminfo_files.specs.declared.compiler.Compiled.{Compiled}
 use Rattle.terminfo_files.specs.declared.fault.TicFault.{TicFault}
 use Rattle.terminfo_files.specs.declared.fault.TicFault.TheVariants.{Source, Encode, BadFileName}

@@ -2,7 +2,7 @@
 
 ghost use Rattle.std.specs.Prelude.{◌≡◌, ◌⊎◌, ◌∷◌, ◌++◌, IfErr, IfOk, IsOkUnless, OnOk, None, Some, map};
 ghost use Rattle.ti_caps.specs.Description.{Description};
-ghost use Rattle.ti_source.specs.Resolving.{Resolved};
+ghost use Rattle.ti_source.specs.Resolving.Uses.{Resolved};
 ghost use Rattle.terminfo_files.specs.Compiling.{AreCompiled, CanBeCompiled, IsCompiled, IsFaulty, IsFirstRefused, Refused, names_of, refusal_of};
 ghost use Rattle.terminfo_files.specs.Faults.{IsPlain};
 ghost use Rattle.terminfo_files.specs.Progress.{with_entry, written_of};

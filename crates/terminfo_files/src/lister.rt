@@ -4,8 +4,8 @@ ghost use Rattle.std.specs.Prelude.{◌≡◌, ◌⊎◌, IfErr, IfOk, IsErrOf, 
 ghost use Rattle.ti_binary.specs.declared.faults.BinFault.{BinFault};
 ghost use Rattle.ti_binary.specs.Files.{Reads, refusal};
 ghost use Rattle.ti_caps.specs.Description.{Description, unnamed_count};
-ghost use Rattle.ti_source.specs.Print.{printed};
-ghost use Rattle.ti_source.specs.ReadBack.{ReadsBack};
+ghost use Rattle.ti_source.specs.Printing.Print.{printed};
+ghost use Rattle.ti_source.specs.Printing.ReadBack.{ReadsBack};
 ghost use Rattle.terminfo_files.specs.Faults.{IsPlain};
 
 use crate::fault::TicFault;

@@ -6,11 +6,11 @@ use Rattle.std.proofs.lemmas.Bool.{eqb-true, ltb-true}
 use Rattle.std.proofs.lemmas.Option.{slice_get-get_or}
 use Rattle.ti_caps.specs.Description.{Description}
 use Rattle.ti_source.specs.declared.fault.SourceFault.TheVariants.{UnknownName}
-use Rattle.ti_source.specs.declared.statement.Statement.{Statement}
+use Rattle.ti_source.specs.declared.reading.statement.Statement.{Statement}
 use Rattle.ti_source.specs.Described.{Described}
-use Rattle.ti_source.specs.Named.{has_name, place_of}
-use Rattle.ti_source.specs.Resolving.{merged, nothing, unknown, Resolve, Resolved, StandsAlone, Unresolved}
-use Rattle.ti_source.specs.Walk.{of_fields}
+use Rattle.ti_source.specs.Resolving.Named.{has_name, index_of}
+use Rattle.ti_source.specs.Resolving.Uses.{merged, nothing, unknown, Resolve, Resolved, StandsAlone, Unresolved}
+use Rattle.ti_source.specs.Code.Walk.{of_fields}
 use Rattle.ti_source.proofs.NamedLaws.{found-any, found-none}
 use Rattle.ti_source.proofs.TaskLaws.{resolved-at}
 
@@ -24,8 +24,8 @@ pub found-in : (entries held : List Described) (i : ℕ) (d e : Described) → h
 found-in entries held i d e same less is =
     ap (λ es. slice_get es i) (sym same) ∙ slice_get-get_or held i e (ltb-true i (length held) less) ∙ ap Some (sym is)
 
-pub alone-resolves : (entries : List Described) (name : List ℕ) (place : Option ℕ) (d : Described) (used : List Description) → place ≡ place_of entries name → StandsAlone entries place d → used ≡ [] → Resolved entries name (merged d used)
-alone-resolves entries name place d used is (i, at, found, none) empty =
+pub alone-resolves : (entries : List Described) (name : List ℕ) (index : Option ℕ) (d : Described) (used : List Description) → index ≡ index_of entries name → StandsAlone entries index d → used ≡ [] → Resolved entries name (merged d used)
+alone-resolves entries name index d used is (i, at, found, none) empty =
     let uses : Resolve entries d.uses used = rw (none, empty) nothing in
     resolved-at entries i d used found uses name (sym is ∙ at)
 
@@ -39,14 +39,14 @@ unfolding merged
 alone-merged d names fields named own = ap (λ ns. merged (of_fields ns fields) []) named ∙ ap (λ fs. merged (of_fields d.names fs) []) own
 
 -- a name that no entry has
-pub no-name : (entries : List Described) (name : List ℕ) (place : Option ℕ) → place ≡ place_of entries name → is_none place ≡ true → Unresolved entries name UnknownName
+pub no-name : (entries : List Described) (name : List ℕ) (index : Option ℕ) → index ≡ index_of entries name → is_none index ≡ true → Unresolved entries name UnknownName
 no-name entries name None is none = unknown (found-none name entries is)
 no-name entries name (Some i) is none = cc
 
 -- a name that has a place is a name of an entry
-pub has-place : (entries : List Described) (name : List ℕ) (place : Option ℕ) → place ≡ place_of entries name → is_none place ≡ false → list_any (has_name name) entries ≡ false → ⊥
-has-place entries name place is some none =
-    by place (ap is_some is ∙ found-any 0 name entries ∙ none) some
+pub has-index : (entries : List Described) (name : List ℕ) (index : Option ℕ) → index ≡ index_of entries name → is_none index ≡ false → list_any (has_name name) entries ≡ false → ⊥
+has-index entries name index is some none =
+    by index (ap is_some is ∙ found-any 0 name entries ∙ none) some
   where
     by : (p : Option ℕ) → is_some p ≡ false → is_none p ≡ false → ⊥
     by None e h = cc

@@ -2,7 +2,7 @@
 use Rattle.std.proofs.Common.{◌≡◌, ℕ, ◌<◌, Bool, true, false, ◌||◌, eqb, List, [], ◌∷◌, Option, Some, None, IfSome, refl, arith}
 use Rattle.std.proofs.lemmas.Bool.Decides.{nat_tests}
 use Rattle.ti_caps.specs.Description.{AreBytes, Description, IsDescription, has_nul, text_at}
-use Rattle.ti_source.specs.Escape.{IsText}
+use Rattle.ti_source.specs.Reading.Escape.{IsText}
 
 -- the texts are bytes, none of which is 0
 abbrev pub HasTexts : Description → Type 0

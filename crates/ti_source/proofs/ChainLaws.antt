@@ -7,18 +7,18 @@ use Rattle.std.proofs.lemmas.List.{length-set}
 use Rattle.ti_caps.specs.Description.{Description}
 use Rattle.ti_source.specs.declared.fault.SourceFault.{SourceFault}
 use Rattle.ti_source.specs.declared.fault.SourceFault.TheVariants.{UseCycle}
-use Rattle.ti_source.specs.declared.statement.Statement.{Statement}
-use Rattle.ti_source.specs.declared.walk.Mark.{Mark}
-use Rattle.ti_source.specs.declared.walk.Mark.TheVariants.{New, Open, Done, Faulty}
-use Rattle.ti_source.specs.declared.walk.Task.{Task}
-use Rattle.ti_source.specs.declared.walk.Task.TheVariants.{Visit, Leave}
+use Rattle.ti_source.specs.declared.reading.statement.Statement.{Statement}
+use Rattle.ti_source.specs.declared.resolving.walk.Mark.{Mark}
+use Rattle.ti_source.specs.declared.resolving.walk.Mark.TheVariants.{New, Open, Done, Faulty}
+use Rattle.ti_source.specs.declared.resolving.walk.Task.{Task}
+use Rattle.ti_source.specs.declared.resolving.walk.Task.TheVariants.{Visit, Leave}
 use Rattle.ti_source.specs.Described.{Described}
-use Rattle.ti_source.specs.Named.{found_from, place_of}
-use Rattle.ti_source.specs.Resolving.{Resolve, nothing, more, Fault, unknown, cycle, below, later}
-use Rattle.ti_source.specs.Walk.{visits, leaves, FaultAt, ResolvedAt, Awaits, Awaited, IsTakenBack, IsWalk, with_fault}
+use Rattle.ti_source.specs.Resolving.Named.{found_from, index_of}
+use Rattle.ti_source.specs.Resolving.Uses.{Resolve, nothing, more, Fault, unknown, cycle, below, later}
+use Rattle.ti_source.specs.Code.Walk.{visits, leaves, FaultAt, ResolvedAt, Awaits, Awaited, IsTakenBack, IsWalk, with_fault}
 use Rattle.ti_source.proofs.OnceLaws.{fault-is-once}
-use Rattle.ti_source.proofs.PlaceLaws.{get-cases, get-lt, get-within, reverse-push}
-use Rattle.ti_source.proofs.TaskLaws.{fault-more, found-at, no-fault, place-there}
+use Rattle.ti_source.proofs.IndexLaws.{get-cases, get-lt, get-within, reverse-push}
+use Rattle.ti_source.proofs.TaskLaws.{fault-more, found-at, no-fault, index-there}
 
 -- ---- chains
 
@@ -70,8 +70,8 @@ shorter {entries} {few} all covers (cycle {name = n} {names = ns} {found = x} e 
     elim (covers x.0 on) [
       | inl there ↦ cycle {found = x} e there
       | inr h ↦
-          let place : place_of entries n ≡ Some x.0 = ap (option_map (λ (p : ℕ × Described). p.0)) e in
-          fault-more entries few n ns UseCycle (closed (h n place))
+          let index : index_of entries n ≡ Some x.0 = ap (option_map (λ (p : ℕ × Described). p.0)) e in
+          fault-more entries few n ns UseCycle (closed (h n index))
     ]
 shorter {entries} {few} {many} all covers (below {found = x} {fault = f} e off is) =
     below {found = x} e (off-few few many x.0 all off) (shorter (all-more few many x.0 all) (λ i on. by i (eqb x.0 i) on (covers i)) is)
@@ -100,15 +100,15 @@ record Next (entries : List Described) (p : Option ℕ) (first : List (Option �
   name : List ℕ
   rest : List (List ℕ)
   all : names ≡ name ∷ rest
-  place : place_of entries name ≡ p
-  others : map (place_of entries) rest ≡ first
+  index : index_of entries name ≡ p
+  others : map (index_of entries) rest ≡ first
 
-next-of : (entries : List Described) (p : Option ℕ) (first : List (Option ℕ)) (names : List (List ℕ)) → map (place_of entries) names ≡ p ∷ first → Next entries p first names
+next-of : (entries : List Described) (p : Option ℕ) (first : List (Option ℕ)) (names : List (List ℕ)) → map (index_of entries) names ≡ p ∷ first → Next entries p first names
 next-of entries p first [] e = cc
 next-of entries p first (u ∷ us) e =
-    let here : place_of entries u ≡ p = cc in
-    let behind : map (place_of entries) us ≡ first = cc in
-    record { name = u; rest = us; all = refl; place = here; others = behind }
+    let here : index_of entries u ≡ p = cc in
+    let behind : map (index_of entries) us ≡ first = cc in
+    record { name = u; rest = us; all = refl; index = here; others = behind }
 
 -- what was visited first resolves
 pub awaited-done : (entries : List Described) (tasks : List Task) (first : List (Option ℕ)) (p : Option ℕ) (d : Description) → ResolvedAt entries p d → Awaited entries (p ∷ first) tasks → Awaited entries first tasks
@@ -124,17 +124,17 @@ awaited-done entries (Leave i ∷ tasks) first p d r h =
         behind = next.rest;
         uses = a.uses ∙ ap (λ us. a.before ++ us) next.all ∙ sym (append_assoc a.before (next.name ∷ []) next.rest);
         used = a.used ++ d ∷ [];
-        resolved = resolve-append a.resolved (r next.name next.place);
+        resolved = resolve-append a.resolved (r next.name next.index);
         awaited = next.others;
         once = a.once;
       },
       h.1,
     )
 
-awaited-visits : (entries : List Described) (us : List (List ℕ)) (first : List (Option ℕ)) (rest : List Task) → Awaited entries (first ++ map (place_of entries) us) rest → Awaited entries first (visits entries us ++ rest)
+awaited-visits : (entries : List Described) (us : List (List ℕ)) (first : List (Option ℕ)) (rest : List Task) → Awaited entries (first ++ map (index_of entries) us) rest → Awaited entries first (visits entries us ++ rest)
 awaited-visits entries [] first rest h = subst (λ ps. Awaited entries ps rest) (append-nil first) h
 awaited-visits entries (u ∷ us) first rest h =
-    awaited-visits entries us (first ++ place_of entries u ∷ []) rest (subst (λ ps. Awaited entries ps rest) (sym (append_assoc first (place_of entries u ∷ []) (map (place_of entries) us))) h)
+    awaited-visits entries us (first ++ index_of entries u ∷ []) rest (subst (λ ps. Awaited entries ps rest) (sym (append_assoc first (index_of entries u ∷ []) (map (index_of entries) us))) h)
 
 -- an entry is entered, which awaits all its uses
 pub awaited-entered : (entries : List Described) (i : ℕ) (d : Described) (tasks : List Task) → slice_get entries i ≡ Some d → list_any (λ j. eqb j i) (leaves tasks) ≡ false → Awaited entries (Some i ∷ []) tasks → Awaited entries [] (visits entries d.uses ++ Leave i ∷ tasks)
@@ -147,12 +147,12 @@ awaited-entered entries i d tasks at off h =
 -- ---- the fault of all that are left later
 
 fault-above : (entries : List Described) (first : List (Option ℕ)) (p : Option ℕ) (i : ℕ) (tasks : List Task) (fault : SourceFault) → Awaits entries (p ∷ first) i tasks → FaultAt entries (i ∷ leaves tasks) p fault → FaultAt entries (leaves tasks) (Some i) fault
-fault-above entries first p i tasks fault a h name place =
+fault-above entries first p i tasks fault a h name index =
     let next = next-of entries p first a.behind a.awaited in
-    let here = fault-more entries (i ∷ leaves tasks) next.name next.rest fault (h next.name next.place) in
+    let here = fault-more entries (i ∷ leaves tasks) next.name next.rest fault (h next.name next.index) in
     let all = later-all a.resolved here in
     let uses : a.before ++ next.name ∷ next.rest ≡ a.entry.uses = ap (λ us. a.before ++ us) (sym next.all) ∙ sym a.uses in
-    below {found = (i, a.entry)} (found-at entries name i a.entry place a.at) a.once (subst (λ us. Fault entries (i ∷ leaves tasks) us fault) uses all)
+    below {found = (i, a.entry)} (found-at entries name i a.entry index a.at) a.once (subst (λ us. Fault entries (i ∷ leaves tasks) us fault) uses all)
 
 -- the fault of a visit is that of each entry on its chain, by itself, and its own by itself
 pub fault-through : (entries : List Described) (tasks : List Task) (first : List (Option ℕ)) (p : Option ℕ) (fault : SourceFault) → Awaited entries (p ∷ first) tasks → FaultAt entries (leaves tasks) p fault → ((i : ℕ) → on_chain (leaves tasks) i → FaultAt entries [] (Some i) fault) × FaultAt entries [] p fault
@@ -169,7 +169,7 @@ fault-through entries (Leave i ∷ tasks) first p fault w h =
     through : ((j : ℕ) → on_chain (leaves tasks) j → FaultAt entries [] (Some j) fault) × FaultAt entries [] (Some i) fault → ((j : ℕ) → on_chain (i ∷ leaves tasks) j → FaultAt entries [] (Some j) fault) × FaultAt entries [] p fault
     through rest =
         let all : (j : ℕ) → on_chain (i ∷ leaves tasks) j → FaultAt entries [] (Some j) fault = λ j on. by rest.0 rest.1 j (eqb i j) refl on in
-        (all, λ name place. alone all (h name place))
+        (all, λ name index. alone all (h name index))
 
 -- names of one entry have one fault
 same-fault : (entries : List Described) (chain : List ℕ) (name other : List ℕ) (fault : SourceFault) → found_from 0 name entries ≡ found_from 0 other entries → Fault entries chain (name ∷ []) fault → Fault entries chain (other ∷ []) fault
@@ -183,16 +183,16 @@ same-fault entries chain name other fault same one = by one refl
 
 -- what an entry has by itself it has over the chain from which it is visited
 pub faulty-at : (entries : List Described) (tasks : List Task) (i : ℕ) (fault : SourceFault) → Awaited entries (Some i ∷ []) tasks → FaultAt entries [] (Some i) fault → FaultAt entries (leaves tasks) (Some i) fault
-faulty-at entries tasks i fault w h name place =
-    elim (longer (none-on (leaves tasks)) (h name place)) [
+faulty-at entries tasks i fault w h name index =
+    elim (longer (none-on (leaves tasks)) (h name index)) [
       | inl f ↦ f
       | inr f ↦
-          let lt = place-there entries name i place in
+          let lt = index-there entries name i index in
           let d = get-within entries i lt in
-          let found : (other : List ℕ) → place_of entries other ≡ Some i → found_from 0 other entries ≡ Some (i, d.0) = λ other at. found-at entries other i d.0 at d.1 in
-          let all : FaultAt entries (leaves tasks) (Some i) UseCycle = λ other at. same-fault entries (leaves tasks) name other UseCycle (found name place ∙ sym (found other at)) f in
+          let found : (other : List ℕ) → index_of entries other ≡ Some i → found_from 0 other entries ≡ Some (i, d.0) = λ other at. found-at entries other i d.0 at d.1 in
+          let all : FaultAt entries (leaves tasks) (Some i) UseCycle = λ other at. same-fault entries (leaves tasks) name other UseCycle (found name index ∙ sym (found other at)) f in
           let own = fault-through entries tasks [] (Some i) UseCycle w all in
-          let is : UseCycle ≡ fault = fault-is-once entries (name ∷ []) UseCycle fault (own.1 name place) (h name place) in
+          let is : UseCycle ≡ fault = fault-is-once entries (name ∷ []) UseCycle fault (own.1 name index) (h name index) in
           subst (λ g. Fault entries (leaves tasks) (name ∷ []) g) is f
     ]
 

@@ -3,9 +3,9 @@ use Rattle.std.proofs.Common.{◌≡◌, ◌≢◌, ◌∙◌, ℕ, Bool, true, 
 use Rattle.std.specs.List.{onto_first}
 use Rattle.std.proofs.lemmas.Bool.{eqb-true}
 use Rattle.std.proofs.lemmas.Bool.Decides.{nat_tests}
-use Rattle.ti_source.specs.Field.{takes_next, fields}
-use Rattle.ti_source.specs.Cutting.{IsField, AreFields, more, last, cut, AreCut}
-use Rattle.ti_source.specs.Cutting as cutting
+use Rattle.ti_source.specs.Reading.Field.{takes_next, fields}
+use Rattle.ti_source.specs.Reading.Cutting.{IsField, AreFields, more, last, cut, AreCut}
+use Rattle.ti_source.specs.Reading.Cutting as cutting
 
 test-of : (b k : ℕ) → b ≢ k → eqb b k ≡ false
 test-of b k ne = grind (arith, nat_tests)

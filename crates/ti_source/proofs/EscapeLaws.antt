@@ -2,7 +2,7 @@
 use Rattle.std.proofs.Common.{◌≡◌, ◌∙◌, ℕ, zero, suc, ◌-◌, ◌<◌, Bool, true, false, ◌&&◌, ◌||◌, eqb, cond, List, [], ◌∷◌, ◌++◌, take, drop, length, refl, ap, sym, append_assoc, append-nil, arith, lit<}
 use Rattle.std.proofs.lemmas.List.{take_rest}
 use Rattle.ti_caps.specs.Description.{has_nul}
-use Rattle.ti_source.specs.Escape.{begins_octal, decoded, decoded_after, meant, not_nul, written_length}
+use Rattle.ti_source.specs.Reading.Escape.{begins_octal, decoded, decoded_after, meant, not_nul, written_length}
 
 -- bytes that belong to a character before are passed over
 pub decoded_after-drop : (k : ℕ) (bs : List ℕ) → decoded_after k bs ≡ decoded_after 0 (drop k bs)

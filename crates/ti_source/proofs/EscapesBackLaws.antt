@@ -1,7 +1,7 @@
 -- A printed text stands for the text that it was printed from.
 use Rattle.std.proofs.Common.{◌≡◌, ◌∙◌, ℕ, ◌+◌, ◌/◌, ◌%◌, ◌<◌, Bool, true, false, cond, eqb, ltb, leb, ◌||◌, ◌⊎◌, inl, inr, List, [], ◌∷◌, ◌++◌, refl, ap, sym, subst, arith}
 use Rattle.std.proofs.lemmas.Bool.Decides.{nat_tests}
-use Rattle.ti_source.specs.Escape.{is_octal, letter, control, octal, not_nul, decoded, printed_byte, printed_text, IsText}
+use Rattle.ti_source.specs.Reading.Escape.{is_octal, letter, control, octal, not_nul, decoded, printed_byte, printed_text, IsText}
 
 by_test : (P : List ℕ → Type 0) (t : Bool) (xs ys : List ℕ) → ((t ≡ true) → P xs) → ((t ≡ false) → P ys) → P (cond t xs ys)
 by_test P true xs ys then-so else-so = then-so refl

@@ -1,7 +1,7 @@
 -- Facts on how a line is cut into fields.
 use Rattle.std.proofs.Common.{◌≡◌, ℕ, ◌+◌, ◌<◌, Bool, true, false, not, ◌&&◌, eqb, cond, get_or, drop, length, List, [], ◌∷◌, ◌++◌, refl, ap, sym, append_assoc}
 use Rattle.std.proofs.lemmas.List.{drop_more}
-use Rattle.ti_source.specs.Field.{fields_after, takes_next}
+use Rattle.ti_source.specs.Reading.Field.{fields_after, takes_next}
 use Rattle.std.specs.List.{onto_first}
 
 -- parts, the first of which has more in front

@@ -11,14 +11,14 @@ use Rattle.ti_caps.specs.declared.table.Kind.{Kind}
 use Rattle.ti_caps.specs.declared.table.Kind.TheVariants.{Flag, Number, Text}
 use Rattle.ti_caps.specs.Table.{name_at, capability_of}
 use Rattle.ti_caps.proofs.Once.{name_is_found}
-use Rattle.ti_source.specs.declared.statement.Said.{Said}
-use Rattle.ti_source.specs.declared.statement.Said.TheVariants as said
-use Rattle.ti_source.specs.Escape.{printed_text, IsText}
-use Rattle.ti_source.specs.Field.{form_of, form_of_trimmed, form_by, is_blank, ends_name, name_length, without_lead, without_trail}
-use Rattle.ti_source.specs.Steps.{Filling, with_form, with_statement, is_stated}
+use Rattle.ti_source.specs.declared.reading.statement.FieldValue.{FieldValue}
+use Rattle.ti_source.specs.declared.reading.statement.FieldValue.TheVariants as field_value
+use Rattle.ti_source.specs.Reading.Escape.{printed_text, IsText}
+use Rattle.ti_source.specs.Reading.Field.{form_of, form_of_trimmed, form_by, is_blank, ends_name, name_length, without_lead, without_trail}
+use Rattle.ti_source.specs.Code.Steps.{OpenEntry, with_form, with_statement, is_stated}
 use Rattle.ti_source.proofs.EscapesBackLaws.{decoded-printed_text}
 use Rattle.ti_source.proofs.NumbersBackLaws.{number-decimal}
-use Rattle.ti_source.proofs.TableBytesLaws.{both, begins_letter, is_graphic, is_letter, is_written, name-is-written}
+use Rattle.ti_source.proofs.TableBytesLaws.{both, begins_letter, is_graphic, is_letter, is_written, name-is-written_entries}
 use Rattle.ti_source.proofs.FieldsBackLaws.{IsValue, IsValue-append, IsValue-first, letters-are-value, decimal-is-value, printed_text-is-value}
 
 graphic-no_blank : (b : ℕ) → is_graphic b ≡ true → is_blank b ≡ false
@@ -119,17 +119,17 @@ form-of-value w e =
     ap (λ x. form_of_trimmed (without_trail x) x) (lead-value w e) ∙ ap (λ x. form_of_trimmed x w) (trail-value w e)
 
 -- what is written behind a name
-abbrev pub value_of : Said → List ℕ
-value_of said.Present = []
-value_of (said.Number n) = 35 ∷ decimal n
-value_of (said.Text text) = 61 ∷ printed_text text
-value_of said.Cancelled = 64 ∷ []
+abbrev pub value_of : FieldValue → List ℕ
+value_of field_value.Present = []
+value_of (field_value.Number n) = 35 ∷ decimal n
+value_of (field_value.Text text) = 61 ∷ printed_text text
+value_of field_value.Cancelled = 64 ∷ []
 
 -- what a capability of a kind can have
-abbrev pub Fits : Kind → Said → Type 0
-Fits Flag said.Present = Unit {0}
-Fits Number (said.Number n) = n ≤ 32767
-Fits Text (said.Text text) = IsText text
+abbrev pub Fits : Kind → FieldValue → Type 0
+Fits Flag field_value.Present = Unit {0}
+Fits Number (field_value.Number n) = n ≤ 32767
+Fits Text (field_value.Text text) = IsText text
 Fits _ _ = ⊥
 
 -- the name and what is written behind it
@@ -144,25 +144,25 @@ field-of name value w e is =
     let all = IsValue-append name value (letters-are-value name letters.0) is in
     record { whole = all; form = form-of-value (name ++ value) all.graphic ∙ trimmed-form name value w e }
 
-pub value-is-value : (kind : Kind) (s : Said) → Fits kind s → IsValue (value_of s)
-value-is-value Flag said.Present h = letters-are-value [] refl
-value-is-value Number (said.Number n) h = IsValue-first 35 (decimal n) refl refl refl (decimal-is-value n (omega arith))
-value-is-value Text (said.Text text) h = IsValue-first 61 (printed_text text) refl refl refl (printed_text-is-value text h)
-value-is-value Flag (said.Number n) h = absurd h
-value-is-value Flag (said.Text t) h = absurd h
-value-is-value Flag said.Cancelled h = absurd h
-value-is-value Number said.Present h = absurd h
-value-is-value Number (said.Text t) h = absurd h
-value-is-value Number said.Cancelled h = absurd h
-value-is-value Text said.Present h = absurd h
-value-is-value Text (said.Number n) h = absurd h
-value-is-value Text said.Cancelled h = absurd h
+pub value-is-value : (kind : Kind) (s : FieldValue) → Fits kind s → IsValue (value_of s)
+value-is-value Flag field_value.Present h = letters-are-value [] refl
+value-is-value Number (field_value.Number n) h = IsValue-first 35 (decimal n) refl refl refl (decimal-is-value n (omega arith))
+value-is-value Text (field_value.Text text) h = IsValue-first 61 (printed_text text) refl refl refl (printed_text-is-value text h)
+value-is-value Flag (field_value.Number n) h = absurd h
+value-is-value Flag (field_value.Text t) h = absurd h
+value-is-value Flag field_value.Cancelled h = absurd h
+value-is-value Number field_value.Present h = absurd h
+value-is-value Number (field_value.Text t) h = absurd h
+value-is-value Number field_value.Cancelled h = absurd h
+value-is-value Text field_value.Present h = absurd h
+value-is-value Text (field_value.Number n) h = absurd h
+value-is-value Text field_value.Cancelled h = absurd h
 
-value-ends : (s : Said) → ends_here (value_of s) ≡ true
-value-ends said.Present = refl
-value-ends (said.Number n) = refl
-value-ends (said.Text text) = refl
-value-ends said.Cancelled = refl
+value-ends : (s : FieldValue) → ends_here (value_of s) ≡ true
+value-ends field_value.Present = refl
+value-ends (field_value.Number n) = refl
+value-ends (field_value.Text text) = refl
+value-ends field_value.Cancelled = refl
 
 not-use : (name : List ℕ) → is_written name ≡ true → bytes_eq name (117 ∷ 115 ∷ 101 ∷ []) ≡ false
 not-use name w =
@@ -174,32 +174,32 @@ not-use name w =
     not-true false h = refl
 
 -- what such a field adds
-adds : (kind : Kind) (slot n : ℕ) (s : Said) (name : List ℕ) (f : Filling) → Fits kind s → is_written name ≡ true → capability_of name ≡ Some (kind, slot) → is_stated kind slot f ≡ false → with_form n (form_by name (value_of s) (drop 1 (value_of s))) f ≡ Ok (with_statement kind slot s f)
+adds : (kind : Kind) (slot n : ℕ) (s : FieldValue) (name : List ℕ) (f : OpenEntry) → Fits kind s → is_written name ≡ true → capability_of name ≡ Some (kind, slot) → is_stated kind slot f ≡ false → with_form n (form_by name (value_of s) (drop 1 (value_of s))) f ≡ Ok (with_statement kind slot s f)
 unfolding with_form
-adds Flag slot n said.Present name f h w found fresh = rw (found, fresh) refl
-adds Number slot n (said.Number v) name f h w found fresh =
+adds Flag slot n field_value.Present name f h w found fresh = rw (found, fresh) refl
+adds Number slot n (field_value.Number v) name f h w found fresh =
     let small : leb v 32767 ≡ true = grind (arith, nat_tests) in
     rw (found, number-decimal v (omega arith), fresh, small) refl
-adds Text slot n (said.Text text) name f h w found fresh =
+adds Text slot n (field_value.Text text) name f h w found fresh =
     rw (not-use name w, found, fresh, decoded-printed_text text h) refl
-adds Flag slot n (said.Number v) name f h w found fresh = absurd h
-adds Flag slot n (said.Text t) name f h w found fresh = absurd h
-adds Flag slot n said.Cancelled name f h w found fresh = absurd h
-adds Number slot n said.Present name f h w found fresh = absurd h
-adds Number slot n (said.Text t) name f h w found fresh = absurd h
-adds Number slot n said.Cancelled name f h w found fresh = absurd h
-adds Text slot n said.Present name f h w found fresh = absurd h
-adds Text slot n (said.Number v) name f h w found fresh = absurd h
-adds Text slot n said.Cancelled name f h w found fresh = absurd h
+adds Flag slot n (field_value.Number v) name f h w found fresh = absurd h
+adds Flag slot n (field_value.Text t) name f h w found fresh = absurd h
+adds Flag slot n field_value.Cancelled name f h w found fresh = absurd h
+adds Number slot n field_value.Present name f h w found fresh = absurd h
+adds Number slot n (field_value.Text t) name f h w found fresh = absurd h
+adds Number slot n field_value.Cancelled name f h w found fresh = absurd h
+adds Text slot n field_value.Present name f h w found fresh = absurd h
+adds Text slot n (field_value.Number v) name f h w found fresh = absurd h
+adds Text slot n field_value.Cancelled name f h w found fresh = absurd h
 
 -- the field of a capability with a name
-pub record IsPrinted (kind : Kind) (slot : ℕ) (s : Said) (name : List ℕ) : Type 0 where
+pub record IsPrinted (kind : Kind) (slot : ℕ) (s : FieldValue) (name : List ℕ) : Type 0 where
   pub value : IsValue (name ++ value_of s)
-  pub adds : (n : ℕ) (f : Filling) → is_stated kind slot f ≡ false → with_form n (form_of (9 ∷ (name ++ value_of s))) f ≡ Ok (with_statement kind slot s f)
+  pub adds : (n : ℕ) (f : OpenEntry) → is_stated kind slot f ≡ false → with_form n (form_of (9 ∷ (name ++ value_of s))) f ≡ Ok (with_statement kind slot s f)
 
-pub is-printed : (kind : Kind) (slot : ℕ) (s : Said) (name : List ℕ) → name_at kind slot ≡ Some name → Fits kind s → IsPrinted kind slot s name
+pub is-printed : (kind : Kind) (slot : ℕ) (s : FieldValue) (name : List ℕ) → name_at kind slot ≡ Some name → Fits kind s → IsPrinted kind slot s name
 is-printed kind slot s name at h =
-    let w = name-is-written kind slot name at in
+    let w = name-is-written_entries kind slot name at in
     let field = field-of name (value_of s) w (value-ends s) (value-is-value kind s h) in
     record {
       value = field.whole;

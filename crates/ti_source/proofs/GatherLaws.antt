@@ -3,17 +3,17 @@ use Rattle.std.proofs.Common.{◌≡◌, ◌∙◌, ℕ, ◌<◌, true, List, []
 use Rattle.ti_caps.specs.declared.table.Kind.{Kind}
 use Rattle.ti_caps.specs.Description.{Description}
 use Rattle.ti_caps.specs.Table.{or_else}
-use Rattle.ti_source.specs.declared.statement.Said.{Said}
-use Rattle.ti_source.specs.declared.statement.Statement.{Statement}
-use Rattle.ti_source.specs.declared.walk.Mark.{Mark}
-use Rattle.ti_source.specs.declared.walk.Mark.TheVariants.{New, Open, Done, Faulty}
+use Rattle.ti_source.specs.declared.reading.statement.FieldValue.{FieldValue}
+use Rattle.ti_source.specs.declared.reading.statement.Statement.{Statement}
+use Rattle.ti_source.specs.declared.resolving.walk.Mark.{Mark}
+use Rattle.ti_source.specs.declared.resolving.walk.Mark.TheVariants.{New, Open, Done, Faulty}
 use Rattle.ti_source.specs.Described.{Described}
-use Rattle.ti_source.specs.Named.{place_of}
-use Rattle.ti_source.specs.Resolving.{Resolve, nothing, merged, said_of}
-use Rattle.ti_source.specs.Spoken.{AreInForce, first_said, room, said_in}
-use Rattle.ti_source.specs.Walk.{AreKnown, Gathers, Keeps, Kept, ResolvedAt, done_at, known, of_fields, position}
+use Rattle.ti_source.specs.Resolving.Named.{index_of}
+use Rattle.ti_source.specs.Resolving.Uses.{Resolve, nothing, merged, value_of_capability}
+use Rattle.ti_source.specs.Code.FirstFields.{AreEffective, first_value, room, value_in}
+use Rattle.ti_source.specs.Code.Walk.{AreKnown, Gathers, Keeps, Kept, ResolvedAt, done_at, known, of_fields, position}
 use Rattle.ti_source.proofs.StandsForLaws.{stands-for}
-use Rattle.ti_source.proofs.MergedBackLaws.{said_of-append, or-none}
+use Rattle.ti_source.proofs.MergedBackLaws.{value_of_capability-append, or-none}
 use Rattle.ti_source.proofs.TaskLaws.{resolve-cons, resolved-at}
 
 -- what is kept of a place that is done
@@ -28,49 +28,49 @@ kept-at entries marks kept (Some j) k keeps at = (j, refl, keeps j k (by (slice_
     by (Some (Faulty f)) e = cc
     by (Some (Done m)) e = let same : m ≡ k = cc in rw same refl
 
-or-or : (a b c : Option Said) → or_else (or_else a b) c ≡ or_else a (or_else b c)
+or-or : (a b c : Option FieldValue) → or_else (or_else a b) c ≡ or_else a (or_else b c)
 or-or None b c = refl
 or-or (Some s) b c = refl
 
-first-last : (us : List Description) (d : Description) (kind : Kind) (slot : ℕ) → first_said (us ++ d ∷ []) kind slot ≡ or_else (first_said us kind slot) (said_in d kind slot)
-first-last [] d kind slot = or-none (said_in d kind slot)
+first-last : (us : List Description) (d : Description) (kind : Kind) (slot : ℕ) → first_value (us ++ d ∷ []) kind slot ≡ or_else (first_value us kind slot) (value_in d kind slot)
+first-last [] d kind slot = or-none (value_in d kind slot)
 first-last (u ∷ us) d kind slot =
-    ap (or_else (said_in u kind slot)) (first-last us d kind slot) ∙ sym (or-or (said_in u kind slot) (first_said us kind slot) (said_in d kind slot))
+    ap (or_else (value_in u kind slot)) (first-last us d kind slot) ∙ sym (or-or (value_in u kind slot) (first_value us kind slot) (value_in d kind slot))
 
 -- the fields so far: the entry's own, and those of the uses before the ones that are left
 pub record IsGathering (entries : List Described) (marks : List Mark) (d : Described) (left : List (List ℕ)) (fields : List Statement) : Type 0 where
-  pub known : AreKnown marks (map (place_of entries) left)
+  pub known : AreKnown marks (map (index_of entries) left)
   pub used : List Description
   pub goes : (ds : List Description) → Resolve entries left ds → Resolve entries d.uses (used ++ ds)
-  pub says : (kind : Kind) (slot : ℕ) → slot < room kind → said_of kind slot fields ≡ or_else (said_of kind slot d.statements) (first_said used kind slot)
+  pub says : (kind : Kind) (slot : ℕ) → slot < room kind → value_of_capability kind slot fields ≡ or_else (value_of_capability kind slot d.statements) (first_value used kind slot)
 
-pub gathering-init : (entries : List Described) (marks : List Mark) (d : Described) (fields : List Statement) → AreKnown marks (map (place_of entries) d.uses) → fields ≡ d.statements → IsGathering entries marks d d.uses fields
+pub gathering-init : (entries : List Described) (marks : List Mark) (d : Described) (fields : List Statement) → AreKnown marks (map (index_of entries) d.uses) → fields ≡ d.statements → IsGathering entries marks d d.uses fields
 gathering-init entries marks d fields known own = record {
   known = known;
   used = [];
   goes = λ ds r. r;
-  says = λ kind slot small. ap (said_of kind slot) own ∙ sym (or-none (said_of kind slot d.statements));
+  says = λ kind slot small. ap (value_of_capability kind slot) own ∙ sym (or-none (value_of_capability kind slot d.statements));
 }
 
-pub gathering-known : (entries : List Described) (marks : List Mark) (d : Described) (left rest : List (List ℕ)) (name : List ℕ) (fields : List Statement) → IsGathering entries marks d left fields → left ≡ name ∷ rest → known marks (place_of entries name) ≡ true
+pub gathering-known : (entries : List Described) (marks : List Mark) (d : Described) (left rest : List (List ℕ)) (name : List ℕ) (fields : List Statement) → IsGathering entries marks d left fields → left ≡ name ∷ rest → known marks (index_of entries name) ≡ true
 gathering-known entries marks d left rest name fields g left-is =
     let P : List (List ℕ) → Type 0 = λ ns. IsGathering entries marks d ns fields in
     (subst P left-is g).known.0
 
-pub gathering-go : (entries : List Described) (marks : List Mark) (d : Described) (left rest : List (List ℕ)) (name : List ℕ) (i : ℕ) (fields more after : List Statement) → IsGathering entries marks d left fields → left ≡ name ∷ rest → place_of entries name ≡ Some i → Kept entries i more → after ≡ fields ++ more → IsGathering entries marks d rest after
-gathering-go entries marks d left rest name i fields more after g left-is place kept after-is =
+pub gathering-go : (entries : List Described) (marks : List Mark) (d : Described) (left rest : List (List ℕ)) (name : List ℕ) (i : ℕ) (fields more after : List Statement) → IsGathering entries marks d left fields → left ≡ name ∷ rest → index_of entries name ≡ Some i → Kept entries i more → after ≡ fields ++ more → IsGathering entries marks d rest after
+gathering-go entries marks d left rest name i fields more after g left-is index kept after-is =
     let P : List (List ℕ) → Type 0 = λ ns. IsGathering entries marks d ns fields in
     let v = subst P left-is g in
     record {
       known = v.known.1;
       used = v.used ++ kept.d ∷ [];
-      goes = λ ds r. rw (append_assoc) (v.goes (kept.d ∷ ds) (resolve-cons entries name rest kept.d ds (kept.resolved name place) r));
+      goes = λ ds r. rw (append_assoc) (v.goes (kept.d ∷ ds) (resolve-cons entries name rest kept.d ds (kept.resolved name index) r));
       says = λ kind slot small.
-          ap (said_of kind slot) after-is ∙ said_of-append kind slot fields more
-          ∙ ap (λ o. or_else o (said_of kind slot more)) (v.says kind slot small)
-          ∙ ap (or_else (or_else (said_of kind slot d.statements) (first_said v.used kind slot))) (kept.stands.says kind slot small)
-          ∙ or-or (said_of kind slot d.statements) (first_said v.used kind slot) (said_in kept.d kind slot)
-          ∙ ap (or_else (said_of kind slot d.statements)) (sym (first-last v.used kept.d kind slot));
+          ap (value_of_capability kind slot) after-is ∙ value_of_capability-append kind slot fields more
+          ∙ ap (λ o. or_else o (value_of_capability kind slot more)) (v.says kind slot small)
+          ∙ ap (or_else (or_else (value_of_capability kind slot d.statements) (first_value v.used kind slot))) (kept.stands.says kind slot small)
+          ∙ or-or (value_of_capability kind slot d.statements) (first_value v.used kind slot) (value_in kept.d kind slot)
+          ∙ ap (or_else (value_of_capability kind slot d.statements)) (sym (first-last v.used kept.d kind slot));
     }
 
 pub gathering-end : (entries : List Described) (marks : List Mark) (d : Described) (left : List (List ℕ)) (fields : List Statement) → IsGathering entries marks d left fields → left ≡ [] → Gathers entries d fields
@@ -85,7 +85,7 @@ gathering-end entries marks d left fields g none =
     }
 
 -- what is kept of an entry that is left
-pub kept-with : (entries : List Described) (i : ℕ) (d : Described) (all some : List Statement) → slice_get entries i ≡ Some d → Gathers entries d all → AreInForce all some → Kept entries i some
+pub kept-with : (entries : List Described) (i : ℕ) (d : Described) (all some : List Statement) → slice_get entries i ≡ Some d → Gathers entries d all → AreEffective all some → Kept entries i some
 kept-with entries i d all some at g counts = record {
   entry = d;
   at = at;
@@ -96,7 +96,7 @@ kept-with entries i d all some at g counts = record {
 
 -- the entry of what is kept
 pub kept-entry : (entries : List Described) (i : ℕ) (p : Option ℕ) (names : List ℕ) (fields same : List Statement) (e : Description) → p ≡ Some i → (k : Kept entries i fields) → names ≡ k.entry.names → same ≡ fields → e ≡ merged (of_fields names same) [] → ResolvedAt entries p e
-kept-entry entries i p names fields same e place k named alike is =
+kept-entry entries i p names fields same e index k named alike is =
     let P : Option ℕ → Type 0 = λ q. ResolvedAt entries q e in
     let Q : Description → Type 0 = λ d. ResolvedAt entries (Some i) d in
-    subst P (sym place) (subst Q (sym (is ∙ ap (λ fs. merged (of_fields names fs) []) alike ∙ ap (λ ns. merged (of_fields ns fields) []) named ∙ k.stands.whole)) k.resolved)
+    subst P (sym index) (subst Q (sym (is ∙ ap (λ fs. merged (of_fields names fs) []) alike ∙ ap (λ ns. merged (of_fields ns fields) []) named ∙ k.stands.whole)) k.resolved)

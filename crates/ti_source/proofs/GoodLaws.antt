@@ -3,37 +3,37 @@ use Rattle.std.proofs.Common.{◌≡◌, ◌<◌, ℕ, zero, suc, Bool, true, fa
 use Rattle.std.proofs.lemmas.Option.{slice_get_read, slice_get-map}
 use Rattle.std.proofs.lemmas.List.{length-map}
 use Rattle.ti_caps.specs.declared.table.Kind.{Kind}
-use Rattle.ti_source.specs.declared.statement.Said.{Said}
-use Rattle.ti_source.specs.declared.statement.Statement.{Statement}
+use Rattle.ti_source.specs.declared.reading.statement.FieldValue.{FieldValue}
+use Rattle.ti_source.specs.declared.reading.statement.Statement.{Statement}
 use Rattle.ti_source.specs.Described.{AreGood, IsGood}
-use Rattle.ti_source.specs.Reading.{speaks_of}
-use Rattle.ti_source.specs.Resolving.{said_of}
+use Rattle.ti_source.specs.Reading.Sources.{concerns}
+use Rattle.ti_source.specs.Resolving.Uses.{value_of_capability}
 
-pub AreGood-push : (ss : List Statement) (s : Statement) → AreGood ss → IsGood s.said → AreGood (ss ++ s ∷ [])
+pub AreGood-push : (ss : List Statement) (s : Statement) → AreGood ss → IsGood s.field_value → AreGood (ss ++ s ∷ [])
 AreGood-push [] s all one = (one, tt)
 AreGood-push (x ∷ xs) s all one = (all.0, AreGood-push xs s all.1 one)
 
 -- each of them is
-pub good-at : (ss : List Statement) (i : ℕ) (s : Statement) → AreGood ss → slice_get ss i ≡ Some s → IsGood s.said
+pub good-at : (ss : List Statement) (i : ℕ) (s : Statement) → AreGood ss → slice_get ss i ≡ Some s → IsGood s.field_value
 good-at [] i s all at = cc
-good-at (x ∷ xs) zero s all at = let same : x ≡ s = cc in subst (λ (y : Statement). IsGood y.said) same all.0
+good-at (x ∷ xs) zero s all at = let same : x ≡ s = cc in subst (λ (y : Statement). IsGood y.field_value) same all.0
 good-at (x ∷ xs) (suc i) s all at = good-at xs i s all.1 at
 
-pub good-read : (ss : List Statement) (k : ℕ) (s : Statement) → AreGood ss → k < length ss → s ≡ get_or ss k s → IsGood s.said
+pub good-read : (ss : List Statement) (k : ℕ) (s : Statement) → AreGood ss → k < length ss → s ≡ get_or ss k s → IsGood s.field_value
 good-read ss k s all lt is = good-at ss k s all (slice_get_read ss (length ss) k s refl lt is)
 
 -- the same of what stands for them
-pub good-seen : {R : Type 0} → (seen : R → Statement) (rs : List R) (k : ℕ) (r : R) → AreGood (map seen rs) → k < length (map seen rs) → r ≡ get_or rs k r → IsGood (seen r).said
+pub good-seen : {R : Type 0} → (seen : R → Statement) (rs : List R) (k : ℕ) (r : R) → AreGood (map seen rs) → k < length (map seen rs) → r ≡ get_or rs k r → IsGood (seen r).field_value
 good-seen seen rs k r all lt is =
     let room : k < length rs = rw (← length-map rs seen) lt in
     good-at (map seen rs) k (seen r) all (slice_get-map seen rs k ∙ ap (option_map seen) (slice_get_read rs (length rs) k r refl room is))
 
-chosen : (b : Bool) (later : Option Said) (x : Said) → IsGood x → IfSome later IsGood → IfSome (cond b (Some x) later) IsGood
+chosen : (b : Bool) (later : Option FieldValue) (x : FieldValue) → IsGood x → IfSome later IsGood → IfSome (cond b (Some x) later) IsGood
 chosen true later x one more = one
 chosen false later x one more = more
 
 -- what an entry says of a capability is good
-pub said_of-good : (kind : Kind) (slot : ℕ) (ss : List Statement) → AreGood ss → IfSome (said_of kind slot ss) IsGood
-said_of-good kind slot [] all = tt
-said_of-good kind slot (s ∷ ss) all =
-    chosen (speaks_of kind slot s) (said_of kind slot ss) s.said all.0 (said_of-good kind slot ss all.1)
+pub value_of_capability-good : (kind : Kind) (slot : ℕ) (ss : List Statement) → AreGood ss → IfSome (value_of_capability kind slot ss) IsGood
+value_of_capability-good kind slot [] all = tt
+value_of_capability-good kind slot (s ∷ ss) all =
+    chosen (concerns kind slot s) (value_of_capability kind slot ss) s.field_value all.0 (value_of_capability-good kind slot ss all.1)

@@ -2,7 +2,7 @@ pub mod AloneLaws
 pub mod BytesLaws
 pub mod ChainLaws
 pub mod CuttingLaws
-pub mod InForceLaws
+pub mod EffectiveLaws
 pub mod EscapeLaws
 pub mod EscapesBackLaws
 pub mod FieldLaws
@@ -18,13 +18,13 @@ pub mod NamedLaws
 pub mod NumberLaws
 pub mod NumbersBackLaws
 pub mod OnceLaws
-pub mod PlaceLaws
+pub mod IndexLaws
 pub mod PrintLaws
 pub mod PrintedBackLaws
 pub mod ReadingLaws
 pub mod ResolvingLaws
 pub mod SpellingLaws
-pub mod SpokenLaws
+pub mod FirstFieldLaws
 pub mod StatementsBackLaws
 pub mod StepLaws
 pub mod TableBytesLaws

@@ -8,7 +8,7 @@ use Rattle.std.proofs.lemmas.Slice.Eq.{bytes_eq-Decides}
 use Rattle.ti_caps.specs.Names.{alternatives, has_no_blank, is_bar}
 use Rattle.ti_caps.specs.Table.{or_else}
 use Rattle.ti_source.specs.Described.{Described}
-use Rattle.ti_source.specs.Named.{has_name, found_from, named, placed, ArePlaced}
+use Rattle.ti_source.specs.Resolving.Named.{has_name, found_from, named, indexed, AreIndexed}
 use Rattle.ti_source.proofs.FieldLaws.{with_front, with_front-onto_first}
 
 -- ---- the alternatives, byte by byte
@@ -47,43 +47,43 @@ or_else-none None = refl
 or_else-none (Some y) = refl
 
 -- a name that is not put, since it has a blank or has a place already
-unput : (x : Option ℕ) (place : ℕ) (a b : Bool) → (a ≡ true → b ≡ true → is_some x ≡ true) → x ≡ or_else x (cond (a && (b || false)) (Some place) None)
-unput (Some y) place a b h = refl
-unput None place false b h = refl
-unput None place true false h = refl
-unput None place true true h = let bad : false ≡ true = h refl refl in absurd cc
+unput : (x : Option ℕ) (index : ℕ) (a b : Bool) → (a ≡ true → b ≡ true → is_some x ≡ true) → x ≡ or_else x (cond (a && (b || false)) (Some index) None)
+unput (Some y) index a b h = refl
+unput None index false b h = refl
+unput None index true false h = refl
+unput None index true true h = let bad : false ≡ true = h refl refl in absurd cc
 
-pub put-kept : {K : Type 0} → (bytes : K → List ℕ) (es : List (K × ℕ)) (name : List ℕ) (place : ℕ) (q : List ℕ) → ((has_no_blank name ≡ false) ⊎ (is_some (placed bytes es name) ≡ true)) → placed bytes es q ≡ or_else (placed bytes es q) (named (name ∷ []) place q)
-put-kept bytes es name place q why =
-    unput (placed bytes es q) place (has_no_blank q) (bytes_eq q name) (λ a b.
+pub put-kept : {K : Type 0} → (bytes : K → List ℕ) (es : List (K × ℕ)) (name : List ℕ) (index : ℕ) (q : List ℕ) → ((has_no_blank name ≡ false) ⊎ (is_some (indexed bytes es name) ≡ true)) → indexed bytes es q ≡ or_else (indexed bytes es q) (named (name ∷ []) index q)
+put-kept bytes es name index q why =
+    unput (indexed bytes es q) index (has_no_blank q) (bytes_eq q name) (λ a b.
     let same : q ≡ name = (bytes_eq-Decides q name).0 b in
     elim why [
       | inl blank ↦ let bad : has_no_blank name ≡ true = ap has_no_blank (sym same) ∙ a in absurd cc
-      | inr there ↦ ap (λ n. is_some (placed bytes es n)) same ∙ there
+      | inr there ↦ ap (λ n. is_some (indexed bytes es n)) same ∙ there
     ])
 
-put-test : (x : Option ℕ) (place : ℕ) (a b : Bool) → (b ≡ true → a ≡ true) → or_else x (cond b (Some place) None) ≡ or_else x (cond (a && (b || false)) (Some place) None)
-put-test (Some y) place a b h = refl
-put-test None place true true h = refl
-put-test None place true false h = refl
-put-test None place false false h = refl
-put-test None place false true h = let bad : false ≡ true = h refl in absurd cc
+put-test : (x : Option ℕ) (index : ℕ) (a b : Bool) → (b ≡ true → a ≡ true) → or_else x (cond b (Some index) None) ≡ or_else x (cond (a && (b || false)) (Some index) None)
+put-test (Some y) index a b h = refl
+put-test None index true true h = refl
+put-test None index true false h = refl
+put-test None index false false h = refl
+put-test None index false true h = let bad : false ≡ true = h refl in absurd cc
 
 -- a name without a place
-pub put-none : {K : Type 0} → (bytes : K → List ℕ) (es : List (K × ℕ)) (name own : List ℕ) → own ≡ name → is_some (placed bytes es name) ≡ false → placed bytes es own ≡ None
-put-none bytes es name own same none = ap (placed bytes es) same ∙ by (placed bytes es name) none
+pub put-none : {K : Type 0} → (bytes : K → List ℕ) (es : List (K × ℕ)) (name own : List ℕ) → own ≡ name → is_some (indexed bytes es name) ≡ false → indexed bytes es own ≡ None
+put-none bytes es name own same none = ap (indexed bytes es) same ∙ by (indexed bytes es name) none
   where
     by : (x : Option ℕ) → is_some x ≡ false → x ≡ None
     by None h = refl
     by (Some y) h = cc
 
 -- a name that is put
-pub put-new : {K : Type 0} → (bytes : K → List ℕ) (es more : List (K × ℕ)) (k : K) (name : List ℕ) (place : ℕ) (q : List ℕ) → bytes k ≡ name → has_no_blank name ≡ true → more ≡ es ++ (k, place) ∷ [] → placed bytes more q ≡ or_else (placed bytes es q) (named (name ∷ []) place q)
-put-new bytes es more k name place q is good all =
-    ap (λ xs. placed bytes xs q) all
-    ∙ lookup-push (λ x. bytes_eq q (bytes x)) es k place
-    ∙ ap (λ n. or_else (placed bytes es q) (cond (bytes_eq q n) (Some place) None)) is
-    ∙ put-test (placed bytes es q) place (has_no_blank q) (bytes_eq q name) (λ b. ap has_no_blank ((bytes_eq-Decides q name).0 b) ∙ good)
+pub put-new : {K : Type 0} → (bytes : K → List ℕ) (es more : List (K × ℕ)) (k : K) (name : List ℕ) (index : ℕ) (q : List ℕ) → bytes k ≡ name → has_no_blank name ≡ true → more ≡ es ++ (k, index) ∷ [] → indexed bytes more q ≡ or_else (indexed bytes es q) (named (name ∷ []) index q)
+put-new bytes es more k name index q is good all =
+    ap (λ xs. indexed bytes xs q) all
+    ∙ lookup-push (λ x. bytes_eq q (bytes x)) es k index
+    ∙ ap (λ n. or_else (indexed bytes es q) (cond (bytes_eq q n) (Some index) None)) is
+    ∙ put-test (indexed bytes es q) index (has_no_blank q) (bytes_eq q name) (λ b. ap has_no_blank ((bytes_eq-Decides q name).0 b) ∙ good)
 
 three : (x : Option ℕ) (p : ℕ) (a b c : Bool) → or_else (or_else x (cond (a && (b || false)) (Some p) None)) (cond (a && c) (Some p) None) ≡ or_else x (cond (a && (b || c)) (Some p) None)
 three (Some y) p a b c = refl
@@ -92,16 +92,16 @@ three None p true false c = refl
 three None p true true c = refl
 
 -- one more alternative
-pub named-more : (x : Option ℕ) (n : List ℕ) (ns : List (List ℕ)) (place : ℕ) (q : List ℕ) → or_else (or_else x (named (n ∷ []) place q)) (named ns place q) ≡ or_else x (named (n ∷ ns) place q)
-named-more x n ns place q = three x place (has_no_blank q) (bytes_eq q n) (list_any (bytes_eq q) ns)
+pub named-more : (x : Option ℕ) (n : List ℕ) (ns : List (List ℕ)) (index : ℕ) (q : List ℕ) → or_else (or_else x (named (n ∷ []) index q)) (named ns index q) ≡ or_else x (named (n ∷ ns) index q)
+named-more x n ns index q = three x index (has_no_blank q) (bytes_eq q n) (list_any (bytes_eq q) ns)
 
-pub names-go : (all behind : List (List ℕ)) (n : List ℕ) (place : ℕ) (old now new whole : List ℕ → Option ℕ) → all ≡ n ∷ behind → ((q : List ℕ) → or_else (now q) (named all place q) ≡ whole q) → ((q : List ℕ) → new q ≡ or_else (now q) (named (n ∷ []) place q)) → (q : List ℕ) → or_else (new q) (named behind place q) ≡ whole q
-names-go all behind n place old now new whole cut before step q =
-    ap (λ x. or_else x (named behind place q)) (step q) ∙ named-more (now q) n behind place q ∙ ap (λ ns. or_else (now q) (named ns place q)) (sym cut) ∙ before q
+pub names-go : (all behind : List (List ℕ)) (n : List ℕ) (index : ℕ) (old now new whole : List ℕ → Option ℕ) → all ≡ n ∷ behind → ((q : List ℕ) → or_else (now q) (named all index q) ≡ whole q) → ((q : List ℕ) → new q ≡ or_else (now q) (named (n ∷ []) index q)) → (q : List ℕ) → or_else (new q) (named behind index q) ≡ whole q
+names-go all behind n index old now new whole cut before step q =
+    ap (λ x. or_else x (named behind index q)) (step q) ∙ named-more (now q) n behind index q ∙ ap (λ ns. or_else (now q) (named ns index q)) (sym cut) ∙ before q
 
-pub names-end : (all : List (List ℕ)) (n : List ℕ) (place : ℕ) (now new whole : List ℕ → Option ℕ) → all ≡ n ∷ [] → ((q : List ℕ) → or_else (now q) (named all place q) ≡ whole q) → ((q : List ℕ) → new q ≡ or_else (now q) (named (n ∷ []) place q)) → (q : List ℕ) → new q ≡ whole q
-names-end all n place now new whole cut before step q =
-    step q ∙ ap (λ ns. or_else (now q) (named ns place q)) (sym cut) ∙ before q
+pub names-end : (all : List (List ℕ)) (n : List ℕ) (index : ℕ) (now new whole : List ℕ → Option ℕ) → all ≡ n ∷ [] → ((q : List ℕ) → or_else (now q) (named all index q) ≡ whole q) → ((q : List ℕ) → new q ≡ or_else (now q) (named (n ∷ []) index q)) → (q : List ℕ) → new q ≡ whole q
+names-end all n index now new whole cut before step q =
+    step q ∙ ap (λ ns. or_else (now q) (named ns index q)) (sym cut) ∙ before q
 
 found-push : (i : ℕ) (name : List ℕ) (ds : List Described) (d : Described) → option_map (λ p. p.0) (found_from i name (ds ++ d ∷ [])) ≡ or_else (option_map (λ p. p.0) (found_from i name ds)) (named (alternatives d.names) (i + length ds) name)
 found-push i name [] d = rw add-zero (one (has_name name d))
@@ -116,8 +116,8 @@ found-push i name (x ∷ xs) d = by (has_name name x) (found-push (suc i) name x
     by false h = let e : i + suc (length xs) ≡ suc i + length xs = omega arith in rw e h
 
 -- an entry is put last, with its names
-pub placed-push : {K : Type 0} → (bytes : K → List ℕ) (es more : List (K × ℕ)) (ds : List Described) (d : Described) → ArePlaced bytes es ds → ((q : List ℕ) → placed bytes more q ≡ or_else (placed bytes es q) (named (alternatives d.names) (length ds) q)) → ArePlaced bytes more (ds ++ d ∷ [])
-placed-push bytes es more ds d are step q =
+pub indexed-push : {K : Type 0} → (bytes : K → List ℕ) (es more : List (K × ℕ)) (ds : List Described) (d : Described) → AreIndexed bytes es ds → ((q : List ℕ) → indexed bytes more q ≡ or_else (indexed bytes es q) (named (alternatives d.names) (length ds) q)) → AreIndexed bytes more (ds ++ d ∷ [])
+indexed-push bytes es more ds d are step q =
     let none : length ds ≡ 0 + length ds = omega arith in
     step q ∙ ap (λ x. or_else x (named (alternatives d.names) (length ds) q)) (are q)
     ∙ ap (λ n. or_else (option_map (λ p. p.0) (found_from 0 q ds)) (named (alternatives d.names) n q)) none
@@ -147,11 +147,11 @@ found-there i name (x ∷ xs) p d e = by (found-there (suc i) name xs p d) (has_
         (omega (arith, rest.0), rw less rest.1, rest.2)
 
 pub found-some : (name : List ℕ) (ds : List Described) (p : ℕ) (d : Described) → Some p ≡ option_map (λ p. p.0) (found_from 0 name ds) → slice_get ds p ≡ Some d → found_from 0 name ds ≡ Some (p, d)
-found-some name ds p d place at = by (found_from 0 name ds) refl place
+found-some name ds p d index at = by (found_from 0 name ds) refl index
   where
     by : (o : Option (ℕ × Described)) → found_from 0 name ds ≡ o → Some p ≡ option_map (λ p. p.0) o → o ≡ Some (p, d)
-    by None e place = cc
-    by (Some f) e place =
+    by None e index = cc
+    by (Some f) e index =
         let same : p ≡ f.0 = cc in
         let there = found-there 0 name ds f.0 f.1 e in
         let z : f.0 - 0 ≡ p = omega arith in

@@ -4,7 +4,7 @@ use Rattle.std.proofs.Math.Nat.{mul-le-mul_left}
 use Rattle.std.proofs.lemmas.Bool.{cases_lt}
 use Rattle.std.proofs.lemmas.Bool.Decides.{nat_tests}
 use Rattle.std.proofs.lemmas.List.{drop_more}
-use Rattle.ti_source.specs.Number.{digit, digits_after}
+use Rattle.ti_source.specs.Reading.Number.{digit, digits_after}
 
 abbrev pub cut : ℕ → ℕ
 cut n = min n 32768

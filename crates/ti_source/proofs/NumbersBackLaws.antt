@@ -4,7 +4,7 @@ use Rattle.std.specs.Fmt.{decimal}
 use Rattle.std.proofs.lemmas.Fmt.{decimal_by_steps, decimal_digit, first_decimal}
 use Rattle.std.proofs.lemmas.Bool.Decides.{nat_tests}
 use Rattle.std.proofs.lemmas.Bool.{cases_lt}
-use Rattle.ti_source.specs.Number.{digit, digits_after, number}
+use Rattle.ti_source.specs.Reading.Number.{digit, digits_after, number}
 
 digit-own : (n : ℕ) → n < 10 → digit (48 + n) ≡ n
 digit-own n h =

@@ -7,10 +7,10 @@ use Rattle.ti_caps.specs.Description.{Description}
 use Rattle.ti_source.specs.declared.fault.SourceFault.{SourceFault}
 use Rattle.ti_source.specs.declared.fault.SourceFault.TheVariants.{UnknownName, UseCycle, NoMemory}
 use Rattle.ti_source.specs.Described.{Described}
-use Rattle.ti_source.specs.Named.{found_from, place_of}
-use Rattle.ti_source.specs.Resolving.{merged, Resolve, nothing, more, Fault, unknown, cycle, below, later, Resolved, Unresolved, FaultOnce, ResolveOrFault}
+use Rattle.ti_source.specs.Resolving.Named.{found_from, index_of}
+use Rattle.ti_source.specs.Resolving.Uses.{merged, Resolve, nothing, more, Fault, unknown, cycle, below, later, Resolved, Unresolved, FaultOnce, ResolveOrFault}
 use Rattle.ti_source.specs.Result.{Stops}
-use Rattle.ti_source.specs.Walk.{FaultAt}
+use Rattle.ti_source.specs.Code.Walk.{FaultAt}
 use Rattle.ti_source.proofs.NamedLaws.{found-there}
 
 -- ---- what a resolved list of names rests on
@@ -248,10 +248,10 @@ resolve-or-fault entries names ds fault r f =
     not-both size.0 f size.1 (λ i on d at m uses. cc)
 
 -- the fault of a place is that of each name that has it
-pub err-at : {A : Type 0} → (entries : List Described) (name : List ℕ) (place : Option ℕ) (r : Result A SourceFault) → place_of entries name ≡ place → IfErr r (λ f. Stops f (FaultAt entries [] place f)) → IfErr r (λ f. Stops f (Unresolved entries name f))
-err-at entries name place (Ok a) at h = h
-err-at entries name place (Err f) at (inl e) = inl e
-err-at entries name place (Err f) at (inr h) = inr (h name at)
+pub err-at : {A : Type 0} → (entries : List Described) (name : List ℕ) (index : Option ℕ) (r : Result A SourceFault) → index_of entries name ≡ index → IfErr r (λ f. Stops f (FaultAt entries [] index f)) → IfErr r (λ f. Stops f (Unresolved entries name f))
+err-at entries name index (Ok a) at h = h
+err-at entries name index (Err f) at (inl e) = inl e
+err-at entries name index (Err f) at (inr h) = inr (h name at)
 
 -- the answer for a name that resolves
 pub good-answer : {A : Type 0} → (entries : List Described) (name : List ℕ) (r : Result A SourceFault) → IfErr r (λ f. Stops f (Unresolved entries name f)) → (d : Description) → Resolved entries name d → IsOkUnless r NoMemory

@@ -1,7 +1,7 @@
 -- Printing slot by slot.
 use Rattle.std.proofs.Common.{◌≡◌, ℕ, suc, ◌+◌, ◌<◌, List, ◌++◌, get_or, drop, length, sym, append_assoc, add-one}
 use Rattle.std.proofs.lemmas.List.{drop_more}
-use Rattle.ti_source.specs.Print.{lines_from}
+use Rattle.ti_source.specs.Printing.Print.{lines_from}
 
 -- the line of one more slot
 pub lines_from-more : {A : Type 0} → (line : ℕ → A → List ℕ) (out : List ℕ) (xs : List A) (i : ℕ) (d : A) → i < length xs → out ++ lines_from line i (drop i xs) ≡ (out ++ line i (get_or xs i d)) ++ lines_from line (i + 1) (drop (i + 1) xs)

@@ -8,26 +8,26 @@ use Rattle.ti_caps.specs.declared.table.Kind.{Kind}
 use Rattle.ti_caps.specs.declared.table.Kind.TheVariants.{Flag, Number, Text}
 use Rattle.ti_caps.specs.Names.{alternatives, are_names, begins_with_hash, first_name, has_bytes, has_no_blank, is_bar, is_name_byte}
 use Rattle.ti_caps.specs.Description.{Description, IsDescription}
-use Rattle.ti_source.specs.declared.statement.Said.{Said}
+use Rattle.ti_source.specs.declared.reading.statement.FieldValue.{FieldValue}
 use Rattle.ti_source.specs.Described.{Described}
-use Rattle.ti_source.specs.Escape.{IsText}
-use Rattle.ti_source.specs.Field.{fields, is_blank}
-use Rattle.ti_source.specs.Line.{Line, Skipped, Foreign, Begins, begins_blank, begins_hash, is_ascii, is_comma, line_of, lines}
-use Rattle.ti_source.specs.Named.{found_from, has_name}
-use Rattle.ti_source.specs.Print.{flag_line, lines_from, number_line, text_line, named_only, printed}
-use Rattle.ti_source.specs.Reading.{speaks_of}
-use Rattle.ti_source.specs.Steps.{State, read_through, whole, with_fields, with_form, with_line, with_lines}
-use Rattle.ti_source.specs.Resolving.{Resolved, more, nothing}
+use Rattle.ti_source.specs.Reading.Escape.{IsText}
+use Rattle.ti_source.specs.Reading.Field.{fields, is_blank}
+use Rattle.ti_source.specs.Reading.Line.{Line, Skipped, NonAscii, Begins, begins_blank, begins_hash, is_ascii, is_comma, line_of, lines}
+use Rattle.ti_source.specs.Resolving.Named.{found_from, has_name}
+use Rattle.ti_source.specs.Printing.Print.{flag_line, lines_from, number_line, text_line, named_only, printed}
+use Rattle.ti_source.specs.Reading.Sources.{concerns}
+use Rattle.ti_source.specs.Code.Steps.{ReaderState, read_through, whole, with_fields, with_form, with_line, with_lines}
+use Rattle.ti_source.specs.Resolving.Uses.{Resolved, more, nothing}
 use Rattle.ti_source.specs.Result.{◌>>=◌}
-use Rattle.ti_source.specs.ReadBack.{ReadsBack}
+use Rattle.ti_source.specs.Printing.ReadBack.{ReadsBack}
 use Rattle.ti_source.proofs.BytesLaws.{has-texts}
 use Rattle.ti_source.proofs.TableBytesLaws.{both}
 use Rattle.ti_source.proofs.LinesBackLaws.{ended, no-lines, no_feed}
 use Rattle.ti_source.proofs.FieldsBackLaws.{not-all-blank}
 use Rattle.ti_source.proofs.FormsBackLaws.{Fits, drop-one-more, one-first, one-more, take-front}
 use Rattle.ti_source.proofs.StepLaws.{read-through}
-use Rattle.ti_source.proofs.StatementsBackLaws.{AllFit, Goes-line, goes-on, of-other-kind, reading, said_line, statements_from}
-use Rattle.ti_source.specs.Spoken.{flag_said, number_said, text_said}
+use Rattle.ti_source.proofs.StatementsBackLaws.{AllFit, Goes-line, goes-on, of-other-kind, reading, value_line, statements_from}
+use Rattle.ti_source.specs.Code.FirstFields.{flag_value, number_value, text_value}
 use Rattle.ti_source.proofs.MergedBackLaws.{all_statements, merged-back}
 
 -- how a line of names begins
@@ -56,8 +56,8 @@ names-are names e =
 first-of : (b : ℕ) (bs : List ℕ) → is_bar b ≡ false → (more : List ℕ) × (first_name (b ∷ bs) ≡ b ∷ more)
 first-of b bs e =
     let n = prefix_len (λ x. not (is_bar x)) bs in
-    let place : prefix_len (λ x. not (is_bar x)) (b ∷ bs) ≡ suc n = rw e (one-first n) in
-    (take n bs, ap (λ k. take k (b ∷ bs)) place)
+    let index : prefix_len (λ x. not (is_bar x)) (b ∷ bs) ≡ suc n = rw e (one-first n) in
+    (take n bs, ap (λ k. take k (b ∷ bs)) index)
 
 head-plain : (b : ℕ) (bs : List ℕ) → AreNames (b ∷ bs) → HeadPlain b
 head-plain b bs is = by (is_bar b) refl
@@ -106,7 +106,7 @@ nothing-after : (bs : List ℕ) → list_all is_name_byte bs ≡ true → after_
 nothing-after bs e =
     ap (λ k. drop (k + 1) (bs ++ 44 ∷ [])) (comma-at bs e) ∙ ap (λ k. drop k (bs ++ 44 ∷ [])) (one-more (length bs)) ∙ drop-one-more bs (44 ∷ [])
 
-chain : (h a k t : Bool) (x y : Line) → h ≡ false → a ≡ false → k ≡ true → t ≡ false → cond h Skipped (cond a Skipped (cond k (cond t x y) Foreign)) ≡ y
+chain : (h a k t : Bool) (x y : Line) → h ≡ false → a ≡ false → k ≡ true → t ≡ false → cond h Skipped (cond a Skipped (cond k (cond t x y) NonAscii)) ≡ y
 chain h a k t x y p q r s = rw (p, q, r, s) refl
 
 begins : (bytes : List ℕ) → begins_hash bytes ≡ false → list_all is_blank bytes ≡ false → list_all is_ascii bytes ≡ true → begins_blank bytes ≡ false → line_of bytes ≡ Begins (before_first is_comma bytes) (fields (after_first is_comma bytes))
@@ -125,7 +125,7 @@ none-taken : (names : List (List ℕ)) → list_any (λ name. false) names ≡ f
 none-taken [] = refl
 none-taken (n ∷ ns) = none-taken ns
 
-abbrev start : State
+abbrev start : ReaderState
 start = record { done = []; current = None; notes = [] }
 
 names-begin : (names : List ℕ) → are_names names ≡ true → with_line 1 (line_of (names ++ 44 ∷ [])) start ≡ Ok (reading names [])
@@ -134,53 +134,53 @@ names-begin names e =
     let begun : with_line 1 (Begins names ([] ∷ [])) start ≡ Ok (reading names []) = rw (e, none-taken (alternatives names)) refl in
     ap (λ l. with_line 1 l start) (names-line names e) ∙ begun
 
-same-lines : {A : Type 0} → (kind : Kind) (line : ℕ → A → List ℕ) (h : A → Option Said) → ((k : ℕ) (x : A) → line k x ≡ said_line kind k (h x)) → (k : ℕ) (xs : List A) → lines_from line k xs ≡ lines_from (said_line kind) k (map h xs)
+same-lines : {A : Type 0} → (kind : Kind) (line : ℕ → A → List ℕ) (h : A → Option FieldValue) → ((k : ℕ) (x : A) → line k x ≡ value_line kind k (h x)) → (k : ℕ) (xs : List A) → lines_from line k xs ≡ lines_from (value_line kind) k (map h xs)
 same-lines kind line h each k [] = refl
 same-lines kind line h each k (x ∷ xs) =
-    ap (λ l. l ++ lines_from line (suc k) xs) (each k x) ∙ ap (λ ls. said_line kind k (h x) ++ ls) (same-lines kind line h each (suc k) xs)
+    ap (λ l. l ++ lines_from line (suc k) xs) (each k x) ∙ ap (λ ls. value_line kind k (h x) ++ ls) (same-lines kind line h each (suc k) xs)
 
-flag-same : (k : ℕ) (b : Bool) → flag_line k b ≡ said_line Flag k (flag_said b)
+flag-same : (k : ℕ) (b : Bool) → flag_line k b ≡ value_line Flag k (flag_value b)
 flag-same k true = refl
 flag-same k false = refl
 
-number-same : (k : ℕ) (o : Option ℕ) → number_line k o ≡ said_line Number k (number_said o)
+number-same : (k : ℕ) (o : Option ℕ) → number_line k o ≡ value_line Number k (number_value o)
 number-same k None = refl
 number-same k (Some n) = refl
 
-text-same : (k : ℕ) (o : Option (List ℕ)) → text_line k o ≡ said_line Text k (text_said o)
+text-same : (k : ℕ) (o : Option (List ℕ)) → text_line k o ≡ value_line Text k (text_value o)
 text-same k None = refl
 text-same k (Some t) = refl
 
-flags-fit : (bs : List Bool) → AllFit Flag (map flag_said bs)
+flags-fit : (bs : List Bool) → AllFit Flag (map flag_value bs)
 flags-fit [] = tt
 flags-fit (true ∷ bs) = (tt, flags-fit bs)
 flags-fit (false ∷ bs) = (tt, flags-fit bs)
 
-number-fits : (o : Option ℕ) → IfSome o (λ n. n ≤ 32767) → IfSome (number_said o) (Fits Number)
+number-fits : (o : Option ℕ) → IfSome o (λ n. n ≤ 32767) → IfSome (number_value o) (Fits Number)
 number-fits None h = tt
 number-fits (Some n) h = h
 
-numbers-fit : (ns : List (Option ℕ)) → ((slot : ℕ) → IfSome (get_or ns slot None) (λ n. n ≤ 32767)) → AllFit Number (map number_said ns)
+numbers-fit : (ns : List (Option ℕ)) → ((slot : ℕ) → IfSome (get_or ns slot None) (λ n. n ≤ 32767)) → AllFit Number (map number_value ns)
 numbers-fit [] h = tt
 numbers-fit (o ∷ os) h = (number-fits o (h 0), numbers-fit os (λ slot. h (suc slot)))
 
-text-fits : (o : Option (List ℕ)) → IfSome o IsText → IfSome (text_said o) (Fits Text)
+text-fits : (o : Option (List ℕ)) → IfSome o IsText → IfSome (text_value o) (Fits Text)
 text-fits None h = tt
 text-fits (Some t) h = h
 
-texts-fit : (ts : List (Option (List ℕ))) → ((slot : ℕ) → IfSome (get_or ts slot None) IsText) → AllFit Text (map text_said ts)
+texts-fit : (ts : List (Option (List ℕ))) → ((slot : ℕ) → IfSome (get_or ts slot None) IsText) → AllFit Text (map text_value ts)
 texts-fit [] h = tt
 texts-fit (o ∷ os) h = (text-fits o (h 0), texts-fit os (λ slot. h (suc slot)))
 
 -- the lines of one kind
 abbrev flags_of : Description → List ℕ
-flags_of d = lines_from (said_line Flag) 0 (map flag_said d.flags)
+flags_of d = lines_from (value_line Flag) 0 (map flag_value d.flags)
 
 abbrev numbers_of : Description → List ℕ
-numbers_of d = lines_from (said_line Number) 0 (map number_said d.numbers)
+numbers_of d = lines_from (value_line Number) 0 (map number_value d.numbers)
 
 abbrev texts_of : Description → List ℕ
-texts_of d = lines_from (said_line Text) 0 (map text_said d.texts)
+texts_of d = lines_from (value_line Text) 0 (map text_value d.texts)
 
 -- a text in the order in which it is read
 ordered : (names a b c : List ℕ) → names ++ (44 ∷ 10 ∷ []) ++ a ++ b ++ c ≡ ended names (a ++ (b ++ (c ++ [])))
@@ -191,30 +191,30 @@ ordered names a b c =
 printed-is : (d : Description) → printed d ≡ ended d.names (flags_of d ++ (numbers_of d ++ (texts_of d ++ [])))
 unfolding printed
 printed-is d =
-    ap (λ x. d.names ++ (44 ∷ 10 ∷ []) ++ x ++ lines_from number_line 0 d.numbers ++ lines_from text_line 0 d.texts) (same-lines Flag flag_line flag_said flag-same 0 d.flags)
-    ∙ ap (λ x. d.names ++ (44 ∷ 10 ∷ []) ++ flags_of d ++ x ++ lines_from text_line 0 d.texts) (same-lines Number number_line number_said number-same 0 d.numbers)
-    ∙ ap (λ x. d.names ++ (44 ∷ 10 ∷ []) ++ flags_of d ++ numbers_of d ++ x) (same-lines Text text_line text_said text-same 0 d.texts)
+    ap (λ x. d.names ++ (44 ∷ 10 ∷ []) ++ x ++ lines_from number_line 0 d.numbers ++ lines_from text_line 0 d.texts) (same-lines Flag flag_line flag_value flag-same 0 d.flags)
+    ∙ ap (λ x. d.names ++ (44 ∷ 10 ∷ []) ++ flags_of d ++ x ++ lines_from text_line 0 d.texts) (same-lines Number number_line number_value number-same 0 d.numbers)
+    ∙ ap (λ x. d.names ++ (44 ∷ 10 ∷ []) ++ flags_of d ++ numbers_of d ++ x) (same-lines Text text_line text_value text-same 0 d.texts)
     ∙ ordered d.names (flags_of d) (numbers_of d) (texts_of d)
 
 abbrev entry_of : Description → Described
 entry_of d = record { names = d.names; statements = all_statements d; uses = [] }
 
-at-end : (n : ℕ) (s : State) → with_lines n (lines []) s ≡ Ok s
+at-end : (n : ℕ) (s : ReaderState) → with_lines n (lines []) s ≡ Ok s
 unfolding with_lines
 at-end n s = ap (λ ls. with_lines n ls s) no-lines
 
 lines-read : (d : Description) → IsDescription d → with_lines 1 (lines (printed d)) start ≡ Ok (reading d.names (all_statements d))
 lines-read d is =
-    let fs = map flag_said d.flags in
-    let ns = map number_said d.numbers in
-    let ts = map text_said d.texts in
+    let fs = map flag_value d.flags in
+    let ns = map number_value d.numbers in
+    let ts = map text_value d.texts in
     let flags = statements_from Flag 0 fs in
     let numbers = statements_from Number 0 ns in
     let names = names-are d.names is.named in
     let first = Goes-line 1 d.names (flags_of d ++ (numbers_of d ++ (texts_of d ++ []))) start (reading d.names []) (all-no_feed d.names names.letters) (names-begin d.names is.named) in
     let second = goes-on Flag fs first.line 0 d.names [] (numbers_of d ++ (texts_of d ++ [])) (flags-fit d.flags) (λ j le. refl) in
     let third = goes-on Number ns second.line 0 d.names flags (texts_of d ++ []) (numbers-fit d.numbers is.small) (λ j le. of-other-kind Flag Number 0 j fs refl) in
-    let fourth = goes-on Text ts third.line 0 d.names (flags ++ numbers) [] (texts-fit d.texts (has-texts d is)) (λ j le. list_any-append (speaks_of Text j) flags numbers ∙ rw (of-other-kind Flag Text 0 j fs refl, of-other-kind Number Text 0 j ns refl) refl) in
+    let fourth = goes-on Text ts third.line 0 d.names (flags ++ numbers) [] (texts-fit d.texts (has-texts d is)) (λ j le. list_any-append (concerns Text j) flags numbers ∙ rw (of-other-kind Flag Text 0 j fs refl, of-other-kind Number Text 0 j ns refl) refl) in
     ap (λ x. with_lines 1 (lines x) start) (printed-is d) ∙ first.goes ∙ second.goes ∙ third.goes ∙ fourth.goes ∙ at-end fourth.line (reading d.names (all_statements d))
 
 lines-through : (d : Description) → IsDescription d → read_through (printed d) ≡ Ok (record { entries = entry_of d ∷ []; notes = [] })
@@ -229,8 +229,8 @@ first-part p (b ∷ bs) = by (p b) refl (first-part p bs)
     by true e rest = (slice_split p bs, rw e refl)
     by false e rest =
         let n = prefix_len (λ x. not (p x)) bs in
-        let place : prefix_len (λ x. not (p x)) (b ∷ bs) ≡ suc n = rw e (one-first n) in
-        let front : before_first p (b ∷ bs) ≡ b ∷ take n bs = ap (λ k. take k (b ∷ bs)) place in
+        let index : prefix_len (λ x. not (p x)) (b ∷ bs) ≡ suc n = rw e (one-first n) in
+        let front : before_first p (b ∷ bs) ≡ b ∷ take n bs = ap (λ k. take k (b ∷ bs)) index in
         let parts : slice_split p (b ∷ bs) ≡ (b ∷ take n bs) ∷ rest.0 = rw (e, rest.1) refl in
         (rest.0, parts ∙ ap (λ x. x ∷ rest.0) (sym front))
 

@@ -3,8 +3,8 @@ use Rattle.std.proofs.Common.{◌≡◌, ◌∙◌, ℕ, Bool, false, Option, Re
 use Rattle.std.specs.List.{range_with_len}
 use Rattle.ti_caps.specs.Description.{Description, bare}
 use Rattle.ti_source.specs.Described.{Described}
-use Rattle.ti_source.specs.declared.statement.Statement.{Statement}
-use Rattle.ti_source.specs.Resolving.{merged, flag_in, number_in, text_in}
+use Rattle.ti_source.specs.declared.reading.statement.Statement.{Statement}
+use Rattle.ti_source.specs.Resolving.Uses.{merged, flag_in, number_in, text_in}
 use Rattle.std.proofs.lemmas.List.{drop_more, set_at, drop_all}
 use Rattle.std.proofs.lemmas.List.FromFn.{map-range_with_len_more, length-map-range_with_len}
 

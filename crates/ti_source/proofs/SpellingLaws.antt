@@ -4,10 +4,10 @@ use Rattle.std.specs.List.{list_any}
 use Rattle.std.proofs.lemmas.Bool.{eqb-true}
 use Rattle.std.proofs.lemmas.Bool.Decides.{nat_tests}
 use Rattle.ti_caps.specs.Description.{has_nul}
-use Rattle.ti_source.specs.Escape.{is_octal, begins_octal, letter, octal, not_nul, decoded}
-use Rattle.ti_source.specs.Escape as code
-use Rattle.ti_source.specs.Spelling.{letters, IsFor, Spells, AreSpelled}
-use Rattle.ti_source.specs.Spelling as spelled
+use Rattle.ti_source.specs.Reading.Escape.{is_octal, begins_octal, letter, octal, not_nul, decoded}
+use Rattle.ti_source.specs.Reading.Escape as code
+use Rattle.ti_source.specs.Reading.Spelling.{letters, IsFor, Spells, AreSpelled}
+use Rattle.ti_source.specs.Reading.Spelling as spelled
 
 -- ---- tests
 

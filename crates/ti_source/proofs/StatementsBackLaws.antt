@@ -5,50 +5,50 @@ use Rattle.std.proofs.lemmas.Bool.Decides.{nat_tests}
 use Rattle.std.proofs.lemmas.List.Folds.{list_any-append}
 use Rattle.ti_caps.specs.declared.table.Kind.{Kind}
 use Rattle.ti_caps.specs.Table.{name_at, same_kind}
-use Rattle.ti_source.specs.declared.statement.Said.{Said}
-use Rattle.ti_source.specs.declared.statement.Statement.{Statement}
-use Rattle.ti_source.specs.Line.{line_of, lines}
-use Rattle.ti_source.specs.Print.{field_line, lines_from}
-use Rattle.ti_source.specs.Reading.{speaks_of, next_line}
-use Rattle.ti_source.specs.Steps.{Filling, State, with_fields, with_form, with_line, with_lines, with_statement}
-use Rattle.ti_source.specs.Field.{form_of}
+use Rattle.ti_source.specs.declared.reading.statement.FieldValue.{FieldValue}
+use Rattle.ti_source.specs.declared.reading.statement.Statement.{Statement}
+use Rattle.ti_source.specs.Reading.Line.{line_of, lines}
+use Rattle.ti_source.specs.Printing.Print.{field_line, lines_from}
+use Rattle.ti_source.specs.Reading.Sources.{concerns, next_line}
+use Rattle.ti_source.specs.Code.Steps.{OpenEntry, ReaderState, with_fields, with_form, with_line, with_lines, with_statement}
+use Rattle.ti_source.specs.Reading.Field.{form_of}
 use Rattle.ti_source.proofs.TableBytesLaws.{both, is_graphic}
 use Rattle.ti_source.proofs.LinesBackLaws.{ended, lines-ended, no_feed}
 use Rattle.ti_source.proofs.FieldsBackLaws.{line-of-value}
 use Rattle.ti_source.proofs.FormsBackLaws.{Fits, IsPrinted, is-printed, value_of}
 
-abbrev pub statement : Kind → ℕ → Said → Statement
-statement kind slot s = record { kind = kind; slot = record { 0 = slot }; said = s }
+abbrev pub statement : Kind → ℕ → FieldValue → Statement
+statement kind slot s = record { kind = kind; slot = record { 0 = slot }; field_value = s }
 
 -- the line and the statement of what a capability has, by its name
-abbrev pub said_text : Option (List ℕ) → Option Said → List ℕ
-said_text name None = []
-said_text name (Some s) = field_line name (value_of s)
+abbrev pub value_text : Option (List ℕ) → Option FieldValue → List ℕ
+value_text name None = []
+value_text name (Some s) = field_line name (value_of s)
 
-abbrev pub said_line : Kind → ℕ → Option Said → List ℕ
-said_line kind slot o = said_text (name_at kind slot) o
+abbrev pub value_line : Kind → ℕ → Option FieldValue → List ℕ
+value_line kind slot o = value_text (name_at kind slot) o
 
-abbrev pub named_statement : Kind → ℕ → Option (List ℕ) → Option Said → List Statement
+abbrev pub named_statement : Kind → ℕ → Option (List ℕ) → Option FieldValue → List Statement
 named_statement kind slot None o = []
 named_statement kind slot (Some name) None = []
 named_statement kind slot (Some name) (Some s) = statement kind slot s ∷ []
 
-abbrev pub statements_from : Kind → ℕ → List (Option Said) → List Statement
+abbrev pub statements_from : Kind → ℕ → List (Option FieldValue) → List Statement
 statements_from kind k [] = []
 statements_from kind k (o ∷ os) = named_statement kind k (name_at kind k) o ++ statements_from kind (suc k) os
 
-abbrev pub AllFit : Kind → List (Option Said) → Type 0
+abbrev pub AllFit : Kind → List (Option FieldValue) → Type 0
 AllFit kind [] = Unit {0}
 AllFit kind (o ∷ os) = IfSome o (Fits kind) × AllFit kind os
 
 -- an entry that is being read
-abbrev pub reading : List ℕ → List Statement → State
+abbrev pub reading : List ℕ → List Statement → ReaderState
 reading names ss = record { done = []; current = Some (record { names = names; statements = ss; uses = [] }); notes = [] }
 
-one-line : (n slot : ℕ) (kind : Kind) (s : Said) (name names : List ℕ) (ss : List Statement) → IsPrinted kind slot s name → list_any (speaks_of kind slot) ss ≡ false → with_line n (line_of (9 ∷ ((name ++ value_of s) ++ 44 ∷ []))) (reading names ss) ≡ Ok (reading names (ss ++ statement kind slot s ∷ []))
+one-line : (n slot : ℕ) (kind : Kind) (s : FieldValue) (name names : List ℕ) (ss : List Statement) → IsPrinted kind slot s name → list_any (concerns kind slot) ss ≡ false → with_line n (line_of (9 ∷ ((name ++ value_of s) ++ 44 ∷ []))) (reading names ss) ≡ Ok (reading names (ss ++ statement kind slot s ∷ []))
 unfolding with_line with_fields with_form
 one-line n slot kind s name names ss is fresh =
-    let f : Filling = record { entry = record { names = names; statements = ss; uses = [] }; notes = [] } in
+    let f : OpenEntry = record { entry = record { names = names; statements = ss; uses = [] }; notes = [] } in
     let adds : with_form n (form_of (9 ∷ (name ++ value_of s))) f ≡ Ok (with_statement kind slot s f) = is.adds n f fresh in
     rw (line-of-value (name ++ value_of s) is.value, adds) refl
 
@@ -62,11 +62,11 @@ no-feeds (b ∷ bs) e =
     rw (graphic-no_feed b parts.0) (no-feeds bs parts.1)
 
 -- reading goes on at the rest of a text, and has come to another state
-pub record Goes (n : ℕ) (text : List ℕ) (s : State) (rest : List ℕ) (t : State) : Type 0 where
+pub record Goes (n : ℕ) (text : List ℕ) (s : ReaderState) (rest : List ℕ) (t : ReaderState) : Type 0 where
   pub line : ℕ
   pub goes : with_lines n (lines text) s ≡ with_lines line (lines rest) t
 
-pub Goes-line : (n : ℕ) (body rest : List ℕ) (s t : State) → list_all no_feed body ≡ true → with_line n (line_of (body ++ 44 ∷ [])) s ≡ Ok t → Goes n (ended body rest) s rest t
+pub Goes-line : (n : ℕ) (body rest : List ℕ) (s t : ReaderState) → list_all no_feed body ≡ true → with_line n (line_of (body ++ 44 ∷ [])) s ≡ Ok t → Goes n (ended body rest) s rest t
 unfolding with_lines
 Goes-line n body rest s t plain is =
     let one : with_lines n ((body ++ 44 ∷ []) ∷ lines rest) s ≡ with_lines (next_line n) (lines rest) t = rw is refl in
@@ -80,7 +80,7 @@ same-state : (n : ℕ) (text rest : List ℕ) (names : List ℕ) (ss added : Lis
 same-state n text rest names ss added same none =
     record { line = n; goes = ap (λ x. with_lines n (lines x) (reading names ss)) same ∙ ap (λ x. with_lines n (lines rest) (reading names x)) (sym (append-nil ss) ∙ ap (λ x. ss ++ x) (sym none)) }
 
-one : (n k : ℕ) (kind : Kind) (o : Option Said) (name : Option (List ℕ)) (names : List ℕ) (ss : List Statement) (rest : List ℕ) → name_at kind k ≡ name → IfSome o (Fits kind) → list_any (speaks_of kind k) ss ≡ false → Goes n (said_text name o ++ rest) (reading names ss) rest (reading names (ss ++ named_statement kind k name o))
+one : (n k : ℕ) (kind : Kind) (o : Option FieldValue) (name : Option (List ℕ)) (names : List ℕ) (ss : List Statement) (rest : List ℕ) → name_at kind k ≡ name → IfSome o (Fits kind) → list_any (concerns kind k) ss ≡ false → Goes n (value_text name o ++ rest) (reading names ss) rest (reading names (ss ++ named_statement kind k name o))
 one n k kind None None names ss rest at fits fresh = same-state n rest rest names ss [] refl refl
 one n k kind None (Some name) names ss rest at fits fresh = same-state n rest rest names ss [] refl refl
 one n k kind (Some s) None names ss rest at fits fresh = same-state n rest rest names ss [] refl refl
@@ -90,10 +90,10 @@ one n k kind (Some s) (Some name) names ss rest at fits fresh =
     let goes = Goes-line n body rest (reading names ss) (reading names (ss ++ statement kind k s ∷ [])) (no-feeds (name ++ value_of s) is.value.graphic) (one-line n k kind s name names ss is fresh) in
     record { line = goes.line; goes = ap (λ x. with_lines n (lines x) (reading names ss)) (field-ended name (value_of s) rest) ∙ goes.goes }
 
-other-place : (kind : Kind) (k j : ℕ) (name : Option (List ℕ)) (o : Option Said) → k < j → list_any (speaks_of kind j) (named_statement kind k name o) ≡ false
-other-place kind k j None o lt = refl
-other-place kind k j (Some name) None lt = refl
-other-place kind k j (Some name) (Some s) lt = let other : eqb k j ≡ false = grind (arith, nat_tests) in rw other (by (same_kind kind kind))
+other-index : (kind : Kind) (k j : ℕ) (name : Option (List ℕ)) (o : Option FieldValue) → k < j → list_any (concerns kind j) (named_statement kind k name o) ≡ false
+other-index kind k j None o lt = refl
+other-index kind k j (Some name) None lt = refl
+other-index kind k j (Some name) (Some s) lt = let other : eqb k j ≡ false = grind (arith, nat_tests) in rw other (by (same_kind kind kind))
   where
     by : (t : Bool) → ((t && false) || false) ≡ false
     by true = refl
@@ -101,34 +101,34 @@ other-place kind k j (Some name) (Some s) lt = let other : eqb k j ≡ false = g
 
 -- no statement speaks of these capabilities from a place on
 abbrev pub IsFresh : Kind → ℕ → List Statement → Type 0
-IsFresh kind k ss = (j : ℕ) → k ≤ j → list_any (speaks_of kind j) ss ≡ false
+IsFresh kind k ss = (j : ℕ) → k ≤ j → list_any (concerns kind j) ss ≡ false
 
-still-fresh : (kind : Kind) (k : ℕ) (name : Option (List ℕ)) (o : Option Said) (ss : List Statement) → IsFresh kind k ss → IsFresh kind (suc k) (ss ++ named_statement kind k name o)
+still-fresh : (kind : Kind) (k : ℕ) (name : Option (List ℕ)) (o : Option FieldValue) (ss : List Statement) → IsFresh kind k ss → IsFresh kind (suc k) (ss ++ named_statement kind k name o)
 still-fresh kind k name o ss fresh j le =
-    list_any-append (speaks_of kind j) ss (named_statement kind k name o) ∙ rw (fresh j (omega arith), other-place kind k j name o (omega arith)) refl
+    list_any-append (concerns kind j) ss (named_statement kind k name o) ∙ rw (fresh j (omega arith), other-index kind k j name o (omega arith)) refl
 
 -- the lines of one kind
-pub goes-on : (kind : Kind) (os : List (Option Said)) (n k : ℕ) (names : List ℕ) (ss : List Statement) (rest : List ℕ) → AllFit kind os → IsFresh kind k ss → Goes n (lines_from (said_line kind) k os ++ rest) (reading names ss) rest (reading names (ss ++ statements_from kind k os))
+pub goes-on : (kind : Kind) (os : List (Option FieldValue)) (n k : ℕ) (names : List ℕ) (ss : List Statement) (rest : List ℕ) → AllFit kind os → IsFresh kind k ss → Goes n (lines_from (value_line kind) k os ++ rest) (reading names ss) rest (reading names (ss ++ statements_from kind k os))
 goes-on kind [] n k names ss rest fits fresh = same-state n rest rest names ss [] refl refl
 goes-on kind (o ∷ os) n k names ss rest fits fresh =
     let name = name_at kind k in
     let added = named_statement kind k name o in
-    let more = lines_from (said_line kind) (suc k) os in
+    let more = lines_from (value_line kind) (suc k) os in
     let first = one n k kind o name names ss (more ++ rest) refl fits.0 (fresh k (omega arith)) in
     let others = goes-on kind os first.line (suc k) names (ss ++ added) rest fits.1 (still-fresh kind k name o ss fresh) in
     record {
       line = others.line;
-      goes = ap (λ x. with_lines n (lines x) (reading names ss)) (append_assoc (said_line kind k o) more rest) ∙ first.goes ∙ others.goes
+      goes = ap (λ x. with_lines n (lines x) (reading names ss)) (append_assoc (value_line kind k o) more rest) ∙ first.goes ∙ others.goes
           ∙ ap (λ x. with_lines others.line (lines rest) (reading names x)) (append_assoc ss added (statements_from kind (suc k) os));
     }
 
 -- the statements of one kind speak of no other
-pub of-other-kind : (kind other : Kind) (k j : ℕ) (os : List (Option Said)) → same_kind kind other ≡ false → list_any (speaks_of other j) (statements_from kind k os) ≡ false
+pub of-other-kind : (kind other : Kind) (k j : ℕ) (os : List (Option FieldValue)) → same_kind kind other ≡ false → list_any (concerns other j) (statements_from kind k os) ≡ false
 of-other-kind kind other k j [] e = refl
 of-other-kind kind other k j (o ∷ os) e =
-    list_any-append (speaks_of other j) (named_statement kind k (name_at kind k) o) (statements_from kind (suc k) os) ∙ rw (here (name_at kind k) o, of-other-kind kind other (suc k) j os e) refl
+    list_any-append (concerns other j) (named_statement kind k (name_at kind k) o) (statements_from kind (suc k) os) ∙ rw (here (name_at kind k) o, of-other-kind kind other (suc k) j os e) refl
   where
-    here : (name : Option (List ℕ)) (p : Option Said) → list_any (speaks_of other j) (named_statement kind k name p) ≡ false
+    here : (name : Option (List ℕ)) (p : Option FieldValue) → list_any (concerns other j) (named_statement kind k name p) ≡ false
     here None p = refl
     here (Some name) None = refl
     here (Some name) (Some s) = rw e refl

@@ -4,7 +4,7 @@ use Rattle.std.specs.List.{list_all}
 use Rattle.std.specs.Str.{bytes_eq}
 use Rattle.ti_caps.specs.declared.table.Kind.{Kind}
 use Rattle.ti_caps.specs.Table.{Names, runs, flag_names, number_names, text_names_from_0, text_names_from_55, text_names_from_90, text_names_from_139, text_names_from_158, text_names_from_216, text_names_from_297, text_names_from_359, same_kind, or_else, name_in, name_among, name_at}
-use Rattle.ti_source.specs.Field.{ends_name, takes_next}
+use Rattle.ti_source.specs.Reading.Field.{ends_name, takes_next}
 
 -- a graphic byte of ASCII, no blank
 abbrev pub is_graphic : ℕ → Bool
@@ -34,10 +34,10 @@ pub both : (a b : Bool) → (a && b) ≡ true → (a ≡ true) × (b ≡ true)
 both true b e = (refl, e)
 both false b e = cc
 
-at-place : (p : List ℕ → Bool) (ns : List (List ℕ)) (j : ℕ) (n : List ℕ) → list_all p ns ≡ true → slice_get ns j ≡ Some n → p n ≡ true
-at-place p [] j n e at = cc
-at-place p (m ∷ ns) zero n e at = let same : n ≡ m = cc in rw same (both (p m) (list_all p ns) e).0
-at-place p (m ∷ ns) (suc j) n e at = at-place p ns j n (both (p m) (list_all p ns) e).1 at
+at-index : (p : List ℕ → Bool) (ns : List (List ℕ)) (j : ℕ) (n : List ℕ) → list_all p ns ≡ true → slice_get ns j ≡ Some n → p n ≡ true
+at-index p [] j n e at = cc
+at-index p (m ∷ ns) zero n e at = let same : n ≡ m = cc in rw same (both (p m) (list_all p ns) e).0
+at-index p (m ∷ ns) (suc j) n e at = at-index p ns j n (both (p m) (list_all p ns) e).1 at
 
 guarded : {A : Type 0} → (b : Bool) (o : Option A) (x : A) → cond b o None ≡ Some x → o ≡ Some x
 guarded true o x e = e
@@ -52,11 +52,11 @@ among kind position [] n e at = cc
 among kind position (r ∷ rs) n e at =
     let parts = both (list_all is_written r.names) (all_written rs) e in
     elim (first_there (name_in kind position r) (name_among kind position rs) n at) [
-      | inl h ↦ at-place is_written r.names (position - r.first) n parts.0 (guarded (same_kind r.kind kind && leb r.first position) (slice_get r.names (position - r.first)) n h)
+      | inl h ↦ at-index is_written r.names (position - r.first) n parts.0 (guarded (same_kind r.kind kind && leb r.first position) (slice_get r.names (position - r.first)) n h)
       | inr h ↦ among kind position rs n parts.1 h
     ]
 
 -- a name of the table can be written in a field
-pub name-is-written : (kind : Kind) (position : ℕ) (name : List ℕ) → name_at kind position ≡ Some name → is_written name ≡ true
+pub name-is-written_entries : (kind : Kind) (position : ℕ) (name : List ℕ) → name_at kind position ≡ Some name → is_written name ≡ true
 unfolding name_at
-name-is-written kind position name at = among kind position runs name computed at
+name-is-written_entries kind position name at = among kind position runs name computed at

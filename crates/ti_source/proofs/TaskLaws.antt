@@ -4,16 +4,16 @@ use Rattle.std.specs.List.{list_any}
 use Rattle.std.proofs.lemmas.List.{drop_more}
 use Rattle.ti_caps.specs.Description.{Description}
 use Rattle.ti_source.specs.declared.fault.SourceFault.{SourceFault}
-use Rattle.ti_source.specs.declared.walk.Mark.{Mark}
-use Rattle.ti_source.specs.declared.walk.Mark.TheVariants.{New, Open, Done, Faulty}
-use Rattle.ti_source.specs.declared.walk.Task.{Task}
-use Rattle.ti_source.specs.declared.walk.Task.TheVariants.{Visit, Leave}
+use Rattle.ti_source.specs.declared.resolving.walk.Mark.{Mark}
+use Rattle.ti_source.specs.declared.resolving.walk.Mark.TheVariants.{New, Open, Done, Faulty}
+use Rattle.ti_source.specs.declared.resolving.walk.Task.{Task}
+use Rattle.ti_source.specs.declared.resolving.walk.Task.TheVariants.{Visit, Leave}
 use Rattle.ti_source.specs.Described.{Described}
-use Rattle.ti_source.specs.Named.{found_from, place_of}
-use Rattle.ti_source.specs.Resolving.{merged, Resolve, nothing, more, Fault, unknown, cycle, below, later, Resolved}
-use Rattle.ti_source.specs.Walk.{visits, leaves, places, ResolvedAt, FaultIn, position, done_at, known, AreKnown, IsAmong, Within, AllWithin, Held, count_new}
+use Rattle.ti_source.specs.Resolving.Named.{found_from, index_of}
+use Rattle.ti_source.specs.Resolving.Uses.{merged, Resolve, nothing, more, Fault, unknown, cycle, below, later, Resolved}
+use Rattle.ti_source.specs.Code.Walk.{visits, leaves, indices, ResolvedAt, FaultIn, position, done_at, known, AreKnown, IsAmong, Within, AllWithin, Held, count_new}
 use Rattle.ti_source.proofs.NamedLaws.{found-there, found-some}
-use Rattle.ti_source.proofs.PlaceLaws.{get-lt}
+use Rattle.ti_source.proofs.IndexLaws.{get-lt}
 
 -- ---- marks
 
@@ -54,7 +54,7 @@ known-some marks p h = by (done_at marks p) h
 
 -- ---- tasks
 
-pub visits-drop : (entries : List Described) (us : List (List ℕ)) (k : ℕ) (u : List ℕ) → k < length us → u ≡ get_or us k u → visits entries (drop k us) ≡ Visit (place_of entries u) ∷ visits entries (drop (k + 1) us)
+pub visits-drop : (entries : List Described) (us : List (List ℕ)) (k : ℕ) (u : List ℕ) → k < length us → u ≡ get_or us k u → visits entries (drop k us) ≡ Visit (index_of entries u) ∷ visits entries (drop (k + 1) us)
 visits-drop entries us k u lt is =
     ap (visits entries) (drop_more us k u lt ∙ ap (λ x. x ∷ drop (k + 1) us) (sym is))
 
@@ -88,28 +88,28 @@ held-mono entries marks after first firsts [] sub h = tt
 held-mono entries marks after first firsts (Visit q ∷ tasks) sub h =
     held-mono entries marks after (q ∷ first) (q ∷ firsts) tasks (within-cons marks after first firsts q sub) h
 held-mono entries marks after first firsts (Leave i ∷ tasks) sub h =
-    ((h.0.0, h.0.1, all-mono marks after first firsts sub (map (place_of entries) h.0.0.uses) h.0.2), held-mono entries marks after (Some i ∷ first) (Some i ∷ firsts) tasks (within-cons marks after first firsts (Some i) sub) h.1)
+    ((h.0.0, h.0.1, all-mono marks after first firsts sub (map (index_of entries) h.0.0.uses) h.0.2), held-mono entries marks after (Some i ∷ first) (Some i ∷ firsts) tasks (within-cons marks after first firsts (Some i) sub) h.1)
 
-pub held-visits : (entries : List Described) (marks : List Mark) (us : List (List ℕ)) (first : List (Option ℕ)) (rest : List Task) → ((firsts : List (Option ℕ)) → ((p : Option ℕ) → (IsAmong p (map (place_of entries) us) ⊎ Within marks first p) → Within marks firsts p) → Held entries marks firsts rest) → Held entries marks first (visits entries us ++ rest)
+pub held-visits : (entries : List Described) (marks : List Mark) (us : List (List ℕ)) (first : List (Option ℕ)) (rest : List Task) → ((firsts : List (Option ℕ)) → ((p : Option ℕ) → (IsAmong p (map (index_of entries) us) ⊎ Within marks first p) → Within marks firsts p) → Held entries marks firsts rest) → Held entries marks first (visits entries us ++ rest)
 held-visits entries marks [] first rest k = k first (λ p w. elim w [ inl a ↦ absurd a | inr x ↦ x ])
 held-visits entries marks (u ∷ us) first rest k =
-    held-visits entries marks us (place_of entries u ∷ first) rest (λ firsts sub. k firsts (λ p w. elim w [
+    held-visits entries marks us (index_of entries u ∷ first) rest (λ firsts sub. k firsts (λ p w. elim w [
       | inl a ↦ elim a [ inl e ↦ sub p (inr (inr (inl e))) | inr b ↦ sub p (inl b) ]
-      | inr x ↦ sub p (inr (within-behind marks first (place_of entries u) p x))
+      | inr x ↦ sub p (inr (within-behind marks first (index_of entries u) p x))
     ]))
 
-pub places-visits : (marks : List Mark) (entries : List Described) (us : List (List ℕ)) (rest : List Task) (p : Option ℕ) → Within marks (places rest) p → Within marks (places (visits entries us ++ rest)) p
-places-visits marks entries [] rest p h = h
-places-visits marks entries (u ∷ us) rest p h =
-    within-behind marks (places (visits entries us ++ rest)) (place_of entries u) p (places-visits marks entries us rest p h)
+pub indices-visits : (marks : List Mark) (entries : List Described) (us : List (List ℕ)) (rest : List Task) (p : Option ℕ) → Within marks (indices rest) p → Within marks (indices (visits entries us ++ rest)) p
+indices-visits marks entries [] rest p h = h
+indices-visits marks entries (u ∷ us) rest p h =
+    within-behind marks (indices (visits entries us ++ rest)) (index_of entries u) p (indices-visits marks entries us rest p h)
 
 -- ---- names, places and what they resolve to
 
-pub found-at : (entries : List Described) (name : List ℕ) (i : ℕ) (d : Described) → place_of entries name ≡ Some i → slice_get entries i ≡ Some d → found_from 0 name entries ≡ Some (i, d)
-found-at entries name i d place at = found-some name entries i d (sym place) at
+pub found-at : (entries : List Described) (name : List ℕ) (i : ℕ) (d : Described) → index_of entries name ≡ Some i → slice_get entries i ≡ Some d → found_from 0 name entries ≡ Some (i, d)
+found-at entries name i d index at = found-some name entries i d (sym index) at
 
-pub place-there : (entries : List Described) (name : List ℕ) (i : ℕ) → place_of entries name ≡ Some i → i < length entries
-place-there entries name i place = by (found_from 0 name entries) refl place
+pub index-there : (entries : List Described) (name : List ℕ) (i : ℕ) → index_of entries name ≡ Some i → i < length entries
+index-there entries name i index = by (found_from 0 name entries) refl index
   where
     by : (o : Option (ℕ × Described)) → found_from 0 name entries ≡ o → option_map (λ (p : ℕ × Described). p.0) o ≡ Some i → i < length entries
     by None e h = cc
@@ -120,7 +120,7 @@ place-there entries name i place = by (found_from 0 name entries) refl place
         get-lt entries i f.1 (ap (slice_get entries) (sym z) ∙ there.1)
 
 pub resolved-at : (entries : List Described) (i : ℕ) (d : Described) (used : List Description) → slice_get entries i ≡ Some d → Resolve entries d.uses used → ResolvedAt entries (Some i) (merged d used)
-resolved-at entries i d used at uses name place = more (found-at entries name i d place at) uses refl nothing
+resolved-at entries i d used at uses name index = more (found-at entries name i d index at) uses refl nothing
 
 pub resolve-cons : (entries : List Described) (name : List ℕ) (names : List (List ℕ)) (d : Description) (ds : List Description) → Resolved entries name d → Resolve entries names ds → Resolve entries (name ∷ names) (d ∷ ds)
 resolve-cons entries name names d ds one rest = by one refl refl
@@ -164,6 +164,6 @@ faults-of-visits entries i tasks (u ∷ us) fault (inr h) =
 pub enter-lifts : (entries : List Described) (i : ℕ) (d : Described) (tasks : List Task) → slice_get entries i ≡ Some d → list_any (λ j. eqb j i) (leaves tasks) ≡ false → (fault : SourceFault) → FaultIn entries (visits entries d.uses ++ Leave i ∷ tasks) fault → FaultIn entries (Visit (Some i) ∷ tasks) fault
 enter-lifts entries i d tasks at off fault h =
     elim (faults-of-visits entries i tasks d.uses fault h) [
-      | inl f ↦ inl (λ name place. below (found-at entries name i d place at) off f)
+      | inl f ↦ inl (λ name index. below (found-at entries name i d index at) off f)
       | inr r ↦ inr ((merged d r.0.0, resolved-at entries i d r.0.0 at r.0.1), r.1)
     ]

@@ -5,21 +5,21 @@ use Rattle.std.proofs.lemmas.List.{length-set, length-append, length-map, length
 use Rattle.std.proofs.lemmas.Bool.Decides.{nat_tests}
 use Rattle.ti_source.specs.declared.fault.SourceFault.{SourceFault}
 use Rattle.ti_source.specs.declared.fault.SourceFault.TheVariants.{UnknownName, UseCycle}
-use Rattle.ti_source.specs.declared.statement.Statement.{Statement}
-use Rattle.ti_source.specs.declared.walk.Mark.{Mark}
-use Rattle.ti_source.specs.declared.walk.Mark.TheVariants.{New, Open, Done, Faulty}
-use Rattle.ti_source.specs.declared.walk.Task.{Task}
-use Rattle.ti_source.specs.declared.walk.Task.TheVariants.{Visit, Leave}
-use Rattle.ti_source.specs.declared.walk.Walk.{Walk}
+use Rattle.ti_source.specs.declared.reading.statement.Statement.{Statement}
+use Rattle.ti_source.specs.declared.resolving.walk.Mark.{Mark}
+use Rattle.ti_source.specs.declared.resolving.walk.Mark.TheVariants.{New, Open, Done, Faulty}
+use Rattle.ti_source.specs.declared.resolving.walk.Task.{Task}
+use Rattle.ti_source.specs.declared.resolving.walk.Task.TheVariants.{Visit, Leave}
+use Rattle.ti_source.specs.declared.resolving.walk.Walk.{Walk}
 use Rattle.ti_source.specs.Described.{Described}
-use Rattle.ti_source.specs.Named.{place_of}
-use Rattle.ti_source.specs.Resolving.{unknown, cycle}
+use Rattle.ti_source.specs.Resolving.Named.{index_of}
+use Rattle.ti_source.specs.Resolving.Uses.{unknown, cycle}
 use Rattle.ti_source.specs.Result.{Stops}
-use Rattle.ti_source.specs.Walk.{visits, leaves, places, FaultAt, FaultIn, known, AreKnown, Within, IsWalk, Kept, count_new, Stepped, StuckAt, IsReady, IsStopped, IsTakenBack, with_fault}
+use Rattle.ti_source.specs.Code.Walk.{visits, leaves, indices, FaultAt, FaultIn, known, AreKnown, Within, IsWalk, Kept, count_new, Stepped, StuckAt, IsReady, IsStopped, IsTakenBack, with_fault}
 use Rattle.ti_source.proofs.ChainLaws.{awaited-done, awaited-entered, faulty-at, ready-again, ready-back}
 use Rattle.ti_source.proofs.NamedLaws.{found-none}
-use Rattle.ti_source.proofs.PlaceLaws.{get-append, get-cases, get-lt, get-none, get-push, get-set, get-within}
-use Rattle.ti_source.proofs.TaskLaws.{all-from, all-known, count-done, count-open, enter-lifts, found-at, held-mono, held-visits, known-set, leaves-visits, not-new, place-there, places-visits}
+use Rattle.ti_source.proofs.IndexLaws.{get-append, get-cases, get-lt, get-none, get-push, get-set, get-within}
+use Rattle.ti_source.proofs.TaskLaws.{all-from, all-known, count-done, count-open, enter-lifts, found-at, held-mono, held-visits, known-set, leaves-visits, not-new, index-there, indices-visits}
 
 -- ---- each kind of task
 
@@ -38,14 +38,14 @@ entered-stepped entries marks after kept i d tasks left w new at few after-is le
         ]);
         keeps = λ j k e. elim (get-cases marks i Open j (Done k) e) [ inl h ↦ absurd (cc (h.1)) | inr h ↦ w.keeps j k h.1 ];
         held = held-visits entries (set marks i Open) d.uses [] (Leave i ∷ tasks) (λ firsts sub. (
-          (d, at, all-from (set marks i Open) firsts (map (place_of entries) d.uses) (λ p a. sub p (inl a))),
-          held-mono entries marks (set marks i Open) (Some i ∷ []) (Some i ∷ firsts) tasks (λ p x. by-place p firsts x) w.held,
+          (d, at, all-from (set marks i Open) firsts (map (index_of entries) d.uses) (λ p a. sub p (inl a))),
+          held-mono entries marks (set marks i Open) (Some i ∷ []) (Some i ∷ firsts) tasks (λ p x. by-index p firsts x) w.held,
         ));
         awaited = awaited-entered entries i d tasks at (w.fresh i new) w.awaited;
         faulty = λ j f e. elim (get-cases marks i Open j (Faulty f) e) [ inl h ↦ absurd (cc (h.1)) | inr h ↦ w.faulty j f h.1 ];
       };
       lifts = enter-lifts entries i d tasks at (w.fresh i new);
-      carries = λ p x. places-visits (set marks i Open) entries d.uses (Leave i ∷ tasks) p (carried p x);
+      carries = λ p x. indices-visits (set marks i Open) entries d.uses (Leave i ∷ tasks) p (carried p x);
       less = count;
     })
   where
@@ -66,12 +66,12 @@ entered-stepped entries marks after kept i d tasks left w new at few after-is le
     stays : (p : Option ℕ) → known marks p ≡ true → known (set marks i Open) p ≡ true
     stays p h = known-set marks i Open p (λ k. absurd (not-new (slice_get marks i) new k)) h
 
-    by-place : (p : Option ℕ) (firsts : List (Option ℕ)) → Within marks (Some i ∷ []) p → Within (set marks i Open) (Some i ∷ firsts) p
-    by-place p firsts (inl k) = inl (stays p k)
-    by-place p firsts (inr (inl e)) = inr (inl e)
-    by-place p firsts (inr (inr a)) = absurd a
+    by-index : (p : Option ℕ) (firsts : List (Option ℕ)) → Within marks (Some i ∷ []) p → Within (set marks i Open) (Some i ∷ firsts) p
+    by-index p firsts (inl k) = inl (stays p k)
+    by-index p firsts (inr (inl e)) = inr (inl e)
+    by-index p firsts (inr (inr a)) = absurd a
 
-    carried : (p : Option ℕ) → Within marks (Some i ∷ places tasks) p → Within (set marks i Open) (Some i ∷ places tasks) p
+    carried : (p : Option ℕ) → Within marks (Some i ∷ indices tasks) p → Within (set marks i Open) (Some i ∷ indices tasks) p
     carried p (inl k) = inl (stays p k)
     carried p (inr a) = inr a
 
@@ -79,7 +79,7 @@ entered-stepped entries marks after kept i d tasks left w new at few after-is le
     count =
         let one = count-open marks i new in
         let all = length-append (visits entries d.uses) (Leave i ∷ tasks) in
-        let own = length-map d.uses (λ name. Visit (place_of entries name)) in
+        let own = length-map d.uses (λ name. Visit (index_of entries name)) in
         omega arith
 
 pub done-stepped : (entries : List Described) (marks : List Mark) (kept : List (List Statement)) (i k : ℕ) (tasks : List Task) → IsWalk entries marks kept (Visit (Some i) ∷ tasks) → slice_get marks i ≡ Some (Done k) → Stepped entries marks (Visit (Some i) ∷ tasks) marks kept tasks
@@ -95,7 +95,7 @@ done-stepped entries marks kept i k tasks w at =
         faulty = w.faulty;
       };
       lifts = λ fault h. let had = w.keeps i k at in inr ((had.2.d, had.2.resolved), h);
-      carries = λ p x. known-first p (places tasks) x;
+      carries = λ p x. known-first p (indices tasks) x;
       less = omega arith;
     }
   where
@@ -122,8 +122,8 @@ left-stepped entries marks after kept after_kept i fields tasks w keep after-is 
         ];
         keeps = λ j k e. elim (get-cases marks i (Done (length kept)) j (Done k) e) [
           | inl h ↦
-              let place : k ≡ length kept = cc (h.1) in
-              (fields, rw place (get-push kept fields), rw (h.0) keep)
+              let index : k ≡ length kept = cc (h.1) in
+              (fields, rw index (get-push kept fields), rw (h.0) keep)
           | inr h ↦
               let had = w.keeps j k h.1 in
               (had.0, get-append kept (fields ∷ []) k had.0 had.1, had.2)
@@ -133,7 +133,7 @@ left-stepped entries marks after kept after_kept i fields tasks w keep after-is 
         faulty = λ j f e. elim (get-cases marks i (Done (length kept)) j (Faulty f) e) [ inl h ↦ absurd (cc (h.1)) | inr h ↦ w.faulty j f h.1 ];
       };
       lifts = λ fault h. h;
-      carries = λ p x. known-first p (places tasks) x;
+      carries = λ p x. known-first p (indices tasks) x;
       less = let fewer = count-done marks i (length kept) in omega arith;
     })
   where
@@ -159,77 +159,77 @@ left-stepped entries marks after kept after_kept i fields tasks w keep after-is 
     known-first p firsts (inr (inl e)) = inl (rw e there)
     known-first p firsts (inr (inr a)) = inr a
 
-pub leave-known : (entries : List Described) (marks : List Mark) (kept : List (List Statement)) (i : ℕ) (tasks : List Task) → IsWalk entries marks kept (Leave i ∷ tasks) → (d : Described) × (slice_get entries i ≡ Some d) × AreKnown marks (map (place_of entries) d.uses)
-leave-known entries marks kept i tasks w = (w.held.0.0, w.held.0.1, all-known marks (map (place_of entries) w.held.0.0.uses) w.held.0.2)
+pub leave-known : (entries : List Described) (marks : List Mark) (kept : List (List Statement)) (i : ℕ) (tasks : List Task) → IsWalk entries marks kept (Leave i ∷ tasks) → (d : Described) × (slice_get entries i ≡ Some d) × AreKnown marks (map (index_of entries) d.uses)
+leave-known entries marks kept i tasks w = (w.held.0.0, w.held.0.1, all-known marks (map (index_of entries) w.held.0.0.uses) w.held.0.2)
 
 pub cycle-at : (entries : List Described) (marks : List Mark) (kept : List (List Statement)) (i : ℕ) (tasks : List Task) → IsWalk entries marks kept (Visit (Some i) ∷ tasks) → slice_get marks i ≡ Some Open → FaultAt entries (leaves tasks) (Some i) UseCycle
-cycle-at entries marks kept i tasks w at name place =
-    let lt = place-there entries name i place in
+cycle-at entries marks kept i tasks w at name index =
+    let lt = index-there entries name i index in
     let d = get-within entries i lt in
-    cycle (found-at entries name i d.0 place d.1) (w.opened i at)
+    cycle (found-at entries name i d.0 index d.1) (w.opened i at)
 
 pub past-at : (entries : List Described) (marks : List Mark) (kept : List (List Statement)) (i : ℕ) (tasks : List Task) → IsWalk entries marks kept (Visit (Some i) ∷ tasks) → slice_get marks i ≡ None → FaultAt entries (leaves tasks) (Some i) UnknownName
-past-at entries marks kept i tasks w none name place =
-    let lt = place-there entries name i place in let all = w.sized in let past = get-none marks i none in absurd (omega arith)
+past-at entries marks kept i tasks w none name index =
+    let lt = index-there entries name i index in let all = w.sized in let past = get-none marks i none in absurd (omega arith)
 
 pub marked-at : (entries : List Described) (marks : List Mark) (kept : List (List Statement)) (i : ℕ) (fault : SourceFault) (tasks : List Task) → IsWalk entries marks kept (Visit (Some i) ∷ tasks) → slice_get marks i ≡ Some (Faulty fault) → FaultAt entries (leaves tasks) (Some i) fault
 marked-at entries marks kept i fault tasks w at = faulty-at entries tasks i fault w.awaited (w.faulty i fault at)
 
 pub unknown-at : (entries : List Described) (chain : List ℕ) → FaultAt entries chain None UnknownName
-unknown-at entries chain name place = unknown (found-none name entries (sym place))
+unknown-at entries chain name index = unknown (found-none name entries (sym index))
 
 -- ---- the whole way to a place
 
-pub record IsReaching (entries : List Described) (before : List Mark) (place : Option ℕ) (marks : List Mark) (kept : List (List Statement)) (tasks : List Task) : Type 0 where
+pub record IsReaching (entries : List Described) (before : List Mark) (index : Option ℕ) (marks : List Mark) (kept : List (List Statement)) (tasks : List Task) : Type 0 where
   pub walk : IsWalk entries marks kept tasks
-  pub lifts : (fault : SourceFault) → FaultIn entries tasks fault → FaultIn entries (Visit place ∷ []) fault
-  pub carries : (p : Option ℕ) → Within before (place ∷ []) p → Within marks (places tasks) p
+  pub lifts : (fault : SourceFault) → FaultIn entries tasks fault → FaultIn entries (Visit index ∷ []) fault
+  pub carries : (p : Option ℕ) → Within before (index ∷ []) p → Within marks (indices tasks) p
 
-pub reaching-init : (entries : List Described) (marks : List Mark) (kept : List (List Statement)) (place : Option ℕ) (tasks : List Task) → IsWalk entries marks kept [] → tasks ≡ Visit place ∷ [] → IsReaching entries marks place marks kept tasks
-reaching-init entries marks kept place tasks w is =
+pub reaching-init : (entries : List Described) (marks : List Mark) (kept : List (List Statement)) (index : Option ℕ) (tasks : List Task) → IsWalk entries marks kept [] → tasks ≡ Visit index ∷ [] → IsReaching entries marks index marks kept tasks
+reaching-init entries marks kept index tasks w is =
     rw is (record {
       walk = record { sized = w.sized; opened = w.opened; fresh = w.fresh; keeps = w.keeps; held = tt; awaited = tt; faulty = w.faulty };
       lifts = λ fault h. h;
       carries = λ p h. h;
     })
 
-pub reaching-go : (entries : List Described) (before : List Mark) (place : Option ℕ) (marks after : List Mark) (kept after_kept : List (List Statement)) (tasks left : List Task) → IsReaching entries before place marks kept tasks → Stepped entries marks tasks after after_kept left → IsReaching entries before place after after_kept left
-reaching-go entries before place marks after kept after_kept tasks left r s =
+pub reaching-go : (entries : List Described) (before : List Mark) (index : Option ℕ) (marks after : List Mark) (kept after_kept : List (List Statement)) (tasks left : List Task) → IsReaching entries before index marks kept tasks → Stepped entries marks tasks after after_kept left → IsReaching entries before index after after_kept left
+reaching-go entries before index marks after kept after_kept tasks left r s =
     record {
       walk = s.walk;
       lifts = λ fault h. r.lifts fault (s.lifts fault h);
       carries = λ p h. s.carries p (r.carries p h);
     }
 
-pub reaching-known : (entries : List Described) (before : List Mark) (place : Option ℕ) (marks : List Mark) (kept : List (List Statement)) (tasks : List Task) → IsReaching entries before place marks kept tasks → tasks ≡ [] → known marks place ≡ true
-reaching-known entries before place marks kept tasks r none =
-    let P : List Task → Type 0 = λ ts. Within marks (places ts) place in
-    elim (subst P none (r.carries place (inr (inl refl)))) [ inl k ↦ k | inr a ↦ absurd a ]
+pub reaching-known : (entries : List Described) (before : List Mark) (index : Option ℕ) (marks : List Mark) (kept : List (List Statement)) (tasks : List Task) → IsReaching entries before index marks kept tasks → tasks ≡ [] → known marks index ≡ true
+reaching-known entries before index marks kept tasks r none =
+    let P : List Task → Type 0 = λ ts. Within marks (indices ts) index in
+    elim (subst P none (r.carries index (inr (inl refl)))) [ inl k ↦ k | inr a ↦ absurd a ]
 
-pub reaching-fault : (entries : List Described) (before : List Mark) (place : Option ℕ) (marks : List Mark) (kept : List (List Statement)) (tasks : List Task) (fault : SourceFault) → IsReaching entries before place marks kept tasks → FaultIn entries tasks fault → FaultAt entries [] place fault
-reaching-fault entries before place marks kept tasks fault r h =
+pub reaching-fault : (entries : List Described) (before : List Mark) (index : Option ℕ) (marks : List Mark) (kept : List (List Statement)) (tasks : List Task) (fault : SourceFault) → IsReaching entries before index marks kept tasks → FaultIn entries tasks fault → FaultAt entries [] index fault
+reaching-fault entries before index marks kept tasks fault r h =
     elim (r.lifts fault h) [ inl f ↦ f | inr x ↦ absurd x.1 ]
 
-pub stuck-fault : (entries : List Described) (before : List Mark) (place : Option ℕ) (w after : Walk) (task : Task) (fault : SourceFault) → IsReaching entries before place w.marks.items w.kept.items (task ∷ reverse w.tasks.items) → StuckAt entries w task fault after → FaultAt entries [] place fault
-stuck-fault entries before place w after task fault r s =
-    reaching-fault entries before place w.marks.items w.kept.items (task ∷ reverse w.tasks.items) fault r (rw (s.visit) (inl s.stuck))
+pub stuck-fault : (entries : List Described) (before : List Mark) (index : Option ℕ) (w after : Walk) (task : Task) (fault : SourceFault) → IsReaching entries before index w.marks.items w.kept.items (task ∷ reverse w.tasks.items) → StuckAt entries w task fault after → FaultAt entries [] index fault
+stuck-fault entries before index w after task fault r s =
+    reaching-fault entries before index w.marks.items w.kept.items (task ∷ reverse w.tasks.items) fault r (rw (s.visit) (inl s.stuck))
 
-pub stuck-ready : (entries : List Described) (before : List Mark) (place : Option ℕ) (w after : Walk) (task : Task) (fault : SourceFault) (marks : List Mark) → IsReaching entries before place w.marks.items w.kept.items (task ∷ reverse w.tasks.items) → StuckAt entries w task fault after → marks ≡ with_fault fault (leaves (reverse after.tasks.items)) after.marks.items → IsWalk entries marks after.kept.items []
-stuck-ready entries before place w after task fault marks r s is =
+pub stuck-ready : (entries : List Described) (before : List Mark) (index : Option ℕ) (w after : Walk) (task : Task) (fault : SourceFault) (marks : List Mark) → IsReaching entries before index w.marks.items w.kept.items (task ∷ reverse w.tasks.items) → StuckAt entries w task fault after → marks ≡ with_fault fault (leaves (reverse after.tasks.items)) after.marks.items → IsWalk entries marks after.kept.items []
+stuck-ready entries before index w after task fault marks r s is =
     let walk = subst (λ t. IsWalk entries w.marks.items w.kept.items (t ∷ reverse w.tasks.items)) s.visit r.walk in
     let marked = is ∙ ap (λ (x : Walk). with_fault fault (leaves (reverse x.tasks.items)) x.marks.items) s.same in
-    let ready = ready-again entries w.marks.items marks w.kept.items s.place (reverse w.tasks.items) fault walk s.stuck marked in
+    let ready = ready-again entries w.marks.items marks w.kept.items s.index (reverse w.tasks.items) fault walk s.stuck marked in
     subst (λ (x : Walk). IsWalk entries marks x.kept.items []) (sym s.same) ready
 
-pub stopped-ready : (entries : List Described) (before : List Mark) (place : Option ℕ) (w after stopped : Walk) (task : Task) (fault : SourceFault) → IsReaching entries before place w.marks.items w.kept.items (task ∷ reverse w.tasks.items) → Stops fault (StuckAt entries w task fault after) → (after.marks.items ≡ w.marks.items) × (after.kept.items ≡ w.kept.items) → IsStopped fault (leaves (reverse after.tasks.items)) after.marks.items stopped.marks.items → stopped.kept.items ≡ after.kept.items → stopped.tasks.items ≡ [] → IsReady entries stopped
-stopped-ready entries before place w after stopped task fault r why same marks kept none = (
+pub stopped-ready : (entries : List Described) (before : List Mark) (index : Option ℕ) (w after stopped : Walk) (task : Task) (fault : SourceFault) → IsReaching entries before index w.marks.items w.kept.items (task ∷ reverse w.tasks.items) → Stops fault (StuckAt entries w task fault after) → (after.marks.items ≡ w.marks.items) × (after.kept.items ≡ w.kept.items) → IsStopped fault (leaves (reverse after.tasks.items)) after.marks.items stopped.marks.items → stopped.kept.items ≡ after.kept.items → stopped.tasks.items ≡ [] → IsReady entries stopped
+stopped-ready entries before index w after stopped task fault r why same marks kept none = (
   elim marks [
     | inl h ↦
         let back = subst (λ ms. IsTakenBack ms stopped.marks.items) same.0 h.1 in
         subst (λ ks. IsWalk entries stopped.marks.items ks []) (sym (kept ∙ same.1)) (ready-back entries w.marks.items stopped.marks.items w.kept.items (task ∷ reverse w.tasks.items) r.walk back)
     | inr h ↦ elim why [
       | inl e ↦ absurd (h.0 e)
-      | inr s ↦ subst (λ ks. IsWalk entries stopped.marks.items ks []) (sym kept) (stuck-ready entries before place w after task fault stopped.marks.items r s h.1)
+      | inr s ↦ subst (λ ks. IsWalk entries stopped.marks.items ks []) (sym kept) (stuck-ready entries before index w after task fault stopped.marks.items r s h.1)
     ]
   ],
   ap reverse none,

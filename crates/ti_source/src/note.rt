@@ -11,7 +11,7 @@ pub enum Cause {
     WrongKind,
     /// The number is above 32,767, which stands in its place.
     TooGreat,
-    /// An earlier field of the entry speaks of the same capability.
+    /// An earlier field of the entry is about the same capability.
     Repeated,
 }
 

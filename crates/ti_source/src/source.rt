@@ -4,7 +4,7 @@ ghost use Rattle.std.specs.Prelude.{◌≡◌, ◌<◌, ◌↔◌, IsTrue, lengt
 ghost use Rattle.std.specs.Prelude.{slice_get, map, Some};
 ghost use Rattle.ti_caps.specs.Names.{first_name};
 
-use crate::entries::Entries;
+use crate::reading::entries::Entries;
 use crate::note::Note;
 use std::marker::Model;
 use ti_caps::first_name;
@@ -17,7 +17,7 @@ pub struct Source {
 }
 
 impl Model for Source {
-    ghost use Rattle.ti_source.specs.Reading.{Whole};
+    ghost use Rattle.ti_source.specs.Reading.Sources.{Whole};
 
     ghost Value = { Whole };
 

@@ -9,8 +9,8 @@ use thiserror::Error;
 pub(crate) enum Failure<'a> {
     #[error("{0}")]
     Words(clap::Error),
-    #[error("wrong words")]
-    WrongWords,
+    #[error("usage error")]
+    Usage,
     #[error("tic: cannot read {0}")]
     Read(&'a str),
     #[error("tic: cannot write -")]
@@ -24,10 +24,10 @@ pub(crate) enum Failure<'a> {
 }
 
 impl Failure<'_> {
-    /// 2 for wrong words, else 1.
+    /// 2 for a usage error, else 1.
     pub(crate) fn status(&self) -> u8 {
         match self {
-            Failure::Words(_) | Failure::WrongWords => 2,
+            Failure::Words(_) | Failure::Usage => 2,
             _ => 1,
         }
     }

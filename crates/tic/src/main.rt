@@ -4,7 +4,7 @@
 //! one entry a line. `tic -o DIR FILE` writes the files below DIR, one for each name of an entry, and
 //! prints nothing. `tic -d COMPILED` prints a compiled file as source. FILE or COMPILED is the standard
 //! input where it is `-`. Doubtful fields, and what a listing leaves out, are told on standard error. A
-//! fault is printed there as `tic: ` and its text. The status is 0, 1 for a fault and 2 for wrong words.
+//! fault is printed there as `tic: ` and its text. The status is 0, 1 for a fault and 2 for a usage error.
 #![tactic(auto)]
 
 mod failure;
@@ -41,7 +41,7 @@ fn words_given<'a>(rt: &HostRuntime) -> Result<Vec<String>, Failure<'a>> {
     match env::args(rt) {
         Ok(words) => Ok(words.collect(rt.alloc())?),
         Err(error) if error.kind() == io::ErrorKind::OutOfMemory => Err(Failure::NoMemory),
-        Err(_) => Err(Failure::WrongWords),
+        Err(_) => Err(Failure::Usage),
     }
 }
 
@@ -50,7 +50,7 @@ fn perform(rt: &HostRuntime, words: &[String]) -> u8 {
     let ended = match words::matches(rt.alloc(), words) {
         Ok(matches) => match words::task_of(&matches) {
             Some(task) => run(rt, task),
-            None => Err(Failure::WrongWords),
+            None => Err(Failure::Usage),
         },
         Err(error) if error.kind() == ErrorKind::OutOfMemory => Err(Failure::NoMemory),
         Err(error) => Err(Failure::Words(error)),

@@ -1,6 +1,6 @@
 use Rattle.std.proofs.Common.{[], inl, inr, refl, subst, ◌∙◌, ap}
 use Rattle.std.proofs.lemmas.Result.{err_from_is_err_and}
-use Rattle.ti_source.specs.Resolving.{Resolve, Resolved}
+use Rattle.ti_source.specs.Resolving.Uses.{Resolve, Resolved}
 use Rattle.terminfo_files.specs.Compiling.{names_of}
 use Rattle.terminfo_files.specs.Progress.{with_entry}
 use Rattle.terminfo_files.proofs.CompilingLaws.{compiled-more, refused-among, refused-at, written-more}

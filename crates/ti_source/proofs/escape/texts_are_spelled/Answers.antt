@@ -1,5 +1,0 @@
-use Rattle.ti_source.proofs.SpellingLaws.{are-spelled}
-use Rattle.ti_source.proofs.escape.texts_are_spelled.Goals as goal
-
-pub returns : goal.returns
-returns c = are-spelled

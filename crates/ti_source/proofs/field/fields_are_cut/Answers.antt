@@ -1,5 +1,0 @@
-use Rattle.ti_source.proofs.CuttingLaws.{are-cut}
-use Rattle.ti_source.proofs.field.fields_are_cut.Goals as goal
-
-pub returns : goal.returns
-returns c = are-cut

@@ -1,5 +1,0 @@
-use Rattle.ti_source.proofs.PrintedBackLaws.{reads-back}
-use Rattle.ti_source.proofs.printer.printed_reads_back.Goals as goal
-
-pub returns : goal.returns
-returns c = reads-back

@@ -1,5 +1,0 @@
-use Rattle.ti_source.proofs.EscapesBackLaws.{decoded-printed_text}
-use Rattle.ti_source.proofs.printer.texts_read_back.Goals as goal
-
-pub returns : goal.returns
-returns c = decoded-printed_text

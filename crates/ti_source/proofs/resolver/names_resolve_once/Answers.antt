@@ -1,5 +1,0 @@
-use Rattle.ti_source.proofs.OnceLaws.{resolve-once}
-use Rattle.ti_source.proofs.resolver.names_resolve_once.Goals as goal
-
-pub returns : goal.returns
-returns c = λ entries names ds es r q. resolve-once r q

@@ -1,0 +1,6 @@
+-- The code's own forms, proved to be what the other files define: nothing that a reader has to believe.
+pub mod Keyed
+pub mod Seen
+pub mod FirstFields
+pub mod Steps
+pub mod Walk

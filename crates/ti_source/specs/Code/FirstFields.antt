@@ -1,0 +1,89 @@
+-- For each capability the field that comes first for it, by its place among some; which fields take effect; what a resolved entry says.
+use Rattle.std.specs.Prelude.{ℕ, ◌+◌, ◌<◌, ◌≡◌, Bool, true, false, List, [], ◌∷◌, Option, Some, None, length, slice_get, slice_index_or, ◌&&◌, ◌==◌, nat_lt, if◌then◌else◌}
+use Rattle.ti_caps.specs.declared.table.Kind.{Kind}
+use Rattle.ti_caps.specs.declared.table.Kind.TheVariants.{Flag, Number, Text}
+use Rattle.ti_caps.specs.Description.{Description, flag_at, number_at, text_at}
+use Rattle.ti_caps.specs.Table.{or_else}
+use Rattle.ti_source.specs.declared.reading.statement.FieldValue.{FieldValue}
+use Rattle.ti_source.specs.declared.reading.statement.FieldValue.TheVariants as field_value
+use Rattle.ti_source.specs.declared.reading.statement.Statement.{Statement}
+use Rattle.ti_source.specs.Reading.Sources.{concerns}
+use Rattle.ti_source.specs.Resolving.Uses.{value_of_capability}
+
+-- how many positions a kind has, and where a capability stands among those of all kinds
+abbrev pub room : Kind → ℕ
+room Flag = 64
+room Number = 64
+room Text = 512
+
+abbrev pub place : Kind → ℕ → ℕ
+place Flag slot = slot
+place Number slot = 64 + slot
+place Text slot = 128 + slot
+
+-- the first of some fields that is about a capability
+abbrev pub first_of : Kind → ℕ → List Statement → Option Statement
+first_of kind slot [] = None
+first_of kind slot (s ∷ more) = if concerns kind slot s then Some s else first_of kind slot more
+
+-- the field at a place
+abbrev pub field_at : List Statement → Option ℕ → Option Statement
+field_at fields None = None
+field_at fields (Some i) = slice_get fields i
+
+-- an index has for each capability the place of the first of some of the fields that is about it
+abbrev pub Indexes : List Statement → List Statement → List (Option ℕ) → Type 0
+Indexes fields some index = (kind : Kind) (slot : ℕ) → slot < room kind → field_at fields (slice_index_or index (place kind slot) None) ≡ first_of kind slot some
+
+-- the same of all of them
+pub record IsIndex (fields : List Statement) (index : List (Option ℕ)) : Type 0 where
+  pub long : length index ≡ 640
+  pub first : Indexes fields fields index
+
+-- what makes a capability present
+abbrev pub is_present : Kind → FieldValue → Bool
+is_present Flag field_value.Present = true
+is_present Number (field_value.Number n) = true
+is_present Text (field_value.Text t) = true
+is_present kind s = false
+
+abbrev pub if_present : Kind → Option FieldValue → Option FieldValue
+if_present kind None = None
+if_present kind (Some s) = if is_present kind s then Some s else None
+
+-- whether the index has this place
+abbrev pub is_place : Option ℕ → ℕ → Bool
+is_place None i = false
+is_place (Some j) i = j == i
+
+-- whether the field at a place takes effect: the index has it for its capability, and it makes that present
+abbrev pub is_effective : List (Option ℕ) → ℕ → Statement → Bool
+is_effective index i field =
+    nat_lt field.slot.0 (room field.kind) && is_place (slice_index_or index (place field.kind field.slot.0) None) i && is_present field.kind field.field_value
+
+-- the fields that take effect say of each capability what all do, where that makes it present, and nothing else
+abbrev pub AreEffective : List Statement → List Statement → Type 0
+AreEffective fields some = (kind : Kind) (slot : ℕ) → slot < room kind → value_of_capability kind slot some ≡ if_present kind (value_of_capability kind slot fields)
+
+-- what a resolved entry says of a capability
+abbrev pub flag_value : Bool → Option FieldValue
+flag_value false = None
+flag_value true = Some field_value.Present
+
+abbrev pub number_value : Option ℕ → Option FieldValue
+number_value None = None
+number_value (Some n) = Some (field_value.Number n)
+
+abbrev pub text_value : Option (List ℕ) → Option FieldValue
+text_value None = None
+text_value (Some text) = Some (field_value.Text text)
+
+abbrev pub value_in : Description → Kind → ℕ → Option FieldValue
+value_in d Flag slot = flag_value (flag_at d slot)
+value_in d Number slot = number_value (number_at d slot)
+value_in d Text slot = text_value (text_at d slot)
+
+-- the first of these that is about it
+abbrev pub first_value : List Description → Kind → ℕ → Option FieldValue
+first_value [] kind slot = None
+first_value (d ∷ ds) kind slot = or_else (value_in d kind slot) (first_value ds kind slot)

@@ -1,0 +1,103 @@
+-- The entry of a name with its uses taken in (terminfo(5), "Similar Terminals").
+use Rattle.std.specs.Prelude.{◌≡◌, ℕ, Bool, true, false, List, [], ◌∷◌, Option, Some, None, map, slice_get, ◌==◌, if◌then◌else◌}
+use Rattle.std.specs.List.{list_any, range_with_len}
+use Rattle.ti_caps.specs.declared.table.Kind.{Kind}
+use Rattle.ti_caps.specs.declared.table.Kind.TheVariants.{Flag, Number, Text}
+use Rattle.ti_caps.specs.Table.{or_else}
+use Rattle.ti_caps.specs.Description.{Description, flag_at, number_at, text_at}
+use Rattle.ti_source.specs.declared.reading.statement.FieldValue.{FieldValue}
+use Rattle.ti_source.specs.declared.reading.statement.FieldValue.TheVariants as field_value
+use Rattle.ti_source.specs.declared.reading.statement.Statement.{Statement}
+use Rattle.ti_source.specs.Described.{Described}
+use Rattle.ti_source.specs.Resolving.Named.{found_from}
+use Rattle.ti_source.specs.Reading.Sources.{concerns}
+use Rattle.ti_source.specs.declared.fault.SourceFault.{SourceFault}
+use Rattle.ti_source.specs.declared.fault.SourceFault.TheVariants.{UnknownName, UseCycle}
+
+-- what an entry says of a capability
+abbrev pub value_of_capability : Kind → ℕ → List Statement → Option FieldValue
+value_of_capability kind slot [] = None
+value_of_capability kind slot (s ∷ more) = if concerns kind slot s then Some s.field_value else value_of_capability kind slot more
+
+-- the first of these entries in which a number, a text is present
+abbrev pub first_number : ℕ → List Description → Option ℕ
+first_number slot [] = None
+first_number slot (d ∷ ds) = or_else (number_at d slot) (first_number slot ds)
+
+abbrev pub first_text : ℕ → List Description → Option (List ℕ)
+first_text slot [] = None
+first_text slot (d ∷ ds) = or_else (text_at d slot) (first_text slot ds)
+
+-- the entry's own field counts, present or cancelled; else the first use in which the capability is present
+abbrev pub flag_by : Option FieldValue → Bool → Bool
+flag_by (Some field_value.Present) used = true
+flag_by None used = used
+flag_by _ used = false
+
+abbrev pub number_by : Option FieldValue → Option ℕ → Option ℕ
+number_by (Some (field_value.Number n)) used = Some n
+number_by None used = used
+number_by _ used = None
+
+abbrev pub text_by : Option FieldValue → Option (List ℕ) → Option (List ℕ)
+text_by (Some (field_value.Text t)) used = Some t
+text_by None used = used
+text_by _ used = None
+
+-- what a capability is with these fields of the entry's own and these resolved uses
+abbrev pub flag_in : List Statement → List Description → ℕ → Bool
+flag_in own uses slot = flag_by (value_of_capability Flag slot own) (list_any (λ u. flag_at u slot) uses)
+
+abbrev pub number_in : List Statement → List Description → ℕ → Option ℕ
+number_in own uses slot = number_by (value_of_capability Number slot own) (first_number slot uses)
+
+abbrev pub text_in : List Statement → List Description → ℕ → Option (List ℕ)
+text_in own uses slot = text_by (value_of_capability Text slot own) (first_text slot uses)
+
+-- an entry over the resolved entries that it uses, in their order
+unfoldable pub merged : Described → List Description → Description
+merged d uses = record {
+  names = d.names;
+  flags = map (flag_in d.statements uses) (range_with_len 0 64);
+  numbers = map (number_in d.statements uses) (range_with_len 0 64);
+  texts = map (text_in d.statements uses) (range_with_len 0 512);
+}
+
+-- the resolved entries of these names: each is the entry that its name finds, over the resolved entries of its uses
+pub data Resolve (entries : List Described) : List (List ℕ) → List Description → Type 0 where
+  nothing : Resolve entries [] []
+  more : {name : List ℕ} {names : List (List ℕ)} {found : ℕ × Described} {used ds : List Description} {d : Description} →
+      found_from 0 name entries ≡ Some found → Resolve entries found.1.uses used → d ≡ merged found.1 used → Resolve entries names ds → Resolve entries (name ∷ names) (d ∷ ds)
+
+-- the first fault of these names, from left to right, each of which is reached over the entries of a chain of uses:
+-- a name that no entry has, one whose entry stands on the chain, a fault of an entry's uses, or one of a later name
+pub data Fault (entries : List Described) : List ℕ → List (List ℕ) → SourceFault → Type 0 where
+  unknown : {chain : List ℕ} {name : List ℕ} {names : List (List ℕ)} →
+      found_from 0 name entries ≡ None → Fault entries chain (name ∷ names) UnknownName
+  cycle : {chain : List ℕ} {name : List ℕ} {names : List (List ℕ)} {found : ℕ × Described} →
+      found_from 0 name entries ≡ Some found → list_any (λ j. j == found.0) chain ≡ true → Fault entries chain (name ∷ names) UseCycle
+  below : {chain : List ℕ} {name : List ℕ} {names : List (List ℕ)} {found : ℕ × Described} {fault : SourceFault} →
+      found_from 0 name entries ≡ Some found → list_any (λ j. j == found.0) chain ≡ false → Fault entries (found.0 ∷ chain) found.1.uses fault → Fault entries chain (name ∷ names) fault
+  later : {chain : List ℕ} {name : List ℕ} {names : List (List ℕ)} {d : Description} {fault : SourceFault} →
+      Resolve entries (name ∷ []) (d ∷ []) → Fault entries chain names fault → Fault entries chain (name ∷ names) fault
+
+-- the resolved entry of a name, and the fault of one that has none
+abbrev pub Resolved : List Described → List ℕ → Description → Type 0
+Resolved entries name d = Resolve entries (name ∷ []) (d ∷ [])
+
+abbrev pub Unresolved : List Described → List ℕ → SourceFault → Type 0
+Unresolved entries name fault = Fault entries [] (name ∷ []) fault
+
+-- the entry at an index that uses no other
+abbrev pub StandsAlone : List Described → Option ℕ → Described → Type 0
+StandsAlone entries index d = (i : ℕ) × (index ≡ Some i) × (slice_get entries i ≡ Some d) × (d.uses ≡ [])
+
+-- names resolve to one list of entries, have one fault, and not both
+abbrev pub ResolveOnce : Type 0
+ResolveOnce = (entries : List Described) (names : List (List ℕ)) (ds es : List Description) → Resolve entries names ds → Resolve entries names es → ds ≡ es
+
+abbrev pub FaultOnce : Type 0
+FaultOnce = (entries : List Described) (names : List (List ℕ)) (f g : SourceFault) → Fault entries [] names f → Fault entries [] names g → f ≡ g
+
+abbrev pub ResolveOrFault : Type 0
+ResolveOrFault = (entries : List Described) (names : List (List ℕ)) (ds : List Description) (fault : SourceFault) → Resolve entries names ds → Fault entries [] names fault → ⊥

@@ -1,0 +1,3 @@
+//! The source text of an entry.
+
+pub(crate) mod printer;

@@ -1,0 +1,77 @@
+//! The lines of a source.
+
+ghost use Rattle.std.specs.Prelude.{◌≡◌};
+ghost use Rattle.std.specs.List.{after_first, before_first, list_all};
+ghost use Rattle.ti_source.specs.Reading.Field.{is_blank};
+ghost use Rattle.ti_source.specs.Reading.Line.{begins_blank, begins_hash, is_ascii, is_comma, line_of};
+ghost use Rattle.ti_source.specs.Code.Seen.{seen_line};
+
+use crate::reading::field::is_blank;
+
+/// A line by what it is; its fields are not cut yet.
+pub(crate) enum Line<'a> {
+    Skipped,
+    NonAscii,
+    Continues(&'a [u8]),
+    Begins(&'a [u8], &'a [u8]),
+}
+
+fn begins_hash(bytes: &[u8]) -> bool
+    ensures { result ≡ begins_hash bytes.now }
+{
+    match bytes {
+        [first, ..] => *first == b'#',
+        [] => false,
+    }
+}
+
+fn begins_blank(bytes: &[u8]) -> bool
+    ensures { result ≡ begins_blank bytes.now }
+{
+    match bytes {
+        [first, ..] => is_blank(*first),
+        [] => false,
+    }
+}
+
+fn are_blank(bytes: &[u8]) -> bool
+    ensures { result ≡ list_all is_blank bytes.now }
+{
+    bytes.iter().all(|b| is_blank(*b))
+}
+
+fn are_ascii(bytes: &[u8]) -> bool
+    ensures { result ≡ list_all is_ascii bytes.now }
+{
+    bytes.iter().all(|b| 1 <= *b && *b < 128)
+}
+
+/// The names of a line, and what stands behind their comma.
+fn split_names(bytes: &[u8]) -> (&[u8], &[u8])
+    ensures names { result.0.now ≡ before_first is_comma bytes.now }
+    ensures rest { result.1.now ≡ after_first is_comma bytes.now }
+{
+    for (i, b) in bytes.iter().enumerate() {
+        if *b == b',' {
+            return (&bytes[..i], &bytes[i + 1..]);
+        }
+    }
+    (bytes, &bytes[bytes.len()..])
+}
+
+/// What a line is.
+pub(crate) fn line_of(bytes: &[u8]) -> Line<'_>
+    ensures { seen_line result ≡ line_of bytes.now }
+{
+    if begins_hash(bytes) || are_blank(bytes) {
+        return Line::Skipped;
+    }
+    if !are_ascii(bytes) {
+        return Line::NonAscii;
+    }
+    if begins_blank(bytes) {
+        return Line::Continues(bytes);
+    }
+    let (names, rest) = split_names(bytes);
+    Line::Begins(names, rest)
+}

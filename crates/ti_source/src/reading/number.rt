@@ -1,0 +1,50 @@
+//! Numbers of a source.
+
+ghost use Rattle.std.specs.Prelude.{◌≡◌, ◌≤◌, min, option_map};
+ghost use Rattle.ti_source.specs.Reading.Number.{digit, digits_after, after_zero, digits, number};
+
+/// A number above the greatest that a capability has.
+pub(crate) const TOO_GREAT: u32 = 32768;
+
+fn digit(b: u8) -> u32
+    ensures value { result ≡ digit b }
+    ensures small { result ≤ 16 }
+{
+    match b {
+        b'0'..=b'9' => u32::from(b - b'0'),
+        b'a'..=b'f' => u32::from(b - b'a') + 10,
+        b'A'..=b'F' => u32::from(b - b'A') + 10,
+        _ => 16,
+    }
+}
+
+fn digits(base: u32, bytes: &[u8]) -> Option<u32>
+    requires low { 1 ≤ base }
+    requires high { base ≤ 16 }
+    ensures { result ≡ option_map (λ n. min n 32768) (digits base bytes.now) }
+{
+    if bytes.is_empty() {
+        return None;
+    }
+    let mut value = 0;
+    for b in bytes {
+        let next = digit(*b);
+        if next >= base {
+            return None;
+        }
+        value = (value * base + next).min(TOO_GREAT);
+    }
+    Some(value)
+}
+
+/// The number that a text stands for, or 32,768 where it is greater.
+pub(crate) fn number(bytes: &[u8]) -> Option<u32>
+    ensures { result ≡ option_map (λ n. min n 32768) (number bytes.now) }
+{
+    match bytes {
+        [b'0'] => Some(0),
+        [b'0', b'x' | b'X', hexadecimal @ ..] => digits(16, hexadecimal),
+        [b'0', octal @ ..] => digits(8, octal),
+        _ => digits(10, bytes),
+    }
+}

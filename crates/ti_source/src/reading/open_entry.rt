@@ -1,0 +1,230 @@
+//! An entry that is being read.
+
+ghost use Rattle.std.specs.Prelude.{ℕ, ◌≡◌, ◌≤◌, Ok, Some, min, option_map};
+ghost use Rattle.ti_caps.specs.Table.{capability_of};
+ghost use Rattle.ti_source.specs.Reading.Number as value;
+ghost use Rattle.ti_source.specs.Code.Steps.{cancelled, noted, numeric, plain, referring, stated, textual, valued, with_fields, with_form, with_number, with_statement};
+ghost use Rattle.ti_source.specs.Reading.Field.{fields};
+ghost use Rattle.ti_source.specs.Result.{Gives};
+ghost use Rattle.ti_source.specs.Described.{IsGood};
+ghost use Rattle.ti_source.specs.Code.Seen.{seen_form};
+
+use crate::reading::escape::decode;
+use crate::fault::SourceFault;
+use crate::reading::field::{Form, form_of, split_field};
+use crate::note::{Cause, Note};
+use crate::reading::number::number;
+use crate::reading::statement::{FieldValue, SourceEntry};
+use std::alloc::Global;
+use std::marker::Model;
+use ti_caps::{Bytes, Kind, Slot, find_name};
+
+/// How many uses an entry may have.
+const USES: usize = 32;
+
+/// An entry that is being read, and the notes so far.
+#[derive(Drop)]
+pub(crate) struct OpenEntry {
+    pub(crate) entry: SourceEntry,
+    pub(crate) notes: Vec<Note>,
+}
+
+impl Model for OpenEntry {
+    ghost use Rattle.ti_source.specs.Code.Steps.{OpenEntry};
+
+    ghost Value = { OpenEntry };
+
+    ghost view = { λ f. record { entry = f.entry; notes = f.notes.items } };
+}
+
+impl OpenEntry {
+    fn noted(
+        mut self,
+        alloc: Global,
+        line: u32,
+        cause: Cause,
+        name: &[u8],
+    ) -> Result<OpenEntry, SourceFault>
+        ensures { Gives result (Ok (noted line cause name.now self)) }
+    {
+        let name = Bytes(Vec::from_slice(alloc, name)?);
+        self.notes.push(Note { line, cause, name })?;
+        Ok(self)
+    }
+
+    fn with_statement(self, kind: Kind, slot: Slot, field_value: FieldValue) -> Result<OpenEntry, SourceFault>
+        requires { IsGood field_value }
+        ensures { Gives result (Ok (with_statement kind slot.0 field_value self)) }
+    {
+        let OpenEntry { entry, notes } = self;
+        let entry = entry.with_statement(kind, slot, field_value)?;
+        Ok(OpenEntry { entry, notes })
+    }
+
+    fn stated(
+        self,
+        alloc: Global,
+        line: u32,
+        name: &[u8],
+        kind: Kind,
+        slot: Slot,
+        field_value: FieldValue,
+    ) -> Result<OpenEntry, SourceFault>
+        requires { IsGood field_value }
+        ensures { Gives result (Ok (stated line name.now kind slot.0 field_value self)) }
+    {
+        if self.entry.is_stated(kind, slot) {
+            return self.noted(alloc, line, Cause::Repeated, name);
+        }
+        self.with_statement(kind, slot, field_value)
+    }
+
+    fn with_number(
+        self,
+        alloc: Global,
+        line: u32,
+        name: &[u8],
+        slot: Slot,
+        value: u32,
+    ) -> Result<OpenEntry, SourceFault>
+        requires { value ≤ 32768 }
+        ensures { (n : ℕ) → value ≡ min n 32768 → Gives result (Ok (with_number line name.now slot.0 n self)) }
+    {
+        if self.entry.is_stated(Kind::Number, slot) {
+            return self.noted(alloc, line, Cause::Repeated, name);
+        }
+        if value <= 32767 {
+            return self.with_statement(Kind::Number, slot, FieldValue::Number(value as u16));
+        }
+        self.with_statement(Kind::Number, slot, FieldValue::Number(32767))?
+            .noted(alloc, line, Cause::TooGreat, name)
+    }
+
+    fn plain(self, alloc: Global, line: u32, name: &[u8]) -> Result<OpenEntry, SourceFault>
+        ensures { Gives result (Ok (plain line name.now (capability_of name.now) self)) }
+    {
+        match find_name(name) {
+            None => self.noted(alloc, line, Cause::Unknown, name),
+            Some((Kind::Flag, slot)) => self.stated(
+                alloc,
+                line,
+                name,
+                Kind::Flag,
+                slot,
+                FieldValue::Present,
+            ),
+            Some(_) => self.noted(alloc, line, Cause::WrongKind, name),
+        }
+    }
+
+    fn textual(
+        self,
+        alloc: Global,
+        line: u32,
+        name: &[u8],
+        text: &[u8],
+    ) -> Result<OpenEntry, SourceFault>
+        ensures { Gives result (Ok (textual line name.now text.now (capability_of name.now) self)) }
+    {
+        match find_name(name) {
+            None => self.noted(alloc, line, Cause::Unknown, name),
+            Some((Kind::Text, slot)) => {
+                if self.entry.is_stated(Kind::Text, slot) {
+                    return self.noted(alloc, line, Cause::Repeated, name);
+                }
+                let text = decode(alloc, text)?;
+                self.with_statement(Kind::Text, slot, FieldValue::Text(text))
+            }
+            Some(_) => self.noted(alloc, line, Cause::WrongKind, name),
+        }
+    }
+
+    fn cancelled(self, alloc: Global, line: u32, name: &[u8]) -> Result<OpenEntry, SourceFault>
+        ensures { Gives result (Ok (cancelled line name.now (capability_of name.now) self)) }
+    {
+        match find_name(name) {
+            None => self.noted(alloc, line, Cause::Unknown, name),
+            Some((kind, slot)) => self.stated(alloc, line, name, kind, slot, FieldValue::Cancelled),
+        }
+    }
+
+    fn valued(
+        self,
+        alloc: Global,
+        line: u32,
+        name: &[u8],
+        slot: Slot,
+        text: &[u8],
+    ) -> Result<OpenEntry, SourceFault>
+        ensures { Gives result (valued line name.now slot.0 (value.number text.now) self) }
+    {
+        match number(text) {
+            None => Err(SourceFault::BadNumber(line)),
+            Some(value) => self.with_number(alloc, line, name, slot, value),
+        }
+    }
+
+    fn numeric(
+        self,
+        alloc: Global,
+        line: u32,
+        name: &[u8],
+        text: &[u8],
+    ) -> Result<OpenEntry, SourceFault>
+        ensures { Gives result (numeric line name.now text.now (capability_of name.now) self) }
+    {
+        match find_name(name) {
+            None => self.noted(alloc, line, Cause::Unknown, name),
+            Some((Kind::Number, slot)) => self.valued(alloc, line, name, slot, text),
+            Some(_) => self.noted(alloc, line, Cause::WrongKind, name),
+        }
+    }
+
+    fn referring(self, alloc: Global, other: &[u8]) -> Result<OpenEntry, SourceFault>
+        ensures { Gives result (referring other.now self) }
+    {
+        if self.entry.uses().len() >= USES {
+            return Err(SourceFault::TooManyUses);
+        }
+        let other = Bytes(Vec::from_slice(alloc, other)?);
+        let OpenEntry { entry, notes } = self;
+        let entry = entry.with_use(other)?;
+        Ok(OpenEntry { entry, notes })
+    }
+
+    #[tactic(auto, unfolding(crate::specs::Code::Steps::with_form))]
+    fn with_form(self, alloc: Global, line: u32, form: Form<'_>) -> Result<OpenEntry, SourceFault>
+        ensures { Gives result (with_form line (seen_form form.entry) self) }
+    {
+        match form {
+            Form::Nothing => Ok(self),
+            Form::Plain(name) => self.plain(alloc, line, name),
+            Form::Numeric(name, value) => self.numeric(alloc, line, name, value),
+            Form::Textual(name, text) => self.textual(alloc, line, name, text),
+            Form::Cancelled(name) => self.cancelled(alloc, line, name),
+            Form::Refers(other) => self.referring(alloc, other),
+            Form::Odd(name) => self.noted(alloc, line, Cause::Unknown, name),
+        }
+    }
+
+    /// The entry and the notes after the fields of a text, which is part of one line.
+    pub(crate) fn with_fields(
+        self,
+        alloc: Global,
+        line: u32,
+        text: &[u8],
+    ) -> Result<OpenEntry, SourceFault>
+        ensures { Gives result (with_fields line (fields text.now) self) }
+    {
+        let mut open_entry = self;
+        let mut rest = text;
+        loop {
+            let (field, behind) = split_field(rest);
+            open_entry = open_entry.with_form(alloc, line, form_of(field))?;
+            match behind {
+                Some(more) => rest = more,
+                None => return Ok(open_entry),
+            }
+        }
+    }
+}

@@ -1,0 +1,145 @@
+//! Entries with their uses taken in.
+
+ghost use Rattle.std.specs.Prelude.{◌≡◌, [], Err, IfErr, IfOk, IfSome, IsOkUnless, false};
+ghost use Rattle.std.specs.List.{list_any};
+ghost use Rattle.ti_caps.specs.Description.{Description};
+ghost use Rattle.ti_source.specs.Resolving.Uses.{FaultOnce, ResolveOnce, ResolveOrFault, Resolved, StandsAlone, Unresolved, merged};
+ghost use Rattle.ti_source.specs.Resolving.Named.{has_name};
+ghost use Rattle.ti_source.specs.Result.{Stops};
+ghost use Rattle.ti_source.specs.Code.Walk.{FaultAt, ResolvedAt};
+
+use crate::reading::entries::Entries;
+use crate::fault::SourceFault;
+use crate::resolving::fields::Fields;
+use crate::resolving::merge::merge;
+use crate::source::Source;
+use crate::reading::statement::SourceEntry;
+use crate::resolving::walk::Walk;
+use std::alloc::Global;
+use std::marker::Model;
+use ti_caps::Entry;
+
+/// The entry at an index, where it uses no other.
+fn without_uses(entries: &Entries, index: Option<usize>) -> Option<&SourceEntry>
+    ensures { IfSome result (λ e. StandsAlone entries.now index e.now) }
+{
+    let i = index?;
+    let entry = entries.as_slice().get(i)?;
+    if entry.uses().is_empty() {
+        Some(entry)
+    } else {
+        None
+    }
+}
+
+/// An entry that uses no other.
+fn alone(alloc: Global, entry: &SourceEntry) -> Result<Entry, SourceFault>
+    ensures ok { IfOk result (λ e. e ≡ merged entry.now []) }
+    ensures err { IfErr result (λ f. f ≡ SourceFault.NoMemory) }
+{
+    let mut fields = Fields::new(alloc);
+    fields.extend_from_slice(entry.statements())?;
+    merge(alloc, entry.names(), &fields)
+}
+
+/// Resolves names of one source, one after another (terminfo(5), "Similar Terminals"). An entry with
+/// uses, and each that it uses, is followed once, and its fields that take effect or its fault are kept.
+/// Contracts see the source's entries.
+#[derive(Drop)]
+pub struct Resolver<'a> {
+    entries: &'a Entries,
+    /// None until an entry with uses is followed.
+    walk: Option<Walk<'a>>,
+}
+
+impl<'a> Model for Resolver<'a> {
+    ghost use Rattle.std.specs.Prelude.{List, IfSome};
+    ghost use Rattle.ti_source.specs.Described.{Described};
+    ghost use Rattle.ti_source.specs.Code.Walk.{IsReady};
+
+    ghost Value = { List Described };
+
+    ghost view = { λ r. r.entries.now };
+
+    ghost invariant = { λ r. IfSome r.walk (λ w. IsReady r.entries.now w) };
+}
+
+impl<'a> Resolver<'a> {
+    /// A resolver of a source's names.
+    pub fn new(source: &'a Source) -> Resolver<'a>
+        ensures { result ≡ source.entry.now.entries }
+    {
+        Resolver {
+            entries: source.entries(),
+            walk: None,
+        }
+    }
+
+    fn resolved_at(&mut self, alloc: Global, index: Option<usize>) -> Result<Entry, SourceFault>
+        ensures same { self.new ≡ self.old }
+        ensures ok { IfOk result (λ e. ResolvedAt self.old index e) }
+        ensures err { IfErr result (λ f. Stops f (FaultAt self.old [] index f)) }
+    {
+        let entries = self.entries;
+        if let Some(entry) = without_uses(entries, index) {
+            return alone(alloc, entry);
+        }
+        let mut walk = match self.walk.take() {
+            Some(walk) => walk,
+            None => Walk::new(alloc, entries)?,
+        };
+        let entry = match walk.reach(alloc, entries, index) {
+            Ok(()) => walk.entry(alloc, entries, index),
+            Err(fault) => Err(fault),
+        };
+        self.walk = Some(walk);
+        entry
+    }
+
+    /// The entry of a name with its uses taken in, as `resolve` gives it, whatever was asked before.
+    /// UnknownName, UseCycle, NoMemory as there.
+    pub fn resolve(&mut self, alloc: Global, name: &[u8]) -> Result<Entry, SourceFault>
+        ensures same { self.new ≡ self.old }
+        ensures ok { IfOk result (λ e. Resolved self.old name.now e) }
+        ensures err { IfErr result (λ f. Stops f (Unresolved self.old name.now f)) }
+        ensures good { (d : Description) → Resolved self.old name.now d → IsOkUnless result SourceFault.NoMemory }
+        ensures unknown { list_any (has_name name.now) self.old ≡ false → result ≡ Err SourceFault.UnknownName }
+    {
+        let index = self.entries.index_of(name);
+        if index.is_none() {
+            return Err(SourceFault::UnknownName);
+        }
+        self.resolved_at(alloc, index)
+    }
+}
+
+/// The entry of a name with its uses taken in (terminfo(5), "Similar Terminals"): for each
+/// capability its own field, present or cancelled, else the first `use=` whose resolved entry has
+/// it present. A used entry is resolved by itself, whole before the next, and carries no
+/// cancellation. UnknownName where no entry has the name, or a used one; UseCycle where a use
+/// leads back to an entry on its own chain; the first fault from left to right; NoMemory where
+/// memory runs out, which a name that no entry has does not come to. A `Resolver` is for many names
+/// of one source.
+pub fn resolve(alloc: Global, source: &Source, name: &[u8]) -> Result<Entry, SourceFault>
+    ensures ok { IfOk result (λ e. Resolved source.now.entries name.now e) }
+    ensures err { IfErr result (λ f. Stops f (Unresolved source.now.entries name.now f)) }
+    ensures good { (d : Description) → Resolved source.now.entries name.now d → IsOkUnless result SourceFault.NoMemory }
+    ensures unknown { list_any (has_name name.now) source.now.entries ≡ false → result ≡ Err SourceFault.UnknownName }
+{
+    Resolver::new(source).resolve(alloc, name)
+}
+
+/// Names resolve to one list of entries at most.
+pub fn names_resolve_once()
+    ensures { ResolveOnce }
+{}
+
+/// Names have one fault at most, the first from left to right.
+pub fn names_have_one_fault()
+    ensures { FaultOnce }
+{}
+
+/// Names that resolve have no fault.
+pub fn resolved_names_have_no_fault()
+    ensures { ResolveOrFault }
+{}
