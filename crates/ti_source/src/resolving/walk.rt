@@ -36,7 +36,7 @@ pub(crate) enum Task {
     Leave(usize),
 }
 
-/// How far each entry is, the fields kept of the resolved ones, and what is left to do, the next last. An entry is never New again.
+/// How far each entry is, the fields kept of the resolved ones, and what is left to do, the next last.
 #[derive(Drop)]
 pub(crate) struct Walk<'a> {
     marks: Vec<Mark>,
