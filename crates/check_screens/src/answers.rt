@@ -13,12 +13,6 @@ pub fn add_word(word: &str, words: &mut Vec<u8>) -> Result<(), Trouble> {
     add_bytes(word.as_bytes(), words)
 }
 
-fn add_bytes(word: &[u8], words: &mut Vec<u8>) -> Result<(), Trouble> {
-    words.push(b' ')?;
-    words.extend_from_slice(word)?;
-    Ok(())
-}
-
 /// Adds a number.
 pub fn add_number(number: i64, words: &mut Vec<u8>) -> Result<(), Trouble> {
     let mut digits = itoa::Buffer::new();
@@ -122,5 +116,11 @@ pub fn add_wanted(
             add_bytes(word, words)?;
         }
     }
+    Ok(())
+}
+
+fn add_bytes(word: &[u8], words: &mut Vec<u8>) -> Result<(), Trouble> {
+    words.push(b' ')?;
+    words.extend_from_slice(word)?;
     Ok(())
 }

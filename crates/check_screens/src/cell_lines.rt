@@ -31,6 +31,12 @@ pub fn answer_of_cells(
     Ok(true)
 }
 
+/// Adds a byte and attributes.
+pub fn add_held(byte: u8, attrs: Attrs, came: &mut Vec<u8>) -> Result<(), Trouble> {
+    add_text(&[byte], came)?;
+    add_number(i64::from(attrs.0), came)
+}
+
 fn answer_of_sets(word: &[u8], words: &mut Words<'_>, came: &mut Vec<u8>) -> Result<(), Trouble> {
     if word == b"all_attributes".as_slice() {
         return add_number(i64::from(Attrs::all().0), came);
@@ -64,10 +70,4 @@ fn add_same_look(words: &mut Words<'_>, came: &mut Vec<u8>) -> Result<(), Troubl
         (Some(one), Some(other)) => add_flag(one == other, came),
         _ => Err(Trouble::Bad("no look")),
     }
-}
-
-/// Adds a byte and attributes.
-pub fn add_held(byte: u8, attrs: Attrs, came: &mut Vec<u8>) -> Result<(), Trouble> {
-    add_text(&[byte], came)?;
-    add_number(i64::from(attrs.0), came)
 }

@@ -43,6 +43,33 @@ pub fn first_difference(desk: &Desk, plain: &Plain) -> Option<What> {
     None
 }
 
+/// Adds what differs, what was wanted and what came.
+pub fn add_difference(
+    desk: &Desk,
+    plain: &Plain,
+    what: What,
+    came: &mut Vec<u8>,
+) -> Result<(), Trouble> {
+    match what {
+        What::Screen => {
+            add_word("screen", came)?;
+            add_both(screen_wanted(plain), screen_of(desk.screen()), came)
+        }
+        What::Count => {
+            add_word("count", came)?;
+            add_both(counted(plain.windows.len()), counted(desk.count()), came)
+        }
+        What::Nth(index) => {
+            add_word("nth", came)?;
+            add_number(i64::try_from(index).unwrap_or(0), came)?;
+            add_both(plain_nth(plain, index), desk_nth(desk, index), came)
+        }
+        What::Field(index, ..) | What::Row(index, _) | What::Touched(index, _) => {
+            add_within(desk, plain, index, what, came)
+        }
+    }
+}
+
 fn window_difference(desk: &Desk, plain: &Plain, index: usize, window: &Window) -> Option<What> {
     if desk.nth(index) != Some(win(window.number)) {
         return Some(What::Nth(index));
@@ -82,33 +109,6 @@ fn screen_of(size: Size) -> Answer {
 
 fn screen_wanted(plain: &Plain) -> Answer {
     Answer::Place(narrow(plain.rows), narrow(plain.columns))
-}
-
-/// Adds what differs, what was wanted and what came.
-pub fn add_difference(
-    desk: &Desk,
-    plain: &Plain,
-    what: What,
-    came: &mut Vec<u8>,
-) -> Result<(), Trouble> {
-    match what {
-        What::Screen => {
-            add_word("screen", came)?;
-            add_both(screen_wanted(plain), screen_of(desk.screen()), came)
-        }
-        What::Count => {
-            add_word("count", came)?;
-            add_both(counted(plain.windows.len()), counted(desk.count()), came)
-        }
-        What::Nth(index) => {
-            add_word("nth", came)?;
-            add_number(i64::try_from(index).unwrap_or(0), came)?;
-            add_both(plain_nth(plain, index), desk_nth(desk, index), came)
-        }
-        What::Field(index, ..) | What::Row(index, _) | What::Touched(index, _) => {
-            add_within(desk, plain, index, what, came)
-        }
-    }
 }
 
 // Adds what differs in the window at an index, which both desks have.

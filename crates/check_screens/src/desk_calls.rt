@@ -18,6 +18,17 @@ pub fn call_desk(alloc: Global, desk: &mut Desk, call: &Call) -> Answered {
     }
 }
 
+/// The first five arguments that are numbers.
+pub fn first_numbers(call: &Call) -> [u32; 5] {
+    [
+        call.number(0),
+        call.number(1),
+        call.number(2),
+        call.number(3),
+        call.number(4),
+    ]
+}
+
 fn make(alloc: Global, desk: &mut Desk, call: &Call, name: Making) -> Answered {
     let win = call.win();
     let [a, b, c, d, e] = first_numbers(call);
@@ -31,17 +42,6 @@ fn make(alloc: Global, desk: &mut Desk, call: &Call, name: Making) -> Answered {
         Making::MoveWindow => done(desk.move_window(win, b, c)),
         Making::MoveDerived => done(desk.move_derived(win, b, c)),
     }
-}
-
-/// The first five arguments that are numbers.
-pub fn first_numbers(call: &Call) -> [u32; 5] {
-    [
-        call.number(0),
-        call.number(1),
-        call.number(2),
-        call.number(3),
-        call.number(4),
-    ]
 }
 
 fn write(desk: &mut Desk, call: &Call, name: Writing) -> Answered {

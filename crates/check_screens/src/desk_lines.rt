@@ -35,6 +35,16 @@ pub fn answer_of_desk(
     Ok(true)
 }
 
+/// Adds the bytes of cells as a text.
+pub fn add_text_of(cells: &[Cell], came: &mut Vec<u8>) -> Result<(), Trouble> {
+    came.extend_from_slice(b" \"")?;
+    for cell in cells {
+        write_byte(cell.byte(), came)?;
+    }
+    came.push(b'"')?;
+    Ok(())
+}
+
 // The lines that say what a desk holds.
 fn answer_of_made_desk(
     desk: Option<&Desk>,
@@ -139,14 +149,4 @@ fn add_cells(cells: Result<&[Cell], WinFault>, came: &mut Vec<u8>) -> Result<(),
         Ok(cells) => add_text_of(cells, came),
         Err(fault) => add_word(fault_name(fault), came),
     }
-}
-
-/// Adds the bytes of cells as a text.
-pub fn add_text_of(cells: &[Cell], came: &mut Vec<u8>) -> Result<(), Trouble> {
-    came.extend_from_slice(b" \"")?;
-    for cell in cells {
-        write_byte(cell.byte(), came)?;
-    }
-    came.push(b'"')?;
-    Ok(())
 }

@@ -20,17 +20,6 @@ pub fn next_form(random: &mut Random) -> Option<Form> {
     None
 }
 
-// The sum of how often each call comes.
-fn all_together() -> u64 {
-    let mut sum: u64 = 0;
-    for place in 0..6 {
-        for form in table(place) {
-            sum = sum.saturating_add(form.2);
-        }
-    }
-    sum
-}
-
 /// A call with arguments that mostly fit the window that it is about.
 pub fn next_call<'a>(
     plain: &Plain,
@@ -46,6 +35,17 @@ pub fn next_call<'a>(
         numbers: next_numbers(plain, random, form.1),
         text,
     }
+}
+
+// The sum of how often each call comes.
+fn all_together() -> u64 {
+    let mut sum: u64 = 0;
+    for place in 0..6 {
+        for form in table(place) {
+            sum = sum.saturating_add(form.2);
+        }
+    }
+    sum
 }
 
 // The numbers of a call with these arguments.

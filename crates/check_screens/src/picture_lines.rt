@@ -34,6 +34,16 @@ pub fn answer_of_picture(
     Ok(true)
 }
 
+/// The picture, which a line asks for.
+pub fn ready(picture: &Option<Picture>) -> Result<&Picture, Trouble> {
+    picture.as_ref().ok_or(Trouble::Bad("no picture"))
+}
+
+/// Reads a size of a screen.
+pub fn read_size(words: &mut Words<'_>) -> Result<Size, Trouble> {
+    Size::new(words.number()?, words.number()?).ok_or(Trouble::Bad("no size"))
+}
+
 fn make_picture(
     alloc: Global,
     picture: &mut Option<Picture>,
@@ -48,11 +58,6 @@ fn make_picture(
         }
         Err(NoMemory) => add_word("NoMemory", came),
     }
-}
-
-/// The picture, which a line asks for.
-pub fn ready(picture: &Option<Picture>) -> Result<&Picture, Trouble> {
-    picture.as_ref().ok_or(Trouble::Bad("no picture"))
 }
 
 fn ready_mut(picture: &mut Option<Picture>) -> Result<&mut Picture, Trouble> {
@@ -131,9 +136,4 @@ fn add_picture_at(
     }
     let cell = picture.row(row)[column as usize];
     add_held(cell.byte(), cell.attrs(), came)
-}
-
-/// Reads a size of a screen.
-pub fn read_size(words: &mut Words<'_>) -> Result<Size, Trouble> {
-    Size::new(words.number()?, words.number()?).ok_or(Trouble::Bad("no size"))
 }

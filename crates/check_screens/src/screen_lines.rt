@@ -39,6 +39,24 @@ pub fn answer_of_screen(
     Ok(true)
 }
 
+/// The screen, which a line asks for.
+pub fn ready_mut(screen: &mut Option<EcmaScreen>) -> Result<&mut EcmaScreen, Trouble> {
+    screen.as_mut().ok_or(Trouble::Bad("no screen"))
+}
+
+/// Adds the lines of a screen, the attributes that are on, and whether it waits for the rest of a sequence.
+pub fn print_state(screen: &EcmaScreen, text: &mut Vec<u8>) -> Result<(), NoMemory> {
+    print_screen(screen, text)?;
+    let mut digits = itoa::Buffer::new();
+    text.extend_from_slice(b"on ")?;
+    text.extend_from_slice(digits.format(screen.rendition().0).as_bytes())?;
+    if screen.waiting() {
+        text.extend_from_slice(b" waiting")?;
+    }
+    text.push(b'\n')?;
+    Ok(())
+}
+
 // The lines that say what there is.
 fn answer_of_shown(
     alloc: Global,
@@ -92,11 +110,6 @@ fn make_screen(
 
 fn ready(screen: &Option<EcmaScreen>) -> Result<&EcmaScreen, Trouble> {
     screen.as_ref().ok_or(Trouble::Bad("no screen"))
-}
-
-/// The screen, which a line asks for.
-pub fn ready_mut(screen: &mut Option<EcmaScreen>) -> Result<&mut EcmaScreen, Trouble> {
-    screen.as_mut().ok_or(Trouble::Bad("no screen"))
 }
 
 // Feeds a text, and adds whether it is defined and whether the screen waits for more.
@@ -208,19 +221,6 @@ fn marked(screen: &EcmaScreen) -> u32 {
         }
     }
     count
-}
-
-/// Adds the lines of a screen, the attributes that are on, and whether it waits for the rest of a sequence.
-pub fn print_state(screen: &EcmaScreen, text: &mut Vec<u8>) -> Result<(), NoMemory> {
-    print_screen(screen, text)?;
-    let mut digits = itoa::Buffer::new();
-    text.extend_from_slice(b"on ")?;
-    text.extend_from_slice(digits.format(screen.rendition().0).as_bytes())?;
-    if screen.waiting() {
-        text.extend_from_slice(b" waiting")?;
-    }
-    text.push(b'\n')?;
-    Ok(())
 }
 
 fn feed_two(

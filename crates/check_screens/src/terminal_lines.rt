@@ -33,6 +33,39 @@ pub fn answer_of_terminal(
     Ok(true)
 }
 
+/// Adds the bytes of an operation, which the profile has.
+pub fn render(
+    profile: &Profile,
+    op: Op,
+    bytes: &mut Vec<u8>,
+) -> Result<Result<(), NoMemory>, Trouble> {
+    if profile.has(op) {
+        Ok(profile.render(op, bytes))
+    } else {
+        Err(Trouble::Bad("the profile has no such operation"))
+    }
+}
+
+/// Adds an operation.
+pub fn add_op(op: Op, came: &mut Vec<u8>) -> Result<(), Trouble> {
+    match op {
+        Op::Move(row, column) => {
+            add_word("move", came)?;
+            add_place(row, column, came)
+        }
+        Op::Clear => add_word("clear", came),
+        Op::Reset => add_word("reset", came),
+        Op::Enter(attrs) => {
+            add_word("enter", came)?;
+            add_number(i64::from(attrs.0), came)
+        }
+        Op::Put(byte) => {
+            add_word("put", came)?;
+            add_text(&[byte], came)
+        }
+    }
+}
+
 fn make_profile(
     alloc: Global,
     profile: &mut Option<Profile>,
@@ -71,19 +104,6 @@ fn add_rendered(
     }
 }
 
-/// Adds the bytes of an operation, which the profile has.
-pub fn render(
-    profile: &Profile,
-    op: Op,
-    bytes: &mut Vec<u8>,
-) -> Result<Result<(), NoMemory>, Trouble> {
-    if profile.has(op) {
-        Ok(profile.render(op, bytes))
-    } else {
-        Err(Trouble::Bad("the profile has no such operation"))
-    }
-}
-
 fn read_op(words: &mut Words<'_>) -> Result<Op, Trouble> {
     match words.next() {
         b"move" => Ok(Op::Move(words.number()?, words.number()?)),
@@ -92,25 +112,5 @@ fn read_op(words: &mut Words<'_>) -> Result<Op, Trouble> {
         b"enter" => Ok(Op::Enter(Attrs(words.byte()?))),
         b"put" => Ok(Op::Put(words.byte()?)),
         _ => Err(Trouble::Bad("no operation")),
-    }
-}
-
-/// Adds an operation.
-pub fn add_op(op: Op, came: &mut Vec<u8>) -> Result<(), Trouble> {
-    match op {
-        Op::Move(row, column) => {
-            add_word("move", came)?;
-            add_place(row, column, came)
-        }
-        Op::Clear => add_word("clear", came),
-        Op::Reset => add_word("reset", came),
-        Op::Enter(attrs) => {
-            add_word("enter", came)?;
-            add_number(i64::from(attrs.0), came)
-        }
-        Op::Put(byte) => {
-            add_word("put", came)?;
-            add_text(&[byte], came)
-        }
     }
 }

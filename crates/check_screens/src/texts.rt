@@ -40,6 +40,34 @@ pub fn read_text(word: &[u8], bytes: &mut Vec<u8>) -> Result<(), Trouble> {
     reader.end()
 }
 
+/// Adds bytes as a text in quotation marks.
+pub fn write_text(bytes: &[u8], text: &mut Vec<u8>) -> Result<(), Trouble> {
+    text.push(b'"')?;
+    for byte in bytes {
+        write_byte(*byte, text)?;
+    }
+    text.push(b'"')?;
+    Ok(())
+}
+
+/// Adds a byte as it stands within a text.
+pub fn write_byte(byte: u8, text: &mut Vec<u8>) -> Result<(), Trouble> {
+    match byte {
+        b'\n' => text.extend_from_slice(b"\\n")?,
+        b'\t' => text.extend_from_slice(b"\\t")?,
+        27 => text.extend_from_slice(b"\\e")?,
+        b'"' | b'\\' => text.extend_from_slice(&[b'\\', byte])?,
+        _ if is_character(byte) => text.push(byte)?,
+        _ => text.extend_from_slice(&[
+            b'\\',
+            b'x',
+            hexadecimal(byte / 16),
+            hexadecimal(byte % 16),
+        ])?,
+    }
+    Ok(())
+}
+
 impl Reader<'_> {
     fn take(&mut self, byte: u8) -> Result<(), Trouble> {
         match self.part {
@@ -140,34 +168,6 @@ fn digit(byte: u8) -> Result<u8, Trouble> {
         b'a'..=b'f' => Ok(byte - b'a' + 10),
         _ => Err(Trouble::Bad("no digit")),
     }
-}
-
-/// Adds bytes as a text in quotation marks.
-pub fn write_text(bytes: &[u8], text: &mut Vec<u8>) -> Result<(), Trouble> {
-    text.push(b'"')?;
-    for byte in bytes {
-        write_byte(*byte, text)?;
-    }
-    text.push(b'"')?;
-    Ok(())
-}
-
-/// Adds a byte as it stands within a text.
-pub fn write_byte(byte: u8, text: &mut Vec<u8>) -> Result<(), Trouble> {
-    match byte {
-        b'\n' => text.extend_from_slice(b"\\n")?,
-        b'\t' => text.extend_from_slice(b"\\t")?,
-        27 => text.extend_from_slice(b"\\e")?,
-        b'"' | b'\\' => text.extend_from_slice(&[b'\\', byte])?,
-        _ if is_character(byte) => text.push(byte)?,
-        _ => text.extend_from_slice(&[
-            b'\\',
-            b'x',
-            hexadecimal(byte / 16),
-            hexadecimal(byte % 16),
-        ])?,
-    }
-    Ok(())
 }
 
 // The hexadecimal digit of a number below 16.

@@ -130,15 +130,6 @@ static CALLS: [(&str, Call); 41] = [
     ("cuts", Call::Cuts),
 ];
 
-fn call_of(calls: &[(&str, Call)], name: &[u8]) -> Option<Call> {
-    for (known, call) in calls {
-        if known.as_bytes() == name {
-            return Some(*call);
-        }
-    }
-    None
-}
-
 /// Makes the call that some words name.
 pub fn perform(
     current: &mut Current,
@@ -149,6 +140,15 @@ pub fn perform(
         Some(call) => of_table(call, current, words, answer),
         None => Err(CheckFault::Line("no such call")),
     }
+}
+
+fn call_of(calls: &[(&str, Call)], name: &[u8]) -> Option<Call> {
+    for (known, call) in calls {
+        if known.as_bytes() == name {
+            return Some(*call);
+        }
+    }
+    None
 }
 
 fn of_table(

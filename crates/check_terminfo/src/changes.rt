@@ -10,24 +10,6 @@ use std::alloc::Global;
 use ti_binary::BinFault;
 use ti_caps::Bytes;
 
-// Sets a byte of a file.
-fn set(file: &mut Vec<u8>, place: usize, byte: u8) -> Result<(), CheckFault> {
-    match file.get_mut(place) {
-        Some(old) => {
-            *old = byte;
-            Ok(())
-        }
-        None => Err(CheckFault::Line("no such place in the file")),
-    }
-}
-
-fn byte(words: &[Vec<u8>], place: usize) -> Result<u8, CheckFault> {
-    match u8::try_from(small(words, place)?) {
-        Ok(byte) => Ok(byte),
-        Err(_) => Err(CheckFault::Line("no byte")),
-    }
-}
-
 /// `changed PLACE BYTE..`.
 pub fn decode_changed(
     current: &mut Current,
@@ -55,13 +37,6 @@ pub fn cut_everywhere(current: &Current, answer: &mut Answer) -> Result<(), Chec
     answer.say_number(file.len())
 }
 
-fn is_truncated(alloc: Global, file: &[u8], length: usize) -> bool {
-    match file.get(..length) {
-        Some(cut) => again::decode(alloc, cut).err() == Some(BinFault::Truncated),
-        None => false,
-    }
-}
-
 /// Each byte in turn set to each of some: how many files that makes. What is read of one is written and read again.
 pub fn set_each(
     current: &Current,
@@ -75,6 +50,31 @@ pub fn set_each(
         count = count.saturating_add(current.file.len());
     }
     answer.say_number(count)
+}
+
+// Sets a byte of a file.
+fn set(file: &mut Vec<u8>, place: usize, byte: u8) -> Result<(), CheckFault> {
+    match file.get_mut(place) {
+        Some(old) => {
+            *old = byte;
+            Ok(())
+        }
+        None => Err(CheckFault::Line("no such place in the file")),
+    }
+}
+
+fn byte(words: &[Vec<u8>], place: usize) -> Result<u8, CheckFault> {
+    match u8::try_from(small(words, place)?) {
+        Ok(byte) => Ok(byte),
+        Err(_) => Err(CheckFault::Line("no byte")),
+    }
+}
+
+fn is_truncated(alloc: Global, file: &[u8], length: usize) -> bool {
+    match file.get(..length) {
+        Some(cut) => again::decode(alloc, cut).err() == Some(BinFault::Truncated),
+        None => false,
+    }
 }
 
 fn set_everywhere(alloc: Global, file: &[u8], byte: u8) -> Result<(), CheckFault> {

@@ -21,6 +21,26 @@ pub fn say_entry(alloc: Global, entry: &Entry, answer: &mut Answer) -> Result<()
     Ok(())
 }
 
+/// A number that other bytes most likely do not have. It takes no memory.
+pub fn mark_of(bytes: &[u8]) -> u64 {
+    mixed(1, bytes)
+}
+
+/// The same of an entry.
+pub fn mark_of_entry(entry: &Entry) -> u64 {
+    let mut mark = mark_of(entry.names());
+    for position in 0..512u16 {
+        let slot = Slot(position);
+        mark = next(mark, u64::from(entry.flag(slot)));
+        mark = next(mark, u64::from(entry.number(slot).unwrap_or(40_000)));
+        mark = match entry.text(slot) {
+            Some(text) => mixed(mark, text),
+            None => next(mark, 257),
+        };
+    }
+    mark
+}
+
 fn say_flag(
     alloc: Global,
     entry: &Entry,
@@ -78,11 +98,6 @@ fn say_text(
     }
 }
 
-/// A number that other bytes most likely do not have. It takes no memory.
-pub fn mark_of(bytes: &[u8]) -> u64 {
-    mixed(1, bytes)
-}
-
 // The bytes as digits of a great base, and one for the end.
 fn mixed(start: u64, bytes: &[u8]) -> u64 {
     let mut mark = start;
@@ -94,19 +109,4 @@ fn mixed(start: u64, bytes: &[u8]) -> u64 {
 
 fn next(mark: u64, digit: u64) -> u64 {
     mark.wrapping_mul(1_099_511_628_211).wrapping_add(digit)
-}
-
-/// The same of an entry.
-pub fn mark_of_entry(entry: &Entry) -> u64 {
-    let mut mark = mark_of(entry.names());
-    for position in 0..512u16 {
-        let slot = Slot(position);
-        mark = next(mark, u64::from(entry.flag(slot)));
-        mark = next(mark, u64::from(entry.number(slot).unwrap_or(40_000)));
-        mark = match entry.text(slot) {
-            Some(text) => mixed(mark, text),
-            None => next(mark, 257),
-        };
-    }
-    mark
 }

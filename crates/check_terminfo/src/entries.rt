@@ -8,10 +8,6 @@ use crate::fault::CheckFault;
 use crate::words::{is_yes, small, text};
 use ti_caps::{CapFault, Slot};
 
-fn slot(words: &[Vec<u8>]) -> Result<Slot, CheckFault> {
-    Ok(Slot(small(words, 1)?))
-}
-
 /// `entry NAMES`.
 pub fn make(
     current: &mut Current,
@@ -54,13 +50,6 @@ pub fn give_text(
     match current.entry()?.text(slot(words)?) {
         Some(text) => answer.say(text),
         None => answer.say(b"none"),
-    }
-}
-
-fn say_set(set: Result<(), CapFault>, answer: &mut Answer) -> Result<(), CheckFault> {
-    match set {
-        Ok(()) => answer.say(b"ok"),
-        Err(fault) => answer.refused(&fault),
     }
 }
 
@@ -112,6 +101,17 @@ pub fn print(current: &Current, answer: &mut Answer) -> Result<(), CheckFault> {
             answer.say(printed.text.0.as_slice())?;
             answer.say_number(printed.unnamed)
         }
+        Err(fault) => answer.refused(&fault),
+    }
+}
+
+fn slot(words: &[Vec<u8>]) -> Result<Slot, CheckFault> {
+    Ok(Slot(small(words, 1)?))
+}
+
+fn say_set(set: Result<(), CapFault>, answer: &mut Answer) -> Result<(), CheckFault> {
+    match set {
+        Ok(()) => answer.say(b"ok"),
         Err(fault) => answer.refused(&fault),
     }
 }

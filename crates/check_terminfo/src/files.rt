@@ -55,6 +55,27 @@ pub fn decode(current: &mut Current, answer: &mut Answer) -> Result<(), CheckFau
     say_decoded(current, file.as_slice(), answer)
 }
 
+/// `compile SOURCE`.
+pub fn compile(alloc: Global, words: &[Vec<u8>], answer: &mut Answer) -> Result<(), CheckFault> {
+    let compiled = again::compile(alloc, text(words, 1)?);
+    match &compiled {
+        Ok(compiled) => say_compiled(alloc, compiled, answer),
+        Err(fault) => answer.refused(fault),
+    }
+}
+
+/// `list`.
+pub fn list(current: &Current, answer: &mut Answer) -> Result<(), CheckFault> {
+    match again::list(current.alloc, current.file.as_slice()) {
+        Ok(listing) => {
+            answer.say(listing.text.0.as_slice())?;
+            answer.say_number(listing.unnamed)?;
+            answer.say_number(listing.skipped)
+        }
+        Err(fault) => answer.refused(&fault),
+    }
+}
+
 fn say_files(files: &Files, answer: &mut Answer) -> Result<(), CheckFault> {
     for (path, bytes) in files.0.as_slice() {
         answer.say(b"file")?;
@@ -85,25 +106,4 @@ fn say_compiled(alloc: Global, compiled: &Compiled, answer: &mut Answer) -> Resu
     say_files(&compiled.files, answer)?;
     say_sizes(&compiled.sizes, answer)?;
     say_notes(alloc, &compiled.notes, answer)
-}
-
-/// `compile SOURCE`.
-pub fn compile(alloc: Global, words: &[Vec<u8>], answer: &mut Answer) -> Result<(), CheckFault> {
-    let compiled = again::compile(alloc, text(words, 1)?);
-    match &compiled {
-        Ok(compiled) => say_compiled(alloc, compiled, answer),
-        Err(fault) => answer.refused(fault),
-    }
-}
-
-/// `list`.
-pub fn list(current: &Current, answer: &mut Answer) -> Result<(), CheckFault> {
-    match again::list(current.alloc, current.file.as_slice()) {
-        Ok(listing) => {
-            answer.say(listing.text.0.as_slice())?;
-            answer.say_number(listing.unnamed)?;
-            answer.say_number(listing.skipped)
-        }
-        Err(fault) => answer.refused(&fault),
-    }
 }

@@ -33,30 +33,6 @@ impl Read for Pieces {
     }
 }
 
-fn fault(words: &[Vec<u8>]) -> Result<Option<(usize, ErrorKind)>, CheckFault> {
-    if words.len() < 4 {
-        return Ok(None);
-    }
-    let before = size(words, 3)?;
-    match text(words, 4)? {
-        b"interrupted" => Ok(Some((before, ErrorKind::Interrupted))),
-        b"broken" => Ok(Some((before, ErrorKind::BrokenPipe))),
-        _ => Err(CheckFault::Line("no such fault")),
-    }
-}
-
-// Reads all that a reader gives, anew where memory was refused.
-fn read_again(alloc: Global, pieces: Pieces) -> Result<Vec<u8>, InputFault> {
-    let mut reader = pieces;
-    match read_input(alloc, &mut reader) {
-        Err(InputFault::NoMemory) => {
-            let mut reader = pieces;
-            read_input(alloc, &mut reader)
-        }
-        other => other,
-    }
-}
-
 /// `input COUNT EACH [BEFORE FAULT]`.
 pub fn read_pieces(
     alloc: Global,
@@ -93,5 +69,29 @@ pub fn read_text(alloc: Global, words: &[Vec<u8>], answer: &mut Answer) -> Resul
     match read {
         Ok(bytes) => answer.say(bytes.as_slice()),
         Err(fault) => answer.refused(&fault),
+    }
+}
+
+fn fault(words: &[Vec<u8>]) -> Result<Option<(usize, ErrorKind)>, CheckFault> {
+    if words.len() < 4 {
+        return Ok(None);
+    }
+    let before = size(words, 3)?;
+    match text(words, 4)? {
+        b"interrupted" => Ok(Some((before, ErrorKind::Interrupted))),
+        b"broken" => Ok(Some((before, ErrorKind::BrokenPipe))),
+        _ => Err(CheckFault::Line("no such fault")),
+    }
+}
+
+// Reads all that a reader gives, anew where memory was refused.
+fn read_again(alloc: Global, pieces: Pieces) -> Result<Vec<u8>, InputFault> {
+    let mut reader = pieces;
+    match read_input(alloc, &mut reader) {
+        Err(InputFault::NoMemory) => {
+            let mut reader = pieces;
+            read_input(alloc, &mut reader)
+        }
+        other => other,
     }
 }

@@ -44,18 +44,6 @@ pub fn measure(alloc: Global, words: &[Vec<u8>], answer: &mut Answer) -> Result<
     }
 }
 
-// The parameters behind a program's text; those that are missing are 0.
-fn params(words: &[Vec<u8>]) -> Result<[i32; 9], CheckFault> {
-    let mut params = [0; 9];
-    for (i, param) in params.iter_mut().enumerate() {
-        let place = i.saturating_add(2);
-        if place < words.len() {
-            *param = signed(words, place)?;
-        }
-    }
-    Ok(params)
-}
-
 /// `program TEXT PARAMETER..`.
 pub fn run(
     current: &mut Current,
@@ -67,6 +55,18 @@ pub fn run(
         Ok(program) => write(current, &program, params, answer),
         Err(fault) => answer.refused(&fault),
     }
+}
+
+// The parameters behind a program's text; those that are missing are 0.
+fn params(words: &[Vec<u8>]) -> Result<[i32; 9], CheckFault> {
+    let mut params = [0; 9];
+    for (i, param) in params.iter_mut().enumerate() {
+        let place = i.saturating_add(2);
+        if place < words.len() {
+            *param = signed(words, place)?;
+        }
+    }
+    Ok(params)
 }
 
 // Runs a program behind a text, which stays; it writes as many bytes as `length` says, and `bound` at most.

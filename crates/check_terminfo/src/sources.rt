@@ -76,18 +76,6 @@ pub fn take_notes(current: &mut Current, answer: &mut Answer) -> Result<(), Chec
     Ok(())
 }
 
-// Answers what a name resolves to.
-fn say_resolved(
-    alloc: Global,
-    resolved: &Result<Entry, SourceFault>,
-    answer: &mut Answer,
-) -> Result<(), CheckFault> {
-    match resolved {
-        Ok(entry) => say_entry(alloc, entry, answer),
-        Err(fault) => answer.refused(fault),
-    }
-}
-
 /// `resolve NAME`. A refusal leaves no entry.
 pub fn resolve(
     current: &mut Current,
@@ -112,18 +100,6 @@ pub fn resolve_all(
         say_resolved(current.alloc, &resolved, answer)?;
     }
     Ok(())
-}
-
-// The entry `t` of a source of three parts.
-fn entry_of(alloc: Global, parts: [&[u8]; 3]) -> Result<Result<Entry, SourceFault>, CheckFault> {
-    let mut source = Vec::new(alloc);
-    for part in parts {
-        source.extend_from_slice(part)?;
-    }
-    match again::read_source(alloc, &source) {
-        Ok(read) => Ok(again::resolve(alloc, &read, b"t")),
-        Err(fault) => Ok(Err(fault)),
-    }
 }
 
 /// `string TEXT`.
@@ -153,5 +129,29 @@ pub fn mean_number(
             None => answer.say(b"none"),
         },
         Err(fault) => answer.refused(&fault),
+    }
+}
+
+// Answers what a name resolves to.
+fn say_resolved(
+    alloc: Global,
+    resolved: &Result<Entry, SourceFault>,
+    answer: &mut Answer,
+) -> Result<(), CheckFault> {
+    match resolved {
+        Ok(entry) => say_entry(alloc, entry, answer),
+        Err(fault) => answer.refused(fault),
+    }
+}
+
+// The entry `t` of a source of three parts.
+fn entry_of(alloc: Global, parts: [&[u8]; 3]) -> Result<Result<Entry, SourceFault>, CheckFault> {
+    let mut source = Vec::new(alloc);
+    for part in parts {
+        source.extend_from_slice(part)?;
+    }
+    match again::read_source(alloc, &source) {
+        Ok(read) => Ok(again::resolve(alloc, &read, b"t")),
+        Err(fault) => Ok(Err(fault)),
     }
 }

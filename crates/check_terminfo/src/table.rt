@@ -6,23 +6,6 @@ use crate::words::{small, text};
 use std::alloc::Global;
 use ti_caps::{Kind, Slot, are_names, find_name, first_name, name_of};
 
-fn word_of(kind: Kind) -> &'static [u8] {
-    match kind {
-        Kind::Flag => b"Flag",
-        Kind::Number => b"Number",
-        Kind::Text => b"Text",
-    }
-}
-
-fn kind(words: &[Vec<u8>], place: usize) -> Result<Kind, CheckFault> {
-    match text(words, place)? {
-        b"Flag" => Ok(Kind::Flag),
-        b"Number" => Ok(Kind::Number),
-        b"Text" => Ok(Kind::Text),
-        _ => Err(CheckFault::Line("no such kind")),
-    }
-}
-
 /// `find NAME`.
 pub fn find(alloc: Global, words: &[Vec<u8>], answer: &mut Answer) -> Result<(), CheckFault> {
     match find_name(text(words, 1)?) {
@@ -41,15 +24,6 @@ pub fn give_name(words: &[Vec<u8>], answer: &mut Answer) -> Result<(), CheckFaul
         Some(name) => answer.say(name.as_bytes()),
         None => answer.say(b"none"),
     }
-}
-
-// Whether a capability has a name, both ways.
-fn is_named(kind: Kind, slot: Slot, name: &[u8]) -> bool {
-    find_name(name) == Some((kind, slot))
-        && match name_of(kind, slot) {
-            Some(known) => known.as_bytes() == name,
-            None => false,
-        }
 }
 
 /// Names that stand one after another: the position behind them, or the first name that is not there.
@@ -85,4 +59,30 @@ pub fn are_good(words: &[Vec<u8>], answer: &mut Answer) -> Result<(), CheckFault
 /// `first-name TEXT`.
 pub fn first(words: &[Vec<u8>], answer: &mut Answer) -> Result<(), CheckFault> {
     answer.say(first_name(text(words, 1)?))
+}
+
+fn word_of(kind: Kind) -> &'static [u8] {
+    match kind {
+        Kind::Flag => b"Flag",
+        Kind::Number => b"Number",
+        Kind::Text => b"Text",
+    }
+}
+
+fn kind(words: &[Vec<u8>], place: usize) -> Result<Kind, CheckFault> {
+    match text(words, place)? {
+        b"Flag" => Ok(Kind::Flag),
+        b"Number" => Ok(Kind::Number),
+        b"Text" => Ok(Kind::Text),
+        _ => Err(CheckFault::Line("no such kind")),
+    }
+}
+
+// Whether a capability has a name, both ways.
+fn is_named(kind: Kind, slot: Slot, name: &[u8]) -> bool {
+    find_name(name) == Some((kind, slot))
+        && match name_of(kind, slot) {
+            Some(known) => known.as_bytes() == name,
+            None => false,
+        }
 }

@@ -1,6 +1,6 @@
 //! Rows of elements of one type: what pictures, surfaces and emulated screens are made of. The rows stand in one vector, and
 //! where a row begins in it is reckoned here alone.
-ghost use Rattle.std.specs.Prelude.{ℕ, ◌≡◌, ◌+◌, ◌-◌, ◌*◌, ◌<◌, ◌≤◌, length, take, drop, map, replicate, slice_range, slice_index_or, IfOk, OnOk, OnErr, [], ◌∷◌, ◌++◌, ◌^◌};
+ghost use Rattle.std.specs.Prelude.{ℕ, ◌≡◌, ◌+◌, ◌-◌, ◌*◌, ◌<◌, ◌≤◌, length, take, drop, replicate, slice_range, IfOk, OnOk, OnErr, [], ◌∷◌, ◌++◌, ◌^◌};
 ghost use Rattle.scr_cells.specs.Grids.{IsGrid, changed_run, grid_at, grid_of, grid_row, grid_with, grid_with_run, line_with_run};
 
 use crate::NoMemory;

@@ -1,5 +1,5 @@
 //! Sizes of screens.
-ghost use Rattle.std.specs.Prelude.{◌↔◌, IsSome, IfSome, ◌≡◌, ◌≤◌};
+ghost use Rattle.std.specs.Prelude.{◌↔◌, IsSome, IfSome, ◌≡◌};
 ghost use Rattle.scr_cells.specs.PictureViews.{IsSize};
 
 /// The size of a screen: 1 to 500 rows of 1 to 500 columns.

@@ -2,7 +2,6 @@
 use Rattle.std.proofs.Common.{◌≡◌, ℕ, refl, sym, ◌∙◌, ap, subst, List, inl}
 use Rattle.scr_cells.specs.Attributes.{every_attribute}
 use Rattle.scr_cells.specs.PictureViews.{PictureView, IsPicture}
-<<<<<<< HEAD
 use Rattle.scr_term.specs.Operations.Profiles.{ProfileView, IsEcma48, IsProfile}
 use Rattle.scr_term.specs.Operations.States.{IsState, blank_state, negative_state}
 use Rattle.scr_term.specs.Ecma.Meanings.{Leads}
@@ -11,17 +10,6 @@ use Rattle.scr_term.specs.Ecma.Screens.{ScreenView, IsScreen, IsFed, blank_scree
 use Rattle.scr_term.specs.Ecma.Laws.{ScreensFollowTexts}
 use Rattle.scr_term.specs.Operations.Laws.{BlankLaws}
 use Rattle.scr_plan.specs.Scratch.{ScratchBytesShow}
-=======
-use Rattle.scr_term.specs.Operations.Profiles.{ProfileView, IsEcma48, IsProfile}
-use Rattle.scr_term.specs.Operations.States.{TerminalState, IsState, blank_state, negative_state}
-use Rattle.scr_term.specs.Operations.Steps.{has}
-use Rattle.scr_term.specs.Ecma.Meanings.{Leads}
-use Rattle.scr_term.specs.Operations.Painted.{ShowsNegative}
-use Rattle.scr_term.specs.Ecma.Screens.{ScreenView, IsScreen, IsFed, blank_screen}
-use Rattle.scr_term.specs.Ecma.Laws.{ScreensFollowTexts}
-use Rattle.scr_term.specs.Operations.Laws.{BlankLaws, RunLaws}
-use Rattle.scr_plan.specs.Scratch.{scratch_of, Fits, ScratchShows, ScratchBytesShow}
->>>>>>> 7a27fdfe524ca0f2fc2263cc1904aef5934cd282
 use Rattle.screen_scripts.specs.Stories.{Shown}
 use Rattle.screen_scripts.specs.Printing.{profile_for, sent_event}
 use Rattle.screen_scripts.specs.Showing.{IsTerminalFor}

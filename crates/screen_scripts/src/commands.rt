@@ -37,6 +37,16 @@ pub fn read_command(line: &[u8]) -> Option<Command<'_>>
     }
 }
 
+/// A number in decimal digits, where it is below 2^32.
+pub fn number(digits: &[u8]) -> Option<u32>
+    ensures { result ≡ number_of digits.now }
+{
+    if digits.is_empty() || !are_digits(digits) {
+        return None;
+    }
+    u32::try_from(value_up_to_limit(digits)).ok()
+}
+
 // The fields of `size`: two numbers.
 fn size_command(fields: &[u8]) -> Option<Command<'_>>
     ensures { option_map command_view result ≡ size_of_fields (fields_of fields.now) }
@@ -67,16 +77,6 @@ fn add_command(fields: &[u8]) -> Option<Command<'_>>
     let (column, rest) = cut_at(b' ', rest?);
     let text = rest?;
     Some(Command::Add(number(row)?, number(column)?, text))
-}
-
-/// A number in decimal digits, where it is below 2^32.
-pub fn number(digits: &[u8]) -> Option<u32>
-    ensures { result ≡ number_of digits.now }
-{
-    if digits.is_empty() || !are_digits(digits) {
-        return None;
-    }
-    u32::try_from(value_up_to_limit(digits)).ok()
 }
 
 fn are_digits(text: &[u8]) -> bool

@@ -66,6 +66,25 @@ pub fn run<W: Write>(alloc: Global, script: &[u8], raw: bool, out: &mut W) -> Re
     flush(out)
 }
 
+/// The lines of a script's refusals, in order, up to the first bad line. Refused for want of memory
+/// alone.
+pub fn refusals(alloc: Global, script: &[u8]) -> Result<Vec<u8>, NoMemory>
+    ensures { IfOk result (λ text. text.items ≡ refusals_of (story_of script.now).events) }
+{
+    let mut text = Vec::new(alloc);
+    let mut canvas = None;
+    let mut rest = script;
+    while !rest.is_empty() {
+        let (line, after) = cut_line(rest);
+        match add_refusal(alloc, line, &mut canvas, &mut text) {
+            Ok(()) => rest = after,
+            Err(LineFault::Bad) => break,
+            Err(LineFault::NoMemory) => return Err(NoMemory),
+        }
+    }
+    Ok(text)
+}
+
 // Writes a text, whole; where a write fails or takes nothing, what was taken is a beginning of it.
 fn write_text<W: Write>(text: &[u8], out: &mut W) -> Result<(), DemoFault>
     ensures written { OnOk result (Appends (W.contents out.old) (W.contents out.new) text.now) }
@@ -133,25 +152,6 @@ fn effect_text(
         (Effect::Shown, Some(canvas)) => show(alloc, raw, canvas, terminal),
         _ => Ok(Vec::new(alloc)),
     }
-}
-
-/// The lines of a script's refusals, in order, up to the first bad line. Refused for want of memory
-/// alone.
-pub fn refusals(alloc: Global, script: &[u8]) -> Result<Vec<u8>, NoMemory>
-    ensures { IfOk result (λ text. text.items ≡ refusals_of (story_of script.now).events) }
-{
-    let mut text = Vec::new(alloc);
-    let mut canvas = None;
-    let mut rest = script;
-    while !rest.is_empty() {
-        let (line, after) = cut_line(rest);
-        match add_refusal(alloc, line, &mut canvas, &mut text) {
-            Ok(()) => rest = after,
-            Err(LineFault::Bad) => break,
-            Err(LineFault::NoMemory) => return Err(NoMemory),
-        }
-    }
-    Ok(text)
 }
 
 // Does what a line says, and adds the line of its refusal, if any.

@@ -1,6 +1,6 @@
 //! Compiling a source (tic(1)).
 
-ghost use Rattle.std.specs.Prelude.{◌≡◌, ◌⊎◌, ◌∷◌, ◌++◌, IfErr, IfOk, IsOkUnless, OnOk, None, Some, map};
+ghost use Rattle.std.specs.Prelude.{◌≡◌, ◌⊎◌, IfErr, IfOk, IsOkUnless, OnOk, None};
 ghost use Rattle.ti_caps.specs.Description.{Description};
 ghost use Rattle.ti_source.specs.Resolving.Uses.{Resolved};
 ghost use Rattle.terminfo_files.specs.Compiling.{AreCompiled, CanBeCompiled, IsCompiled, IsFaulty, IsFirstRefused, Refused, names_of, refusal_of};
@@ -36,6 +36,23 @@ pub struct Compiled {
     pub sizes: Sizes,
     /// The notes on its fields.
     pub notes: Notes,
+}
+
+/// Compiles a source (tic(1)): for each entry, in their order, the compiled file of its resolved entry
+/// under the path of each of its reference names (`t1` has `t/t1`, and a name that stands twice has two),
+/// and its first reference name with the file's size; and the notes on the source.
+///
+/// The fault is that of reading, else that of the first faulty entry: that it does not resolve, then
+/// that it is past the limits of a compiled file, then that one of its reference names holds `/` or is
+/// `.` or `..`. `NoMemory` comes where memory runs out.
+pub fn compile(alloc: Global, source: &[u8]) -> Result<Compiled, TicFault>
+    ensures ok { IfOk result (λ c. IsCompiled source.now c) }
+    ensures err { IfErr result (λ f. (f ≡ TicFault.NoMemory) ⊎ IsFaulty source.now f) }
+    ensures good { CanBeCompiled source.now → IsOkUnless result TicFault.NoMemory }
+    ensures plain { IfErr result IsPlain }
+{
+    compiled_sources_have_no_fault();
+    compiled_by(alloc, source)
 }
 
 // Resolves the entry of a name and adds its files and its size.
@@ -82,21 +99,4 @@ fn compiled_by(alloc: Global, source: &[u8]) -> Result<Compiled, TicFault>
         sizes,
         notes,
     })
-}
-
-/// Compiles a source (tic(1)): for each entry, in their order, the compiled file of its resolved entry
-/// under the path of each of its reference names (`t1` has `t/t1`, and a name that stands twice has two),
-/// and its first reference name with the file's size; and the notes on the source.
-///
-/// The fault is that of reading, else that of the first faulty entry: that it does not resolve, then
-/// that it is past the limits of a compiled file, then that one of its reference names holds `/` or is
-/// `.` or `..`. `NoMemory` comes where memory runs out.
-pub fn compile(alloc: Global, source: &[u8]) -> Result<Compiled, TicFault>
-    ensures ok { IfOk result (λ c. IsCompiled source.now c) }
-    ensures err { IfErr result (λ f. (f ≡ TicFault.NoMemory) ⊎ IsFaulty source.now f) }
-    ensures good { CanBeCompiled source.now → IsOkUnless result TicFault.NoMemory }
-    ensures plain { IfErr result IsPlain }
-{
-    compiled_sources_have_no_fault();
-    compiled_by(alloc, source)
 }

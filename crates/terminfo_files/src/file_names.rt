@@ -8,16 +8,6 @@ ghost use Rattle.terminfo_files.specs.FileNames.{is_dots, is_file_name, is_slash
 use std::alloc::{AllocError, Global};
 use ti_caps::{Bytes, cut_name, has_no_blank};
 
-// Appends a name of an entry, where it has no blank.
-fn put_reference<'a>(found: &mut Vec<&'a [u8]>, name: &'a [u8]) -> Result<(), AllocError>
-    ensures { OnOk result (map (λ name. name.now) found.new.items ≡ map (λ name. name.now) found.old.items ++ filter has_no_blank (name.entry.now ∷ [])) }
-{
-    if has_no_blank(name) {
-        found.push(name)?;
-    }
-    Ok(())
-}
-
 /// The alternatives without a blank, in their order.
 pub(crate) fn reference_names(alloc: Global, names: &[u8]) -> Result<Vec<&[u8]>, AllocError>
     ensures { IfOk result (λ found. map (λ name. name.now) found.items ≡ reference_names names.now) }
@@ -32,18 +22,6 @@ pub(crate) fn reference_names(alloc: Global, names: &[u8]) -> Result<Vec<&[u8]>,
             None => return Ok(found),
         }
     }
-}
-
-fn has_slash(name: &[u8]) -> bool
-    ensures { result ≡ list_any is_slash name.now }
-{
-    name.iter().any(|b| *b == b'/')
-}
-
-fn is_dots(name: &[u8]) -> bool
-    ensures { result ≡ is_dots name.now }
-{
-    matches!(name, [b'.'] | [b'.', b'.'])
 }
 
 /// Whether a file can have this name: no `/` is in it, and it is neither `.` nor `..`.
@@ -73,4 +51,26 @@ pub(crate) fn path_of(alloc: Global, name: &[u8]) -> Result<Bytes, AllocError>
     path.push(b'/')?;
     path.extend_from_slice(name)?;
     Ok(Bytes(path))
+}
+
+// Appends a name of an entry, where it has no blank.
+fn put_reference<'a>(found: &mut Vec<&'a [u8]>, name: &'a [u8]) -> Result<(), AllocError>
+    ensures { OnOk result (map (λ name. name.now) found.new.items ≡ map (λ name. name.now) found.old.items ++ filter has_no_blank (name.entry.now ∷ [])) }
+{
+    if has_no_blank(name) {
+        found.push(name)?;
+    }
+    Ok(())
+}
+
+fn has_slash(name: &[u8]) -> bool
+    ensures { result ≡ list_any is_slash name.now }
+{
+    name.iter().any(|b| *b == b'/')
+}
+
+fn is_dots(name: &[u8]) -> bool
+    ensures { result ≡ is_dots name.now }
+{
+    matches!(name, [b'.'] | [b'.', b'.'])
 }

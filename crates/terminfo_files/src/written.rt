@@ -45,6 +45,33 @@ pub(crate) struct Written {
     pub(crate) sizes: Sizes,
 }
 
+impl Written {
+    pub(crate) fn new(alloc: Global) -> Written
+        ensures { result ≡ record { files = []; sizes = [] } }
+    {
+        Written {
+            files: Files(Vec::new(alloc)),
+            sizes: Sizes(Vec::new(alloc)),
+        }
+    }
+
+    /// Adds the files and the size of an entry.
+    pub(crate) fn put(&mut self, alloc: Global, entry: &Entry) -> Result<(), TicFault>
+        ensures ok { OnOk result ((refusal_of entry.now ≡ None) × (self.new ≡ with_entry entry.now self.old)) }
+        ensures err { IfErr result (λ f. (f ≡ TicFault.NoMemory) ⊎ (refusal_of entry.now ≡ Some f)) }
+        ensures plain { IfErr result IsPlain }
+    {
+        let bytes = file_of(alloc, entry)?;
+        let names = reference_names(alloc, entry.names())?;
+        if !are_file_names(&names) {
+            return Err(TicFault::BadFileName);
+        }
+        put_files(alloc, &names, bytes.0.as_slice(), &mut self.files)?;
+        put_size(alloc, entry.names(), bytes.0.len(), &mut self.sizes)?;
+        Ok(())
+    }
+}
+
 // The compiled file of an entry.
 fn file_of(alloc: Global, entry: &Entry) -> Result<Bytes, TicFault>
     ensures ok { IfOk result (λ bytes. (encoding_refusal entry.now ≡ None) × (bytes ≡ canonical entry.now)) }
@@ -76,31 +103,4 @@ fn put_size(alloc: Global, names: &[u8], size: usize, sizes: &mut Sizes) -> Resu
     let name = Bytes(Vec::from_slice(alloc, first_name(names))?);
     sizes.0.push((name, size))?;
     Ok(())
-}
-
-impl Written {
-    pub(crate) fn new(alloc: Global) -> Written
-        ensures { result ≡ record { files = []; sizes = [] } }
-    {
-        Written {
-            files: Files(Vec::new(alloc)),
-            sizes: Sizes(Vec::new(alloc)),
-        }
-    }
-
-    /// Adds the files and the size of an entry.
-    pub(crate) fn put(&mut self, alloc: Global, entry: &Entry) -> Result<(), TicFault>
-        ensures ok { OnOk result ((refusal_of entry.now ≡ None) × (self.new ≡ with_entry entry.now self.old)) }
-        ensures err { IfErr result (λ f. (f ≡ TicFault.NoMemory) ⊎ (refusal_of entry.now ≡ Some f)) }
-        ensures plain { IfErr result IsPlain }
-    {
-        let bytes = file_of(alloc, entry)?;
-        let names = reference_names(alloc, entry.names())?;
-        if !are_file_names(&names) {
-            return Err(TicFault::BadFileName);
-        }
-        put_files(alloc, &names, bytes.0.as_slice(), &mut self.files)?;
-        put_size(alloc, entry.names(), bytes.0.len(), &mut self.sizes)?;
-        Ok(())
-    }
 }

@@ -1,7 +1,7 @@
 //! How many flags, numbers and texts of an entry a file holds: up to the last that is present.
-ghost use Rattle.std.specs.Prelude.{◌≡◌, ◌≤◌, ◌<◌, ◌+◌, length, take, is_some, min};
+ghost use Rattle.std.specs.Prelude.{◌≡◌, ◌≤◌, ◌+◌, length, take, is_some, min};
 ghost use Rattle.ti_caps.specs.Description.{IsDescription};
-ghost use Rattle.ti_binary.specs.Canonical.{up_to_last, kept_flags, kept_numbers, kept_texts, table_of};
+ghost use Rattle.ti_binary.specs.Canonical.{kept_flags, kept_numbers, kept_texts, table_of};
 
 use ti_caps::{Entry, MOST_FLAGS, MOST_NUMBERS, MOST_TEXTS, Slot};
 

@@ -11,6 +11,36 @@ use crate::texts::{before_nul, has_nul, rest_from};
 use std::alloc::Global;
 use ti_caps::{Entry, MOST_NUMBER, are_names};
 
+/// The entry of a compiled file, and how many bytes follow its string table (term(5), 'Legacy Storage
+/// Format'). Positions without a name are kept.
+///
+/// Refused with the first fault of `BinFault` in its order; `NoMemory` where memory runs out and
+/// nothing else is wrong.
+pub fn decode(alloc: Global, bytes: &[u8]) -> Result<(Entry, usize), BinFault>
+    ensures refused { IfErr result (λ fault. (fault ≡ BinFault.NoMemory) ⊎ (refusal bytes.now ≡ Some fault)) }
+    ensures memory { IsErrOf result BinFault.NoMemory → refusal bytes.now ≡ None }
+    ensures good { refusal bytes.now ≡ None → IsOkUnless result BinFault.NoMemory }
+    ensures ok { IfOk result (λ read. Reads bytes.now read.0 read.1) }
+{
+    check_header(bytes)?;
+    let parts = cut(bytes)?;
+    let names = names_in(parts.names)?;
+    if any_outside(parts.table, parts.offsets, parts.offset_count) {
+        return Err(BinFault::BadOffset);
+    }
+    if any_unended(parts.table, parts.offsets, parts.offset_count) {
+        return Err(BinFault::Unended);
+    }
+    let mut entry = match Entry::new(alloc, names) {
+        Ok(entry) => entry,
+        Err(fault) => return Err(want_of_memory(fault)),
+    };
+    set_flags(&mut entry, parts.flags);
+    set_numbers(&mut entry, parts.numbers, parts.number_count);
+    set_texts(&mut entry, parts.table, parts.offsets, parts.offset_count)?;
+    Ok((entry, parts.rest))
+}
+
 // The names that a section has.
 fn names_in(section: &[u8]) -> Result<&[u8], BinFault>
     ensures refused { IfErr result (λ fault. (fault ≡ BinFault.BadNames) × (has_bad_names section.now ≡ true)) }
@@ -63,34 +93,4 @@ fn any_unended(table: &[u8], offsets: &[u8], count: u16) -> bool
         found |= is_unended(table, word(offsets, 2 * usize::from(i)));
     }
     found
-}
-
-/// The entry of a compiled file, and how many bytes follow its string table (term(5), 'Legacy Storage
-/// Format'). Positions without a name are kept.
-///
-/// Refused with the first fault of `BinFault` in its order; `NoMemory` where memory runs out and
-/// nothing else is wrong.
-pub fn decode(alloc: Global, bytes: &[u8]) -> Result<(Entry, usize), BinFault>
-    ensures refused { IfErr result (λ fault. (fault ≡ BinFault.NoMemory) ⊎ (refusal bytes.now ≡ Some fault)) }
-    ensures memory { IsErrOf result BinFault.NoMemory → refusal bytes.now ≡ None }
-    ensures good { refusal bytes.now ≡ None → IsOkUnless result BinFault.NoMemory }
-    ensures ok { IfOk result (λ read. Reads bytes.now read.0 read.1) }
-{
-    check_header(bytes)?;
-    let parts = cut(bytes)?;
-    let names = names_in(parts.names)?;
-    if any_outside(parts.table, parts.offsets, parts.offset_count) {
-        return Err(BinFault::BadOffset);
-    }
-    if any_unended(parts.table, parts.offsets, parts.offset_count) {
-        return Err(BinFault::Unended);
-    }
-    let mut entry = match Entry::new(alloc, names) {
-        Ok(entry) => entry,
-        Err(fault) => return Err(want_of_memory(fault)),
-    };
-    set_flags(&mut entry, parts.flags);
-    set_numbers(&mut entry, parts.numbers, parts.number_count);
-    set_texts(&mut entry, parts.table, parts.offsets, parts.offset_count)?;
-    Ok((entry, parts.rest))
 }

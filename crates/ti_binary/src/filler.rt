@@ -32,18 +32,6 @@ pub(crate) fn set_numbers(entry: &mut Entry, numbers: &[u8], count: u16)
     }
 }
 
-// What a 16-bit number says: a negative one that something is absent.
-fn number_said(word: u16) -> Option<u16>
-    ensures value { result ≡ number_said word }
-    ensures small { IfSome result (λ n. n ≤ 32767) }
-{
-    if word <= MOST_NUMBER {
-        Some(word)
-    } else {
-        None
-    }
-}
-
 /// Sets the texts that offsets say of an entry that has none. Refused for want of memory alone.
 pub(crate) fn set_texts(
     entry: &mut Entry,
@@ -66,6 +54,29 @@ pub(crate) fn set_texts(
     Ok(())
 }
 
+/// The fault of an entry that can be want of memory alone.
+pub(crate) fn want_of_memory(fault: CapFault) -> BinFault
+    requires { fault ≡ CapFault.NoMemory }
+    ensures { result ≡ BinFault.NoMemory }
+{
+    match fault {
+        CapFault::NoMemory => BinFault::NoMemory,
+        CapFault::BadNames | CapFault::SlotTooBig | CapFault::NulInText => BinFault::BadNames,
+    }
+}
+
+// What a 16-bit number says: a negative one that something is absent.
+fn number_said(word: u16) -> Option<u16>
+    ensures value { result ≡ number_said word }
+    ensures small { IfSome result (λ n. n ≤ 32767) }
+{
+    if word <= MOST_NUMBER {
+        Some(word)
+    } else {
+        None
+    }
+}
+
 // The text that an offset says: up to a NUL of the table.
 fn text_said(table: &[u8], offset: u16) -> Option<&[u8]>
     ensures value { option_map (λ t. t.now) result ≡ text_said table.now offset }
@@ -75,16 +86,5 @@ fn text_said(table: &[u8], offset: u16) -> Option<&[u8]>
         Some(before_nul(rest_from(table, usize::from(offset))))
     } else {
         None
-    }
-}
-
-/// The fault of an entry that can be want of memory alone.
-pub(crate) fn want_of_memory(fault: CapFault) -> BinFault
-    requires { fault ≡ CapFault.NoMemory }
-    ensures { result ≡ BinFault.NoMemory }
-{
-    match fault {
-        CapFault::NoMemory => BinFault::NoMemory,
-        CapFault::BadNames | CapFault::SlotTooBig | CapFault::NulInText => BinFault::BadNames,
     }
 }

@@ -1,6 +1,6 @@
 //! The header of a compiled file, and where its sections begin and end.
 ghost use Rattle.std.specs.Prelude.{◌≡◌, ◌≤◌, ◌+◌, ◌*◌, length, drop, IfOk, IfErr, IsErrOf, OnOk, None, Some};
-ghost use Rattle.ti_binary.specs.Files.{end_place, flags_of, flags_place, has_bad_count, header_refusal, names_of, numbers_of, numbers_place, offsets_of, offsets_place, part, room_refusal, table_of, table_place, word_at};
+ghost use Rattle.ti_binary.specs.Files.{end_place, flags_of, flags_place, header_refusal, names_of, numbers_of, numbers_place, offsets_of, offsets_place, part, room_refusal, table_of, table_place, word_at};
 ghost use Rattle.ti_binary.specs.Shapes.{HasRoom};
 
 use crate::faults::BinFault;

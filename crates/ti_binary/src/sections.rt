@@ -60,6 +60,21 @@ pub(crate) fn put_offsets(entry: &Entry, count: u16, out: &mut Vec<u8>) -> Resul
     Ok(())
 }
 
+/// Appends the first texts of an entry, each with its NUL.
+pub(crate) fn put_texts(entry: &Entry, count: u16, out: &mut Vec<u8>) -> Result<(), AllocError>
+    requires described { IsDescription entry.now }
+    requires few { count ≤ 512 }
+    ensures { OnOk result (out.new.items ≡ out.old.items ++ table_of (take count entry.now.texts)) }
+{
+    for slot in 0..count {
+        if let Some(text) = entry.text(Slot(slot)) {
+            out.extend_from_slice(text)?;
+            out.push(0)?;
+        }
+    }
+    Ok(())
+}
+
 // What stands in the offsets for a text, where the table holds so many bytes already.
 fn offset(size: usize, text: Option<&[u8]>) -> u16
     requires { size ≤ 4096 }
@@ -80,19 +95,4 @@ fn ended_length(text: Option<&[u8]>) -> usize
         Some(bytes) => bytes.len() + 1,
         None => 0,
     }
-}
-
-/// Appends the first texts of an entry, each with its NUL.
-pub(crate) fn put_texts(entry: &Entry, count: u16, out: &mut Vec<u8>) -> Result<(), AllocError>
-    requires described { IsDescription entry.now }
-    requires few { count ≤ 512 }
-    ensures { OnOk result (out.new.items ≡ out.old.items ++ table_of (take count entry.now.texts)) }
-{
-    for slot in 0..count {
-        if let Some(text) = entry.text(Slot(slot)) {
-            out.extend_from_slice(text)?;
-            out.push(0)?;
-        }
-    }
-    Ok(())
 }

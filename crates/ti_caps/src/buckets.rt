@@ -138,6 +138,15 @@ static BUCKETS: [&[(u8, u8)]; 128] = [
     &[(2, 23), (7, 4)],
 ];
 
+/// The kind and the position of a capability by its name; None where the table has no such name
+/// (terminfo(5)).
+pub fn find_name(name: &[u8]) -> Option<(Kind, Slot)>
+    ensures { option_map (λ r. (r.0, r.1.0)) result ≡ capability_of name.now }
+{
+    let bucket = bucket_of(&BUCKETS, bucket_number(name));
+    found_in(bucket, name)
+}
+
 /// The number of a name's bucket.
 fn bucket_number(name: &[u8]) -> usize
     ensures number { result ≡ bucket_number 0 name.now }
@@ -179,13 +188,4 @@ fn found_in(places: &[(u8, u8)], name: &[u8]) -> Option<(Kind, Slot)>
         }
     }
     None
-}
-
-/// The kind and the position of a capability by its name; None where the table has no such name
-/// (terminfo(5)).
-pub fn find_name(name: &[u8]) -> Option<(Kind, Slot)>
-    ensures { option_map (λ r. (r.0, r.1.0)) result ≡ capability_of name.now }
-{
-    let bucket = bucket_of(&BUCKETS, bucket_number(name));
-    found_in(bucket, name)
 }

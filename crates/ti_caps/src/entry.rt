@@ -44,41 +44,6 @@ impl Model for Entry {
     ghost invariant = { λ e. IsDescription (record { names = e.names; flags = e.flags; numbers = e.numbers; texts = e.texts.items }) };
 }
 
-fn no_texts(alloc: Global) -> Result<Vec<Option<Bytes>>, AllocError>
-    ensures { IfOk result (λ v. v.items ≡ replicate 512 None) }
-{
-    let mut texts = Vec::with_capacity(alloc, MOST_TEXTS)?;
-    for filled in 0..MOST_TEXTS {
-        texts.push(None)?;
-    }
-    Ok(texts)
-}
-
-/// What a text holds are bytes.
-fn holds_bytes(text: &[u8])
-    ensures { AreBytes text.now }
-{}
-
-fn owned(alloc: Global, text: Option<&[u8]>) -> Result<Option<Bytes>, AllocError>
-    ensures ok { IfOk result (λ t. t ≡ option_map (λ s. s.now) text.entry) }
-    ensures none { text.entry ≡ None → IsOk result }
-    ensures bytes { IfOk result (λ t. IfSome t AreBytes) }
-{
-    match text {
-        Some(bytes) => {
-            holds_bytes(bytes);
-            Ok(Some(Bytes(Vec::from_slice(alloc, bytes)?)))
-        }
-        None => Ok(None),
-    }
-}
-
-fn has_nul(text: &[u8]) -> bool
-    ensures { result ≡ has_nul text.now }
-{
-    text.iter().any(|b| *b == 0)
-}
-
 impl Entry {
     /// An entry with these names, in which nothing is present. BadNames where the names are not
     /// 1 to 511 bytes from 32 to 126 without a comma, where an alternative is empty, or where the
@@ -202,6 +167,41 @@ impl Entry {
             + unnamed_options(Kind::Number, &self.numbers)
             + unnamed_options(Kind::Text, &self.texts)
     }
+}
+
+fn no_texts(alloc: Global) -> Result<Vec<Option<Bytes>>, AllocError>
+    ensures { IfOk result (λ v. v.items ≡ replicate 512 None) }
+{
+    let mut texts = Vec::with_capacity(alloc, MOST_TEXTS)?;
+    for filled in 0..MOST_TEXTS {
+        texts.push(None)?;
+    }
+    Ok(texts)
+}
+
+/// What a text holds are bytes.
+fn holds_bytes(text: &[u8])
+    ensures { AreBytes text.now }
+{}
+
+fn owned(alloc: Global, text: Option<&[u8]>) -> Result<Option<Bytes>, AllocError>
+    ensures ok { IfOk result (λ t. t ≡ option_map (λ s. s.now) text.entry) }
+    ensures none { text.entry ≡ None → IsOk result }
+    ensures bytes { IfOk result (λ t. IfSome t AreBytes) }
+{
+    match text {
+        Some(bytes) => {
+            holds_bytes(bytes);
+            Ok(Some(Bytes(Vec::from_slice(alloc, bytes)?)))
+        }
+        None => Ok(None),
+    }
+}
+
+fn has_nul(text: &[u8]) -> bool
+    ensures { result ≡ has_nul text.now }
+{
+    text.iter().any(|b| *b == 0)
 }
 
 fn has_no_name(kind: Kind, position: usize) -> bool

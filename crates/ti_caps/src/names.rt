@@ -5,12 +5,6 @@ ghost use Rattle.std.specs.List.{list_all};
 ghost use Rattle.ti_caps.specs.Cuts.{alternatives_behind};
 ghost use Rattle.ti_caps.specs.Names.{alternatives, are_names, begins_with_hash, first_name, has_bytes, has_no_blank, is_name_byte};
 
-fn are_name_bytes(names: &[u8]) -> bool
-    ensures { result ≡ list_all is_name_byte names.now }
-{
-    names.iter().all(|b| (32..=126).contains(b) && *b != b',')
-}
-
 /// The first alternative of some names, and what stands behind its `|`.
 pub fn cut_name(names: &[u8]) -> (&[u8], Option<&[u8]>)
     ensures first { result.0.now ≡ first_name names.now }
@@ -19,6 +13,42 @@ pub fn cut_name(names: &[u8]) -> (&[u8], Option<&[u8]>)
 {
     let end = names.iter().position(|b| *b == b'|').unwrap_or(names.len());
     (&names[..end], names.get(end + 1..))
+}
+
+/// The first alternative of some names, by which their entry is listed: all up to the first `|`.
+pub fn first_name(names: &[u8]) -> &[u8]
+    ensures { result.now ≡ first_name names.now }
+{
+    cut_name(names).0
+}
+
+/// Whether no byte of a name is a blank: an alternative without one is a name of reference
+/// (term(5)).
+pub fn has_no_blank(name: &[u8]) -> bool
+    ensures { result ≡ has_no_blank name.now }
+{
+    name.iter().all(|b| *b != b' ')
+}
+
+/// Whether a text is good for the names of an entry: 1 to 511 bytes from 32 to 126 without a
+/// comma, cut into alternatives at `|`; no alternative is empty, and the first has no blank and
+/// doesn't begin with `#` (terminfo(5)).
+pub fn are_names(names: &[u8]) -> bool
+    ensures { result ≡ are_names names.now }
+{
+    let first = first_name(names);
+    1 <= names.len()
+        && names.len() <= 511
+        && are_name_bytes(names)
+        && are_alternatives_there(names)
+        && has_no_blank(first)
+        && !begins_with_hash(first)
+}
+
+fn are_name_bytes(names: &[u8]) -> bool
+    ensures { result ≡ list_all is_name_byte names.now }
+{
+    names.iter().all(|b| (32..=126).contains(b) && *b != b',')
 }
 
 fn are_alternatives_there(names: &[u8]) -> bool
@@ -37,21 +67,6 @@ fn are_alternatives_there(names: &[u8]) -> bool
     }
 }
 
-/// The first alternative of some names, by which their entry is listed: all up to the first `|`.
-pub fn first_name(names: &[u8]) -> &[u8]
-    ensures { result.now ≡ first_name names.now }
-{
-    cut_name(names).0
-}
-
-/// Whether no byte of a name is a blank: an alternative without one is a name of reference
-/// (term(5)).
-pub fn has_no_blank(name: &[u8]) -> bool
-    ensures { result ≡ has_no_blank name.now }
-{
-    name.iter().all(|b| *b != b' ')
-}
-
 fn begins_with_hash(name: &[u8]) -> bool
     ensures { result ≡ begins_with_hash name.now }
 {
@@ -59,19 +74,4 @@ fn begins_with_hash(name: &[u8]) -> bool
         [first, ..] => *first == b'#',
         [] => false,
     }
-}
-
-/// Whether a text is good for the names of an entry: 1 to 511 bytes from 32 to 126 without a
-/// comma, cut into alternatives at `|`; no alternative is empty, and the first has no blank and
-/// doesn't begin with `#` (terminfo(5)).
-pub fn are_names(names: &[u8]) -> bool
-    ensures { result ≡ are_names names.now }
-{
-    let first = first_name(names);
-    1 <= names.len()
-        && names.len() <= 511
-        && are_name_bytes(names)
-        && are_alternatives_there(names)
-        && has_no_blank(first)
-        && !begins_with_hash(first)
 }

@@ -119,12 +119,6 @@ pub(crate) fn run_at(index: usize) -> Option<Run>
 }
 
 impl Run {
-    const fn new(kind: Kind, first: u16, names: &'static [&'static str]) -> Run
-        ensures { result ≡ record { kind = kind; first = first; names = names.entry } }
-    {
-        Run { kind, first, names }
-    }
-
     /// The position of the name at a place of the run, where it is this name.
     pub(crate) fn slot_of(&self, index: u8, name: &[u8]) -> Option<Slot>
         requires { self.now.first + length self.now.names.now < 65536 }
@@ -136,6 +130,12 @@ impl Run {
         } else {
             None
         }
+    }
+
+    const fn new(kind: Kind, first: u16, names: &'static [&'static str]) -> Run
+        ensures { result ≡ record { kind = kind; first = first; names = names.entry } }
+    {
+        Run { kind, first, names }
     }
 
     fn name_at(&self, kind: Kind, position: u16) -> Option<&'static str>

@@ -10,7 +10,6 @@ use Rattle.std.proofs.lemmas.List.Sums.{prefix_len-le-length, prefix_len_passes}
 use Rattle.ti_caps.specs.declared.table.Kind.{Kind}
 use Rattle.ti_caps.specs.declared.table.Kind.TheVariants.{Flag, Number, Text}
 use Rattle.ti_caps.specs.Table.{name_at, capability_of}
-use Rattle.ti_caps.proofs.Once.{name_is_found}
 use Rattle.ti_source.specs.declared.reading.statement.FieldValue.{FieldValue}
 use Rattle.ti_source.specs.declared.reading.statement.FieldValue.TheVariants as field_value
 use Rattle.ti_source.specs.Reading.Escape.{printed_text, IsText}
@@ -18,7 +17,7 @@ use Rattle.ti_source.specs.Reading.Field.{form_of, form_of_trimmed, form_by, is_
 use Rattle.ti_source.specs.Code.Steps.{OpenEntry, with_form, with_statement, is_stated}
 use Rattle.ti_source.proofs.EscapesBackLaws.{decoded-printed_text}
 use Rattle.ti_source.proofs.NumbersBackLaws.{number-decimal}
-use Rattle.ti_source.proofs.TableBytesLaws.{both, begins_letter, is_graphic, is_letter, is_written, name-is-written_entries}
+use Rattle.ti_source.proofs.TableBytesLaws.{both, begins_letter, is_graphic, is_letter, is_written, name-is-written}
 use Rattle.ti_source.proofs.FieldsBackLaws.{IsValue, IsValue-append, IsValue-first, letters-are-value, decimal-is-value, printed_text-is-value}
 
 graphic-no_blank : (b : ℕ) → is_graphic b ≡ true → is_blank b ≡ false
@@ -192,16 +191,20 @@ adds Text slot n field_value.Present name f h w found fresh = absurd h
 adds Text slot n (field_value.Number v) name f h w found fresh = absurd h
 adds Text slot n field_value.Cancelled name f h w found fresh = absurd h
 
+-- a name of the capability table is found as its capability
+abbrev pub AreFound : Type 0
+AreFound = (kind : Kind) (position : ℕ) (name : List ℕ) → name_at kind position ≡ Some name → capability_of name ≡ Some (kind, position)
+
 -- the field of a capability with a name
 pub record IsPrinted (kind : Kind) (slot : ℕ) (s : FieldValue) (name : List ℕ) : Type 0 where
   pub value : IsValue (name ++ value_of s)
   pub adds : (n : ℕ) (f : OpenEntry) → is_stated kind slot f ≡ false → with_form n (form_of (9 ∷ (name ++ value_of s))) f ≡ Ok (with_statement kind slot s f)
 
-pub is-printed : (kind : Kind) (slot : ℕ) (s : FieldValue) (name : List ℕ) → name_at kind slot ≡ Some name → Fits kind s → IsPrinted kind slot s name
-is-printed kind slot s name at h =
-    let w = name-is-written_entries kind slot name at in
+pub is-printed : AreFound → (kind : Kind) (slot : ℕ) (s : FieldValue) (name : List ℕ) → name_at kind slot ≡ Some name → Fits kind s → IsPrinted kind slot s name
+is-printed table kind slot s name at h =
+    let w = name-is-written kind slot name at in
     let field = field-of name (value_of s) w (value-ends s) (value-is-value kind s h) in
     record {
       value = field.whole;
-      adds = λ n f fresh. ap (λ x. with_form n x f) field.form ∙ adds kind slot n s name f h w (name_is_found kind slot name at) fresh;
+      adds = λ n f fresh. ap (λ x. with_form n x f) field.form ∙ adds kind slot n s name f h w (table kind slot name at) fresh;
     }

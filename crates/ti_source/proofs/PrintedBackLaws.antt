@@ -24,7 +24,7 @@ use Rattle.ti_source.proofs.BytesLaws.{has-texts}
 use Rattle.ti_source.proofs.TableBytesLaws.{both}
 use Rattle.ti_source.proofs.LinesBackLaws.{ended, no-lines, no_feed}
 use Rattle.ti_source.proofs.FieldsBackLaws.{not-all-blank}
-use Rattle.ti_source.proofs.FormsBackLaws.{Fits, drop-one-more, one-first, one-more, take-front}
+use Rattle.ti_source.proofs.FormsBackLaws.{AreFound, Fits, drop-one-more, one-first, one-more, take-front}
 use Rattle.ti_source.proofs.StepLaws.{read-through}
 use Rattle.ti_source.proofs.StatementsBackLaws.{AllFit, Goes-line, goes-on, of-other-kind, reading, value_line, statements_from}
 use Rattle.ti_source.specs.Code.FirstFields.{flag_value, number_value, text_value}
@@ -203,8 +203,8 @@ at-end : (n : ℕ) (s : ReaderState) → with_lines n (lines []) s ≡ Ok s
 unfolding with_lines
 at-end n s = ap (λ ls. with_lines n ls s) no-lines
 
-lines-read : (d : Description) → IsDescription d → with_lines 1 (lines (printed d)) start ≡ Ok (reading d.names (all_statements d))
-lines-read d is =
+lines-read : AreFound → (d : Description) → IsDescription d → with_lines 1 (lines (printed d)) start ≡ Ok (reading d.names (all_statements d))
+lines-read table d is =
     let fs = map flag_value d.flags in
     let ns = map number_value d.numbers in
     let ts = map text_value d.texts in
@@ -212,14 +212,14 @@ lines-read d is =
     let numbers = statements_from Number 0 ns in
     let names = names-are d.names is.named in
     let first = Goes-line 1 d.names (flags_of d ++ (numbers_of d ++ (texts_of d ++ []))) start (reading d.names []) (all-no_feed d.names names.letters) (names-begin d.names is.named) in
-    let second = goes-on Flag fs first.line 0 d.names [] (numbers_of d ++ (texts_of d ++ [])) (flags-fit d.flags) (λ j le. refl) in
-    let third = goes-on Number ns second.line 0 d.names flags (texts_of d ++ []) (numbers-fit d.numbers is.small) (λ j le. of-other-kind Flag Number 0 j fs refl) in
-    let fourth = goes-on Text ts third.line 0 d.names (flags ++ numbers) [] (texts-fit d.texts (has-texts d is)) (λ j le. list_any-append (concerns Text j) flags numbers ∙ rw (of-other-kind Flag Text 0 j fs refl, of-other-kind Number Text 0 j ns refl) refl) in
+    let second = goes-on table Flag fs first.line 0 d.names [] (numbers_of d ++ (texts_of d ++ [])) (flags-fit d.flags) (λ j le. refl) in
+    let third = goes-on table Number ns second.line 0 d.names flags (texts_of d ++ []) (numbers-fit d.numbers is.small) (λ j le. of-other-kind Flag Number 0 j fs refl) in
+    let fourth = goes-on table Text ts third.line 0 d.names (flags ++ numbers) [] (texts-fit d.texts (has-texts d is)) (λ j le. list_any-append (concerns Text j) flags numbers ∙ rw (of-other-kind Flag Text 0 j fs refl, of-other-kind Number Text 0 j ns refl) refl) in
     ap (λ x. with_lines 1 (lines x) start) (printed-is d) ∙ first.goes ∙ second.goes ∙ third.goes ∙ fourth.goes ∙ at-end fourth.line (reading d.names (all_statements d))
 
-lines-through : (d : Description) → IsDescription d → read_through (printed d) ≡ Ok (record { entries = entry_of d ∷ []; notes = [] })
+lines-through : AreFound → (d : Description) → IsDescription d → read_through (printed d) ≡ Ok (record { entries = entry_of d ∷ []; notes = [] })
 unfolding read_through
-lines-through d is = ap (λ r. r >>= whole) (lines-read d is)
+lines-through table d is = ap (λ r. r >>= whole) (lines-read table d is)
 
 first-part : (p : ℕ → Bool) (bs : List ℕ) → (behind : List (List ℕ)) × (slice_split p bs ≡ before_first p bs ∷ behind)
 first-part p [] = ([], refl)
@@ -250,5 +250,5 @@ resolves d e =
     let found : found_from 0 (first_name d.names) (entry_of d ∷ []) ≡ Some (0, entry_of d) = ap (λ t. cond t (Some (0, entry_of d)) None) (is-first d e) in
     more found nothing (sym (merged-back d)) nothing
 
-pub reads-back : (d : Description) → IsDescription d → ReadsBack d
-reads-back d is = (entry_of d, sym (read-through (printed d)) ∙ lines-through d is, resolves d is.named)
+pub reads-back : AreFound → (d : Description) → IsDescription d → ReadsBack d
+reads-back table d is = (entry_of d, sym (read-through (printed d)) ∙ lines-through table d is, resolves d is.named)

@@ -15,7 +15,7 @@ use Rattle.ti_source.specs.Reading.Field.{form_of}
 use Rattle.ti_source.proofs.TableBytesLaws.{both, is_graphic}
 use Rattle.ti_source.proofs.LinesBackLaws.{ended, lines-ended, no_feed}
 use Rattle.ti_source.proofs.FieldsBackLaws.{line-of-value}
-use Rattle.ti_source.proofs.FormsBackLaws.{Fits, IsPrinted, is-printed, value_of}
+use Rattle.ti_source.proofs.FormsBackLaws.{AreFound, Fits, IsPrinted, is-printed, value_of}
 
 abbrev pub statement : Kind → ℕ → FieldValue → Statement
 statement kind slot s = record { kind = kind; slot = record { 0 = slot }; field_value = s }
@@ -80,12 +80,12 @@ same-state : (n : ℕ) (text rest : List ℕ) (names : List ℕ) (ss added : Lis
 same-state n text rest names ss added same none =
     record { line = n; goes = ap (λ x. with_lines n (lines x) (reading names ss)) same ∙ ap (λ x. with_lines n (lines rest) (reading names x)) (sym (append-nil ss) ∙ ap (λ x. ss ++ x) (sym none)) }
 
-one : (n k : ℕ) (kind : Kind) (o : Option FieldValue) (name : Option (List ℕ)) (names : List ℕ) (ss : List Statement) (rest : List ℕ) → name_at kind k ≡ name → IfSome o (Fits kind) → list_any (concerns kind k) ss ≡ false → Goes n (value_text name o ++ rest) (reading names ss) rest (reading names (ss ++ named_statement kind k name o))
-one n k kind None None names ss rest at fits fresh = same-state n rest rest names ss [] refl refl
-one n k kind None (Some name) names ss rest at fits fresh = same-state n rest rest names ss [] refl refl
-one n k kind (Some s) None names ss rest at fits fresh = same-state n rest rest names ss [] refl refl
-one n k kind (Some s) (Some name) names ss rest at fits fresh =
-    let is = is-printed kind k s name at fits in
+one : AreFound → (n k : ℕ) (kind : Kind) (o : Option FieldValue) (name : Option (List ℕ)) (names : List ℕ) (ss : List Statement) (rest : List ℕ) → name_at kind k ≡ name → IfSome o (Fits kind) → list_any (concerns kind k) ss ≡ false → Goes n (value_text name o ++ rest) (reading names ss) rest (reading names (ss ++ named_statement kind k name o))
+one table n k kind None None names ss rest at fits fresh = same-state n rest rest names ss [] refl refl
+one table n k kind None (Some name) names ss rest at fits fresh = same-state n rest rest names ss [] refl refl
+one table n k kind (Some s) None names ss rest at fits fresh = same-state n rest rest names ss [] refl refl
+one table n k kind (Some s) (Some name) names ss rest at fits fresh =
+    let is = is-printed table kind k s name at fits in
     let body = 9 ∷ (name ++ value_of s) in
     let goes = Goes-line n body rest (reading names ss) (reading names (ss ++ statement kind k s ∷ [])) (no-feeds (name ++ value_of s) is.value.graphic) (one-line n k kind s name names ss is fresh) in
     record { line = goes.line; goes = ap (λ x. with_lines n (lines x) (reading names ss)) (field-ended name (value_of s) rest) ∙ goes.goes }
@@ -108,14 +108,14 @@ still-fresh kind k name o ss fresh j le =
     list_any-append (concerns kind j) ss (named_statement kind k name o) ∙ rw (fresh j (omega arith), other-index kind k j name o (omega arith)) refl
 
 -- the lines of one kind
-pub goes-on : (kind : Kind) (os : List (Option FieldValue)) (n k : ℕ) (names : List ℕ) (ss : List Statement) (rest : List ℕ) → AllFit kind os → IsFresh kind k ss → Goes n (lines_from (value_line kind) k os ++ rest) (reading names ss) rest (reading names (ss ++ statements_from kind k os))
-goes-on kind [] n k names ss rest fits fresh = same-state n rest rest names ss [] refl refl
-goes-on kind (o ∷ os) n k names ss rest fits fresh =
+pub goes-on : AreFound → (kind : Kind) (os : List (Option FieldValue)) (n k : ℕ) (names : List ℕ) (ss : List Statement) (rest : List ℕ) → AllFit kind os → IsFresh kind k ss → Goes n (lines_from (value_line kind) k os ++ rest) (reading names ss) rest (reading names (ss ++ statements_from kind k os))
+goes-on table kind [] n k names ss rest fits fresh = same-state n rest rest names ss [] refl refl
+goes-on table kind (o ∷ os) n k names ss rest fits fresh =
     let name = name_at kind k in
     let added = named_statement kind k name o in
     let more = lines_from (value_line kind) (suc k) os in
-    let first = one n k kind o name names ss (more ++ rest) refl fits.0 (fresh k (omega arith)) in
-    let others = goes-on kind os first.line (suc k) names (ss ++ added) rest fits.1 (still-fresh kind k name o ss fresh) in
+    let first = one table n k kind o name names ss (more ++ rest) refl fits.0 (fresh k (omega arith)) in
+    let others = goes-on table kind os first.line (suc k) names (ss ++ added) rest fits.1 (still-fresh kind k name o ss fresh) in
     record {
       line = others.line;
       goes = ap (λ x. with_lines n (lines x) (reading names ss)) (append_assoc (value_line kind k o) more rest) ∙ first.goes ∙ others.goes

@@ -57,6 +57,6 @@ among kind position (r ∷ rs) n e at =
     ]
 
 -- a name of the table can be written in a field
-pub name-is-written_entries : (kind : Kind) (position : ℕ) (name : List ℕ) → name_at kind position ≡ Some name → is_written name ≡ true
+pub name-is-written : (kind : Kind) (position : ℕ) (name : List ℕ) → name_at kind position ≡ Some name → is_written name ≡ true
 unfolding name_at
-name-is-written_entries kind position name at = among kind position runs name computed at
+name-is-written kind position name at = among kind position runs name computed at

@@ -8,11 +8,13 @@ mod reading;
 mod resolving;
 mod source;
 
-pub use reading::escape::texts_are_spelled;
 pub use fault::SourceFault;
-pub use reading::field::fields_are_cut;
 pub use note::{Cause, Note};
-pub use printing::printer::{Printed, numbers_read_back, print, printed_reads_back, texts_read_back};
+pub use printing::printer::{
+    Printed, numbers_read_back, print, printed_reads_back, texts_read_back,
+};
+pub use reading::escape::texts_are_spelled;
+pub use reading::field::fields_are_cut;
 pub use reading::reader::read;
 pub use resolving::resolver::{
     Resolver, names_have_one_fault, names_resolve_once, resolve, resolved_names_have_no_fault,

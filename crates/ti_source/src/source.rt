@@ -4,8 +4,8 @@ ghost use Rattle.std.specs.Prelude.{◌≡◌, ◌<◌, ◌↔◌, IsTrue, lengt
 ghost use Rattle.std.specs.Prelude.{slice_get, map, Some};
 ghost use Rattle.ti_caps.specs.Names.{first_name};
 
-use crate::reading::entries::Entries;
 use crate::note::Note;
+use crate::reading::entries::Entries;
 use std::marker::Model;
 use ti_caps::first_name;
 

@@ -7,24 +7,6 @@ use std::path::{Path, PathBuf};
 use std::{fs, io, str};
 use terminfo_files::Files;
 
-// A path below a folder; a compiled file's path is ASCII.
-fn below<'a>(alloc: Global, directory: &str, path: &[u8]) -> Result<PathBuf, Failure<'a>> {
-    let path = str::from_utf8(path).unwrap_or("");
-    Ok(Path::new(directory).join(alloc, path)?)
-}
-
-// Writes a file; the folders on its path are made only where it cannot be written without them.
-fn write_file(rt: &HostRuntime, path: &PathBuf, bytes: &[u8]) -> io::Result<()> {
-    match fs::write(rt, path.as_path(), bytes) {
-        Err(error) if error.kind() == ErrorKind::NotFound => {}
-        written => return written,
-    }
-    if let Some(folder) = path.parent() {
-        fs::create_dir_all(rt, folder)?;
-    }
-    fs::write(rt, path.as_path(), bytes)
-}
-
 /// Writes the files below a folder, which is made where it is not there, as are the folders in it.
 /// Files that are there are replaced.
 pub(crate) fn write_files<'a>(
@@ -41,4 +23,22 @@ pub(crate) fn write_files<'a>(
         }
     }
     Ok(())
+}
+
+// A path below a folder; a compiled file's path is ASCII.
+fn below<'a>(alloc: Global, directory: &str, path: &[u8]) -> Result<PathBuf, Failure<'a>> {
+    let path = str::from_utf8(path).unwrap_or("");
+    Ok(Path::new(directory).join(alloc, path)?)
+}
+
+// Writes a file; the folders on its path are made only where it cannot be written without them.
+fn write_file(rt: &HostRuntime, path: &PathBuf, bytes: &[u8]) -> io::Result<()> {
+    match fs::write(rt, path.as_path(), bytes) {
+        Err(error) if error.kind() == ErrorKind::NotFound => {}
+        written => return written,
+    }
+    if let Some(folder) = path.parent() {
+        fs::create_dir_all(rt, folder)?;
+    }
+    fs::write(rt, path.as_path(), bytes)
 }

@@ -4,15 +4,6 @@ use std::alloc::{AllocError, Global};
 use terminfo_files::{Notes, Sizes};
 use ti_source::Cause;
 
-fn word_of(cause: Cause) -> &'static str {
-    match cause {
-        Cause::Unknown => "unknown",
-        Cause::WrongKind => "wrong kind",
-        Cause::TooGreat => "too great",
-        Cause::Repeated => "repeated",
-    }
-}
-
 /// A line for each note: its line number, its cause and the field's name.
 pub(crate) fn note_lines(alloc: Global, notes: &Notes) -> Result<Vec<u8>, AllocError> {
     let mut lines = Vec::new(alloc);
@@ -57,4 +48,13 @@ pub(crate) fn left_out_lines(
         lines.extend_from_slice(line.as_bytes())?;
     }
     Ok(lines)
+}
+
+fn word_of(cause: Cause) -> &'static str {
+    match cause {
+        Cause::Unknown => "unknown",
+        Cause::WrongKind => "wrong kind",
+        Cause::TooGreat => "too great",
+        Cause::Repeated => "repeated",
+    }
 }

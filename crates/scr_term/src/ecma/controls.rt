@@ -24,6 +24,18 @@ pub(crate) enum Change {
     Rendered(Attrs),
 }
 
+/// What a control sequence changes, by the part of it before its last byte; `None` where it is
+/// undefined (ECMA-48, 5.4 'Control sequences').
+pub(crate) fn control_sequence(size: Size, attrs: Attrs, part: &[u8], last: u8) -> Option<Change>
+    requires shown { bit_and every_attribute attrs.0 ≡ attrs.0 }
+    requires sequence { IsReading part.now last Reading.Last }
+    ensures value { (ps : List ℕ) (state : TerminalState) → part.now ≡ 27 ∷ 91 ∷ ps → state.attrs ≡ attrs.0 → option_map (changed size.rows size.columns state) result ≡ meaning size.rows size.columns state (Sequence ps last) }
+    ensures change { IfSome result (IsChange size.rows size.columns) }
+{
+    let list = parameters(&part[2..])?;
+    control_function(size, attrs, list.as_slice(), last)
+}
+
 /// The spot at a row and a column, which count from 1; `None` off the screen.
 fn cursor_at(size: Size, row: u16, column: u16) -> Option<Change>
     ensures value { (state : TerminalState) → option_map (changed size.rows size.columns state) result ≡ cursor_at size.rows size.columns state row column }
@@ -103,16 +115,4 @@ fn control_function(
         b'm' => Some(Change::Rendered(renditions(attrs, parameters)?)),
         _ => None,
     }
-}
-
-/// What a control sequence changes, by the part of it before its last byte; `None` where it is
-/// undefined (ECMA-48, 5.4 'Control sequences').
-pub(crate) fn control_sequence(size: Size, attrs: Attrs, part: &[u8], last: u8) -> Option<Change>
-    requires shown { bit_and every_attribute attrs.0 ≡ attrs.0 }
-    requires sequence { IsReading part.now last Reading.Last }
-    ensures value { (ps : List ℕ) (state : TerminalState) → part.now ≡ 27 ∷ 91 ∷ ps → state.attrs ≡ attrs.0 → option_map (changed size.rows size.columns state) result ≡ meaning size.rows size.columns state (Sequence ps last) }
-    ensures change { IfSome result (IsChange size.rows size.columns) }
-{
-    let list = parameters(&part[2..])?;
-    control_function(size, attrs, list.as_slice(), last)
 }

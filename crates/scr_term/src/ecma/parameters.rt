@@ -16,6 +16,20 @@ const MOST: usize = 62;
 /// The parameters of a control sequence, each a number or absent.
 pub(crate) type Parameters = ArrayVec<Option<u16>, MOST>;
 
+/// The parameters of a control sequence, which semicolons divide; `None` where one is above 9,999
+/// (ECMA-48, 5.4 'Control sequences').
+pub(crate) fn parameters(bytes: &[u8]) -> Option<Parameters>
+    requires digits { AllByRecursion (λ byte. IsTrue (is_parameter_byte byte)) bytes.now }
+    requires short { length bytes.now ≤ 61 }
+    ensures { option_map (λ list. list.items) result ≡ parameters_of bytes.now }
+{
+    let mut list = ArrayVec::new();
+    for part in bytes.split(|byte| *byte == b';') {
+        list.push(parameter(part)?);
+    }
+    Some(list)
+}
+
 /// A parameter: `Some(None)` where it is absent, `None` where its number is above 9,999 (ECMA-48,
 /// 5.4 'Control sequences').
 fn parameter(digits: &[u8]) -> Option<Option<u16>>
@@ -34,18 +48,4 @@ fn parameter(digits: &[u8]) -> Option<Option<u16>>
     } else {
         Some(Some(number as u16))
     }
-}
-
-/// The parameters of a control sequence, which semicolons divide; `None` where one is above 9,999
-/// (ECMA-48, 5.4 'Control sequences').
-pub(crate) fn parameters(bytes: &[u8]) -> Option<Parameters>
-    requires digits { AllByRecursion (λ byte. IsTrue (is_parameter_byte byte)) bytes.now }
-    requires short { length bytes.now ≤ 61 }
-    ensures { option_map (λ list. list.items) result ≡ parameters_of bytes.now }
-{
-    let mut list = ArrayVec::new();
-    for part in bytes.split(|byte| *byte == b';') {
-        list.push(parameter(part)?);
-    }
-    Some(list)
 }

@@ -21,13 +21,6 @@ pub(crate) enum Reading {
 /// How many bytes a control sequence has at most.
 const LONGEST: usize = 64;
 
-/// Whether a byte is a digit, or the semicolon between two parameters.
-fn is_parameter_byte(byte: u8) -> bool
-    ensures { result ≡ is_parameter_byte byte }
-{
-    byte.is_ascii_digit() || byte == b';'
-}
-
 /// What a byte is after a part of a unit (ECMA-48, 5.4 'Control sequences').
 pub(crate) fn read_byte(part: &[u8], byte: u8) -> Reading
     requires { (part.now ≡ []) ⊎ IsWaiting part.now }
@@ -59,4 +52,11 @@ pub(crate) fn read_byte(part: &[u8], byte: u8) -> Reading
     } else {
         Reading::Other
     }
+}
+
+/// Whether a byte is a digit, or the semicolon between two parameters.
+fn is_parameter_byte(byte: u8) -> bool
+    ensures { result ≡ is_parameter_byte byte }
+{
+    byte.is_ascii_digit() || byte == b';'
 }

@@ -1,6 +1,6 @@
 //! A screen that is fed the bytes of a text. Which bytes make a control function, and what that changes, is in the files
 //! beside this one.
-ghost use Rattle.std.specs.Prelude.{◌≡◌, ◌≤◌, ◌+◌, ◌<◌, ◌↔◌, false, length, [], ◌∷◌, bit_and, option_map, IfOk, IsOk, IsTrue};
+ghost use Rattle.std.specs.Prelude.{◌≡◌, ◌+◌, ◌<◌, ◌↔◌, false, length, [], ◌∷◌, bit_and, option_map, IfOk, IsOk, IsTrue};
 ghost use Rattle.std.specs.Option.{ForSome};
 ghost use Rattle.scr_cells.specs.Attributes.{every_attribute};
 ghost use Rattle.scr_cells.specs.CellViews.{IsCharacter};

@@ -29,13 +29,6 @@ impl Model for Profile {
     ghost invariant = { λ a. IsProfile (record { rows = a.size.rows; columns = a.size.columns; shown = a.shown.0 }) };
 }
 
-// Whether the set has one attribute alone.
-fn is_attribute(set: Attrs) -> bool
-    ensures { result ≡ list_any (λ a. a == set.0) all_attributes }
-{
-    Attrs::EACH.contains(&set)
-}
-
 impl Profile {
     /// The profile of the bundled ECMA-48 entry on a screen of this size. The entry has no other fault: the only
     /// refusal is `NoMemory`.
@@ -79,4 +72,11 @@ impl Profile {
             Op::Put(byte) => is_character(byte),
         }
     }
+}
+
+// Whether the set has one attribute alone.
+fn is_attribute(set: Attrs) -> bool
+    ensures { result ≡ list_any (λ a. a == set.0) all_attributes }
+{
+    Attrs::EACH.contains(&set)
 }

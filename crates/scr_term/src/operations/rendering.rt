@@ -1,5 +1,5 @@
 //! The bytes of each operation. Nothing is sent here: they are appended to a vector.
-ghost use Rattle.std.specs.Prelude.{◌≡◌, ◌+◌, ◌<◌, ◌++◌, ◌∷◌, [], IsTrue, OnOk, OnErr, length, vec_len, vec_capacity};
+ghost use Rattle.std.specs.Prelude.{◌≡◌, ◌+◌, ◌<◌, ◌++◌, ◌∷◌, IsTrue, OnOk, OnErr, length, vec_len, vec_capacity};
 ghost use Rattle.std.specs.Fmt.{decimal};
 ghost use Rattle.scr_term.specs.Operations.Steps.{has};
 ghost use Rattle.scr_term.specs.Operations.Texts.{bytes_of, control_sequence, rendition_of};

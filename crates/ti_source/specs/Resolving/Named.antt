@@ -23,11 +23,6 @@ found_from i name (d ∷ ds) = if has_name name d then Some (i, d) else found_fr
 abbrev pub index_of : List Described → List ℕ → Option ℕ
 index_of entries name = option_map (λ p. p.0) (found_from 0 name entries)
 
--- what stands behind the bar after the first alternative
-abbrev pub alternatives_behind : Option (List ℕ) → List (List ℕ)
-alternatives_behind None = []
-alternatives_behind (Some bytes) = alternatives bytes
-
 -- the index of an entry with these alternatives, where the name is one of its reference names
 abbrev pub named : List (List ℕ) → ℕ → List ℕ → Option ℕ
 named names index name = if is_reference name names then Some index else None

@@ -3,7 +3,6 @@
 ghost use Rattle.std.specs.Fmt.{decimal};
 ghost use Rattle.std.specs.Prelude.{◌<◌, ◌^◌, Some, List, ℕ, ◌≡◌, ◌++◌, IfOk, OnOk, IsOkUnless, length, option_map};
 ghost use Rattle.ti_caps.specs.Description.{IsDescription, unnamed_count};
-ghost use Rattle.ti_caps.specs.Table.{name_at};
 ghost use Rattle.ti_source.specs.Reading.Escape.{IsText, decoded, printed_byte, printed_text};
 ghost use Rattle.ti_source.specs.Reading.Number.{number};
 ghost use Rattle.ti_source.specs.Printing.Print.{flag_line, lines_from, number_line, printed, text_line};
@@ -11,7 +10,7 @@ ghost use Rattle.ti_source.specs.Printing.ReadBack.{EachReadsBack, ReadsBack};
 
 use crate::fault::SourceFault;
 use std::alloc::{AllocError, Global};
-use ti_caps::{Bytes, Entry, Kind, Slot, name_of};
+use ti_caps::{Bytes, Entry, Kind, Slot, name_of, names_stand_once};
 
 /// An entry as source text.
 #[derive(Debug, Drop)]
@@ -20,6 +19,42 @@ pub struct Printed {
     pub text: Bytes,
     /// How many present capabilities have no name and are left out.
     pub unnamed: usize,
+}
+
+/// The source text of an entry (tic(1), infocmp(1)): its names, then a line for each present
+/// capability that has a name, booleans, numbers and strings, each in slot order; and how many
+/// present capabilities have none. The text is a source of one entry without a note, which resolves
+/// by its first reference name to the entry without its unnamed capabilities. The one fault is
+/// NoMemory.
+pub fn print(alloc: Global, entry: &Entry) -> Result<Printed, SourceFault>
+    ensures text { IfOk result (λ p. p.text ≡ printed entry.now) }
+    ensures unnamed { IfOk result (λ p. p.unnamed ≡ unnamed_count entry.now) }
+    ensures reads { IfOk result (λ _. ReadsBack entry.now) }
+    ensures only { IsOkUnless result SourceFault.NoMemory }
+{
+    let text = Bytes(text_of(alloc, entry)?);
+    let unnamed = entry.unnamed();
+    printed_reads_back();
+    Ok(Printed { text, unnamed })
+}
+
+/// A printed text stands for the text that it was printed from, as a law: what a string field says
+/// is what `print` wrote.
+pub fn texts_read_back()
+    ensures { (text : List ℕ) → IsText text → decoded (printed_text text) ≡ text }
+{}
+
+/// A printed number stands for the number that it was printed from, as a law.
+pub fn numbers_read_back()
+    ensures { (n : ℕ) → n < 2 ^ 16 → number (decimal n) ≡ Some n }
+{}
+
+/// A printed text is a source of one entry without a note, as a law, and that entry resolves by its
+/// first reference name to the description that was printed, without its unnamed capabilities.
+pub fn printed_reads_back()
+    ensures { EachReadsBack }
+{
+    names_stand_once();
 }
 
 fn push_byte(out: &mut Vec<u8>, b: u8) -> Result<(), AllocError>
@@ -141,37 +176,3 @@ fn text_of(alloc: Global, entry: &Entry) -> Result<Vec<u8>, AllocError>
     push_texts(&mut text, entry)?;
     Ok(text)
 }
-
-/// The source text of an entry (tic(1), infocmp(1)): its names, then a line for each present
-/// capability that has a name, booleans, numbers and strings, each in slot order; and how many
-/// present capabilities have none. The text is a source of one entry without a note, which resolves
-/// by its first reference name to the entry without its unnamed capabilities. The one fault is
-/// NoMemory.
-pub fn print(alloc: Global, entry: &Entry) -> Result<Printed, SourceFault>
-    ensures text { IfOk result (λ p. p.text ≡ printed entry.now) }
-    ensures unnamed { IfOk result (λ p. p.unnamed ≡ unnamed_count entry.now) }
-    ensures reads { IfOk result (λ _. ReadsBack entry.now) }
-    ensures only { IsOkUnless result SourceFault.NoMemory }
-{
-    let text = Bytes(text_of(alloc, entry)?);
-    let unnamed = entry.unnamed();
-    printed_reads_back();
-    Ok(Printed { text, unnamed })
-}
-
-/// A printed text stands for the text that it was printed from, as a law: what a string field says
-/// is what `print` wrote.
-pub fn texts_read_back()
-    ensures { (text : List ℕ) → IsText text → decoded (printed_text text) ≡ text }
-{}
-
-/// A printed number stands for the number that it was printed from, as a law.
-pub fn numbers_read_back()
-    ensures { (n : ℕ) → n < 2 ^ 16 → number (decimal n) ≡ Some n }
-{}
-
-/// A printed text is a source of one entry without a note, as a law, and that entry resolves by its
-/// first reference name to the description that was printed, without its unnamed capabilities.
-pub fn printed_reads_back()
-    ensures { EachReadsBack }
-{}

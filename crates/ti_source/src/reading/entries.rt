@@ -1,19 +1,20 @@
 //! The entries of a source, by index and by reference name.
 
-ghost use Rattle.std.specs.Prelude.{◌≡◌, ◌<◌, ◌∷◌, [], ◌++◌, Ok, IfSome, OnOk, ℕ, List, length, option_map};
+ghost use Rattle.std.specs.Prelude.{◌≡◌, ◌<◌, ◌∷◌, [], ◌++◌, Ok, OnOk, ℕ, List};
 ghost use Rattle.std.specs.List.{list_any};
 ghost use Rattle.ti_caps.specs.Names.{alternatives};
 ghost use Rattle.ti_caps.specs.Table.{or_else};
-ghost use Rattle.ti_source.specs.Resolving.Named.{alternatives_behind, found_from, has_name, named, index_of, indexed};
+ghost use Rattle.ti_source.specs.Resolving.Named.{has_name, named, index_of, indexed};
 ghost use Rattle.ti_source.specs.Reading.Sources.{is_taken};
 ghost use Rattle.ti_source.specs.Result.{Gives};
 
 use crate::fault::SourceFault;
 use crate::reading::keyed_hasher::KeyedHasher;
-use crate::reading::statement::{SourceEntry, has_no_blank};
+use crate::reading::statement::SourceEntry;
 use indexmap::IndexMap;
 use std::alloc::{AllocError, Global};
 use std::marker::Model;
+use ti_caps::{cut_name, has_no_blank};
 
 /// Entries in their order, each of which is found by its reference names.
 #[derive(Debug, Drop)]
@@ -34,17 +35,69 @@ impl Model for Entries {
     ghost invariant = { λ e. AreIndexed (λ k. k.items) e.indices.entries e.items.items };
 }
 
-/// The first alternative, and what stands behind its bar.
-fn split_bar(names: &[u8]) -> (&[u8], Option<&[u8]>)
-    ensures cut { alternatives names.now ≡ result.0.now ∷ alternatives_behind (option_map (λ s. s.now) result.1) }
-    ensures shorter { IfSome result.1 (λ rest. length rest.now < length names.now) }
-{
-    for (i, b) in names.iter().enumerate() {
-        if *b == b'|' {
-            return (&names[..i], Some(&names[i + 1..]));
+impl Entries {
+    pub(crate) fn new(alloc: Global, hasher: KeyedHasher) -> Entries
+        ensures { result ≡ [] }
+    {
+        Entries {
+            items: Vec::new(alloc),
+            indices: IndexMap::with_hasher(alloc, hasher),
         }
     }
-    (names, None)
+
+    /// The entries with one more, which is the last.
+    pub(crate) fn with_entry(
+        self,
+        alloc: Global,
+        entry: SourceEntry,
+    ) -> Result<Entries, SourceFault>
+        ensures { Gives result (Ok (self ++ entry ∷ [])) }
+    {
+        let Entries {
+            mut items,
+            mut indices,
+        } = self;
+        put_names(alloc, &mut indices, entry.names(), items.len())?;
+        items.push(entry)?;
+        Ok(Entries { items, indices })
+    }
+
+    /// Whether an entry has one of these names as a reference name.
+    pub(crate) fn has_any_name(&self, names: &[u8]) -> bool
+        ensures { result ≡ is_taken names.now self.now }
+    {
+        let mut rest = names;
+        loop {
+            let (name, behind) = cut_name(rest);
+            if self.has_name(name) {
+                return true;
+            }
+            match behind {
+                Some(more) => rest = more,
+                None => return false,
+            }
+        }
+    }
+
+    /// The index of the first entry that has this reference name.
+    pub(crate) fn index_of(&self, name: &[u8]) -> Option<usize>
+        ensures { result ≡ index_of self.now name.now }
+    {
+        self.indices.get(name).copied()
+    }
+
+    pub(crate) fn as_slice(&self) -> &[SourceEntry]
+        ensures { result.now ≡ self.now }
+    {
+        self.items.as_slice()
+    }
+
+    /// Whether an entry has this reference name.
+    fn has_name(&self, name: &[u8]) -> bool
+        ensures { result ≡ list_any (has_name name.now) self.now }
+    {
+        self.indices.contains_key(name)
+    }
 }
 
 /// Gives an index to a name without a blank that has none yet.
@@ -76,76 +129,11 @@ fn put_names(
 {
     let mut rest = names;
     loop {
-        let (name, behind) = split_bar(rest);
+        let (name, behind) = cut_name(rest);
         put_name(alloc, indices, name, index)?;
         match behind {
             Some(more) => rest = more,
             None => return Ok(()),
         }
-    }
-}
-
-impl Entries {
-    pub(crate) fn new(alloc: Global, hasher: KeyedHasher) -> Entries
-        ensures { result ≡ [] }
-    {
-        Entries {
-            items: Vec::new(alloc),
-            indices: IndexMap::with_hasher(alloc, hasher),
-        }
-    }
-
-    /// The entries with one more, which is the last.
-    pub(crate) fn with_entry(
-        self,
-        alloc: Global,
-        entry: SourceEntry,
-    ) -> Result<Entries, SourceFault>
-        ensures { Gives result (Ok (self ++ entry ∷ [])) }
-    {
-        let Entries {
-            mut items,
-            mut indices,
-        } = self;
-        put_names(alloc, &mut indices, entry.names(), items.len())?;
-        items.push(entry)?;
-        Ok(Entries { items, indices })
-    }
-
-    /// Whether an entry has this reference name.
-    fn has_name(&self, name: &[u8]) -> bool
-        ensures { result ≡ list_any (has_name name.now) self.now }
-    {
-        self.indices.contains_key(name)
-    }
-
-    /// Whether an entry has one of these names as a reference name.
-    pub(crate) fn has_any_name(&self, names: &[u8]) -> bool
-        ensures { result ≡ is_taken names.now self.now }
-    {
-        let mut rest = names;
-        loop {
-            let (name, behind) = split_bar(rest);
-            if self.has_name(name) {
-                return true;
-            }
-            match behind {
-                Some(more) => rest = more,
-                None => return false,
-            }
-        }
-    }
-
-    /// The index of the first entry that has this reference name.
-    pub(crate) fn index_of(&self, name: &[u8]) -> Option<usize>
-        ensures { result ≡ index_of self.now name.now }
-    {
-        self.indices.get(name).copied()
-    }
-
-    pub(crate) fn as_slice(&self) -> &[SourceEntry]
-        ensures { result.now ≡ self.now }
-    {
-        self.items.as_slice()
     }
 }

@@ -8,6 +8,26 @@ ghost use Rattle.ti_source.specs.Reading.Spelling.{AreSpelled};
 use std::alloc::{AllocError, Global};
 use ti_caps::Bytes;
 
+/// The text that a string field stands for.
+pub(crate) fn decode(alloc: Global, text: &[u8]) -> Result<Bytes, AllocError>
+    ensures value { IfOk result (λ bytes. bytes ≡ decoded text.now) }
+    ensures whole { IfOk result (λ bytes. has_nul bytes ≡ false) }
+{
+    let mut decoded = Vec::with_capacity(alloc, text.len())?;
+    let mut rest = text;
+    while !rest.is_empty() {
+        decoded.push(not_nul(meant(rest)))?;
+        rest = &rest[written_length(rest)..];
+    }
+    Ok(Bytes(decoded))
+}
+
+/// The text of a string field is the one that the field's bytes spell, by a rule for each escape
+/// (terminfo(5), "Types of Capabilities"), and they spell no other.
+pub fn texts_are_spelled()
+    ensures { AreSpelled }
+{}
+
 fn is_octal(b: u8) -> bool
     ensures { result ≡ is_octal b }
 {
@@ -104,23 +124,3 @@ fn not_nul(v: u8) -> u8
 {
     if v == 0 { 128 } else { v }
 }
-
-/// The text that a string field stands for.
-pub(crate) fn decode(alloc: Global, text: &[u8]) -> Result<Bytes, AllocError>
-    ensures value { IfOk result (λ bytes. bytes ≡ decoded text.now) }
-    ensures whole { IfOk result (λ bytes. has_nul bytes ≡ false) }
-{
-    let mut decoded = Vec::with_capacity(alloc, text.len())?;
-    let mut rest = text;
-    while !rest.is_empty() {
-        decoded.push(not_nul(meant(rest)))?;
-        rest = &rest[written_length(rest)..];
-    }
-    Ok(Bytes(decoded))
-}
-
-/// The text of a string field is the one that the field's bytes spell, by a rule for each escape
-/// (terminfo(5), "Types of Capabilities"), and they spell no other.
-pub fn texts_are_spelled()
-    ensures { AreSpelled }
-{}

@@ -16,24 +16,6 @@ pub(crate) enum Form<'a> {
     Odd(&'a [u8]),
 }
 
-fn takes_next(b: u8) -> bool
-    ensures { result ≡ takes_next b }
-{
-    b == b'\\' || b == b'^'
-}
-
-fn takes_after(taken: bool, b: u8) -> bool
-    ensures { result ≡ (not taken && takes_next b) }
-{
-    !taken && takes_next(b)
-}
-
-fn ends_field(taken: bool, b: u8) -> bool
-    ensures { result ≡ (not taken && b == 44) }
-{
-    !taken && b == b','
-}
-
 /// The first field, and what stands behind its comma.
 pub(crate) fn split_field(bytes: &[u8]) -> (&[u8], Option<&[u8]>)
     ensures cut { fields bytes.now ≡ result.0.now ∷ fields_behind (option_map (λ s. s.now) result.1) }
@@ -53,6 +35,43 @@ pub(crate) fn is_blank(b: u8) -> bool
     ensures { result ≡ is_blank b }
 {
     b == b' ' || b == b'\t'
+}
+
+/// The form of a field.
+pub(crate) fn form_of(field: &[u8]) -> Form<'_>
+    ensures { seen_form result ≡ form_of field.now }
+{
+    let whole = without_lead(field);
+    let trimmed = without_trail(whole);
+    match trimmed {
+        [] => Form::Nothing,
+        [b'.', ..] => Form::Nothing,
+        _ => form_by(trimmed, whole),
+    }
+}
+
+/// A line's fields are the parts between its commas, where a comma behind `\` or `^` ends nothing
+/// (terminfo(5), "Preparing Descriptions"), and a line has no others.
+pub fn fields_are_cut()
+    ensures { AreCut }
+{}
+
+fn takes_next(b: u8) -> bool
+    ensures { result ≡ takes_next b }
+{
+    b == b'\\' || b == b'^'
+}
+
+fn takes_after(taken: bool, b: u8) -> bool
+    ensures { result ≡ (not taken && takes_next b) }
+{
+    !taken && takes_next(b)
+}
+
+fn ends_field(taken: bool, b: u8) -> bool
+    ensures { result ≡ (not taken && b == 44) }
+{
+    !taken && b == b','
 }
 
 fn without_lead(bytes: &[u8]) -> &[u8]
@@ -94,19 +113,6 @@ fn name_length(field: &[u8]) -> usize
     field.len()
 }
 
-/// The form of a field.
-pub(crate) fn form_of(field: &[u8]) -> Form<'_>
-    ensures { seen_form result ≡ form_of field.now }
-{
-    let whole = without_lead(field);
-    let trimmed = without_trail(whole);
-    match trimmed {
-        [] => Form::Nothing,
-        [b'.', ..] => Form::Nothing,
-        _ => form_by(trimmed, whole),
-    }
-}
-
 fn form_by<'a>(trimmed: &'a [u8], whole: &'a [u8]) -> Form<'a>
     requires { length trimmed.now ≤ length whole.now }
     ensures { seen_form result ≡ form_by (take (name_length trimmed.now) trimmed.now) (drop (name_length trimmed.now) trimmed.now) (drop (name_length trimmed.now + 1) whole.now) }
@@ -125,9 +131,3 @@ fn form_by<'a>(trimmed: &'a [u8], whole: &'a [u8]) -> Form<'a>
         _ => Form::Odd(name),
     }
 }
-
-/// A line's fields are the parts between its commas, where a comma behind `\` or `^` ends nothing
-/// (terminfo(5), "Preparing Descriptions"), and a line has no others.
-pub fn fields_are_cut()
-    ensures { AreCut }
-{}

@@ -16,6 +16,23 @@ pub(crate) enum Line<'a> {
     Begins(&'a [u8], &'a [u8]),
 }
 
+/// What a line is.
+pub(crate) fn line_of(bytes: &[u8]) -> Line<'_>
+    ensures { seen_line result ≡ line_of bytes.now }
+{
+    if begins_hash(bytes) || are_blank(bytes) {
+        return Line::Skipped;
+    }
+    if !are_ascii(bytes) {
+        return Line::NonAscii;
+    }
+    if begins_blank(bytes) {
+        return Line::Continues(bytes);
+    }
+    let (names, rest) = split_names(bytes);
+    Line::Begins(names, rest)
+}
+
 fn begins_hash(bytes: &[u8]) -> bool
     ensures { result ≡ begins_hash bytes.now }
 {
@@ -57,21 +74,4 @@ fn split_names(bytes: &[u8]) -> (&[u8], &[u8])
         }
     }
     (bytes, &bytes[bytes.len()..])
-}
-
-/// What a line is.
-pub(crate) fn line_of(bytes: &[u8]) -> Line<'_>
-    ensures { seen_line result ≡ line_of bytes.now }
-{
-    if begins_hash(bytes) || are_blank(bytes) {
-        return Line::Skipped;
-    }
-    if !are_ascii(bytes) {
-        return Line::NonAscii;
-    }
-    if begins_blank(bytes) {
-        return Line::Continues(bytes);
-    }
-    let (names, rest) = split_names(bytes);
-    Line::Begins(names, rest)
 }

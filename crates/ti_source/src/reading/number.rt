@@ -1,10 +1,22 @@
 //! Numbers of a source.
 
 ghost use Rattle.std.specs.Prelude.{◌≡◌, ◌≤◌, min, option_map};
-ghost use Rattle.ti_source.specs.Reading.Number.{digit, digits_after, after_zero, digits, number};
+ghost use Rattle.ti_source.specs.Reading.Number.{digit, digits, number};
 
 /// A number above the greatest that a capability has.
 pub(crate) const TOO_GREAT: u32 = 32768;
+
+/// The number that a text stands for, or 32,768 where it is greater.
+pub(crate) fn number(bytes: &[u8]) -> Option<u32>
+    ensures { result ≡ option_map (λ n. min n 32768) (number bytes.now) }
+{
+    match bytes {
+        [b'0'] => Some(0),
+        [b'0', b'x' | b'X', hexadecimal @ ..] => digits(16, hexadecimal),
+        [b'0', octal @ ..] => digits(8, octal),
+        _ => digits(10, bytes),
+    }
+}
 
 fn digit(b: u8) -> u32
     ensures value { result ≡ digit b }
@@ -35,16 +47,4 @@ fn digits(base: u32, bytes: &[u8]) -> Option<u32>
         value = (value * base + next).min(TOO_GREAT);
     }
     Some(value)
-}
-
-/// The number that a text stands for, or 32,768 where it is greater.
-pub(crate) fn number(bytes: &[u8]) -> Option<u32>
-    ensures { result ≡ option_map (λ n. min n 32768) (number bytes.now) }
-{
-    match bytes {
-        [b'0'] => Some(0),
-        [b'0', b'x' | b'X', hexadecimal @ ..] => digits(16, hexadecimal),
-        [b'0', octal @ ..] => digits(8, octal),
-        _ => digits(10, bytes),
-    }
 }

@@ -1,6 +1,6 @@
 //! An entry that is being read.
 
-ghost use Rattle.std.specs.Prelude.{ℕ, ◌≡◌, ◌≤◌, Ok, Some, min, option_map};
+ghost use Rattle.std.specs.Prelude.{ℕ, ◌≡◌, ◌≤◌, Ok, Some, min};
 ghost use Rattle.ti_caps.specs.Table.{capability_of};
 ghost use Rattle.ti_source.specs.Reading.Number as value;
 ghost use Rattle.ti_source.specs.Code.Steps.{cancelled, noted, numeric, plain, referring, stated, textual, valued, with_fields, with_form, with_number, with_statement};
@@ -9,10 +9,10 @@ ghost use Rattle.ti_source.specs.Result.{Gives};
 ghost use Rattle.ti_source.specs.Described.{IsGood};
 ghost use Rattle.ti_source.specs.Code.Seen.{seen_form};
 
-use crate::reading::escape::decode;
 use crate::fault::SourceFault;
-use crate::reading::field::{Form, form_of, split_field};
 use crate::note::{Cause, Note};
+use crate::reading::escape::decode;
+use crate::reading::field::{Form, form_of, split_field};
 use crate::reading::number::number;
 use crate::reading::statement::{FieldValue, SourceEntry};
 use std::alloc::Global;
@@ -38,6 +38,27 @@ impl Model for OpenEntry {
 }
 
 impl OpenEntry {
+    /// The entry and the notes after the fields of a text, which is part of one line.
+    pub(crate) fn with_fields(
+        self,
+        alloc: Global,
+        line: u32,
+        text: &[u8],
+    ) -> Result<OpenEntry, SourceFault>
+        ensures { Gives result (with_fields line (fields text.now) self) }
+    {
+        let mut open_entry = self;
+        let mut rest = text;
+        loop {
+            let (field, behind) = split_field(rest);
+            open_entry = open_entry.with_form(alloc, line, form_of(field))?;
+            match behind {
+                Some(more) => rest = more,
+                None => return Ok(open_entry),
+            }
+        }
+    }
+
     fn noted(
         mut self,
         alloc: Global,
@@ -52,7 +73,12 @@ impl OpenEntry {
         Ok(self)
     }
 
-    fn with_statement(self, kind: Kind, slot: Slot, field_value: FieldValue) -> Result<OpenEntry, SourceFault>
+    fn with_statement(
+        self,
+        kind: Kind,
+        slot: Slot,
+        field_value: FieldValue,
+    ) -> Result<OpenEntry, SourceFault>
         requires { IsGood field_value }
         ensures { Gives result (Ok (with_statement kind slot.0 field_value self)) }
     {
@@ -204,27 +230,6 @@ impl OpenEntry {
             Form::Cancelled(name) => self.cancelled(alloc, line, name),
             Form::Refers(other) => self.referring(alloc, other),
             Form::Odd(name) => self.noted(alloc, line, Cause::Unknown, name),
-        }
-    }
-
-    /// The entry and the notes after the fields of a text, which is part of one line.
-    pub(crate) fn with_fields(
-        self,
-        alloc: Global,
-        line: u32,
-        text: &[u8],
-    ) -> Result<OpenEntry, SourceFault>
-        ensures { Gives result (with_fields line (fields text.now) self) }
-    {
-        let mut open_entry = self;
-        let mut rest = text;
-        loop {
-            let (field, behind) = split_field(rest);
-            open_entry = open_entry.with_form(alloc, line, form_of(field))?;
-            match behind {
-                Some(more) => rest = more,
-                None => return Ok(open_entry),
-            }
         }
     }
 }

@@ -1,6 +1,6 @@
 //! Reading a source line by line.
 
-ghost use Rattle.std.specs.Prelude.{◌≡◌, None, Ok, [], option_map};
+ghost use Rattle.std.specs.Prelude.{None, Ok};
 ghost use Rattle.ti_source.specs.Reading.Sources.{source_of};
 ghost use Rattle.ti_source.specs.Code.Steps.{begun, continued, whole, with_line};
 ghost use Rattle.ti_source.specs.Reading.Field.{fields};
@@ -8,14 +8,14 @@ ghost use Rattle.ti_source.specs.Reading.Line.{line_of};
 ghost use Rattle.ti_source.specs.Result.{Gives};
 ghost use Rattle.ti_source.specs.Code.Seen.{seen_line};
 
-use crate::reading::entries::Entries;
 use crate::fault::SourceFault;
-use crate::reading::open_entry::OpenEntry;
+use crate::note::Note;
+use crate::reading::entries::Entries;
 use crate::reading::keyed_hasher::KeyedHasher;
 use crate::reading::line::{Line, line_of};
-use crate::note::Note;
-use crate::source::Source;
+use crate::reading::open_entry::OpenEntry;
 use crate::reading::statement::SourceEntry;
+use crate::source::Source;
 use bstr::ByteSlice;
 use std::alloc::Global;
 use std::marker::Model;
@@ -35,6 +35,26 @@ impl Model for ReaderState {
     ghost Value = { ReaderState };
 
     ghost view = { λ s. record { done = s.done; current = s.current; notes = s.notes.items } };
+}
+
+/// Reads a source: its entries, and a note for each doubtful field, in their order
+/// (terminfo(5)). A line ends at LF, CR LF or the end of the bytes, and lines count from 1. The
+/// fault is that of the first faulty line: NotAscii before any other of that line, else the
+/// leftmost; BadNames before DuplicateName.
+pub fn read(alloc: Global, bytes: &[u8]) -> Result<Source, SourceFault>
+    ensures { Gives result (source_of bytes.now) }
+{
+    let mut state = ReaderState {
+        done: Entries::new(alloc, KeyedHasher::new(bytes)),
+        current: None,
+        notes: Vec::new(alloc),
+    };
+    let mut number = 1u32;
+    for line in bytes.lines() {
+        state = state.with_line(alloc, number, line_of(line))?;
+        number = number.saturating_add(1);
+    }
+    state.close(alloc)
 }
 
 impl ReaderState {
@@ -100,7 +120,12 @@ impl ReaderState {
     }
 
     #[tactic(auto, unfolding(crate::specs::Code::Steps::with_line))]
-    fn with_line(self, alloc: Global, number: u32, line: Line<'_>) -> Result<ReaderState, SourceFault>
+    fn with_line(
+        self,
+        alloc: Global,
+        number: u32,
+        line: Line<'_>,
+    ) -> Result<ReaderState, SourceFault>
         ensures { Gives result (with_line number (seen_line line.entry) self) }
     {
         match line {
@@ -110,24 +135,4 @@ impl ReaderState {
             Line::Begins(names, text) => self.begun(alloc, number, names, text),
         }
     }
-}
-
-/// Reads a source: its entries, and a note for each doubtful field, in their order
-/// (terminfo(5)). A line ends at LF, CR LF or the end of the bytes, and lines count from 1. The
-/// fault is that of the first faulty line: NotAscii before any other of that line, else the
-/// leftmost; BadNames before DuplicateName.
-pub fn read(alloc: Global, bytes: &[u8]) -> Result<Source, SourceFault>
-    ensures { Gives result (source_of bytes.now) }
-{
-    let mut state = ReaderState {
-        done: Entries::new(alloc, KeyedHasher::new(bytes)),
-        current: None,
-        notes: Vec::new(alloc),
-    };
-    let mut number = 1u32;
-    for line in bytes.lines() {
-        state = state.with_line(alloc, number, line_of(line))?;
-        number = number.saturating_add(1);
-    }
-    state.close(alloc)
 }

@@ -6,7 +6,7 @@ ghost use Rattle.ti_source.specs.Reading.Sources.{concerns};
 ghost use Rattle.ti_source.specs.Result.{Gives};
 ghost use Rattle.ti_source.specs.Described.{AreGood, IsGood};
 ghost use Rattle.ti_caps.specs.Table.{same_kind};
-ghost use Rattle.ti_caps.specs.Names.{are_names, has_no_blank};
+ghost use Rattle.ti_caps.specs.Names.{are_names};
 
 use crate::fault::SourceFault;
 use std::alloc::Global;
@@ -48,23 +48,6 @@ impl Model for SourceEntry {
     ghost use Rattle.ti_source.specs.Described.{IsDescribed};
 
     ghost invariant = { λ e. IsDescribed (record { names = e.names; statements = e.statements.items; uses = e.uses.items }) };
-}
-
-pub(crate) fn has_no_blank(name: &[u8]) -> bool
-    ensures { result ≡ has_no_blank name.now }
-{
-    name.iter().all(|b| *b != b' ')
-}
-
-fn same_kind(a: Kind, b: Kind) -> bool
-    ensures { result ≡ same_kind a b }
-{
-    match (a, b) {
-        (Kind::Flag, Kind::Flag) => true,
-        (Kind::Number, Kind::Number) => true,
-        (Kind::Text, Kind::Text) => true,
-        _ => false,
-    }
 }
 
 impl Statement {
@@ -123,7 +106,11 @@ impl SourceEntry {
         requires { IsGood field_value }
         ensures { Gives result (Ok (record self { statements = self.statements ++ (record { kind = kind; slot = slot; field_value = field_value }) ∷ [] })) }
     {
-        self.statements.push(Statement { kind, slot, field_value })?;
+        self.statements.push(Statement {
+            kind,
+            slot,
+            field_value,
+        })?;
         Ok(self)
     }
 
@@ -142,6 +129,17 @@ impl SourceEntry {
     {
         self.uses.push(other)?;
         Ok(self)
+    }
+}
+
+fn same_kind(a: Kind, b: Kind) -> bool
+    ensures { result ≡ same_kind a b }
+{
+    match (a, b) {
+        (Kind::Flag, Kind::Flag) => true,
+        (Kind::Number, Kind::Number) => true,
+        (Kind::Text, Kind::Text) => true,
+        _ => false,
     }
 }
 

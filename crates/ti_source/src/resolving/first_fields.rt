@@ -5,13 +5,61 @@ ghost use Rattle.ti_source.specs.Described.{IsGood};
 ghost use Rattle.ti_source.specs.Resolving.Uses.{value_of_capability};
 ghost use Rattle.ti_source.specs.Code.FirstFields.{AreEffective, Indexes, IsIndex, is_effective, is_present, place, room};
 
-use crate::resolving::fields::Fields;
 use crate::reading::statement::{FieldValue, Statement};
+use crate::resolving::fields::Fields;
 use std::alloc::{AllocError, Global};
 use ti_caps::{Kind, Slot};
 
 /// How many capabilities there are at most: 64 flags, 64 numbers and 512 texts.
 const CAPABILITIES: usize = 640;
+
+/// For each capability the place of the first field that is about it.
+pub(crate) fn index_of(alloc: Global, fields: &Fields<'_>) -> Result<Vec<Option<usize>>, AllocError>
+    ensures { IfOk result (λ v. IsIndex fields.now v.items) }
+{
+    let mut index = no_places(alloc, CAPABILITIES)?;
+    let mut left = fields.len();
+    while left > 0 {
+        left -= 1;
+        put(index.as_mut_slice(), fields, left);
+    }
+    Ok(index)
+}
+
+/// What the fields say of a capability.
+pub(crate) fn value_of_capability<'a>(
+    fields: &Fields<'a>,
+    index: &[Option<usize>],
+    kind: Kind,
+    slot: Slot,
+) -> Option<&'a FieldValue>
+    requires index { IsIndex fields.now index.now }
+    requires room { slot.0 < room kind }
+    ensures value { option_map (λ s. s.now) result ≡ value_of_capability kind slot.0 fields.now }
+    ensures good { IfSome result (λ s. IsGood s.now) }
+{
+    let i = index[place(kind, slot)]?;
+    let field = fields.get(i)?;
+    Some(&field.field_value)
+}
+
+/// The fields that take effect: those that make a capability present, where none before is about it.
+pub(crate) fn effective_fields<'a>(
+    alloc: Global,
+    fields: &Fields<'a>,
+) -> Result<Fields<'a>, AllocError>
+    ensures { IfOk result (λ v. AreEffective fields.now v) }
+{
+    let index = index_of(alloc, fields)?;
+    let mut found = Fields::new(alloc);
+    for i in 0..fields.len() {
+        let field = fields.at(i);
+        if is_effective(field, &index, i) {
+            found.push(field)?;
+        }
+    }
+    Ok(found.shrunk())
+}
 
 /// How many positions a kind has.
 fn room(kind: Kind) -> u16
@@ -58,36 +106,6 @@ fn put(index: &mut [Option<usize>], fields: &Fields<'_>, i: usize)
     index[place(field.kind, field.slot)] = Some(i);
 }
 
-/// For each capability the place of the first field that is about it.
-pub(crate) fn index_of(alloc: Global, fields: &Fields<'_>) -> Result<Vec<Option<usize>>, AllocError>
-    ensures { IfOk result (λ v. IsIndex fields.now v.items) }
-{
-    let mut index = no_places(alloc, CAPABILITIES)?;
-    let mut left = fields.len();
-    while left > 0 {
-        left -= 1;
-        put(index.as_mut_slice(), fields, left);
-    }
-    Ok(index)
-}
-
-/// What the fields say of a capability.
-pub(crate) fn value_of_capability<'a>(
-    fields: &Fields<'a>,
-    index: &[Option<usize>],
-    kind: Kind,
-    slot: Slot,
-) -> Option<&'a FieldValue>
-    requires index { IsIndex fields.now index.now }
-    requires room { slot.0 < room kind }
-    ensures value { option_map (λ s. s.now) result ≡ value_of_capability kind slot.0 fields.now }
-    ensures good { IfSome result (λ s. IsGood s.now) }
-{
-    let i = index[place(kind, slot)]?;
-    let field = fields.get(i)?;
-    Some(&field.field_value)
-}
-
 fn is_present(kind: Kind, field_value: &FieldValue) -> bool
     ensures { result ≡ is_present kind field_value.now }
 {
@@ -111,19 +129,4 @@ fn is_effective(field: &Statement, index: &[Option<usize>], i: usize) -> bool
         Some(first) => first == i && is_present(field.kind, &field.field_value),
         None => false,
     }
-}
-
-/// The fields that take effect: those that make a capability present, where none before is about it.
-pub(crate) fn effective_fields<'a>(alloc: Global, fields: &Fields<'a>) -> Result<Fields<'a>, AllocError>
-    ensures { IfOk result (λ v. AreEffective fields.now v) }
-{
-    let index = index_of(alloc, fields)?;
-    let mut found = Fields::new(alloc);
-    for i in 0..fields.len() {
-        let field = fields.at(i);
-        if is_effective(field, &index, i) {
-            found.push(field)?;
-        }
-    }
-    Ok(found.shrunk())
 }

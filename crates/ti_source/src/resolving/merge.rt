@@ -11,11 +11,27 @@ ghost use Rattle.ti_source.specs.Resolving.Uses.{flag_in, merged, number_by, num
 ghost use Rattle.ti_source.specs.Code.Walk.{of_fields};
 
 use crate::fault::SourceFault;
+use crate::reading::statement::FieldValue;
 use crate::resolving::fields::Fields;
 use crate::resolving::first_fields::{index_of, value_of_capability};
-use crate::reading::statement::FieldValue;
 use std::alloc::Global;
 use ti_caps::{CapFault, Entry, Kind, Slot};
+
+/// The entry of these names with what these fields say.
+pub(crate) fn merge(alloc: Global, names: &[u8], fields: &Fields<'_>) -> Result<Entry, SourceFault>
+    requires { are_names names.now ≡ true }
+    ensures ok { IfOk result (λ e. e ≡ merged (of_fields names.now fields.now) []) }
+    ensures err { IfErr result (λ f. f ≡ SourceFault.NoMemory) }
+{
+    let index = index_of(alloc, fields)?;
+    let bare = match Entry::new(alloc, names) {
+        Ok(bare) => bare,
+        Err(fault) => return Err(want_of_memory(fault)),
+    };
+    let merged = with_flags(bare, fields, &index);
+    let merged = with_numbers(merged, fields, &index);
+    with_texts(merged, fields, &index)
+}
 
 fn flag_for(fields: &Fields<'_>, index: &[Option<usize>], slot: Slot) -> bool
     requires index { IsIndex fields.now index.now }
@@ -120,20 +136,4 @@ fn with_texts(
         merged.set_text(Slot(slot), text).map_err(want_of_memory)?;
     }
     Ok(merged)
-}
-
-/// The entry of these names with what these fields say.
-pub(crate) fn merge(alloc: Global, names: &[u8], fields: &Fields<'_>) -> Result<Entry, SourceFault>
-    requires { are_names names.now ≡ true }
-    ensures ok { IfOk result (λ e. e ≡ merged (of_fields names.now fields.now) []) }
-    ensures err { IfErr result (λ f. f ≡ SourceFault.NoMemory) }
-{
-    let index = index_of(alloc, fields)?;
-    let bare = match Entry::new(alloc, names) {
-        Ok(bare) => bare,
-        Err(fault) => return Err(want_of_memory(fault)),
-    };
-    let merged = with_flags(bare, fields, &index);
-    let merged = with_numbers(merged, fields, &index);
-    with_texts(merged, fields, &index)
 }

@@ -8,39 +8,16 @@ ghost use Rattle.ti_source.specs.Resolving.Named.{has_name};
 ghost use Rattle.ti_source.specs.Result.{Stops};
 ghost use Rattle.ti_source.specs.Code.Walk.{FaultAt, ResolvedAt};
 
-use crate::reading::entries::Entries;
 use crate::fault::SourceFault;
+use crate::reading::entries::Entries;
+use crate::reading::statement::SourceEntry;
 use crate::resolving::fields::Fields;
 use crate::resolving::merge::merge;
-use crate::source::Source;
-use crate::reading::statement::SourceEntry;
 use crate::resolving::walk::Walk;
+use crate::source::Source;
 use std::alloc::Global;
 use std::marker::Model;
 use ti_caps::Entry;
-
-/// The entry at an index, where it uses no other.
-fn without_uses(entries: &Entries, index: Option<usize>) -> Option<&SourceEntry>
-    ensures { IfSome result (λ e. StandsAlone entries.now index e.now) }
-{
-    let i = index?;
-    let entry = entries.as_slice().get(i)?;
-    if entry.uses().is_empty() {
-        Some(entry)
-    } else {
-        None
-    }
-}
-
-/// An entry that uses no other.
-fn alone(alloc: Global, entry: &SourceEntry) -> Result<Entry, SourceFault>
-    ensures ok { IfOk result (λ e. e ≡ merged entry.now []) }
-    ensures err { IfErr result (λ f. f ≡ SourceFault.NoMemory) }
-{
-    let mut fields = Fields::new(alloc);
-    fields.extend_from_slice(entry.statements())?;
-    merge(alloc, entry.names(), &fields)
-}
 
 /// Resolves names of one source, one after another (terminfo(5), "Similar Terminals"). An entry with
 /// uses, and each that it uses, is followed once, and its fields that take effect or its fault are kept.
@@ -75,6 +52,22 @@ impl<'a> Resolver<'a> {
         }
     }
 
+    /// The entry of a name with its uses taken in, as `resolve` gives it, whatever was asked before.
+    /// UnknownName, UseCycle, NoMemory as there.
+    pub fn resolve(&mut self, alloc: Global, name: &[u8]) -> Result<Entry, SourceFault>
+        ensures same { self.new ≡ self.old }
+        ensures ok { IfOk result (λ e. Resolved self.old name.now e) }
+        ensures err { IfErr result (λ f. Stops f (Unresolved self.old name.now f)) }
+        ensures good { (d : Description) → Resolved self.old name.now d → IsOkUnless result SourceFault.NoMemory }
+        ensures unknown { list_any (has_name name.now) self.old ≡ false → result ≡ Err SourceFault.UnknownName }
+    {
+        let index = self.entries.index_of(name);
+        if index.is_none() {
+            return Err(SourceFault::UnknownName);
+        }
+        self.resolved_at(alloc, index)
+    }
+
     fn resolved_at(&mut self, alloc: Global, index: Option<usize>) -> Result<Entry, SourceFault>
         ensures same { self.new ≡ self.old }
         ensures ok { IfOk result (λ e. ResolvedAt self.old index e) }
@@ -94,22 +87,6 @@ impl<'a> Resolver<'a> {
         };
         self.walk = Some(walk);
         entry
-    }
-
-    /// The entry of a name with its uses taken in, as `resolve` gives it, whatever was asked before.
-    /// UnknownName, UseCycle, NoMemory as there.
-    pub fn resolve(&mut self, alloc: Global, name: &[u8]) -> Result<Entry, SourceFault>
-        ensures same { self.new ≡ self.old }
-        ensures ok { IfOk result (λ e. Resolved self.old name.now e) }
-        ensures err { IfErr result (λ f. Stops f (Unresolved self.old name.now f)) }
-        ensures good { (d : Description) → Resolved self.old name.now d → IsOkUnless result SourceFault.NoMemory }
-        ensures unknown { list_any (has_name name.now) self.old ≡ false → result ≡ Err SourceFault.UnknownName }
-    {
-        let index = self.entries.index_of(name);
-        if index.is_none() {
-            return Err(SourceFault::UnknownName);
-        }
-        self.resolved_at(alloc, index)
     }
 }
 
@@ -143,3 +120,26 @@ pub fn names_have_one_fault()
 pub fn resolved_names_have_no_fault()
     ensures { ResolveOrFault }
 {}
+
+/// The entry at an index, where it uses no other.
+fn without_uses(entries: &Entries, index: Option<usize>) -> Option<&SourceEntry>
+    ensures { IfSome result (λ e. StandsAlone entries.now index e.now) }
+{
+    let i = index?;
+    let entry = entries.as_slice().get(i)?;
+    if entry.uses().is_empty() {
+        Some(entry)
+    } else {
+        None
+    }
+}
+
+/// An entry that uses no other.
+fn alone(alloc: Global, entry: &SourceEntry) -> Result<Entry, SourceFault>
+    ensures ok { IfOk result (λ e. e ≡ merged entry.now []) }
+    ensures err { IfErr result (λ f. f ≡ SourceFault.NoMemory) }
+{
+    let mut fields = Fields::new(alloc);
+    fields.extend_from_slice(entry.statements())?;
+    merge(alloc, entry.names(), &fields)
+}

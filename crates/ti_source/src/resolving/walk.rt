@@ -1,16 +1,16 @@
 //! The way through the uses of entries, each entry being entered at most once.
 
-ghost use Rattle.std.specs.Prelude.{◌≡◌, ◌<◌, ◌∷◌, [], ◌++◌, List, length, Some, None, true, IfOk, IfErr, OnErr, OnOk, map, replicate, reverse, slice_get, slice_set};
+ghost use Rattle.std.specs.Prelude.{◌≡◌, ◌<◌, ◌∷◌, [], ◌++◌, length, Some, None, true, IfOk, IfErr, OnErr, OnOk, map, replicate, reverse, slice_get, slice_set};
 ghost use Rattle.ti_source.specs.Code.Walk.{AreKnown, FaultAt, Gathers, IsReady, IsStopped, IsTakenBack, IsWalk, Keeps, ResolvedAt, Stepped, StuckAt, done_at, known, leaves, visits, with_fault};
 ghost use Rattle.ti_source.specs.Resolving.Named.{index_of};
 ghost use Rattle.ti_source.specs.Result.{Stops};
 
-use crate::reading::entries::Entries;
 use crate::fault::SourceFault;
-use crate::resolving::fields::Fields;
-use crate::resolving::merge::merge;
-use crate::resolving::first_fields::effective_fields;
+use crate::reading::entries::Entries;
 use crate::reading::statement::SourceEntry;
+use crate::resolving::fields::Fields;
+use crate::resolving::first_fields::effective_fields;
+use crate::resolving::merge::merge;
 use std::alloc::{AllocError, Global};
 use ti_caps::{Bytes, Entry};
 
@@ -42,6 +42,134 @@ pub(crate) struct Walk<'a> {
     marks: Vec<Mark>,
     kept: Vec<Fields<'a>>,
     tasks: Vec<Task>,
+}
+
+impl<'a> Walk<'a> {
+    pub(crate) fn new(alloc: Global, entries: &Entries) -> Result<Walk<'a>, SourceFault>
+        ensures ready { IfOk result (λ w. IsReady entries.now w) }
+        ensures err { IfErr result (λ f. f ≡ SourceFault.NoMemory) }
+    {
+        Ok(Walk {
+            marks: new_marks(alloc, entries.as_slice().len())?,
+            kept: Vec::new(alloc),
+            tasks: Vec::new(alloc),
+        })
+    }
+
+    /// Follows the entry at an index and keeps its fields; UnknownName where there is none. What was followed is kept past a fault.
+    pub(crate) fn reach(
+        &mut self,
+        alloc: Global,
+        entries: &'a Entries,
+        index: Option<usize>,
+    ) -> Result<(), SourceFault>
+        requires { IsReady entries.now self.old }
+        ensures ready { IsReady entries.now self.new }
+        ensures known { OnOk result (known self.new.marks.items index ≡ true) }
+        ensures err { IfErr result (λ f. Stops f (FaultAt entries.now [] index f)) }
+    {
+        self.tasks.push(Task::Visit(index))?;
+        while let Some(task) = self.tasks.pop() {
+            if let Err(fault) = self.step(alloc, entries, task) {
+                self.stop(fault);
+                return Err(fault);
+            }
+        }
+        Ok(())
+    }
+
+    /// The resolved entry at an index that is done and kept.
+    pub(crate) fn entry(
+        &self,
+        alloc: Global,
+        entries: &Entries,
+        index: Option<usize>,
+    ) -> Result<Entry, SourceFault>
+        requires known { known self.now.marks.items index ≡ true }
+        requires kept { Keeps entries.now self.now.marks.items self.now.kept.items }
+        ensures ok { IfOk result (λ e. ResolvedAt entries.now index e) }
+        ensures err { IfErr result (λ f. f ≡ SourceFault.NoMemory) }
+    {
+        let i = index.unwrap();
+        let position = done_at(&self.marks, index).unwrap();
+        let entry = &entries.as_slice()[i];
+        merge(alloc, entry.names(), &self.kept[position])
+    }
+
+    /// Enters an entry: its uses are next, and it is left after them.
+    fn enter(&mut self, entries: &'a Entries, i: usize) -> Result<(), SourceFault>
+        requires walk { IsWalk entries.now self.old.marks.items self.old.kept.items (Task.Visit (Some i) ∷ reverse self.old.tasks.items) }
+        requires new { slice_get self.old.marks.items i ≡ Some Mark.New }
+        ensures ok { OnOk result (Stepped entries.now self.old.marks.items (Task.Visit (Some i) ∷ reverse self.old.tasks.items) self.new.marks.items self.new.kept.items (reverse self.new.tasks.items)) }
+        ensures err { IfErr result (λ f. f ≡ SourceFault.NoMemory) }
+        ensures kept { OnErr result ((self.new.marks.items ≡ self.old.marks.items) × (self.new.kept.items ≡ self.old.kept.items)) }
+    {
+        let entry = &entries.as_slice()[i];
+        self.tasks.push(Task::Leave(i))?;
+        put_visits(&mut self.tasks, entries, entry.uses())?;
+        self.marks[i] = Mark::Open;
+        Ok(())
+    }
+
+    fn visit(&mut self, entries: &'a Entries, i: usize) -> Result<(), SourceFault>
+        requires { IsWalk entries.now self.old.marks.items self.old.kept.items (Task.Visit (Some i) ∷ reverse self.old.tasks.items) }
+        ensures ok { OnOk result (Stepped entries.now self.old.marks.items (Task.Visit (Some i) ∷ reverse self.old.tasks.items) self.new.marks.items self.new.kept.items (reverse self.new.tasks.items)) }
+        ensures err { IfErr result (λ f. Stops f (StuckAt entries.now self.old (Task.Visit (Some i)) f self.new)) }
+        ensures kept { OnErr result ((self.new.marks.items ≡ self.old.marks.items) × (self.new.kept.items ≡ self.old.kept.items)) }
+    {
+        match mark_at(&self.marks, i) {
+            Some(Mark::New) => self.enter(entries, i),
+            Some(Mark::Open) => Err(SourceFault::UseCycle),
+            Some(Mark::Done(_)) => Ok(()),
+            Some(Mark::Faulty(fault)) => Err(fault),
+            None => Err(SourceFault::UnknownName),
+        }
+    }
+
+    /// Leaves an entry whose uses are done.
+    fn leave(&mut self, alloc: Global, entries: &'a Entries, i: usize) -> Result<(), SourceFault>
+        requires there { i < length entries.now }
+        requires walk { IsWalk entries.now self.old.marks.items self.old.kept.items (Task.Leave i ∷ reverse self.old.tasks.items) }
+        ensures ok { OnOk result (Stepped entries.now self.old.marks.items (Task.Leave i ∷ reverse self.old.tasks.items) self.new.marks.items self.new.kept.items (reverse self.new.tasks.items)) }
+        ensures err { IfErr result (λ f. f ≡ SourceFault.NoMemory) }
+        ensures kept { OnErr result ((self.new.marks.items ≡ self.old.marks.items) × (self.new.kept.items ≡ self.old.kept.items)) }
+    {
+        let position = self.kept.len();
+        let entry = &entries.as_slice()[i];
+        let fields = gathered(alloc, entries, &self.marks, &self.kept, entry)?;
+        self.kept.push(effective_fields(alloc, &fields)?)?;
+        self.marks[i] = Mark::Done(position);
+        Ok(())
+    }
+
+    fn step(&mut self, alloc: Global, entries: &'a Entries, task: Task) -> Result<(), SourceFault>
+        requires { IsWalk entries.now self.old.marks.items self.old.kept.items (task ∷ reverse self.old.tasks.items) }
+        ensures ok { OnOk result (Stepped entries.now self.old.marks.items (task ∷ reverse self.old.tasks.items) self.new.marks.items self.new.kept.items (reverse self.new.tasks.items)) }
+        ensures err { IfErr result (λ f. Stops f (StuckAt entries.now self.old task f self.new)) }
+        ensures kept { OnErr result ((self.new.marks.items ≡ self.old.marks.items) × (self.new.kept.items ≡ self.old.kept.items)) }
+    {
+        match task {
+            Task::Visit(index) => match index {
+                Some(i) => self.visit(entries, i),
+                None => Err(SourceFault::UnknownName),
+            },
+            Task::Leave(i) => self.leave(alloc, entries, i),
+        }
+    }
+
+    /// Does nothing more of what is left after a fault. The entries on the chain of uses have it too, but for want of memory.
+    fn stop(&mut self, fault: SourceFault)
+        ensures kept { self.new.kept.items ≡ self.old.kept.items }
+        ensures tasks { self.new.tasks.items ≡ [] }
+        ensures marks { IsStopped fault (leaves (reverse self.old.tasks.items)) self.old.marks.items self.new.marks.items }
+    {
+        if let SourceFault::NoMemory = fault {
+            take_back(&mut self.marks);
+            self.tasks.clear();
+        } else {
+            put_fault(&mut self.marks, &mut self.tasks, fault);
+        }
+    }
 }
 
 fn new_marks(alloc: Global, count: usize) -> Result<Vec<Mark>, AllocError>
@@ -130,133 +258,5 @@ fn take_back(marks: &mut [Mark])
         if let Mark::Open = marks[i] {
             marks[i] = Mark::New;
         }
-    }
-}
-
-impl<'a> Walk<'a> {
-    pub(crate) fn new(alloc: Global, entries: &Entries) -> Result<Walk<'a>, SourceFault>
-        ensures ready { IfOk result (λ w. IsReady entries.now w) }
-        ensures err { IfErr result (λ f. f ≡ SourceFault.NoMemory) }
-    {
-        Ok(Walk {
-            marks: new_marks(alloc, entries.as_slice().len())?,
-            kept: Vec::new(alloc),
-            tasks: Vec::new(alloc),
-        })
-    }
-
-    /// Enters an entry: its uses are next, and it is left after them.
-    fn enter(&mut self, entries: &'a Entries, i: usize) -> Result<(), SourceFault>
-        requires walk { IsWalk entries.now self.old.marks.items self.old.kept.items (Task.Visit (Some i) ∷ reverse self.old.tasks.items) }
-        requires new { slice_get self.old.marks.items i ≡ Some Mark.New }
-        ensures ok { OnOk result (Stepped entries.now self.old.marks.items (Task.Visit (Some i) ∷ reverse self.old.tasks.items) self.new.marks.items self.new.kept.items (reverse self.new.tasks.items)) }
-        ensures err { IfErr result (λ f. f ≡ SourceFault.NoMemory) }
-        ensures kept { OnErr result ((self.new.marks.items ≡ self.old.marks.items) × (self.new.kept.items ≡ self.old.kept.items)) }
-    {
-        let entry = &entries.as_slice()[i];
-        self.tasks.push(Task::Leave(i))?;
-        put_visits(&mut self.tasks, entries, entry.uses())?;
-        self.marks[i] = Mark::Open;
-        Ok(())
-    }
-
-    fn visit(&mut self, entries: &'a Entries, i: usize) -> Result<(), SourceFault>
-        requires { IsWalk entries.now self.old.marks.items self.old.kept.items (Task.Visit (Some i) ∷ reverse self.old.tasks.items) }
-        ensures ok { OnOk result (Stepped entries.now self.old.marks.items (Task.Visit (Some i) ∷ reverse self.old.tasks.items) self.new.marks.items self.new.kept.items (reverse self.new.tasks.items)) }
-        ensures err { IfErr result (λ f. Stops f (StuckAt entries.now self.old (Task.Visit (Some i)) f self.new)) }
-        ensures kept { OnErr result ((self.new.marks.items ≡ self.old.marks.items) × (self.new.kept.items ≡ self.old.kept.items)) }
-    {
-        match mark_at(&self.marks, i) {
-            Some(Mark::New) => self.enter(entries, i),
-            Some(Mark::Open) => Err(SourceFault::UseCycle),
-            Some(Mark::Done(_)) => Ok(()),
-            Some(Mark::Faulty(fault)) => Err(fault),
-            None => Err(SourceFault::UnknownName),
-        }
-    }
-
-    /// Leaves an entry whose uses are done.
-    fn leave(&mut self, alloc: Global, entries: &'a Entries, i: usize) -> Result<(), SourceFault>
-        requires there { i < length entries.now }
-        requires walk { IsWalk entries.now self.old.marks.items self.old.kept.items (Task.Leave i ∷ reverse self.old.tasks.items) }
-        ensures ok { OnOk result (Stepped entries.now self.old.marks.items (Task.Leave i ∷ reverse self.old.tasks.items) self.new.marks.items self.new.kept.items (reverse self.new.tasks.items)) }
-        ensures err { IfErr result (λ f. f ≡ SourceFault.NoMemory) }
-        ensures kept { OnErr result ((self.new.marks.items ≡ self.old.marks.items) × (self.new.kept.items ≡ self.old.kept.items)) }
-    {
-        let position = self.kept.len();
-        let entry = &entries.as_slice()[i];
-        let fields = gathered(alloc, entries, &self.marks, &self.kept, entry)?;
-        self.kept.push(effective_fields(alloc, &fields)?)?;
-        self.marks[i] = Mark::Done(position);
-        Ok(())
-    }
-
-    fn step(&mut self, alloc: Global, entries: &'a Entries, task: Task) -> Result<(), SourceFault>
-        requires { IsWalk entries.now self.old.marks.items self.old.kept.items (task ∷ reverse self.old.tasks.items) }
-        ensures ok { OnOk result (Stepped entries.now self.old.marks.items (task ∷ reverse self.old.tasks.items) self.new.marks.items self.new.kept.items (reverse self.new.tasks.items)) }
-        ensures err { IfErr result (λ f. Stops f (StuckAt entries.now self.old task f self.new)) }
-        ensures kept { OnErr result ((self.new.marks.items ≡ self.old.marks.items) × (self.new.kept.items ≡ self.old.kept.items)) }
-    {
-        match task {
-            Task::Visit(index) => match index {
-                Some(i) => self.visit(entries, i),
-                None => Err(SourceFault::UnknownName),
-            },
-            Task::Leave(i) => self.leave(alloc, entries, i),
-        }
-    }
-
-    /// Does nothing more of what is left after a fault. The entries on the chain of uses have it too, but for want of memory.
-    fn stop(&mut self, fault: SourceFault)
-        ensures kept { self.new.kept.items ≡ self.old.kept.items }
-        ensures tasks { self.new.tasks.items ≡ [] }
-        ensures marks { IsStopped fault (leaves (reverse self.old.tasks.items)) self.old.marks.items self.new.marks.items }
-    {
-        if let SourceFault::NoMemory = fault {
-            take_back(&mut self.marks);
-            self.tasks.clear();
-        } else {
-            put_fault(&mut self.marks, &mut self.tasks, fault);
-        }
-    }
-
-    /// Follows the entry at an index and keeps its fields; UnknownName where there is none. What was followed is kept past a fault.
-    pub(crate) fn reach(
-        &mut self,
-        alloc: Global,
-        entries: &'a Entries,
-        index: Option<usize>,
-    ) -> Result<(), SourceFault>
-        requires { IsReady entries.now self.old }
-        ensures ready { IsReady entries.now self.new }
-        ensures known { OnOk result (known self.new.marks.items index ≡ true) }
-        ensures err { IfErr result (λ f. Stops f (FaultAt entries.now [] index f)) }
-    {
-        self.tasks.push(Task::Visit(index))?;
-        while let Some(task) = self.tasks.pop() {
-            if let Err(fault) = self.step(alloc, entries, task) {
-                self.stop(fault);
-                return Err(fault);
-            }
-        }
-        Ok(())
-    }
-
-    /// The resolved entry at an index that is done and kept.
-    pub(crate) fn entry(
-        &self,
-        alloc: Global,
-        entries: &Entries,
-        index: Option<usize>,
-    ) -> Result<Entry, SourceFault>
-        requires known { known self.now.marks.items index ≡ true }
-        requires kept { Keeps entries.now self.now.marks.items self.now.kept.items }
-        ensures ok { IfOk result (λ e. ResolvedAt entries.now index e) }
-        ensures err { IfErr result (λ f. f ≡ SourceFault.NoMemory) }
-    {
-        let i = index.unwrap();
-        let position = done_at(&self.marks, index).unwrap();
-        let entry = &entries.as_slice()[i];
-        merge(alloc, entry.names(), &self.kept[position])
     }
 }

@@ -1,5 +1,5 @@
 use Rattle.std.proofs.Common.{◌+◌, drop}
-use Rattle.ti_source.proofs.PlaceLaws.{drop-at}
+use Rattle.ti_source.proofs.IndexLaws.{drop-at}
 use Rattle.ti_source.proofs.FirstFieldLaws.{with-place, without-place}
 use Rattle.ti_source.proofs.resolving.first_fields.put.Goals as goal
 
