@@ -1,4 +1,4 @@
-//! Want of memory: the one error of a call that can fail for nothing else.
+//! The one error of a call that fails only when memory runs out.
 #![tactic(auto)]
 
 use std::alloc::{AllocError, AllocFailed};

@@ -66,8 +66,8 @@ pub fn run<W: Write>(alloc: Global, script: &[u8], raw: bool, out: &mut W) -> Re
     flush(out)
 }
 
-/// The lines of a script's refusals, in order, up to the first bad line. Refused for want of memory
-/// alone.
+/// The lines of a script's refusals, in order, up to the first bad line. Fails only when memory runs
+/// out.
 pub fn refusals(alloc: Global, script: &[u8]) -> Result<Vec<u8>, NoMemory>
     ensures { IfOk result (λ text. text.items ≡ refusals_of (story_of script.now).events) }
 {

@@ -87,7 +87,7 @@ fn update_bytes(alloc: Global, canvas: &Picture) -> Result<Vec<u8>, NoMemory>
     scratch_bytes(alloc, &profile, canvas)
 }
 
-// The profile of the bundled entry, which has no fault but want of memory.
+// The profile of the bundled entry. Fails only when memory runs out.
 fn bundled_profile(alloc: Global, size: Size) -> Result<Profile, NoMemory>
     ensures entry { IfOk result IsEcma48 }
     ensures rows { IfOk result (λ profile. profile.rows ≡ size.rows) }

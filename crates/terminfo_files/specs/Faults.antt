@@ -1,4 +1,4 @@
--- Faults of the layers below as faults of the compiler: want of memory is always NoMemory.
+-- Faults of the layers below as faults of the compiler: where memory ran out it is always NoMemory.
 use Rattle.std.specs.Prelude.{◌≡◌}
 use Rattle.ti_binary.specs.declared.encoder.EncFault.{EncFault}
 use Rattle.ti_binary.specs.declared.encoder.EncFault.TheVariants as encoding
@@ -21,7 +21,7 @@ abbrev pub of_decoding : BinFault → TicFault
 of_decoding decoding.NoMemory = NoMemory
 of_decoding fault = Decode fault
 
--- no fault but NoMemory speaks of want of memory
+-- no fault but NoMemory says that memory ran out
 abbrev pub IsPlain : TicFault → Type 0
 IsPlain (Source fault) = fault ≡ source.NoMemory → ⊥
 IsPlain (Encode fault) = fault ≡ encoding.NoMemory → ⊥

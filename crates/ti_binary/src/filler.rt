@@ -32,7 +32,7 @@ pub(crate) fn set_numbers(entry: &mut Entry, numbers: &[u8], count: u16)
     }
 }
 
-/// Sets the texts that offsets say of an entry that has none. Refused for want of memory alone.
+/// Sets the texts that offsets say of an entry that has none. Fails only when memory runs out.
 pub(crate) fn set_texts(
     entry: &mut Entry,
     table: &[u8],
@@ -54,7 +54,7 @@ pub(crate) fn set_texts(
     Ok(())
 }
 
-/// The fault of an entry that can be want of memory alone.
+/// The fault of an entry, where it can only be that memory ran out.
 pub(crate) fn want_of_memory(fault: CapFault) -> BinFault
     requires { fault ≡ CapFault.NoMemory }
     ensures { result ≡ BinFault.NoMemory }

@@ -9,7 +9,7 @@ use std::alloc::{AllocError, Global};
 
 /// A capability's text without its padding, which is removed in one pass from the left: `$<`, at least one digit,
 /// a point and one digit or nothing, `*` and `/` in either order, either of them or nothing, and `>`. By
-/// `padding_is_removed_once` there is one such text. Its only refusal is want of memory. terminfo(5), 'Delays and
+/// `padding_is_removed_once` there is one such text. Fails only when memory runs out. terminfo(5), 'Delays and
 /// Padding'.
 pub fn strip_padding(alloc: Global, bytes: &[u8]) -> Result<Vec<u8>, NoMemory>
     ensures { IfOk result (λ text. Stripped bytes.now text.items) }

@@ -157,7 +157,7 @@ impl<'a> Walk<'a> {
         }
     }
 
-    /// Does nothing more of what is left after a fault. The entries on the chain of uses have it too, but for want of memory.
+    /// Does nothing more of what is left after a fault. The entries on the chain of uses have it too, unless memory ran out.
     fn stop(&mut self, fault: SourceFault)
         ensures kept { self.new.kept.items ≡ self.old.kept.items }
         ensures tasks { self.new.tasks.items ≡ [] }
