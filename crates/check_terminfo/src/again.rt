@@ -20,6 +20,14 @@ pub fn strip_padding(alloc: Global, text: &[u8]) -> Result<Vec<u8>, NoMemory> {
     }
 }
 
+/// Makes the bundled entry.
+pub fn bundled(alloc: Global) -> Result<Entry, CapFault> {
+    match ti_caps::bundled(alloc) {
+        Err(CapFault::NoMemory) => ti_caps::bundled(alloc),
+        other => other,
+    }
+}
+
 /// Reads a program.
 pub fn read_program(alloc: Global, text: &[u8]) -> Result<Program, ParamFault> {
     match Program::read(alloc, text) {

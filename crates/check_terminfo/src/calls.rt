@@ -9,6 +9,7 @@
 //! | `are-names TEXT`, `first-name TEXT` | `yes` or `no`; the first alternative |
 //! | `entry NAMES` | makes an entry, which the next calls are about |
 //! | `shown` | the entry: its names and what is present (`dump.rt`) |
+//! | `is-bundled` | whether the entry is the bundled one, name by name and position by position |
 //! | `names`, `unnamed` | its names; how many present capabilities have no name |
 //! | `flag N`, `number N`, `text N` | what it has at a position |
 //! | `set-flag N yes`, `set-number N 80`, `set-text N TEXT` | sets that; without a last word it becomes absent |
@@ -51,6 +52,7 @@ enum Call {
     FirstName,
     Entry,
     Shown,
+    IsBundled,
     Names,
     Unnamed,
     Print,
@@ -86,7 +88,7 @@ enum Call {
     Cuts,
 }
 
-static CALLS: [(&str, Call); 41] = [
+static CALLS: [(&str, Call); 42] = [
     ("find", Call::Find),
     ("name-of", Call::NameOf),
     ("table", Call::Table),
@@ -95,6 +97,7 @@ static CALLS: [(&str, Call); 41] = [
     ("first-name", Call::FirstName),
     ("entry", Call::Entry),
     ("shown", Call::Shown),
+    ("is-bundled", Call::IsBundled),
     ("names", Call::Names),
     ("unnamed", Call::Unnamed),
     ("print", Call::Print),
@@ -177,6 +180,7 @@ fn of_entry(
     match call {
         Call::Entry => entries::make(current, words, answer),
         Call::Shown => entries::show(current, answer),
+        Call::IsBundled => entries::is_bundled(current, answer),
         Call::Names => answer.say(current.entry()?.names()),
         Call::Unnamed => answer.say_number(current.entry()?.unnamed()),
         Call::Print => entries::print(current, answer),

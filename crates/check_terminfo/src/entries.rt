@@ -6,7 +6,7 @@ use crate::current::Current;
 use crate::dump::say_entry;
 use crate::fault::CheckFault;
 use crate::words::{is_yes, small, text};
-use ti_caps::{CapFault, Slot};
+use ti_caps::{CapFault, Entry, Slot};
 
 /// `entry NAMES`.
 pub fn make(
@@ -26,6 +26,14 @@ pub fn make(
 /// `shown`.
 pub fn show(current: &Current, answer: &mut Answer) -> Result<(), CheckFault> {
     say_entry(current.alloc, current.entry()?, answer)
+}
+
+/// `is-bundled`.
+pub fn is_bundled(current: &Current, answer: &mut Answer) -> Result<(), CheckFault> {
+    match again::bundled(current.alloc) {
+        Ok(bundled) => answer.say_whether(are_same(&bundled, current.entry()?)),
+        Err(fault) => answer.refused(&fault),
+    }
 }
 
 /// `flag N`.
@@ -103,6 +111,24 @@ pub fn print(current: &Current, answer: &mut Answer) -> Result<(), CheckFault> {
         }
         Err(fault) => answer.refused(&fault),
     }
+}
+
+// Whether two entries have the same names, and the same at each position.
+fn are_same(one: &Entry, other: &Entry) -> bool {
+    let mut same = one.names() == other.names();
+    for position in 0..512u16 {
+        same = same && are_same_at(one, other, Slot(position));
+    }
+    same
+}
+
+fn are_same_at(one: &Entry, other: &Entry, slot: Slot) -> bool {
+    let texts = match (one.text(slot), other.text(slot)) {
+        (Some(text), Some(that)) => text == that,
+        (None, None) => true,
+        _ => false,
+    };
+    texts && one.flag(slot) == other.flag(slot) && one.number(slot) == other.number(slot)
 }
 
 fn slot(words: &[Vec<u8>]) -> Result<Slot, CheckFault> {

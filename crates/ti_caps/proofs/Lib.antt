@@ -1,4 +1,5 @@
 pub mod BucketLaws
+pub mod BundledLaws
 pub mod EntryLaws
 pub mod NamesLaws
 pub mod Once

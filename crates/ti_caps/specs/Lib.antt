@@ -1,6 +1,9 @@
 pub mod Buckets
+pub mod Bundled
 pub mod Cuts
 pub mod Description
 pub mod Names
 pub mod Runs
+pub mod Settings
+pub mod Slots
 pub mod Table

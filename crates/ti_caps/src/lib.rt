@@ -2,13 +2,16 @@
 #![tactic(auto)]
 
 mod buckets;
+mod bundle;
 mod bytes;
 mod entry;
 mod fault;
 mod names;
+pub mod slots;
 mod table;
 
 pub use buckets::find_name;
+pub use bundle::bundled;
 pub use bytes::Bytes;
 pub use entry::{Entry, MOST_FLAGS, MOST_NUMBER, MOST_NUMBERS, MOST_TEXTS};
 pub use fault::CapFault;
