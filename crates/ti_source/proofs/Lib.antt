@@ -19,6 +19,7 @@ pub mod NumberLaws
 pub mod NumbersBackLaws
 pub mod OnceLaws
 pub mod IndexLaws
+pub mod KeyLaws
 pub mod PrintLaws
 pub mod PrintedBackLaws
 pub mod ReadingLaws
