@@ -27,13 +27,3 @@ pub good-seen : {R : Type 0} → (seen : R → Statement) (rs : List R) (k : ℕ
 good-seen seen rs k r all lt is =
     let room : k < length rs = rw (← length-map rs seen) lt in
     good-at (map seen rs) k (seen r) all (slice_get-map seen rs k ∙ ap (option_map seen) (slice_get_read rs (length rs) k r refl room is))
-
-chosen : (b : Bool) (later : Option FieldValue) (x : FieldValue) → IsGood x → IfSome later IsGood → IfSome (cond b (Some x) later) IsGood
-chosen true later x one more = one
-chosen false later x one more = more
-
--- what an entry says of a capability is good
-pub value_of_capability-good : (kind : Kind) (slot : ℕ) (ss : List Statement) → AreGood ss → IfSome (value_of_capability kind slot ss) IsGood
-value_of_capability-good kind slot [] all = tt
-value_of_capability-good kind slot (s ∷ ss) all =
-    chosen (concerns kind slot s) (value_of_capability kind slot ss) s.field_value all.0 (value_of_capability-good kind slot ss all.1)
