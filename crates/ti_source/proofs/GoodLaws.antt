@@ -1,13 +1,9 @@
 -- What a capability may have.
-use Rattle.std.proofs.Common.{◌≡◌, ◌<◌, ℕ, zero, suc, Bool, true, false, List, [], ◌∷◌, ◌++◌, Option, Some, IfSome, cond, get_or, length, slice_get, option_map, map, subst, refl, ap, ◌∙◌}
+use Rattle.std.proofs.Common.{◌≡◌, ◌<◌, ℕ, zero, suc, List, [], ◌∷◌, ◌++◌, Some, get_or, length, slice_get, option_map, map, subst, refl, ap, ◌∙◌}
 use Rattle.std.proofs.lemmas.Option.{slice_get_read, slice_get-map}
 use Rattle.std.proofs.lemmas.List.{length-map}
-use Rattle.ti_caps.specs.declared.table.Kind.{Kind}
-use Rattle.ti_source.specs.declared.reading.statement.FieldValue.{FieldValue}
 use Rattle.ti_source.specs.declared.reading.statement.Statement.{Statement}
 use Rattle.ti_source.specs.Described.{AreGood, IsGood}
-use Rattle.ti_source.specs.Reading.Sources.{concerns}
-use Rattle.ti_source.specs.Resolving.Uses.{value_of_capability}
 
 pub AreGood-push : (ss : List Statement) (s : Statement) → AreGood ss → IsGood s.field_value → AreGood (ss ++ s ∷ [])
 AreGood-push [] s all one = (one, tt)

@@ -3,7 +3,7 @@
 ghost use Rattle.std.specs.Prelude.{◌≡◌, ◌≤◌, ◌<◌, ◌∷◌, [], ◌++◌, Ok, OnOk, IfOk, true, false, length, replicate, slice_index_or, slice_set};
 ghost use Rattle.std.specs.List.{list_any};
 ghost use Rattle.ti_source.specs.Reading.Sources.{concerns};
-ghost use Rattle.ti_source.specs.Result.{Gives};
+ghost use Rattle.ti_source.specs.Result.{Becomes};
 ghost use Rattle.ti_source.specs.Described.{AreGood, IsGood};
 ghost use Rattle.ti_source.specs.Code.FirstFields.{place};
 ghost use Rattle.ti_source.specs.Code.Marked.{AreMarked};
@@ -104,34 +104,22 @@ impl SourceEntry {
         may_be_stated(&self.marks, kind, slot) && is_stated(self.statements.as_slice(), kind, slot)
     }
 
-    pub(crate) fn with_statement(
-        self,
+    pub(crate) fn put_statement(
+        &mut self,
         kind: Kind,
         slot: Slot,
         field_value: FieldValue,
-    ) -> Result<SourceEntry, SourceFault>
+    ) -> Result<(), SourceFault>
         requires { IsGood field_value }
-        ensures { Gives result (Ok (record self { statements = self.statements ++ (record { kind = kind; slot = slot; field_value = field_value }) ∷ [] })) }
+        ensures { Becomes result (Ok (record self.old { statements = self.old.statements ++ (record { kind = kind; slot = slot; field_value = field_value }) ∷ [] })) self.new }
     {
-        let SourceEntry {
-            names,
-            mut statements,
-            uses,
-            marks,
-        } = self;
-        let mut marks = marks_for(*statements.allocator(), &statements, marks)?;
-        put_mark(&mut marks, kind, slot);
-        statements.push(Statement {
+        mark(&self.statements, &mut self.marks, kind, slot)?;
+        self.statements.push(Statement {
             kind,
             slot,
             field_value,
         })?;
-        Ok(SourceEntry {
-            names,
-            statements,
-            uses,
-            marks,
-        })
+        Ok(())
     }
 
     /// The entry without what only serves the reading of more fields: its marks and spare room.
@@ -145,12 +133,12 @@ impl SourceEntry {
         self
     }
 
-    pub(crate) fn with_use(mut self, other: Bytes) -> Result<SourceEntry, SourceFault>
-        requires { length self.uses < 32 }
-        ensures { Gives result (Ok (record self { uses = self.uses ++ other ∷ [] })) }
+    pub(crate) fn put_use(&mut self, other: Bytes) -> Result<(), SourceFault>
+        requires { length self.old.uses < 32 }
+        ensures { Becomes result (Ok (record self.old { uses = self.old.uses ++ other ∷ [] })) self.new }
     {
         self.uses.push(other)?;
-        Ok(self)
+        Ok(())
     }
 }
 
@@ -171,19 +159,22 @@ fn no_marks(alloc: Global, count: usize) -> Result<Vec<bool>, AllocError>
     vec![in alloc; false; count]
 }
 
-/// The marks of these fields; where there are no fields, all are false.
-fn marks_for(
-    alloc: Global,
+/// Marks one more capability; before the first field all marks are made anew.
+fn mark(
     statements: &[Statement],
-    marks: Vec<bool>,
-) -> Result<Vec<bool>, AllocError>
-    requires { AreMarked statements.now marks.items }
-    ensures { IfOk result (λ v. AreMarked statements.now v.items) }
+    marks: &mut Vec<bool>,
+    kind: Kind,
+    slot: Slot,
+) -> Result<(), AllocError>
+    requires { AreMarked statements.now marks.old.items }
+    ensures still { AreMarked statements.now marks.new.items }
+    ensures marked { OnOk result (slice_index_or marks.new.items (place kind slot.0) true ≡ true) }
 {
     if statements.is_empty() {
-        return no_marks(alloc, CAPABILITIES);
+        *marks = no_marks(*marks.allocator(), CAPABILITIES)?;
     }
-    Ok(marks)
+    put_mark(marks, kind, slot);
+    Ok(())
 }
 
 /// Marks a capability that a field is about.
