@@ -1,7 +1,7 @@
 -- A list up to the last of its elements that is present.
-use Rattle.std.proofs.Common.{◌≡◌, ℕ, ◌+◌, ◌<◌, ◌||◌, Bool, true, false, cond, refl, sym, ◌∙◌, ap, List, [], ◌∷◌, ◌++◌, length, take, get_or, Option, Some, None, is_some, option_map}
+use Rattle.std.proofs.Common.{◌≡◌, ℕ, ◌+◌, ◌<◌, ◌||◌, Bool, true, false, cond, refl, sym, ◌∙◌, ap, List, [], ◌∷◌, ◌++◌, length, take, get_or, Option, Some, None, is_some, option_map, arith}
 use Rattle.std.specs.List.{list_any}
-use Rattle.std.proofs.lemmas.List.{take_more}
+use Rattle.std.proofs.lemmas.List.{take_more, take_all}
 use Rattle.std.proofs.lemmas.List.Folds.{list_any-append}
 use Rattle.ti_binary.specs.Canonical.{up_to_last}
 
@@ -41,6 +41,20 @@ pub kept_all : {A : Type 0} (present : A → Bool) (xs : List A) (i : ℕ) (d : 
     → present (get_or xs i d) ≡ true → take (i + 1) xs ≡ up_to_last present (take (i + 1) xs)
 kept_all present xs i d lt h =
     take_more xs i d lt ∙ sym (kept-present present (take i xs) (get_or xs i d) h) ∙ ap (up_to_last present) (sym (take_more xs i d lt))
+
+-- from the end: where the last is present all is kept, else as much as without it
+pub kept_here : {A : Type 0} (present : A → Bool) (xs : List A) (i count : ℕ) (d : A) → count ≡ i + 1 → i < length xs → present (get_or xs i d) ≡ true
+    → up_to_last present (take count xs) ≡ up_to_last present xs → take count xs ≡ up_to_last present xs
+kept_here present xs i count d is lt h same =
+    ap (λ n. take n xs) is ∙ kept_all present xs i d lt h ∙ ap (λ n. up_to_last present (take n xs)) (sym is) ∙ same
+
+pub kept_before : {A : Type 0} (present : A → Bool) (xs : List A) (i count : ℕ) (d : A) → count ≡ i + 1 → i < length xs → present (get_or xs i d) ≡ false
+    → up_to_last present (take count xs) ≡ up_to_last present xs → up_to_last present (take i xs) ≡ up_to_last present xs
+kept_before present xs i count d is lt h same =
+    sym (kept-absent present (take i xs) (get_or xs i d) h) ∙ ap (up_to_last present) (sym (take_more xs i d lt)) ∙ ap (λ n. up_to_last present (take n xs)) (sym is) ∙ same
+
+pub whole-kept : {A : Type 0} (present : A → Bool) (xs : List A) (n : ℕ) → length xs ≡ n → up_to_last present (take n xs) ≡ up_to_last present xs
+whole-kept present xs n is = ap (up_to_last present) (take_all n xs (omega arith))
 
 pub is_some-option_map : {A B : Type 0} (f : A → B) (o : Option A) → is_some (option_map f o) ≡ is_some o
 is_some-option_map f None = refl

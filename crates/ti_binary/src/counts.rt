@@ -41,13 +41,14 @@ pub(crate) fn text_count(entry: &Entry) -> u16
     ensures kept { take result entry.now.texts ≡ kept_texts entry.now }
     ensures few { result ≤ 512 }
 {
-    let mut count = 0;
-    for slot in 0..MOST_TEXTS as u16 {
-        if entry.text(Slot(slot)).is_some() {
-            count = slot + 1;
+    let mut count = MOST_TEXTS as u16;
+    while count > 0 {
+        if entry.text(Slot(count - 1)).is_some() {
+            return count;
         }
+        count -= 1;
     }
-    count
+    0
 }
 
 /// How many bytes the string table of the first texts has, or `most` where it has more.

@@ -16,7 +16,8 @@ pub(crate) fn put_word(n: u16, out: &mut Vec<u8>) -> Result<(), AllocError>
 {
     let mut pair = [0u8; 2];
     LittleEndian::write_u16(&mut pair, n);
-    out.extend_from_slice(&pair)?;
+    out.push(pair[0])?;
+    out.push(pair[1])?;
     Ok(())
 }
 

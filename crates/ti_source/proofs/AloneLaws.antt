@@ -1,6 +1,6 @@
 -- An entry that uses no other, and a name that has none.
 use Rattle.std.specs.Prelude.{is_none}
-use Rattle.std.proofs.Common.{None, ◌≡◌, ◌∙◌, ℕ, true, false, eqb, nat_lt, List, [], ◌∷◌, length, Option, Some, is_some, Result, Ok, Err, IfOk, slice_get, slice_index_or, refl, sym, ap, arith}
+use Rattle.std.proofs.Common.{None, ◌≡◌, ◌∙◌, ℕ, true, false, eqb, nat_lt, List, [], ◌∷◌, length, Option, Some, is_some, Result, Ok, Err, IfOk, OnOk, is_err, slice_get, slice_index_or, refl, sym, ap, arith}
 use Rattle.std.specs.List.{list_any}
 use Rattle.std.proofs.lemmas.Bool.{eqb-true, ltb-true}
 use Rattle.std.proofs.lemmas.Option.{slice_get-get_or}
@@ -32,6 +32,11 @@ alone-resolves entries name index d used is (i, at, found, none) empty =
 pub ok-more : {A E : Type 0} → (r : Result A E) (P Q : A → Type 0) → IfOk r P → ((x : A) → P x → Q x) → IfOk r Q
 ok-more (Ok x) P Q h more = more x h
 ok-more (Err e) P Q h more = h
+
+-- what holds of an answer that is no error
+pub on_ok_at : {A E P : Type 0} → (r : Result A E) → is_err r ≡ false → OnOk r P → P
+on_ok_at (Ok x) e h = h
+on_ok_at (Err x) e h = cc
 
 -- it is what its own fields give
 pub alone-merged : (d : Described) (names : List ℕ) (fields : List Statement) → names ≡ d.names → fields ≡ d.statements → merged (of_fields names fields) [] ≡ merged d []

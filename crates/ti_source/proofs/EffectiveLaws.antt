@@ -22,9 +22,6 @@ field_value-of-first kind slot (s ∷ ss) = by (concerns kind slot s) (field_val
     by true e = refl
     by false e = e
 
-pub field_value-by : (fields : List Statement) (index : List (Option ℕ)) (kind : Kind) (slot : ℕ) → IsIndex fields index → slot < room kind → value_of_capability kind slot fields ≡ option_map (λ (s : Statement). s.field_value) (field_at fields (slice_index_or index (place kind slot) None))
-field_value-by fields index kind slot is small = field_value-of-first kind slot fields ∙ ap (option_map (λ (s : Statement). s.field_value)) (sym (is.first kind slot small))
-
 first-speaks : (kind : Kind) (slot : ℕ) (fields : List Statement) (x : Statement) → first_of kind slot fields ≡ Some x → concerns kind slot x ≡ true
 first-speaks kind slot [] x e = cc
 first-speaks kind slot (s ∷ ss) x e = by (concerns kind slot s) refl e (first-speaks kind slot ss x)

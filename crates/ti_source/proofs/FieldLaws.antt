@@ -1,6 +1,7 @@
 -- Facts on how a line is cut into fields.
 use Rattle.std.proofs.Common.{◌≡◌, ℕ, ◌+◌, ◌<◌, Bool, true, false, not, ◌&&◌, eqb, cond, get_or, drop, length, List, [], ◌∷◌, ◌++◌, refl, ap, sym, append_assoc}
 use Rattle.std.proofs.lemmas.List.{drop_more}
+use Rattle.ti_source.specs.Code.Plain.{is_inner}
 use Rattle.ti_source.specs.Reading.Field.{fields_after, takes_next}
 use Rattle.std.specs.List.{onto_first}
 
@@ -32,3 +33,13 @@ pub fields_after-more : (taken : Bool) (front bs : List ℕ) (i b : ℕ) → i <
 fields_after-more taken front bs i b lt at goes =
     let d : drop i bs ≡ b ∷ drop (i + 1) bs = rw at (drop_more bs i 0 lt) in
     rw (d, goes) (with_front-onto_first front b (fields_after (not taken && takes_next b) (drop (i + 1) bs)))
+
+-- a byte inside a field ends nothing, and takes nothing with it
+pub inner-goes : (taken : Bool) (b : ℕ) → is_inner b ≡ true → ((not taken && eqb b 44) ≡ false) × (false ≡ (not taken && takes_next b))
+inner-goes taken b is = by taken (eqb b 44) (takes_next b) is
+  where
+    by : (k e t : Bool) → (not e && not t) ≡ true → ((not k && e) ≡ false) × (false ≡ (not k && t))
+    by true e t h = (refl, refl)
+    by false false false h = (refl, refl)
+    by false true t h = cc
+    by false false true h = cc

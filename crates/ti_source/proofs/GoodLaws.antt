@@ -1,13 +1,9 @@
 -- What a capability may have.
-use Rattle.std.proofs.Common.{◌≡◌, ◌<◌, ℕ, zero, suc, Bool, true, false, List, [], ◌∷◌, ◌++◌, Option, Some, IfSome, cond, get_or, length, slice_get, option_map, map, subst, refl, ap, ◌∙◌}
+use Rattle.std.proofs.Common.{◌≡◌, ◌<◌, ℕ, zero, suc, List, [], ◌∷◌, ◌++◌, Some, get_or, length, slice_get, option_map, map, subst, refl, ap, ◌∙◌}
 use Rattle.std.proofs.lemmas.Option.{slice_get_read, slice_get-map}
 use Rattle.std.proofs.lemmas.List.{length-map}
-use Rattle.ti_caps.specs.declared.table.Kind.{Kind}
-use Rattle.ti_source.specs.declared.reading.statement.FieldValue.{FieldValue}
 use Rattle.ti_source.specs.declared.reading.statement.Statement.{Statement}
 use Rattle.ti_source.specs.Described.{AreGood, IsGood}
-use Rattle.ti_source.specs.Reading.Sources.{concerns}
-use Rattle.ti_source.specs.Resolving.Uses.{value_of_capability}
 
 pub AreGood-push : (ss : List Statement) (s : Statement) → AreGood ss → IsGood s.field_value → AreGood (ss ++ s ∷ [])
 AreGood-push [] s all one = (one, tt)
@@ -27,13 +23,3 @@ pub good-seen : {R : Type 0} → (seen : R → Statement) (rs : List R) (k : ℕ
 good-seen seen rs k r all lt is =
     let room : k < length rs = rw (← length-map rs seen) lt in
     good-at (map seen rs) k (seen r) all (slice_get-map seen rs k ∙ ap (option_map seen) (slice_get_read rs (length rs) k r refl room is))
-
-chosen : (b : Bool) (later : Option FieldValue) (x : FieldValue) → IsGood x → IfSome later IsGood → IfSome (cond b (Some x) later) IsGood
-chosen true later x one more = one
-chosen false later x one more = more
-
--- what an entry says of a capability is good
-pub value_of_capability-good : (kind : Kind) (slot : ℕ) (ss : List Statement) → AreGood ss → IfSome (value_of_capability kind slot ss) IsGood
-value_of_capability-good kind slot [] all = tt
-value_of_capability-good kind slot (s ∷ ss) all =
-    chosen (concerns kind slot s) (value_of_capability kind slot ss) s.field_value all.0 (value_of_capability-good kind slot ss all.1)

@@ -19,10 +19,12 @@ pub mod NumberLaws
 pub mod NumbersBackLaws
 pub mod OnceLaws
 pub mod IndexLaws
+pub mod KeyLaws
+pub mod LaidLaws
+pub mod MarkLaws
 pub mod PrintLaws
 pub mod PrintedBackLaws
 pub mod ReadingLaws
-pub mod ResolvingLaws
 pub mod SpellingLaws
 pub mod FirstFieldLaws
 pub mod StatementsBackLaws

@@ -18,6 +18,11 @@ abbrev pub Gives : {A : Type 0} → Result A SourceFault → Result A SourceFaul
 Gives (Ok x) wanted = wanted ≡ Ok x
 Gives (Err e) wanted = Fails e wanted
 
+-- the same of a call that changes a value in its place
+abbrev pub Becomes : {Done A : Type 0} → Result Done SourceFault → Result A SourceFault → A → Type 0
+Becomes (Ok done) wanted new = wanted ≡ Ok new
+Becomes (Err e) wanted new = Fails e wanted
+
 -- memory ran out, or the fault is one that is known of
 abbrev pub Stops : SourceFault → Type 0 → Type 0
 Stops fault Known = (fault ≡ NoMemory) ⊎ Known

@@ -3,6 +3,7 @@
 
 mod fault;
 mod note;
+mod place;
 mod printing;
 mod reading;
 mod resolving;

@@ -112,6 +112,10 @@ all_entries s = s.done ++ option_to_list s.current
 abbrev pub filled : List Described → OpenEntry → Result ReaderState SourceFault
 filled done f = Ok (record { done = done; current = Some f.entry; notes = f.notes })
 
+-- an entry behind others, with these fields
+abbrev pub filled_by : ℕ → List (List ℕ) → List Described → OpenEntry → Result ReaderState SourceFault
+filled_by line more done f = with_fields line more f >>= filled done
+
 -- a line of fields goes on with the entry before
 abbrev pub continued : ℕ → List (List ℕ) → ReaderState → Option Described → Result ReaderState SourceFault
 continued line more s None = Err (FieldBeforeEntry line)

@@ -3,6 +3,7 @@
 ghost use Rattle.std.specs.Prelude.{◌≡◌, ◌≤◌, ◌<◌, false, length, IfOk, IsTrue};
 ghost use Rattle.ti_caps.specs.Description.{has_nul};
 ghost use Rattle.ti_source.specs.Reading.Escape.{begins_octal, control, decoded, is_octal, letter, meant, not_nul, octal, written_length};
+ghost use Rattle.ti_source.specs.Code.Plain.{is_plain};
 ghost use Rattle.ti_source.specs.Reading.Spelling.{AreSpelled};
 
 use std::alloc::{AllocError, Global};
@@ -16,8 +17,9 @@ pub(crate) fn decode(alloc: Global, text: &[u8]) -> Result<Bytes, AllocError>
     let mut decoded = Vec::with_capacity(alloc, text.len())?;
     let mut rest = text;
     while !rest.is_empty() {
-        decoded.push(not_nul(meant(rest)))?;
-        rest = &rest[written_length(rest)..];
+        let (value, length) = character(rest);
+        decoded.push(value)?;
+        rest = &rest[length..];
     }
     Ok(Bytes(decoded))
 }
@@ -27,6 +29,27 @@ pub(crate) fn decode(alloc: Global, text: &[u8]) -> Result<Bytes, AllocError>
 pub fn texts_are_spelled()
     ensures { AreSpelled }
 {}
+
+/// What the first character of a text stands for, and how many bytes it is written with.
+fn character(bytes: &[u8]) -> (u8, usize)
+    requires { 0 < length bytes.now }
+    ensures value { result.0 ≡ not_nul (meant bytes.now) }
+    ensures length { result.1 ≡ written_length bytes.now }
+    ensures within { result.1 ≤ length bytes.now }
+    ensures some { 0 < result.1 }
+{
+    if is_plain(bytes[0]) {
+        return (bytes[0], 1);
+    }
+    (not_nul(meant(bytes)), written_length(bytes))
+}
+
+/// Whether a byte stands for itself, whatever comes after it.
+fn is_plain(b: u8) -> bool
+    ensures { result ≡ is_plain b }
+{
+    b != b'\\' && b != b'^' && b != 0
+}
 
 fn is_octal(b: u8) -> bool
     ensures { result ≡ is_octal b }

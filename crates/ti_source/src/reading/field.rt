@@ -3,6 +3,7 @@
 ghost use Rattle.std.specs.Prelude.{◌≡◌, ◌≤◌, ◌<◌, ◌+◌, ◌∷◌, IfSome, ◌&&◌, ◌==◌, not, length, take, drop, option_map};
 ghost use Rattle.ti_source.specs.Reading.Cutting.{AreCut};
 ghost use Rattle.ti_source.specs.Reading.Field.{ends_name, fields, fields_behind, form_by, form_of, is_blank, name_length, takes_next, without_lead, without_trail};
+ghost use Rattle.ti_source.specs.Code.Plain.{is_inner};
 ghost use Rattle.ti_source.specs.Code.Seen.{seen_form};
 
 /// A field by its form.
@@ -23,10 +24,13 @@ pub(crate) fn split_field(bytes: &[u8]) -> (&[u8], Option<&[u8]>)
 {
     let mut taken = false;
     for (i, b) in bytes.iter().enumerate() {
-        if ends_field(taken, *b) {
+        if is_inner(*b) {
+            taken = false;
+        } else if ends_field(taken, *b) {
             return (&bytes[..i], Some(&bytes[i + 1..]));
+        } else {
+            taken = takes_after(taken, *b);
         }
-        taken = takes_after(taken, *b);
     }
     (bytes, None)
 }
@@ -55,6 +59,13 @@ pub(crate) fn form_of(field: &[u8]) -> Form<'_>
 pub fn fields_are_cut()
     ensures { AreCut }
 {}
+
+/// Whether a byte neither ends a field nor takes the next byte with it: most bytes don't.
+fn is_inner(b: u8) -> bool
+    ensures { result ≡ is_inner b }
+{
+    b != b',' && !takes_next(b)
+}
 
 fn takes_next(b: u8) -> bool
     ensures { result ≡ takes_next b }

@@ -33,7 +33,7 @@ pub(crate) fn line_of(bytes: &[u8]) -> Line<'_>
     Line::Begins(names, rest)
 }
 
-fn begins_hash(bytes: &[u8]) -> bool
+pub(crate) fn begins_hash(bytes: &[u8]) -> bool
     ensures { result ≡ begins_hash bytes.now }
 {
     match bytes {
@@ -42,7 +42,7 @@ fn begins_hash(bytes: &[u8]) -> bool
     }
 }
 
-fn begins_blank(bytes: &[u8]) -> bool
+pub(crate) fn begins_blank(bytes: &[u8]) -> bool
     ensures { result ≡ begins_blank bytes.now }
 {
     match bytes {

@@ -5,7 +5,7 @@ ghost use Rattle.ti_caps.specs.Table.{capability_of};
 ghost use Rattle.ti_source.specs.Reading.Number as value;
 ghost use Rattle.ti_source.specs.Code.Steps.{cancelled, noted, numeric, plain, referring, stated, textual, valued, with_fields, with_form, with_number, with_statement};
 ghost use Rattle.ti_source.specs.Reading.Field.{fields};
-ghost use Rattle.ti_source.specs.Result.{Gives};
+ghost use Rattle.ti_source.specs.Result.{Becomes};
 ghost use Rattle.ti_source.specs.Described.{IsGood};
 ghost use Rattle.ti_source.specs.Code.Seen.{seen_form};
 
@@ -40,64 +40,61 @@ impl Model for OpenEntry {
 impl OpenEntry {
     /// The entry and the notes after the fields of a text, which is part of one line.
     pub(crate) fn with_fields(
-        self,
+        &mut self,
         alloc: Global,
         line: u32,
         text: &[u8],
-    ) -> Result<OpenEntry, SourceFault>
-        ensures { Gives result (with_fields line (fields text.now) self) }
+    ) -> Result<(), SourceFault>
+        ensures { Becomes result (with_fields line (fields text.now) self.old) self.new }
     {
-        let mut open_entry = self;
         let mut rest = text;
         loop {
             let (field, behind) = split_field(rest);
-            open_entry = open_entry.with_form(alloc, line, form_of(field))?;
+            self.with_form(alloc, line, form_of(field))?;
             match behind {
                 Some(more) => rest = more,
-                None => return Ok(open_entry),
+                None => return Ok(()),
             }
         }
     }
 
     fn noted(
-        mut self,
+        &mut self,
         alloc: Global,
         line: u32,
         cause: Cause,
         name: &[u8],
-    ) -> Result<OpenEntry, SourceFault>
-        ensures { Gives result (Ok (noted line cause name.now self)) }
+    ) -> Result<(), SourceFault>
+        ensures { Becomes result (Ok (noted line cause name.now self.old)) self.new }
     {
         let name = Bytes(Vec::from_slice(alloc, name)?);
         self.notes.push(Note { line, cause, name })?;
-        Ok(self)
+        Ok(())
     }
 
     fn with_statement(
-        self,
+        &mut self,
         kind: Kind,
         slot: Slot,
         field_value: FieldValue,
-    ) -> Result<OpenEntry, SourceFault>
+    ) -> Result<(), SourceFault>
         requires { IsGood field_value }
-        ensures { Gives result (Ok (with_statement kind slot.0 field_value self)) }
+        ensures { Becomes result (Ok (with_statement kind slot.0 field_value self.old)) self.new }
     {
-        let OpenEntry { entry, notes } = self;
-        let entry = entry.with_statement(kind, slot, field_value)?;
-        Ok(OpenEntry { entry, notes })
+        self.entry.put_statement(kind, slot, field_value)
     }
 
     fn stated(
-        self,
+        &mut self,
         alloc: Global,
         line: u32,
         name: &[u8],
         kind: Kind,
         slot: Slot,
         field_value: FieldValue,
-    ) -> Result<OpenEntry, SourceFault>
+    ) -> Result<(), SourceFault>
         requires { IsGood field_value }
-        ensures { Gives result (Ok (stated line name.now kind slot.0 field_value self)) }
+        ensures { Becomes result (Ok (stated line name.now kind slot.0 field_value self.old)) self.new }
     {
         if self.entry.is_stated(kind, slot) {
             return self.noted(alloc, line, Cause::Repeated, name);
@@ -106,15 +103,15 @@ impl OpenEntry {
     }
 
     fn with_number(
-        self,
+        &mut self,
         alloc: Global,
         line: u32,
         name: &[u8],
         slot: Slot,
         value: u32,
-    ) -> Result<OpenEntry, SourceFault>
+    ) -> Result<(), SourceFault>
         requires { value ≤ 32768 }
-        ensures { (n : ℕ) → value ≡ min n 32768 → Gives result (Ok (with_number line name.now slot.0 n self)) }
+        ensures { (n : ℕ) → value ≡ min n 32768 → Becomes result (Ok (with_number line name.now slot.0 n self.old)) self.new }
     {
         if self.entry.is_stated(Kind::Number, slot) {
             return self.noted(alloc, line, Cause::Repeated, name);
@@ -122,12 +119,12 @@ impl OpenEntry {
         if value <= 32767 {
             return self.with_statement(Kind::Number, slot, FieldValue::Number(value as u16));
         }
-        self.with_statement(Kind::Number, slot, FieldValue::Number(32767))?
-            .noted(alloc, line, Cause::TooGreat, name)
+        self.with_statement(Kind::Number, slot, FieldValue::Number(32767))?;
+        self.noted(alloc, line, Cause::TooGreat, name)
     }
 
-    fn plain(self, alloc: Global, line: u32, name: &[u8]) -> Result<OpenEntry, SourceFault>
-        ensures { Gives result (Ok (plain line name.now (capability_of name.now) self)) }
+    fn plain(&mut self, alloc: Global, line: u32, name: &[u8]) -> Result<(), SourceFault>
+        ensures { Becomes result (Ok (plain line name.now (capability_of name.now) self.old)) self.new }
     {
         match find_name(name) {
             None => self.noted(alloc, line, Cause::Unknown, name),
@@ -144,13 +141,13 @@ impl OpenEntry {
     }
 
     fn textual(
-        self,
+        &mut self,
         alloc: Global,
         line: u32,
         name: &[u8],
         text: &[u8],
-    ) -> Result<OpenEntry, SourceFault>
-        ensures { Gives result (Ok (textual line name.now text.now (capability_of name.now) self)) }
+    ) -> Result<(), SourceFault>
+        ensures { Becomes result (Ok (textual line name.now text.now (capability_of name.now) self.old)) self.new }
     {
         match find_name(name) {
             None => self.noted(alloc, line, Cause::Unknown, name),
@@ -165,8 +162,8 @@ impl OpenEntry {
         }
     }
 
-    fn cancelled(self, alloc: Global, line: u32, name: &[u8]) -> Result<OpenEntry, SourceFault>
-        ensures { Gives result (Ok (cancelled line name.now (capability_of name.now) self)) }
+    fn cancelled(&mut self, alloc: Global, line: u32, name: &[u8]) -> Result<(), SourceFault>
+        ensures { Becomes result (Ok (cancelled line name.now (capability_of name.now) self.old)) self.new }
     {
         match find_name(name) {
             None => self.noted(alloc, line, Cause::Unknown, name),
@@ -175,14 +172,14 @@ impl OpenEntry {
     }
 
     fn valued(
-        self,
+        &mut self,
         alloc: Global,
         line: u32,
         name: &[u8],
         slot: Slot,
         text: &[u8],
-    ) -> Result<OpenEntry, SourceFault>
-        ensures { Gives result (valued line name.now slot.0 (value.number text.now) self) }
+    ) -> Result<(), SourceFault>
+        ensures { Becomes result (valued line name.now slot.0 (value.number text.now) self.old) self.new }
     {
         match number(text) {
             None => Err(SourceFault::BadNumber(line)),
@@ -191,13 +188,13 @@ impl OpenEntry {
     }
 
     fn numeric(
-        self,
+        &mut self,
         alloc: Global,
         line: u32,
         name: &[u8],
         text: &[u8],
-    ) -> Result<OpenEntry, SourceFault>
-        ensures { Gives result (numeric line name.now text.now (capability_of name.now) self) }
+    ) -> Result<(), SourceFault>
+        ensures { Becomes result (numeric line name.now text.now (capability_of name.now) self.old) self.new }
     {
         match find_name(name) {
             None => self.noted(alloc, line, Cause::Unknown, name),
@@ -206,24 +203,22 @@ impl OpenEntry {
         }
     }
 
-    fn referring(self, alloc: Global, other: &[u8]) -> Result<OpenEntry, SourceFault>
-        ensures { Gives result (referring other.now self) }
+    fn referring(&mut self, alloc: Global, other: &[u8]) -> Result<(), SourceFault>
+        ensures { Becomes result (referring other.now self.old) self.new }
     {
         if self.entry.uses().len() >= USES {
             return Err(SourceFault::TooManyUses);
         }
         let other = Bytes(Vec::from_slice(alloc, other)?);
-        let OpenEntry { entry, notes } = self;
-        let entry = entry.with_use(other)?;
-        Ok(OpenEntry { entry, notes })
+        self.entry.put_use(other)
     }
 
     #[tactic(auto, unfolding(crate::specs::Code::Steps::with_form))]
-    fn with_form(self, alloc: Global, line: u32, form: Form<'_>) -> Result<OpenEntry, SourceFault>
-        ensures { Gives result (with_form line (seen_form form.entry) self) }
+    fn with_form(&mut self, alloc: Global, line: u32, form: Form<'_>) -> Result<(), SourceFault>
+        ensures { Becomes result (with_form line (seen_form form.entry) self.old) self.new }
     {
         match form {
-            Form::Nothing => Ok(self),
+            Form::Nothing => Ok(()),
             Form::Plain(name) => self.plain(alloc, line, name),
             Form::Numeric(name, value) => self.numeric(alloc, line, name, value),
             Form::Textual(name, text) => self.textual(alloc, line, name, text),

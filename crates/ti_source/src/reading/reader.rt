@@ -2,7 +2,7 @@
 
 ghost use Rattle.std.specs.Prelude.{None, Ok};
 ghost use Rattle.ti_source.specs.Reading.Sources.{source_of};
-ghost use Rattle.ti_source.specs.Code.Steps.{begun, continued, whole, with_line};
+ghost use Rattle.ti_source.specs.Code.Steps.{begun, continued, filled_by, whole, with_line};
 ghost use Rattle.ti_source.specs.Reading.Field.{fields};
 ghost use Rattle.ti_source.specs.Reading.Line.{line_of};
 ghost use Rattle.ti_source.specs.Result.{Gives};
@@ -73,6 +73,26 @@ impl ReaderState {
         Ok(Source::new(done.with_entry(alloc, entry.shrunk())?, notes))
     }
 
+    /// An entry behind others, with the fields of a text.
+    fn filled(
+        alloc: Global,
+        line: u32,
+        done: Entries,
+        open_entry: OpenEntry,
+        text: &[u8],
+    ) -> Result<ReaderState, SourceFault>
+        ensures { Gives result (filled_by line (fields text.now) done open_entry) }
+    {
+        let mut open_entry = open_entry;
+        open_entry.with_fields(alloc, line, text)?;
+        let OpenEntry { entry, notes } = open_entry;
+        Ok(ReaderState {
+            done,
+            current: Some(entry),
+            notes,
+        })
+    }
+
     fn continued(self, alloc: Global, line: u32, text: &[u8]) -> Result<ReaderState, SourceFault>
         ensures { Gives result (continued line (fields text.now) self self.current) }
     {
@@ -84,13 +104,7 @@ impl ReaderState {
         let Some(entry) = current else {
             return Err(SourceFault::FieldBeforeEntry(line));
         };
-        let open_entry = OpenEntry { entry, notes };
-        let OpenEntry { entry, notes } = open_entry.with_fields(alloc, line, text)?;
-        Ok(ReaderState {
-            done,
-            current: Some(entry),
-            notes,
-        })
+        ReaderState::filled(alloc, line, done, OpenEntry { entry, notes }, text)
     }
 
     fn begun(
@@ -110,13 +124,7 @@ impl ReaderState {
             return Err(SourceFault::DuplicateName(line));
         }
         let entry = SourceEntry::new(alloc, Bytes(Vec::from_slice(alloc, names)?));
-        let open_entry = OpenEntry { entry, notes };
-        let OpenEntry { entry, notes } = open_entry.with_fields(alloc, line, text)?;
-        Ok(ReaderState {
-            done,
-            current: Some(entry),
-            notes,
-        })
+        ReaderState::filled(alloc, line, done, OpenEntry { entry, notes }, text)
     }
 
     #[tactic(auto, unfolding(crate::specs::Code::Steps::with_line))]

@@ -1,15 +1,18 @@
 //! What the fields of an entry say.
 
-ghost use Rattle.std.specs.Prelude.{◌≡◌, ◌≤◌, ◌<◌, ◌∷◌, [], ◌++◌, Ok, true, length};
+ghost use Rattle.std.specs.Prelude.{◌≡◌, ◌≤◌, ◌<◌, ◌∷◌, [], ◌++◌, Ok, OnOk, IfOk, true, false, length, replicate, slice_index_or, slice_set};
 ghost use Rattle.std.specs.List.{list_any};
 ghost use Rattle.ti_source.specs.Reading.Sources.{concerns};
-ghost use Rattle.ti_source.specs.Result.{Gives};
+ghost use Rattle.ti_source.specs.Result.{Becomes};
 ghost use Rattle.ti_source.specs.Described.{AreGood, IsGood};
+ghost use Rattle.ti_source.specs.Code.FirstFields.{place};
+ghost use Rattle.ti_source.specs.Code.Marked.{AreMarked};
 ghost use Rattle.ti_caps.specs.Table.{same_kind};
 ghost use Rattle.ti_caps.specs.Names.{are_names};
 
 use crate::fault::SourceFault;
-use std::alloc::Global;
+use crate::place::{CAPABILITIES, place};
+use std::alloc::{AllocError, Global};
 use std::marker::Model;
 use ti_caps::{Bytes, Kind, Slot};
 
@@ -36,6 +39,8 @@ pub(crate) struct SourceEntry {
     names: Bytes,
     statements: Vec<Statement>,
     uses: Vec<Bytes>,
+    /// For each capability whether a field may be about it: where a mark is false there is none.
+    marks: Vec<bool>,
 }
 
 impl Model for SourceEntry {
@@ -46,8 +51,9 @@ impl Model for SourceEntry {
     ghost view = { λ e. record { names = e.names; statements = e.statements.items; uses = e.uses.items } };
 
     ghost use Rattle.ti_source.specs.Described.{IsDescribed};
+    ghost use Rattle.ti_source.specs.Code.Marked.{IsMarked};
 
-    ghost invariant = { λ e. IsDescribed (record { names = e.names; statements = e.statements.items; uses = e.uses.items }) };
+    ghost invariant = { λ e. IsMarked (record { names = e.names; statements = e.statements.items; uses = e.uses.items }) e.marks.items };
 }
 
 impl Statement {
@@ -67,6 +73,7 @@ impl SourceEntry {
             names,
             statements: Vec::new(alloc),
             uses: Vec::new(alloc),
+            marks: Vec::new(alloc),
         }
     }
 
@@ -94,41 +101,44 @@ impl SourceEntry {
     pub(crate) fn is_stated(&self, kind: Kind, slot: Slot) -> bool
         ensures { result ≡ list_any (concerns kind slot.0) self.now.statements }
     {
-        is_stated(self.statements.as_slice(), kind, slot)
+        may_be_stated(&self.marks, kind, slot) && is_stated(self.statements.as_slice(), kind, slot)
     }
 
-    pub(crate) fn with_statement(
-        mut self,
+    pub(crate) fn put_statement(
+        &mut self,
         kind: Kind,
         slot: Slot,
         field_value: FieldValue,
-    ) -> Result<SourceEntry, SourceFault>
+    ) -> Result<(), SourceFault>
         requires { IsGood field_value }
-        ensures { Gives result (Ok (record self { statements = self.statements ++ (record { kind = kind; slot = slot; field_value = field_value }) ∷ [] })) }
+        ensures { Becomes result (Ok (record self.old { statements = self.old.statements ++ (record { kind = kind; slot = slot; field_value = field_value }) ∷ [] })) self.new }
     {
+        mark(&self.statements, &mut self.marks, kind, slot)?;
         self.statements.push(Statement {
             kind,
             slot,
             field_value,
         })?;
-        Ok(self)
+        Ok(())
     }
 
-    /// The entry without spare room for more fields.
+    /// The entry without what only serves the reading of more fields: its marks and spare room.
     pub(crate) fn shrunk(mut self) -> SourceEntry
         ensures { result ≡ self }
     {
         self.statements.shrink_to_fit();
         self.uses.shrink_to_fit();
+        self.marks.clear();
+        self.marks.shrink_to_fit();
         self
     }
 
-    pub(crate) fn with_use(mut self, other: Bytes) -> Result<SourceEntry, SourceFault>
-        requires { length self.uses < 32 }
-        ensures { Gives result (Ok (record self { uses = self.uses ++ other ∷ [] })) }
+    pub(crate) fn put_use(&mut self, other: Bytes) -> Result<(), SourceFault>
+        requires { length self.old.uses < 32 }
+        ensures { Becomes result (Ok (record self.old { uses = self.old.uses ++ other ∷ [] })) self.new }
     {
         self.uses.push(other)?;
-        Ok(self)
+        Ok(())
     }
 }
 
@@ -140,6 +150,50 @@ fn same_kind(a: Kind, b: Kind) -> bool
         (Kind::Number, Kind::Number) => true,
         (Kind::Text, Kind::Text) => true,
         _ => false,
+    }
+}
+
+fn no_marks(alloc: Global, count: usize) -> Result<Vec<bool>, AllocError>
+    ensures { IfOk result (λ v. v.items ≡ replicate count false) }
+{
+    vec![in alloc; false; count]
+}
+
+/// Marks one more capability; before the first field all marks are made anew.
+fn mark(
+    statements: &[Statement],
+    marks: &mut Vec<bool>,
+    kind: Kind,
+    slot: Slot,
+) -> Result<(), AllocError>
+    requires { AreMarked statements.now marks.old.items }
+    ensures still { AreMarked statements.now marks.new.items }
+    ensures marked { OnOk result (slice_index_or marks.new.items (place kind slot.0) true ≡ true) }
+{
+    if statements.is_empty() {
+        *marks = no_marks(*marks.allocator(), CAPABILITIES)?;
+    }
+    put_mark(marks, kind, slot);
+    Ok(())
+}
+
+/// Marks a capability that a field is about.
+fn put_mark(marks: &mut Vec<bool>, kind: Kind, slot: Slot)
+    ensures { marks.new.items ≡ slice_set marks.old.items (place kind slot.0) true }
+{
+    let place = place(kind, slot);
+    if place < marks.len() {
+        marks[place] = true;
+    }
+}
+
+/// Whether a capability is marked, or past the marks.
+fn may_be_stated(marks: &[bool], kind: Kind, slot: Slot) -> bool
+    ensures { result ≡ slice_index_or marks.now (place kind slot.0) true }
+{
+    match marks.get(place(kind, slot)) {
+        Some(mark) => *mark,
+        None => true,
     }
 }
 

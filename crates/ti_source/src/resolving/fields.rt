@@ -1,7 +1,7 @@
 //! Fields that were read (each is a `Statement`), in an order in which the first that speaks of a
 //! capability counts.
 
-ghost use Rattle.std.specs.Prelude.{◌≡◌, ◌<◌, ◌∷◌, [], ◌++◌, Some, IfSome, OnOk, length, map, option_map, slice_get};
+ghost use Rattle.std.specs.Prelude.{◌≡◌, ◌<◌, ◌∷◌, [], ◌++◌, Some, OnOk, length, map, slice_get};
 ghost use Rattle.ti_source.specs.Described.{AreGood, IsGood};
 
 use crate::reading::statement::Statement;
@@ -43,17 +43,6 @@ impl<'a> Fields<'a> {
         ensures { result ≡ length self.now }
     {
         self.0.len()
-    }
-
-    pub(crate) fn get(&self, i: usize) -> Option<&'a Statement>
-        ensures value { option_map (λ s. s.now) result ≡ slice_get self.now i }
-        ensures good { IfSome result (λ s. IsGood s.now.field_value) }
-    {
-        if i < self.len() {
-            Some(self.at(i))
-        } else {
-            None
-        }
     }
 
     /// The field at an index.

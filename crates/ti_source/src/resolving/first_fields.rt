@@ -1,17 +1,13 @@
 //! Which field comes first for each capability.
 
-ghost use Rattle.std.specs.Prelude.{◌≡◌, ◌<◌, ◌+◌, IfOk, IfSome, length, option_map, replicate, None, drop};
-ghost use Rattle.ti_source.specs.Described.{IsGood};
-ghost use Rattle.ti_source.specs.Resolving.Uses.{value_of_capability};
-ghost use Rattle.ti_source.specs.Code.FirstFields.{AreEffective, Indexes, IsIndex, is_effective, is_present, place, room};
+ghost use Rattle.std.specs.Prelude.{◌≡◌, ◌<◌, ◌+◌, IfOk, length, replicate, None, drop};
+ghost use Rattle.ti_source.specs.Code.FirstFields.{AreEffective, Indexes, IsIndex, is_effective, is_present};
 
+use crate::place::{CAPABILITIES, place, room};
 use crate::reading::statement::{FieldValue, Statement};
 use crate::resolving::fields::Fields;
 use std::alloc::{AllocError, Global};
-use ti_caps::{Kind, Slot};
-
-/// How many capabilities there are at most: 64 flags, 64 numbers and 512 texts.
-const CAPABILITIES: usize = 640;
+use ti_caps::Kind;
 
 /// For each capability the place of the first field that is about it.
 pub(crate) fn index_of(alloc: Global, fields: &Fields<'_>) -> Result<Vec<Option<usize>>, AllocError>
@@ -24,23 +20,6 @@ pub(crate) fn index_of(alloc: Global, fields: &Fields<'_>) -> Result<Vec<Option<
         put(index.as_mut_slice(), fields, left);
     }
     Ok(index)
-}
-
-/// What the fields say of a capability.
-pub(crate) fn value_of_capability<'a>(
-    fields: &Fields<'a>,
-    index: &[Option<usize>],
-    kind: Kind,
-    slot: Slot,
-) -> Option<&'a FieldValue>
-    requires index { IsIndex fields.now index.now }
-    requires room { slot.0 < room kind }
-    ensures value { option_map (λ s. s.now) result ≡ value_of_capability kind slot.0 fields.now }
-    ensures good { IfSome result (λ s. IsGood s.now) }
-{
-    let i = index[place(kind, slot)]?;
-    let field = fields.get(i)?;
-    Some(&field.field_value)
 }
 
 /// The fields that take effect: those that make a capability present, where none before is about it.
@@ -59,30 +38,6 @@ pub(crate) fn effective_fields<'a>(
         }
     }
     Ok(found.shrunk())
-}
-
-/// How many positions a kind has.
-fn room(kind: Kind) -> u16
-    ensures { result ≡ room kind }
-{
-    match kind {
-        Kind::Flag => 64,
-        Kind::Number => 64,
-        Kind::Text => 512,
-    }
-}
-
-/// Where a capability stands in an index.
-fn place(kind: Kind, slot: Slot) -> usize
-    requires { slot.0 < room kind }
-    ensures value { result ≡ place kind slot.0 }
-    ensures inside { result < 640 }
-{
-    match kind {
-        Kind::Flag => slot.0 as usize,
-        Kind::Number => 64 + slot.0 as usize,
-        Kind::Text => 128 + slot.0 as usize,
-    }
 }
 
 fn no_places(alloc: Global, count: usize) -> Result<Vec<Option<usize>>, AllocError>

@@ -6,7 +6,7 @@ use Rattle.ti_source.proofs.reading.escape.decode.Goals as goal
 
 pub loop-rest-preserved : goal.loop-rest-preserved
 loop-rest-preserved c =
-    decoded-more (decoded c.args.text.now) c.loop-rest.decoded.items c.push.new.self.items c.loop-rest.rest.now c.written_length.result c.not_nul.result (search rules) c.written_length.ensures.length (search rules) (search rules) c.loop-rest.invariant
+    decoded-more (decoded c.args.text.now) c.loop-rest.decoded.items c.push.new.self.items c.loop-rest.rest.now c.character-value.result.1 c.character-value.result.0 (search rules) c.character-value.ensures.length c.character-value.ensures.value (search rules) c.loop-rest.invariant
 
 pub returns-clause-whole : goal.returns-clause-whole
 returns-clause-whole c =

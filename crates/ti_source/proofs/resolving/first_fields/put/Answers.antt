@@ -13,4 +13,4 @@ pub returns-clause-with : goal.returns-clause-with
 returns-clause-with c =
     let fs = c.args.fields.now in
     let s = c.at-field.result.now in
-    rw (c.place.ensures.value, drop-at fs c.args.i s c.at-field.ensures.value) (with-place fs (drop (c.args.i + 1) fs) c.args.index.now s c.args.i c.requires.long (rw c.place.ensures.value at c.place.ensures.inside) (rw c.room.ensures at c.if-field-room.false) c.at-field.ensures.value c.requires.behind)
+    rw (c.place.ensures.value, drop-at fs c.args.i s c.at-field.ensures.value) (with-place fs (drop (c.args.i + 1) fs) c.args.index.now s c.args.i c.requires.long ((rw c.place.ensures.value at c.place.ensures.inside) (rw c.room.ensures at c.if-field-room.false)) (rw c.room.ensures at c.if-field-room.false) c.at-field.ensures.value c.requires.behind)

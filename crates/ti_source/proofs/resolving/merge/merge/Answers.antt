@@ -1,11 +1,19 @@
-use Rattle.std.proofs.Common.{◌≡◌, [], refl, subst, IfOk}
-use Rattle.ti_caps.specs.Description.{Description}
-use Rattle.ti_source.specs.Code.Walk.{of_fields}
-use Rattle.ti_source.proofs.ResolvingLaws.{merged-is}
+use Rattle.std.proofs.Common.{◌≡◌, ◌+◌, ◌-◌, drop, arith}
+use Rattle.ti_source.proofs.IndexLaws.{drop-at}
+use Rattle.ti_source.proofs.LaidLaws.{none-laid}
 use Rattle.ti_source.proofs.resolving.merge.merge.Goals as goal
 
-pub returns-clause-ok : goal.returns-clause-ok
-returns-clause-ok c =
-    let whole = merged-is (of_fields c.args.names.now c.args.fields.now) [] c.args.fields.now c.in-Ok.bare c.with_flags-merged.result c.with_numbers-merged.result refl c.in-Ok.ensures.ok c.with_flags-merged.ensures c.with_numbers-merged.ensures in
-    let P : Description → Type 0 = λ m. IfOk c.with_texts.result (λ e. e ≡ m) in
-    subst P whole c.with_texts.ensures.ok
+pub loop-left-init : goal.loop-left-init
+loop-left-init c = record {
+  inside = omega arith;
+  behind = none-laid c.args.names.now c.args.fields.now c.in-Ok.bare c.len-left.result c.in-Ok.ensures.ok c.len-left.ensures;
+}
+
+pub loop-left-preserved : goal.loop-left-preserved
+loop-left-preserved c =
+    let fields = c.args.fields.now in
+    let back : c.loop-left.left - 1 + 1 ≡ c.loop-left.left = omega arith in
+    record {
+      inside = omega arith;
+      behind = rw (drop-at fields (c.loop-left.left - 1) c.at.result.now c.at.ensures.value, back) (c.in_ok-lay.ensures.ok c.args.names.now (drop c.loop-left.left fields) c.loop-left.invariant.behind);
+    }
