@@ -52,15 +52,22 @@ pub fn add_answer(answered: Answered, words: &mut Vec<u8>) -> Result<(), Trouble
         Ok(Answer::Added(Added::Stayed)) => add_word("Stayed", words),
         Ok(Answer::Made(win)) => add_number(i64::from(win.0), words),
         Ok(Answer::Place(row, column)) => add_place(row, column, words),
-        Ok(Answer::Cell(byte, attrs)) => {
-            add_text(&[byte], words)?;
-            add_number(i64::from(attrs), words)
-        }
+        Ok(Answer::Cell(byte, attrs, pair)) => add_held(byte, attrs, pair, words),
         Ok(Answer::Flag(flag)) => add_flag(flag, words),
         Ok(Answer::Number(number)) => add_number(i64::from(number), words),
         Ok(Answer::Nothing) => add_word("none", words),
         Err(fault) => add_word(fault_name(fault), words),
     }
+}
+
+/// Adds what a cell holds: a byte, attributes, and the colour pair where it is not 0.
+pub fn add_held(byte: u8, attrs: u8, pair: u32, words: &mut Vec<u8>) -> Result<(), Trouble> {
+    add_text(&[byte], words)?;
+    add_number(i64::from(attrs), words)?;
+    if pair > 0 {
+        add_number(i64::from(pair), words)?;
+    }
+    Ok(())
 }
 
 /// The name of a refusal.
@@ -80,6 +87,7 @@ pub fn fault_name(fault: WinFault) -> &'static str {
         WinFault::TooBig => "TooBig",
         WinFault::TooMany => "TooMany",
         WinFault::NoMemory => "NoMemory",
+        WinFault::BadPair => "BadPair",
     }
 }
 

@@ -1,13 +1,14 @@
 //! Lines about sizes, sets of attributes, cells and looks.
 
-use crate::answers::{add_flag, add_number, add_text, add_word};
+use crate::answers::{add_flag, add_held, add_number, add_word};
 use crate::troubles::Trouble;
 use crate::words::Words;
 use bitflags::Flags;
 use scr_cells::{Attrs, Cell, Look, Size};
 
 /// The lines `new_size R C`, `union A B`, `difference A B`, `contains A B`, `all_attributes`, `new_cell B A`,
-/// `new_look B A`, `blank_cell`, `blank_look` and `same_look B A B A`.
+/// `paired B A P`, `new_look B A F G`, `blank_cell`, `blank_look` and `same_look B A F G B A F G`, where a look is a byte,
+/// attributes, a foreground and a background.
 pub fn answer_of_cells(
     word: &[u8],
     words: &mut Words<'_>,
@@ -22,19 +23,36 @@ pub fn answer_of_cells(
             answer_of_sets(word, words, came)?;
         }
         b"new_cell" => add_new_cell(words, came)?,
-        b"blank_cell" => add_held(Cell::blank().byte(), Cell::blank().attrs(), came)?,
+        b"paired" => add_paired(words, came)?,
+        b"blank_cell" => add_cell(Cell::blank(), came)?,
         b"new_look" => add_new_look(words, came)?,
-        b"blank_look" => add_held(Look::blank().byte(), Look::blank().attrs(), came)?,
+        b"blank_look" => add_look(Look::blank(), came)?,
         b"same_look" => add_same_look(words, came)?,
         _ => return Ok(false),
     }
     Ok(true)
 }
 
-/// Adds a byte and attributes.
-pub fn add_held(byte: u8, attrs: Attrs, came: &mut Vec<u8>) -> Result<(), Trouble> {
-    add_text(&[byte], came)?;
-    add_number(i64::from(attrs.0), came)
+/// Adds what a cell holds.
+pub fn add_cell(cell: Cell, came: &mut Vec<u8>) -> Result<(), Trouble> {
+    add_held(cell.byte(), cell.attrs().0, cell.pair(), came)
+}
+
+/// Adds the byte and the attributes of a look, and its foreground and background where one is not the default.
+pub fn add_look(look: Look, came: &mut Vec<u8>) -> Result<(), Trouble> {
+    add_held(look.byte(), look.attrs().0, 0, came)?;
+    let (foreground, background) = (look.foreground(), look.background());
+    if foreground.is_some() || background.is_some() {
+        add_colour(foreground, came)?;
+        add_colour(background, came)?;
+    }
+    Ok(())
+}
+
+/// Reads what a cell is made of: a byte, attributes, and a colour pair if there is one more word.
+pub fn read_parts(words: &mut Words<'_>) -> Result<(u8, Attrs, u32), Trouble> {
+    let (byte, attrs) = (words.byte()?, Attrs(words.byte()?));
+    Ok((byte, attrs, words.number_if_any()?))
 }
 
 fn answer_of_sets(word: &[u8], words: &mut Words<'_>, came: &mut Vec<u8>) -> Result<(), Trouble> {
@@ -51,22 +69,57 @@ fn answer_of_sets(word: &[u8], words: &mut Words<'_>, came: &mut Vec<u8>) -> Res
 
 fn add_new_cell(words: &mut Words<'_>, came: &mut Vec<u8>) -> Result<(), Trouble> {
     match Cell::new(words.byte()?, Attrs(words.byte()?)) {
-        Some(cell) => add_held(cell.byte(), cell.attrs(), came),
+        Some(cell) => add_cell(cell, came),
+        None => add_word("none", came),
+    }
+}
+
+fn add_paired(words: &mut Words<'_>, came: &mut Vec<u8>) -> Result<(), Trouble> {
+    match Cell::paired(words.byte()?, Attrs(words.byte()?), words.number()?) {
+        Some(cell) => add_cell(cell, came),
         None => add_word("none", came),
     }
 }
 
 fn add_new_look(words: &mut Words<'_>, came: &mut Vec<u8>) -> Result<(), Trouble> {
-    match Look::new(words.byte()?, Attrs(words.byte()?)) {
-        Some(look) => add_held(look.byte(), look.attrs(), came),
+    match look_of(read_look(words)?) {
+        Some(look) => add_look(look, came),
         None => add_word("none", came),
     }
 }
 
+// A byte, attributes, a foreground and a background.
+type LookParts = (u8, Attrs, Option<u8>, Option<u8>);
+
+// Reads what a look is made of; a colour that is `-` is the default.
+fn read_look(words: &mut Words<'_>) -> Result<LookParts, Trouble> {
+    let (byte, attrs) = (words.byte()?, Attrs(words.byte()?));
+    let (foreground, background) = (read_colour(words)?, read_colour(words)?);
+    Ok((byte, attrs, foreground, background))
+}
+
+fn look_of(parts: LookParts) -> Option<Look> {
+    Look::new(parts.0, parts.1, parts.2, parts.3)
+}
+
+fn read_colour(words: &mut Words<'_>) -> Result<Option<u8>, Trouble> {
+    if words.peek() == b"-".as_slice() {
+        let _default = words.next();
+        return Ok(None);
+    }
+    Ok(Some(words.byte()?))
+}
+
+fn add_colour(colour: Option<u8>, came: &mut Vec<u8>) -> Result<(), Trouble> {
+    match colour {
+        Some(colour) => add_number(i64::from(colour), came),
+        None => add_word("-", came),
+    }
+}
+
 fn add_same_look(words: &mut Words<'_>, came: &mut Vec<u8>) -> Result<(), Trouble> {
-    let one = Look::new(words.byte()?, Attrs(words.byte()?));
-    let other = Look::new(words.byte()?, Attrs(words.byte()?));
-    match (one, other) {
+    let (one, other) = (read_look(words)?, read_look(words)?);
+    match (look_of(one), look_of(other)) {
         (Some(one), Some(other)) => add_flag(one == other, came),
         _ => Err(Trouble::Bad("no look")),
     }

@@ -180,11 +180,12 @@ fn add_rows(row: u64, wanted: &[Cell], line: &[Cell], came: &mut Vec<u8>) -> Res
     add_cells(line, came)
 }
 
-// Adds the bytes of cells, and their attributes.
+// Adds the bytes of cells, and the attributes and the colour pair of each.
 fn add_cells(cells: &[Cell], came: &mut Vec<u8>) -> Result<(), Trouble> {
     add_text_of(cells, came)?;
     for cell in cells {
         add_number(i64::from(cell.attrs().0), came)?;
+        add_number(i64::from(cell.pair()), came)?;
     }
     Ok(())
 }

@@ -111,6 +111,7 @@ fn set(desk: &mut Desk, call: &Call, name: Setting) -> Answered {
         Setting::AttrOn => desk.attr_on(win, attrs),
         Setting::AttrOff => desk.attr_off(win, attrs),
         Setting::AttrSet => desk.attr_set(win, attrs),
+        Setting::ColorSet => desk.color_set(win, call.number(1)),
         Setting::SetBackground => desk.set_background(win, call.cell()),
     })
 }

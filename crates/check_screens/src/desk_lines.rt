@@ -9,8 +9,8 @@ use scr_cells::{Cell, Size};
 use scr_windows::{Desk, Win, WinFault};
 use std::alloc::Global;
 
-/// The lines `desk R C`, `drawn R C TEXT`, `line W R`, `rows W`, `attributes W R` and `touched W`, and those about
-/// which windows there are and what one tells.
+/// The lines `desk R C`, `drawn R C TEXT`, `line W R`, `rows W`, `attributes W R`, `pairs W R` and `touched W`, and
+/// those about which windows there are and what one tells.
 pub fn answer_of_desk(
     alloc: Global,
     desk: &mut Option<Desk>,
@@ -58,7 +58,8 @@ fn answer_of_made_desk(
     match word {
         b"line" => add_line(desk, words, came)?,
         b"rows" => add_rows(desk, words, came)?,
-        b"attributes" => add_attributes(desk, words, came)?,
+        b"attributes" => add_of_each(desk, words, false, came)?,
+        b"pairs" => add_of_each(desk, words, true, came)?,
         b"touched" => add_touched(desk, words, came)?,
         _ => return answer_of_lent(desk, word, words, came),
     }
@@ -103,12 +104,20 @@ fn add_rows(desk: &Desk, words: &mut Words<'_>, came: &mut Vec<u8>) -> Result<()
     }
 }
 
-fn add_attributes(desk: &Desk, words: &mut Words<'_>, came: &mut Vec<u8>) -> Result<(), Trouble> {
+// Adds the colour pair of each cell of a line, or the attributes.
+fn add_of_each(
+    desk: &Desk,
+    words: &mut Words<'_>,
+    pairs: bool,
+    came: &mut Vec<u8>,
+) -> Result<(), Trouble> {
     let win = Win(words.number()?);
     match desk.line(win, words.number()?) {
         Ok(cells) => {
             for cell in cells {
-                add_number(i64::from(cell.attrs().0), came)?;
+                let attrs = u32::from(cell.attrs().0);
+                let number = if pairs { cell.pair() } else { attrs };
+                add_number(i64::from(number), came)?;
             }
             Ok(())
         }

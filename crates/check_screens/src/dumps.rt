@@ -65,6 +65,17 @@ fn dump_cells(cells: &[Cell], bytes: &mut Vec<u8>) -> Result<(), Trouble> {
     for cell in cells {
         bytes.push(cell.byte())?;
         bytes.push(cell.attrs().0)?;
+        bytes.push(u8::try_from(cell.pair()).unwrap_or(u8::MAX))?;
+    }
+    Ok(())
+}
+
+fn dump_pairs(picture: &Picture, bytes: &mut Vec<u8>) -> Result<(), Trouble> {
+    for pair in 1..64 {
+        if let Some((foreground, background)) = picture.pair(pair) {
+            bytes.push(foreground)?;
+            bytes.push(background)?;
+        }
     }
     Ok(())
 }
@@ -73,6 +84,7 @@ fn dump_picture(picture: &Picture, bytes: &mut Vec<u8>) -> Result<(), Trouble> {
     for row in 0..picture.size().rows {
         dump_cells(picture.row(row), bytes)?;
     }
+    dump_pairs(picture, bytes)?;
     match picture.wish() {
         Some((row, column)) => dump_place(row, column, bytes),
         None => Ok(()),

@@ -90,6 +90,7 @@ fn next_number(random: &mut Random, letter: u8, size: (u64, u64), before: i64) -
         b'b' => random.byte(),
         b'g' => random.graphic(),
         b'a' => random.attributes(),
+        b'p' => random.pair(),
         b'o' => random.below(2),
         _ => 0,
     }

@@ -13,6 +13,7 @@ pub enum Field {
     Size,
     Cursor,
     Attrs,
+    Pair,
     Background,
     Region,
     ScrollOk,
@@ -21,12 +22,13 @@ pub enum Field {
 }
 
 /// Each field by the word that scripts have for it, which is the name of the library's call.
-pub static FIELDS: [(&str, Field); 10] = [
+pub static FIELDS: [(&str, Field); 11] = [
     ("parent", Field::Parent),
     ("origin", Field::Origin),
     ("size", Field::Size),
     ("cursor", Field::Cursor),
     ("attrs", Field::Attrs),
+    ("pair", Field::Pair),
     ("background", Field::Background),
     ("region", Field::Region),
     ("scroll_ok", Field::ScrollOk),
@@ -42,6 +44,7 @@ pub fn lent_field(window: &WindowRef<'_>, field: Field) -> Answer {
         Field::Size => placed(window.size()),
         Field::Cursor => placed(window.cursor()),
         Field::Attrs => Answer::Number(u32::from(window.attrs().0)),
+        Field::Pair => Answer::Number(window.pair()),
         Field::Background => held(window.background()),
         Field::Region => placed(window.region()),
         Field::ScrollOk => Answer::Flag(window.scroll_ok()),
@@ -58,6 +61,7 @@ pub fn plain_field(window: &Window, field: Field) -> Answer {
         Field::Size => placed(narrow_place((window.rows, window.columns))),
         Field::Cursor => placed(narrow_place(window.cursor)),
         Field::Attrs => Answer::Number(u32::from(window.attrs)),
+        Field::Pair => Answer::Number(window.pair),
         Field::Background => held(window.background),
         Field::Region => placed(narrow_place(window.region)),
         Field::ScrollOk => Answer::Flag(window.scroll_ok),
@@ -109,5 +113,5 @@ fn placed_or_none(place: Option<(u32, u32)>) -> Answer {
 }
 
 fn held(cell: Cell) -> Answer {
-    Answer::Cell(cell.byte(), cell.attrs().0)
+    Answer::Cell(cell.byte(), cell.attrs().0, cell.pair())
 }

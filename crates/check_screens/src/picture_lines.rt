@@ -1,15 +1,15 @@
 //! Lines about a picture.
 
 use crate::answers::{add_place, add_word};
-use crate::cell_lines::add_held;
+use crate::cell_lines::{add_cell, read_parts};
 use crate::desk_lines::add_text_of;
 use crate::troubles::Trouble;
 use crate::words::Words;
-use scr_cells::{Attrs, Cell, NoMemory, Picture, Size};
+use scr_cells::{Cell, NoMemory, Picture, Size};
 use std::alloc::Global;
 
-/// The lines `picture R C`, `put R C B A`, `put_row R C B A`, `wish R C`, `wish none`, `wished`, `picture_size`, `picture_rows`
-/// and `picture_at R C`.
+/// The lines `picture R C`, `put R C B A P`, `put_row R C B A P`, `wish R C`, `wish none`, `wished`, `picture_size`,
+/// `picture_rows`, `picture_at R C`, `pair P` and `set_pair P F G`, where a foreground and a background are set.
 pub fn answer_of_picture(
     alloc: Global,
     picture: &mut Option<Picture>,
@@ -29,6 +29,8 @@ pub fn answer_of_picture(
         }
         b"picture_rows" => add_picture_rows(ready(picture)?, came)?,
         b"picture_at" => add_picture_at(ready(picture)?, words, came)?,
+        b"pair" => add_pair(ready(picture)?, words, came)?,
+        b"set_pair" => set_pair(ready_mut(picture)?, words, came)?,
         _ => return Ok(false),
     }
     Ok(true)
@@ -66,7 +68,8 @@ fn ready_mut(picture: &mut Option<Picture>) -> Result<&mut Picture, Trouble> {
 
 fn put(picture: &mut Picture, words: &mut Words<'_>, came: &mut Vec<u8>) -> Result<(), Trouble> {
     let (row, column) = (words.number()?, words.number()?);
-    let Some(cell) = Cell::new(words.byte()?, Attrs(words.byte()?)) else {
+    let (byte, attrs, pair) = read_parts(words)?;
+    let Some(cell) = Cell::paired(byte, attrs, pair) else {
         return Err(Trouble::Bad("no cell"));
     };
     let size = picture.size();
@@ -84,7 +87,8 @@ fn put_row(
     came: &mut Vec<u8>,
 ) -> Result<(), Trouble> {
     let (row, column) = (words.number()?, words.number()?);
-    let Some(cell) = Cell::new(words.byte()?, Attrs(words.byte()?)) else {
+    let (byte, attrs, pair) = read_parts(words)?;
+    let Some(cell) = Cell::paired(byte, attrs, pair) else {
         return Err(Trouble::Bad("no cell"));
     };
     let size = picture.size();
@@ -135,5 +139,28 @@ fn add_picture_at(
         return Err(Trouble::Bad("no place of the picture"));
     }
     let cell = picture.row(row)[column as usize];
-    add_held(cell.byte(), cell.attrs(), came)
+    add_cell(cell, came)
+}
+
+fn add_pair(picture: &Picture, words: &mut Words<'_>, came: &mut Vec<u8>) -> Result<(), Trouble> {
+    match picture.pair(words.number()?) {
+        Some((foreground, background)) => {
+            add_place(u32::from(foreground), u32::from(background), came)
+        }
+        None => add_word("none", came),
+    }
+}
+
+fn set_pair(
+    picture: &mut Picture,
+    words: &mut Words<'_>,
+    came: &mut Vec<u8>,
+) -> Result<(), Trouble> {
+    let pair = words.number()?;
+    let (foreground, background) = (words.byte()?, words.byte()?);
+    if pair == 0 || pair > 63 || foreground > 7 || background > 7 {
+        return Err(Trouble::Bad("no colours of a pair"));
+    }
+    picture.set_pair(pair, foreground, background);
+    add_word("Ok", came)
 }

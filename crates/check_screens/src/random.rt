@@ -58,6 +58,15 @@ impl Random {
         self.below(94).saturating_add(33)
     }
 
+    /// A colour pair: most often 0, else one of the first, and now and then one of the last or one too great.
+    pub fn pair(&mut self) -> u64 {
+        match self.below(16) {
+            0 => self.below(4).saturating_add(62),
+            1..8 => self.below(4),
+            _ => 0,
+        }
+    }
+
     /// A set of attributes, most often none.
     pub fn attributes(&mut self) -> u64 {
         match self.below(3) {

@@ -1,12 +1,12 @@
 //! Lines about an emulated screen.
 
 use crate::answers::{add_flag, add_number, add_place, add_text, add_word};
-use crate::cell_lines::add_held;
+use crate::cell_lines::add_look;
 use crate::picture_lines::read_size;
 use crate::texts::read_text;
 use crate::troubles::Trouble;
 use crate::words::Words;
-use scr_cells::{NoMemory, Size};
+use scr_cells::{Look, NoMemory, Size};
 use scr_term::{EcmaScreen, Spot};
 use screen_scripts::print_screen;
 use std::alloc::Global;
@@ -139,8 +139,7 @@ fn add_shown(
     if row >= size.rows || column >= size.columns {
         return Err(Trouble::Bad("no place of the screen"));
     }
-    let look = screen.cell(row, column);
-    add_held(look.byte(), look.attrs(), came)
+    add_look(screen.cell(row, column), came)
 }
 
 fn add_spot(screen: &EcmaScreen, came: &mut Vec<u8>) -> Result<(), Trouble> {
@@ -210,12 +209,12 @@ fn add_lines(done: Result<(), NoMemory>, text: &[u8], came: &mut Vec<u8>) -> Res
     }
 }
 
-// How many places show something other than a blank without attributes.
+// How many places show something other than a blank without attributes, in default colours.
 fn marked(screen: &EcmaScreen) -> u32 {
     let mut count: u32 = 0;
     for row in 0..screen.size().rows {
         for look in screen.row(row) {
-            if look.byte() != b' ' || look.attrs().0 != 0 {
+            if *look != Look::blank() {
                 count = count.saturating_add(1);
             }
         }

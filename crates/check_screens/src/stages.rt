@@ -122,6 +122,7 @@ fn read_arguments(
                 read_text(words.next(), text)?;
                 0
             }
+            b'p' => i64::from(words.number_if_any()?),
             letter => read_argument(letter, words.next())?,
         };
         if let Some(there) = numbers.get_mut(place) {

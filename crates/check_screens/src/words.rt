@@ -37,6 +37,14 @@ impl<'a> Words<'a> {
         u32::try_from(self.integer()?).map_err(|_| Trouble::Bad("a number is out of range"))
     }
 
+    /// The next word as a number if one comes before a `=`, else 0.
+    pub fn number_if_any(&mut self) -> Result<u32, Trouble> {
+        match self.peek() {
+            b"" | b"=" => Ok(0),
+            _ => self.number(),
+        }
+    }
+
     /// The next word as a byte, which may be written as a text of one character.
     pub fn byte(&mut self) -> Result<u8, Trouble> {
         byte(self.next())

@@ -52,9 +52,9 @@ impl Call<'_> {
         Attrs(self.byte(place))
     }
 
-    /// The cell of the byte and the attributes behind the window.
+    /// The cell of the byte, the attributes and the colour pair behind the window.
     pub fn cell(&self) -> Cell {
-        Cell::new(self.byte(1), self.attrs(2)).unwrap_or(Cell::blank())
+        Cell::paired(self.byte(1), self.attrs(2), self.number(3)).unwrap_or(Cell::blank())
     }
 
     /// Whether the number at a place among the arguments is not 0.
@@ -84,7 +84,7 @@ pub enum Answer {
     Added(Added),
     Made(Win),
     Place(u32, u32),
-    Cell(u8, u8),
+    Cell(u8, u8, u32),
     Flag(bool),
     Number(u32),
     Nothing,
@@ -123,5 +123,5 @@ pub fn said(answer: Result<bool, WinFault>) -> Answered {
 /// The answer of a call that gives a cell.
 pub fn held(answer: Result<Cell, WinFault>) -> Answered {
     let cell = answer?;
-    Ok(Answer::Cell(cell.byte(), cell.attrs().0))
+    Ok(Answer::Cell(cell.byte(), cell.attrs().0, cell.pair()))
 }

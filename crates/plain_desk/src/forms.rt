@@ -6,7 +6,7 @@ use crate::names::{Erasing, Making, Name, Reading, Setting, Touching, Writing};
 ///
 /// The word is the name of the library's call. The letters: `w` a window, `f` the first window of a family, `r` and `c` a
 /// row and a column, or so many of them, `i` a count with a sign, `b` a byte, `g` a byte 32 to 126, `a` a set of
-/// attributes, `o` 0 or 1, `t` a text. The others are numbers too, and say how generated calls choose them: `h` and `k` up
+/// attributes, `p` a colour pair, `o` 0 or 1, `t` a text. The others are numbers too, and say how generated calls choose them: `h` and `k` up
 /// to half of the rows and columns, `y` and `x` up to what the screen has more of them than the window, `s` a small one,
 /// `d` and `e` not before the number two before. The number says how often the call is among the generated ones.
 pub type Form = (&'static str, &'static str, u64, Name);
@@ -51,7 +51,7 @@ static ERASING: [Form; 7] = [
     ("scroll", "wi", 6, Name::Erase(Erasing::Scroll)),
     (
         "change_background",
-        "wga",
+        "wgap",
         3,
         Name::Erase(Erasing::ChangeBackground),
     ),
@@ -69,7 +69,7 @@ static TOUCHING: [Form; 9] = [
     ("take_lines", "wrr", 8, Name::Take),
 ];
 
-static SETTING: [Form; 9] = [
+static SETTING: [Form; 10] = [
     ("move_cursor", "wrc", 10, Name::Set(Setting::MoveCursor)),
     ("set_region", "wrr", 6, Name::Set(Setting::SetRegion)),
     ("scroll_ok", "wo", 8, Name::Set(Setting::ScrollOk)),
@@ -78,9 +78,10 @@ static SETTING: [Form; 9] = [
     ("attr_on", "wa", 2, Name::Set(Setting::AttrOn)),
     ("attr_off", "wa", 2, Name::Set(Setting::AttrOff)),
     ("attr_set", "wa", 2, Name::Set(Setting::AttrSet)),
+    ("color_set", "wp", 6, Name::Set(Setting::ColorSet)),
     (
         "set_background",
-        "wga",
+        "wgap",
         3,
         Name::Set(Setting::SetBackground),
     ),

@@ -170,7 +170,8 @@ fn choose(test: bool, yes: Cell, no: Cell) -> Cell {
     if test { yes } else { no }
 }
 
-// The old background's byte becomes the new one's, its attributes are taken off, and the new one's put on.
+// The old background's byte becomes the new one's, its attributes are taken off and the new one's put on, and its colour
+// pair becomes the new one's.
 fn exchanged(cell: Cell, old: Cell, new: Cell) -> Cell {
     let byte = if cell.byte() == old.byte() {
         new.byte()
@@ -178,7 +179,12 @@ fn exchanged(cell: Cell, old: Cell, new: Cell) -> Cell {
         cell.byte()
     };
     let attrs = (cell.attrs().0 & !old.attrs().0) | new.attrs().0;
-    Cell::new(byte, Attrs(attrs)).unwrap_or(Cell::blank())
+    let pair = if cell.pair() == old.pair() {
+        new.pair()
+    } else {
+        cell.pair()
+    };
+    Cell::paired(byte, Attrs(attrs), pair).unwrap_or(Cell::blank())
 }
 
 // Where edges and corners meet, the one that comes later in the border counts.

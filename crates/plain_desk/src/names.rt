@@ -61,6 +61,7 @@ pub enum Setting {
     AttrOn,
     AttrOff,
     AttrSet,
+    ColorSet,
     SetBackground,
 }
 

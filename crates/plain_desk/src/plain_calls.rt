@@ -39,7 +39,7 @@ impl Plain {
                     return Err(WinFault::OutOfWindow);
                 }
                 match self.line(window, row).get(call.number(2) as usize) {
-                    Some(cell) => Ok(Answer::Cell(cell.byte(), cell.attrs().0)),
+                    Some(cell) => Ok(Answer::Cell(cell.byte(), cell.attrs().0, cell.pair())),
                     None => Err(WinFault::OutOfWindow),
                 }
             }

@@ -110,7 +110,7 @@ impl Plain {
         self.add_child(alloc, number, part, None)
     }
 
-    // A window over a part of another, with that one's attributes and background.
+    // A window over a part of another, with that one's attributes, colour pair and background.
     fn add_child(
         &mut self,
         alloc: Global,
@@ -126,6 +126,7 @@ impl Plain {
         child.left = parent.left.saturating_add(part.1.1);
         child.parent = Some(above);
         child.attrs = parent.attrs;
+        child.pair = parent.pair;
         child.background = parent.background;
         self.windows.push(child)?;
         self.made = number;

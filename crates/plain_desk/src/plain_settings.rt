@@ -1,5 +1,5 @@
 //! What calls set in windows of the plain desk (X/Open Curses Issue 7, move(), setscrreg(), scrollok(), attron(),
-//! bkgdset()).
+//! color_set(), bkgdset()).
 
 use crate::calls::Call;
 use crate::names::Setting;
@@ -17,6 +17,7 @@ impl Plain {
                 return Err(WinFault::OutOfWindow);
             }
             Setting::SetRegion if a > b || b >= window.rows => return Err(WinFault::BadRegion),
+            Setting::ColorSet if a > 63 => return Err(WinFault::BadPair),
             Setting::MoveCursor => window.cursor = (a, b),
             Setting::SetRegion => window.region = (a, b),
             Setting::ScrollOk => window.scroll_ok = call.flag(1),
@@ -25,6 +26,7 @@ impl Plain {
             Setting::AttrOn => window.attrs |= attrs,
             Setting::AttrOff => window.attrs &= !attrs,
             Setting::AttrSet => window.attrs = attrs,
+            Setting::ColorSet => window.pair = call.number(1),
             Setting::SetBackground => window.background = call.cell(),
         }
         Ok(())

@@ -166,7 +166,12 @@ fn written(byte: u8, attrs: u8, window: &Window) -> Cell {
     let background = window.background;
     let shown = if byte == 32 { background.byte() } else { byte };
     let all = Attrs(attrs | window.attrs | background.attrs().0);
-    Cell::new(shown, all).unwrap_or(Cell::blank())
+    let pair = if window.pair > 0 {
+        window.pair
+    } else {
+        background.pair()
+    };
+    Cell::paired(shown, all, pair).unwrap_or(Cell::blank())
 }
 
 // The written form of a byte 32 to 126.

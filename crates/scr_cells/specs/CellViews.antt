@@ -1,4 +1,4 @@
--- What a cell of a window holds. X/Open Curses Issue 7, 'Characters'.
+-- What a cell of a window holds. X/Open Curses Issue 7, 'Characters' and 'Color'.
 use Rattle.std.specs.Prelude.{ℕ, ◌<◌, ◌≤◌, ◌&&◌, Bool, nat_le}
 
 -- a character: the blank, or a graphic character of ASCII
@@ -8,16 +8,22 @@ IsCharacter byte = (32 ≤ byte) × (byte ≤ 126)
 abbrev pub is_character : ℕ → Bool
 is_character byte = nat_le 32 byte && nat_le byte 126
 
--- a byte with a set of attributes
+-- a byte with a set of attributes and the number of a colour pair, of which 0 means the terminal's default colours
 pub record CellView : Type 0 where
   pub byte : ℕ
   pub attrs : ℕ
+  pub pair : ℕ
+
+-- the number of a colour pair
+abbrev pub IsPair : ℕ → Type 0
+IsPair pair = pair < 64
 
 -- the byte is a character
 pub record IsCell (cell : CellView) : Type 0 where
   pub character : IsCharacter cell.byte
   pub attributes : cell.attrs < 256
+  pub pair : IsPair cell.pair
 
--- a blank without attributes
+-- a blank without attributes, in default colours
 abbrev pub blank_cell : CellView
-blank_cell = record { byte = 32; attrs = 0 }
+blank_cell = record { byte = 32; attrs = 0; pair = 0 }

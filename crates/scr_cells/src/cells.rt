@@ -3,15 +3,15 @@ ghost use Rattle.std.specs.Prelude.{◌≡◌, ◌↔◌, ◌==◌, IsSome, IsTr
 ghost use Rattle.std.proofs.Common.{rules};
 ghost use Rattle.std.specs.Ordering.{eq_of_both, on};
 ghost use Rattle.std.specs.Cmp.Rules.{comparing};
-ghost use Rattle.scr_cells.specs.CellViews.{IsCell, IsCharacter, blank_cell, is_character};
+ghost use Rattle.scr_cells.specs.CellViews.{IsCell, IsCharacter, IsPair, blank_cell, is_character};
 
 use crate::Attrs;
 use std::marker::Model;
 
-/// What a window holds in one place: a byte 32 to 126 and a set of attributes (X/Open Curses Issue 7,
-/// 'Characters').
+/// What a window holds in one place: a byte 32 to 126, a set of attributes and the number of a colour pair (X/Open
+/// Curses Issue 7, 'Characters' and 'Color'). Pair 0 means the terminal's default colours.
 ///
-/// One `u32`: the byte in bits 0 to 7, the attributes in bits 8 to 15.
+/// One `u32`: the byte in bits 0 to 7, the attributes in bits 8 to 15, the pair in bits 16 to 21.
 #[derive(Clone, Copy, Debug)]
 pub struct Cell {
     packed: u32,
@@ -23,18 +23,21 @@ impl Model for Cell {
 
     ghost Value = { CellView };
 
-    ghost view = { λ a. record { byte = a.packed % 256; attrs = a.packed / 256 } };
+    ghost view = { λ a. record { byte = a.packed % 256; attrs = a.packed / 256 % 256; pair = a.packed / 65536 } };
 
-    ghost invariant = { λ a. IsCell (record { byte = a.packed % 256; attrs = a.packed / 256 }) };
+    ghost invariant = { λ a. IsCell (record { byte = a.packed % 256; attrs = a.packed / 256 % 256; pair = a.packed / 65536 }) };
 
-    ghost inverse = { λ v. record { packed = v.attrs * 256 + v.byte } };
+    ghost inverse = { λ v. record { packed = v.pair * 65536 + v.attrs * 256 + v.byte } };
 }
 
 impl Cell {
-    /// The cell of a byte and attributes; `None` where the byte is not 32 to 126.
+    /// The greatest number of a colour pair.
+    pub const MOST_PAIR: u32 = 63;
+
+    /// The cell of a byte and attributes, with pair 0; `None` where the byte is not 32 to 126.
     pub fn new(byte: u8, attrs: Attrs) -> Option<Cell>
         ensures character { IsSome result ↔ IsCharacter byte }
-        ensures holds { IfSome result (λ cell. cell ≡ record { byte = byte; attrs = attrs.0 }) }
+        ensures holds { IfSome result (λ cell. cell ≡ record { byte = byte; attrs = attrs.0; pair = 0 }) }
     {
         if !is_character(byte) {
             return None;
@@ -44,7 +47,21 @@ impl Cell {
         })
     }
 
-    /// A blank without attributes.
+    /// The cell of a byte, attributes and a colour pair; `None` where the byte is not 32 to 126 or the pair is above 63
+    /// (X/Open Curses Issue 7, 'Color').
+    pub fn paired(byte: u8, attrs: Attrs, pair: u32) -> Option<Cell>
+        ensures fits { IsSome result ↔ (IsCharacter byte × IsPair pair) }
+        ensures holds { IfSome result (λ cell. cell ≡ record { byte = byte; attrs = attrs.0; pair = pair }) }
+    {
+        if !is_character(byte) || pair > Cell::MOST_PAIR {
+            return None;
+        }
+        Some(Cell {
+            packed: pair * 65536 + u32::from(attrs.0) * 256 + u32::from(byte),
+        })
+    }
+
+    /// A blank without attributes, with pair 0.
     pub fn blank() -> Cell
         ensures { result ≡ blank_cell }
     {
@@ -64,7 +81,15 @@ impl Cell {
         ensures value { result.0 ≡ self.attrs }
         ensures cell { IsCell self }
     {
-        Attrs((self.packed / 256) as u8)
+        Attrs((self.packed / 256 % 256) as u8)
+    }
+
+    /// The number of the colour pair, 0 to 63.
+    pub fn pair(self) -> u32
+        ensures value { result ≡ self.pair }
+        ensures cell { IsCell self }
+    {
+        self.packed / 65536
     }
 }
 
@@ -77,7 +102,7 @@ pub fn is_character(byte: u8) -> bool
 }
 
 impl PartialEq for Cell {
-    ghost eq = { eq_of_both (on (λ cell. cell.byte) ◌==◌) (on (λ cell. cell.attrs) ◌==◌) };
+    ghost eq = { eq_of_both (on (λ cell. cell.byte) ◌==◌) (eq_of_both (on (λ cell. cell.attrs) ◌==◌) (on (λ cell. cell.pair) ◌==◌)) };
 
     ghost laws = { Prim.search (comparing, rules) };
 

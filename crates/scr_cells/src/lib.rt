@@ -1,7 +1,7 @@
-//! What a curses screen is made of: sizes, attribute sets, cells, looks, grids of them and pictures.
+//! What a curses screen is made of: sizes, attribute sets, pens, cells, looks, grids of them and pictures.
 //!
-//! A *cell* is what a window holds in one place, and a *look* what a terminal shows there. They are
-//! two types, since colours will come to them in different ways.
+//! A *cell* is what a window holds in one place, and a *look* what a terminal shows there. They are two types, since a
+//! cell has the number of a colour pair, and a look has colours, by its *pen*: what a character is written with.
 #![tactic(auto)]
 
 mod attributes;
@@ -9,6 +9,7 @@ mod cells;
 mod grids;
 mod laws;
 mod looks;
+mod pens;
 mod pictures;
 mod sizes;
 
@@ -18,5 +19,6 @@ pub use grids::Grid;
 pub use laws::{attribute_laws, grid_laws};
 pub use looks::Look;
 pub use out_of_memory::NoMemory;
+pub use pens::Pen;
 pub use pictures::Picture;
 pub use sizes::Size;

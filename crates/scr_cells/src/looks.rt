@@ -5,14 +5,15 @@ ghost use Rattle.std.specs.Ordering.{eq_of_both, on};
 ghost use Rattle.std.specs.Cmp.Rules.{comparing};
 ghost use Rattle.scr_cells.specs.CellViews.{IsCharacter};
 ghost use Rattle.scr_cells.specs.LookViews.{IsLook, blank};
+ghost use Rattle.scr_cells.specs.PenViews.{IsColour, pen_eq};
 
-use crate::{Attrs, is_character};
+use crate::{Attrs, Pen, is_character};
 use std::marker::Model;
 
-/// What a terminal shows in one place: a byte 32 to 126 and the attributes that it is shown with
+/// What a terminal shows in one place: a byte 32 to 126, and the attributes and the colours that it is shown with
 /// (ECMA-48, 'graphic rendition').
 ///
-/// One `u32`: the byte in bits 0 to 7, the attributes in bits 8 to 15.
+/// One `u32`: the byte in bits 0 to 7, the rest as in a `Pen`.
 #[derive(Clone, Copy, Debug)]
 pub struct Look {
     packed: u32,
@@ -21,31 +22,47 @@ pub struct Look {
 impl Model for Look {
     ghost use Rattle.std.specs.Prelude.{◌+◌, ◌*◌, ◌/◌, ◌%◌};
     ghost use Rattle.scr_cells.specs.LookViews.{LookView, IsLook};
+    ghost use Rattle.scr_cells.specs.Code.PackedPens.{coded_pen, pen_code};
 
     ghost Value = { LookView };
 
-    ghost view = { λ a. record { byte = a.packed % 256; attrs = a.packed / 256 } };
+    ghost view = { λ a. record { byte = a.packed % 256; pen = coded_pen (a.packed / 256) } };
 
-    ghost invariant = { λ a. IsLook (record { byte = a.packed % 256; attrs = a.packed / 256 }) };
+    ghost invariant = { λ a. IsLook (record { byte = a.packed % 256; pen = coded_pen (a.packed / 256) }) };
 
-    ghost inverse = { λ v. record { packed = v.attrs * 256 + v.byte } };
+    ghost inverse = { λ v. record { packed = pen_code v.pen * 256 + v.byte } };
 }
 
 impl Look {
-    /// The look of a byte with attributes; `None` where the byte is not 32 to 126.
-    pub fn new(byte: u8, attrs: Attrs) -> Option<Look>
+    /// The look of a byte with attributes, a foreground and a background; `None` where the byte is not 32 to 126 or a
+    /// colour is above 7. A colour that is `None` is the terminal's default.
+    pub fn new(
+        byte: u8,
+        attrs: Attrs,
+        foreground: Option<u8>,
+        background: Option<u8>,
+    ) -> Option<Look>
+        ensures fits { IsSome result ↔ (IsCharacter byte × IfSome foreground IsColour × IfSome background IsColour) }
+        ensures holds { IfSome result (λ look. look ≡ record { byte = byte; pen = record { attrs = attrs.0; foreground = foreground; background = background } }) }
+    {
+        let pen = Pen::new(attrs, foreground, background)?;
+        Look::written(byte, pen)
+    }
+
+    /// The look of a byte that is written with a pen; `None` where the byte is not 32 to 126.
+    pub fn written(byte: u8, pen: Pen) -> Option<Look>
         ensures character { IsSome result ↔ IsCharacter byte }
-        ensures holds { IfSome result (λ look. look ≡ record { byte = byte; attrs = attrs.0 }) }
+        ensures holds { IfSome result (λ look. look ≡ record { byte = byte; pen = pen }) }
     {
         if !is_character(byte) {
             return None;
         }
         Some(Look {
-            packed: u32::from(attrs.0) * 256 + u32::from(byte),
+            packed: pen.packed + u32::from(byte),
         })
     }
 
-    /// A blank: byte 32 without attributes.
+    /// A blank: byte 32 without attributes, in default colours.
     pub fn blank() -> Look
         ensures { result ≡ blank }
     {
@@ -60,19 +77,45 @@ impl Look {
         (self.packed % 256) as u8
     }
 
-    /// The attributes.
-    pub fn attrs(self) -> Attrs
-        ensures value { result.0 ≡ self.attrs }
+    /// What the byte is written with.
+    pub fn pen(self) -> Pen
+        ensures value { result ≡ self.pen }
         ensures look { IsLook self }
     {
-        Attrs((self.packed / 256) as u8)
+        Pen {
+            packed: self.packed / 256 * 256,
+        }
+    }
+
+    /// The attributes.
+    pub fn attrs(self) -> Attrs
+        ensures value { result.0 ≡ self.pen.attrs }
+        ensures look { IsLook self }
+    {
+        self.pen().attrs()
+    }
+
+    /// The colour of the character, if it is not the default.
+    pub fn foreground(self) -> Option<u8>
+        ensures value { result ≡ self.pen.foreground }
+        ensures look { IsLook self }
+    {
+        self.pen().foreground()
+    }
+
+    /// The colour of its ground, if it is not the default.
+    pub fn background(self) -> Option<u8>
+        ensures value { result ≡ self.pen.background }
+        ensures look { IsLook self }
+    {
+        self.pen().background()
     }
 }
 
 impl PartialEq for Look {
-    ghost eq = { eq_of_both (on (λ look. look.byte) ◌==◌) (on (λ look. look.attrs) ◌==◌) };
+    ghost eq = { eq_of_both (on (λ look. look.byte) ◌==◌) (on (λ look. look.pen) pen_eq) };
 
-    ghost laws = { Prim.search (comparing, rules) };
+    ghost laws = { Prim.search (comparing, rules) depth 8 };
 
     fn eq(&self, other: &Look) -> bool {
         self.packed == other.packed

@@ -1,20 +1,23 @@
 //! Pictures: what a screen is to show.
-ghost use Rattle.std.specs.Prelude.{◌≡◌, ◌+◌, ◌<◌, ◌≤◌, All, length, IfOk, IfSome};
+ghost use Rattle.std.specs.Prelude.{◌≡◌, ◌↔◌, ◌+◌, ◌-◌, ◌<◌, ◌≤◌, All, Some, length, slice_set, IfOk, IfSome, IsSome};
 ghost use Rattle.std.specs.Option.{ForSome};
-ghost use Rattle.scr_cells.specs.CellViews.{IsCell};
+ghost use Rattle.scr_cells.specs.CellViews.{IsCell, IsPair};
 ghost use Rattle.scr_cells.specs.Grids.{grid_row, grid_with, grid_with_run};
-ghost use Rattle.scr_cells.specs.PictureViews.{IsPicture, IsPlace, blank_picture};
+ghost use Rattle.scr_cells.specs.PenViews.{IsColour, first_pairs, pair_colours};
+ghost use Rattle.scr_cells.specs.PictureViews.{AreColours, IsPicture, IsPlace, blank_picture};
 
 use crate::{Cell, Grid, NoMemory, Size, grid_laws};
 use std::alloc::Global;
 use std::marker::Model;
 
-/// The cells that a screen is to show, and where its cursor is wished (X/Open Curses Issue 7,
-/// 'Screens, Windows and Terminals'; curs_refresh(3X), 'virtual screen').
+/// The cells that a screen is to show, the colours of their pairs, and where its cursor is wished (X/Open Curses
+/// Issue 7, 'Screens, Windows and Terminals' and 'Color'; curs_refresh(3X), 'virtual screen').
 #[derive(Drop)]
 pub struct Picture {
     grid: Grid<Cell>,
     wish: Option<(u32, u32)>,
+    // The foreground and the background of each pair, from pair 1 on.
+    pairs: [(u8, u8); 63],
 }
 
 impl Model for Picture {
@@ -22,13 +25,13 @@ impl Model for Picture {
 
     ghost Value = { PictureView };
 
-    ghost view = { λ a. record { rows = a.grid.rows; columns = a.grid.columns; lines = a.grid.lines; wish = a.wish } };
+    ghost view = { λ a. record { rows = a.grid.rows; columns = a.grid.columns; lines = a.grid.lines; wish = a.wish; pairs = a.pairs } };
 
-    ghost invariant = { λ a. IsPicture (record { rows = a.grid.rows; columns = a.grid.columns; lines = a.grid.lines; wish = a.wish }) };
+    ghost invariant = { λ a. IsPicture (record { rows = a.grid.rows; columns = a.grid.columns; lines = a.grid.lines; wish = a.wish; pairs = a.pairs }) };
 }
 
 impl Picture {
-    /// Blanks everywhere, and no wish. Fails only when memory runs out.
+    /// Blanks everywhere, no wish, and each pair 7 on 0. Fails only when memory runs out.
     pub fn new(alloc: Global, size: Size) -> Result<Picture, NoMemory>
         ensures { IfOk result (λ picture. picture ≡ blank_picture size.rows size.columns) }
     {
@@ -36,6 +39,7 @@ impl Picture {
         Ok(Picture {
             grid: Grid::new(alloc, size.rows, size.columns, Cell::blank())?,
             wish: None,
+            pairs: first_pairs(),
         })
     }
 
@@ -94,6 +98,42 @@ impl Picture {
     {
         self.wish = wish;
     }
+
+    /// The foreground and the background of a colour pair, each 0 to 7; `None` where the pair is not 1 to 63 (X/Open
+    /// Curses Issue 7, 'pair_content').
+    pub fn pair(&self, pair: u32) -> Option<(u8, u8)>
+        ensures some { IsSome result ↔ (0 < pair × pair < 64) }
+        ensures colours { IfSome result (λ colours. pair_colours self.now.pairs pair ≡ (Some colours.0, Some colours.1)) }
+        ensures fits { IfSome result AreColours }
+    {
+        if (1..=Cell::MOST_PAIR).contains(&pair) {
+            Some(self.pairs[pair as usize - 1])
+        } else {
+            None
+        }
+    }
+
+    /// Sets the foreground and the background of a colour pair. The pair is 1 to 63, and each colour 0 to 7. Nothing
+    /// else changes (X/Open Curses Issue 7, 'init_pair').
+    pub fn set_pair(&mut self, pair: u32, foreground: u8, background: u8)
+        requires some { 0 < pair }
+        requires pair { IsPair pair }
+        requires foreground { IsColour foreground }
+        requires background { IsColour background }
+        ensures { self.new ≡ record self.old { pairs = slice_set self.old.pairs (pair - 1) (foreground, background) } }
+    {
+        self.pairs[pair as usize - 1] = (foreground, background);
+    }
+}
+
+// The colours of each pair at first, from pair 1 on: white on black.
+#[tactic(auto, unfolding(crate::specs::PenViews::first_pairs))]
+fn first_pairs() -> [(u8, u8); 63]
+    ensures value { result ≡ first_pairs }
+    ensures len { length result ≡ 63 }
+    ensures colours { All AreColours result }
+{
+    [(7, 0); 63]
 }
 
 // What holds of every cell holds of each of these. The loop is for the proof alone, which learns what holds of a cell from a

@@ -12,6 +12,7 @@ use Rattle.scr_cells.specs.Attributes.{all_attributes, attributes_of}
 use Rattle.scr_cells.specs.CellViews.{CellView, IsCell}
 use Rattle.scr_cells.specs.Grids.{GridLaws, IsGrid, grid_row, grid_with}
 use Rattle.scr_cells.specs.LookViews.{LookView, seen, blank, blank_grid, negative_grid}
+use Rattle.scr_cells.specs.PenViews.{PenView, plain_pen, with_attribute}
 use Rattle.scr_cells.specs.PictureViews.{PictureView, IsPlace}
 use Rattle.scr_term.specs.declared.operations.operation.Op.{Op}
 use Rattle.scr_term.specs.declared.operations.operation.Op.TheVariants.{Move, Reset, Put}
@@ -19,7 +20,7 @@ use Rattle.scr_term.specs.declared.operations.operation.Spot.TheVariants.{At}
 use Rattle.scr_term.specs.Operations.Profiles.{ProfileView, IsProfile}
 use Rattle.scr_term.specs.Operations.States.{TerminalState, spot_after}
 use Rattle.scr_term.specs.Operations.Steps.{step, runs}
-use Rattle.scr_term.specs.Operations.Painted.{painted}
+use Rattle.scr_term.specs.Operations.Painted.{painted, seen_on}
 use Rattle.scr_term.specs.Operations.Laws.{BytesActAsTheirOperations, RunLaws}
 use Rattle.scr_plan.specs.Scratch.{enter, paints_cell, paints_cells, paints_row, paints_rows, places_cursor, scratch_of, Fits, ScratchShows, ScratchBytesShow}
 
@@ -42,7 +43,7 @@ shown_member shown set a h = same_from_bits _ _ (λ i.
     rw (bit_at_and shown a i) (omega (arith, bit_at_and (bit_and shown set) a i, bit_at_and shown set i)))
 
 enters_one : (profile : ProfileView) (old : TerminalState) (a : ℕ) → IsAttribute a → bit_and profile.shown a ≡ a
-    → step profile old (enter a) ≡ Some (record { grid = old.grid; spot = old.spot; attrs = bit_or old.attrs a })
+    → step profile old (enter a) ≡ Some (record { grid = old.grid; spot = old.spot; pen = with_attribute old.pen a })
 enters_one profile old a one shown = rw (one, eq-eqb _ _ shown) refl
 
 -- the attributes of a list that are seen of a set
@@ -52,13 +53,13 @@ seen_of shown set attributes = filter (λ a. bit_and (bit_and shown set) a == a)
 -- these operations turn these attributes on, from any state
 abbrev Enters : ProfileView → List ℕ → Type 0
 Enters profile attributes =
-    (old : TerminalState) → runs profile old (map enter attributes) ≡ Some (record { grid = old.grid; spot = old.spot; attrs = with_each old.attrs attributes })
+    (old : TerminalState) → runs profile old (map enter attributes) ≡ Some (record { grid = old.grid; spot = old.spot; pen = record old.pen { attrs = with_each old.pen.attrs attributes } })
 
 enters_more : (profile : ProfileView) (set a : ℕ) (rest : List ℕ) → IsAttribute a → Enters profile rest
     → (b : Bool) → (bit_and (bit_and profile.shown set) a == a) ≡ b → Enters profile (cond b (a ∷ rest) rest)
 enters_more profile set a rest one h true e = λ old.
     ap (option_and_then (λ next. runs profile next (map enter rest))) (enters_one profile old a one (shown_member profile.shown set a (eqb-true _ _ e)))
-    ∙ h (record { grid = old.grid; spot = old.spot; attrs = bit_or old.attrs a })
+    ∙ h (record { grid = old.grid; spot = old.spot; pen = with_attribute old.pen a })
 enters_more profile set a rest one h false e = h
 
 enters : (profile : ProfileView) (set : ℕ) (attributes : List ℕ) → AllByRecursion IsAttribute attributes → Enters profile (seen_of profile.shown set attributes)
@@ -66,21 +67,29 @@ enters profile set [] each = λ old. refl
 enters profile set (a ∷ rest) each =
     enters_more profile set a (seen_of profile.shown set rest) each.0 (enters profile set rest each.1) (bit_and (bit_and profile.shown set) a == a) refl
 
+-- attributes in default colours
+abbrev pen_of : ℕ → PenView
+pen_of attrs = record { attrs = attrs; foreground = None; background = None }
+
+-- what is seen of a cell has default colours
+seen_is : (profile : ProfileView) → IsProfile profile → (pairs : List (ℕ × ℕ)) (cell : CellView) → record { byte = cell.byte; pen = pen_of (bit_and profile.shown cell.attrs) } ≡ seen_on profile pairs cell
+seen_is profile p pairs cell = ap (λ colours. seen profile.shown colours pairs cell) (sym p.colours)
+
 -- one cell is painted in its place
-cell_painted : RunLaws → (profile : ProfileView) → IsProfile profile → (old : TerminalState) (r c : ℕ) (cell : CellView) → r < profile.rows → c < profile.columns → IsCell cell
+cell_painted : RunLaws → (profile : ProfileView) → IsProfile profile → (pairs : List (ℕ × ℕ)) (old : TerminalState) (r c : ℕ) (cell : CellView) → r < profile.rows → c < profile.columns → IsCell cell
     → runs profile old (paints_cell profile r c cell)
-    ≡ Some (record { grid = grid_with old.grid r c (seen profile.shown cell); spot = spot_after profile.columns r c; attrs = bit_and profile.shown cell.attrs })
-cell_painted laws profile p old r c cell hr hc k =
+    ≡ Some (record { grid = grid_with old.grid r c (seen_on profile pairs cell); spot = spot_after profile.columns r c; pen = pen_of (bit_and profile.shown cell.attrs) })
+cell_painted laws profile p pairs old r c cell hr hc k =
     let shown : ℕ = bit_and profile.shown cell.attrs in
     let small : shown < 128 = omega (arith, p.shown, and_le_l profile.shown cell.attrs, and_le_l 127 profile.shown) in
-    let placed : TerminalState = record { grid = old.grid; spot = At r c; attrs = 0 } in
-    let lit : TerminalState = record { grid = old.grid; spot = At r c; attrs = with_each 0 (attributes_of shown) } in
+    let placed : TerminalState = record { grid = old.grid; spot = At r c; pen = plain_pen } in
+    let lit : TerminalState = record { grid = old.grid; spot = At r c; pen = pen_of (with_each 0 (attributes_of shown)) } in
     let place : (nat_lt r profile.rows && nat_lt c profile.columns) ≡ true = grind (arith, nat_tests) in
     let graphic : (nat_le 32 cell.byte && nat_le cell.byte 126) ≡ true = grind (arith, nat_tests, k.character.0, k.character.1) in
     let moved : runs profile old (Move r c ∷ Reset ∷ []) ≡ Some placed = rw place refl in
     let entered : runs profile placed (map enter (attributes_of shown)) ≡ Some lit = enters profile cell.attrs all_attributes (refl, (refl, (refl, (refl, (refl, (refl, (refl, tt))))))) placed in
-    let put : runs profile lit (Put cell.byte ∷ []) ≡ Some (record { grid = grid_with old.grid r c (seen profile.shown cell); spot = spot_after profile.columns r c; attrs = shown })
-    = rw (graphic, all_of_set shown small) refl in
+    let put : runs profile lit (Put cell.byte ∷ []) ≡ Some (record { grid = grid_with old.grid r c (seen_on profile pairs cell); spot = spot_after profile.columns r c; pen = pen_of shown })
+    = rw (graphic, all_of_set shown small) (ap (λ look. Some (record { grid = grid_with old.grid r c look; spot = spot_after profile.columns r c; pen = pen_of shown })) (seen_is profile p pairs cell)) in
     laws.joined profile old placed (Move r c ∷ Reset ∷ []) (map enter (attributes_of shown) ++ Put cell.byte ∷ []) moved
     ∙ laws.joined profile placed lit (map enter (attributes_of shown)) (Put cell.byte ∷ []) entered
     ∙ put
@@ -120,24 +129,24 @@ leads_on laws profile old next xs ys grid h l = record {
 }
 
 -- the cells of a row are painted from one on, and nothing before them or in other rows
-cells_painted : RunLaws → (profile : ProfileView) → IsProfile profile → (r c : ℕ) (cells : List CellView) (above below : List (List LookView)) (front olds : List LookView) (old : TerminalState)
+cells_painted : RunLaws → (profile : ProfileView) → IsProfile profile → (pairs : List (ℕ × ℕ)) (r c : ℕ) (cells : List CellView) (above below : List (List LookView)) (front olds : List LookView) (old : TerminalState)
     → AllByRecursion IsCell cells → r < profile.rows → c + length cells ≤ profile.columns
     → length above ≡ r → length front ≡ c → length olds ≡ length cells → old.grid ≡ above ++ (front ++ olds) ∷ below
-    → LeadsToGrid profile old (paints_cells profile r c cells) (above ++ (front ++ map (seen profile.shown) cells) ∷ below)
-cells_painted laws profile p r c [] above below front [] old k hr hc ha hf ho hg = record { new = old; run = refl; grid_is = hg }
-cells_painted laws profile p r c [] above below front (o ∷ olds) old k hr hc ha hf ho hg = absurd (omega arith)
-cells_painted laws profile p r c (cell ∷ cells) above below front [] old k hr hc ha hf ho hg = absurd (omega arith)
-cells_painted laws profile p r c (cell ∷ cells) above below front (o ∷ olds) old k hr hc ha hf ho hg =
-    let look : LookView = seen profile.shown cell in
-    let next : TerminalState = record { grid = grid_with old.grid r c look; spot = spot_after profile.columns r c; attrs = bit_and profile.shown cell.attrs } in
-    let painted_one : runs profile old (paints_cell profile r c cell) ≡ Some next = cell_painted laws profile p old r c cell hr (omega arith) k.0 in
+    → LeadsToGrid profile old (paints_cells profile r c cells) (above ++ (front ++ map (seen_on profile pairs) cells) ∷ below)
+cells_painted laws profile p pairs r c [] above below front [] old k hr hc ha hf ho hg = record { new = old; run = refl; grid_is = hg }
+cells_painted laws profile p pairs r c [] above below front (o ∷ olds) old k hr hc ha hf ho hg = absurd (omega arith)
+cells_painted laws profile p pairs r c (cell ∷ cells) above below front [] old k hr hc ha hf ho hg = absurd (omega arith)
+cells_painted laws profile p pairs r c (cell ∷ cells) above below front (o ∷ olds) old k hr hc ha hf ho hg =
+    let look : LookView = seen_on profile pairs cell in
+    let next : TerminalState = record { grid = grid_with old.grid r c look; spot = spot_after profile.columns r c; pen = pen_of (bit_and profile.shown cell.attrs) } in
+    let painted_one : runs profile old (paints_cell profile r c cell) ≡ Some next = cell_painted laws profile p pairs old r c cell hr (omega arith) k.0 in
     let grid_now : next.grid ≡ above ++ ((front ++ look ∷ []) ++ olds) ∷ below =
     ap (λ g. grid_with g r c look) hg ∙ put_behind above below front olds o look r c ha hf ∙ ap (λ line. above ++ line ∷ below) (sym (append_assoc front (look ∷ []) olds)) in
-    let others = cells_painted laws profile p r (c + 1) cells above below (front ++ look ∷ []) olds next k.1 hr (omega arith)
+    let others = cells_painted laws profile p pairs r (c + 1) cells above below (front ++ look ∷ []) olds next k.1 hr (omega arith)
     ha (omega (arith, length-append front (look ∷ []))) (omega arith) grid_now in
-    let grid_then : above ++ ((front ++ look ∷ []) ++ map (seen profile.shown) cells) ∷ below ≡ above ++ (front ++ (look ∷ map (seen profile.shown) cells)) ∷ below =
-    ap (λ line. above ++ line ∷ below) (append_assoc front (look ∷ []) (map (seen profile.shown) cells)) in
-    leads_on laws profile old next (paints_cell profile r c cell) (paints_cells profile r (c + 1) cells) (above ++ (front ++ (look ∷ map (seen profile.shown) cells)) ∷ below)
+    let grid_then : above ++ ((front ++ look ∷ []) ++ map (seen_on profile pairs) cells) ∷ below ≡ above ++ (front ++ (look ∷ map (seen_on profile pairs) cells)) ∷ below =
+    ap (λ line. above ++ line ∷ below) (append_assoc front (look ∷ []) (map (seen_on profile pairs) cells)) in
+    leads_on laws profile old next (paints_cell profile r c cell) (paints_cells profile r (c + 1) cells) (above ++ (front ++ (look ∷ map (seen_on profile pairs) cells)) ∷ below)
     painted_one (record { new = others.new; run = others.run; grid_is = others.grid_is ∙ grid_then })
 
 no_elements : {A : Type 0} (xs : List A) → length xs ≡ 0 → xs ≡ []
@@ -158,10 +167,10 @@ rows_painted : RunLaws → (profile : ProfileView) → IsProfile profile → (pi
     → (before after : List (List CellView)) → picture.lines ≡ before ++ after → length before ≡ r → length after ≡ n
     → AllByRecursion (All IsCell) after → AreWide profile.columns after
     → (rest : List (List LookView)) → length rest ≡ n → AreWide profile.columns rest
-    → (old : TerminalState) → old.grid ≡ map (map (seen profile.shown)) before ++ rest
-    → LeadsToGrid profile old (flat_map (paints_row profile picture) (range_with_len r n)) (map (map (seen profile.shown)) picture.lines)
+    → (old : TerminalState) → old.grid ≡ map (map (seen_on profile picture.pairs)) before ++ rest
+    → LeadsToGrid profile old (flat_map (paints_row profile picture) (range_with_len r n)) (map (map (seen_on profile picture.pairs)) picture.lines)
 rows_painted laws profile p picture zero r er before after split hb ha k w rest hr v old hg =
-    let all : List (List CellView) → List (List LookView) = map (map (seen profile.shown)) in
+    let all : List (List CellView) → List (List LookView) = map (map (seen_on profile picture.pairs)) in
     record {
       new = old;
       run = refl;
@@ -172,15 +181,15 @@ rows_painted laws profile p picture zero r er before after split hb ha k w rest 
 rows_painted laws profile p picture (suc n) r er before [] split hb ha k w rest hr v old hg = absurd (omega arith)
 rows_painted laws profile p picture (suc n) r er before (row ∷ after) split hb ha k w [] hr v old hg = absurd (omega arith)
 rows_painted laws profile p picture (suc n) r er before (row ∷ after) split hb ha k w (line ∷ rest) hr v old hg =
-    let all : List (List CellView) → List (List LookView) = map (map (seen profile.shown)) in
+    let all : List (List CellView) → List (List LookView) = map (map (seen_on profile picture.pairs)) in
     let row_is : grid_row picture.lines r ≡ row = ap (λ lines. grid_row lines r) split ∙ row_behind before after row r hb in
-    let above_long : length (all before) ≡ r = length-map before (map (seen profile.shown)) ∙ hb in
-    let painted_row : LeadsToGrid profile old (paints_row profile picture r) (all before ++ map (seen profile.shown) row ∷ rest) =
-    subst (λ t. LeadsToGrid profile old (paints_cells profile r 0 t) (all before ++ map (seen profile.shown) row ∷ rest)) (sym row_is)
-    (cells_painted laws profile p r 0 row (all before) rest [] line old (recursion_from_All IsCell row k.0) (omega arith) (omega (arith, w.0)) above_long refl (v.0 ∙ sym w.0) hg) in
+    let above_long : length (all before) ≡ r = length-map before (map (seen_on profile picture.pairs)) ∙ hb in
+    let painted_row : LeadsToGrid profile old (paints_row profile picture r) (all before ++ map (seen_on profile picture.pairs) row ∷ rest) =
+    subst (λ t. LeadsToGrid profile old (paints_cells profile r 0 t) (all before ++ map (seen_on profile picture.pairs) row ∷ rest)) (sym row_is)
+    (cells_painted laws profile p picture.pairs r 0 row (all before) rest [] line old (recursion_from_All IsCell row k.0) (omega arith) (omega (arith, w.0)) above_long refl (v.0 ∙ sym w.0) hg) in
     let next : TerminalState = painted_row.new in
     let grid_now : next.grid ≡ all (before ++ row ∷ []) ++ rest =
-    painted_row.grid_is ∙ sym (append_assoc (all before) (map (seen profile.shown) row ∷ []) rest) ∙ ap (λ t. t ++ rest) (sym (map-append (map (seen profile.shown)) before (row ∷ []))) in
+    painted_row.grid_is ∙ sym (append_assoc (all before) (map (seen_on profile picture.pairs) row ∷ []) rest) ∙ ap (λ t. t ++ rest) (sym (map-append (map (seen_on profile picture.pairs)) before (row ∷ []))) in
     let rows_left = rows_painted laws profile p picture n (r + 1) (omega arith) (before ++ row ∷ []) after
     (split ∙ sym (append_assoc before (row ∷ []) after)) (omega (arith, length-append before (row ∷ []))) (omega arith) k.1 w.1 rest (omega arith) v.1 next grid_now in
     leads_on laws profile old next (paints_row profile picture r) (flat_map (paints_row profile picture) (range_with_len (r + 1) n)) (all picture.lines)
@@ -190,18 +199,18 @@ rows_painted laws profile p picture (suc n) r er before (row ∷ after) split hb
 cursor_placed : (profile : ProfileView) (picture : PictureView) → Fits profile picture → (wish : Option (ℕ × ℕ)) → IfSome wish (IsPlace picture.rows picture.columns)
     → (old : TerminalState)
     → (new : TerminalState) × (runs profile old (Reset ∷ places_cursor wish) ≡ Some new) × (new.grid ≡ old.grid) × IfSome wish (λ place. new.spot ≡ At place.0 place.1)
-cursor_placed profile picture fits None inside old = (record { grid = old.grid; spot = old.spot; attrs = 0 }, refl, refl, tt)
+cursor_placed profile picture fits None inside old = (record { grid = old.grid; spot = old.spot; pen = plain_pen }, refl, refl, tt)
 cursor_placed profile picture fits (Some place) inside old =
     let in_rows : place.0 < profile.rows = omega (arith, inside.0, fits.rows) in
     let in_columns : place.1 < profile.columns = omega (arith, inside.1, fits.columns) in
     let here : (nat_lt place.0 profile.rows && nat_lt place.1 profile.columns) ≡ true = grind (arith, nat_tests) in
-    (record { grid = old.grid; spot = At place.0 place.1; attrs = 0 }, rw here refl, refl, refl)
+    (record { grid = old.grid; spot = At place.0 place.1; pen = plain_pen }, rw here refl, refl, refl)
 
 pub scratch_shows : RunLaws → GridLaws LookView → ScratchShows
 scratch_shows laws grids profile p picture k fits old s =
     let blanks : List (List LookView) = blank_grid profile.rows profile.columns in
     let blanks_are : IsGrid profile.rows profile.columns blanks = grids.sized profile.rows profile.columns (λ _ _. blank) in
-    let cleared : TerminalState = record { grid = blanks; spot = At 0 0; attrs = 0 } in
+    let cleared : TerminalState = record { grid = blanks; spot = At 0 0; pen = plain_pen } in
     let wide : AreWide profile.columns picture.lines = subst (λ columns. AreWide columns picture.lines) fits.columns (grid_is_wide picture.rows picture.columns picture.lines k.grid) in
     let rows_first : LeadsToGrid profile cleared (flat_map (paints_row profile picture) (range_with_len 0 profile.rows)) (painted profile picture) =
     rows_painted laws profile p picture profile.rows 0 (omega arith) [] picture.lines refl refl (k.grid.high ∙ fits.rows) (recursion_from_All (All IsCell) picture.lines k.cells) wide
@@ -220,7 +229,7 @@ scratch_shows laws grids profile p picture k fits old s =
 -- the bytes of scratch, by the law of the operations and that of their bytes
 pub scratch_bytes_show : ScratchShows → BytesActAsTheirOperations → ScratchBytesShow
 scratch_bytes_show law bytes_law profile e picture p fits old s =
-    let shows = law profile (record { size = e.size; shown = rw e.shown refl }) picture p fits old s in
+    let shows = law profile (record { size = e.size; shown = rw e.shown refl; colours = e.colours }) picture p fits old s in
     record {
       new = shows.new;
       leads = bytes_law profile e old shows.new s (scratch_of profile picture) shows.run;

@@ -55,14 +55,14 @@ pub record RunsToShow (profile : ProfileView) (old : TerminalState) (ops : List 
   pub new : TerminalState
   pub run : runs profile old ops ≡ Some new
   pub shows : Shows profile new picture
-  pub state : IsState profile.rows profile.columns profile.shown new
+  pub state : IsState profile new
 
 -- From every state of the profile, scratch shows the picture.
 abbrev pub ScratchShows : Type 0
 ScratchShows =
     (profile : ProfileView) → IsProfile profile
     → (picture : PictureView) → IsPicture picture → Fits profile picture
-    → (old : TerminalState) → IsState profile.rows profile.columns profile.shown old
+    → (old : TerminalState) → IsState profile old
     → RunsToShow profile old (scratch_of profile picture) picture
 
 -- as an ECMA-48 text, from the negative of this state, the bytes are all defined, and lead to the negative of a state
@@ -71,12 +71,12 @@ pub record LeadsToShow (profile : ProfileView) (old : TerminalState) (text : Lis
   pub new : TerminalState
   pub leads : Leads profile.rows profile.columns (negative_state old) text (negative_state new)
   pub shows : ShowsNegative profile (negative_state new) picture
-  pub state : IsState profile.rows profile.columns profile.shown new
+  pub state : IsState profile new
 
 -- From the negative of every state of the bundled entry's profile, the bytes of scratch show the negative of the picture.
 abbrev pub ScratchBytesShow : Type 0
 ScratchBytesShow =
     (profile : ProfileView) → IsEcma48 profile
     → (picture : PictureView) → IsPicture picture → Fits profile picture
-    → (old : TerminalState) → IsState profile.rows profile.columns profile.shown old
+    → (old : TerminalState) → IsState profile old
     → LeadsToShow profile old (all_bytes profile (scratch_of profile picture)) picture

@@ -40,12 +40,13 @@ abbrev pub column_put : ℕ → ℕ → ℕ → CellView → (ℕ → ℕ → Ce
 column_put column first end cell at r c = if c == column && leb first r && ltb r end then cell else at r c
 
 -- a background in place of another: in each cell the byte of the old one becomes that of the new one, the attributes of the
--- old one are taken off, and those of the new one put on: bkgd()
+-- old one are taken off and those of the new one put on, and the colour pair of the old one becomes that of the new one: bkgd()
 abbrev pub exchanged : CellView → CellView → CellView → CellView
 exchanged old new cell =
     record {
       byte = if cell.byte == old.byte then new.byte else cell.byte;
       attrs = bit_or (bit_and cell.attrs (255 - old.attrs)) new.attrs;
+      pair = if cell.pair == old.pair then new.pair else cell.pair;
     }
 
 abbrev pub all_exchanged : CellView → CellView → (ℕ → ℕ → CellView) → ℕ → ℕ → CellView

@@ -114,5 +114,10 @@ fn exchanged_cell(cell: Cell, old: Cell, new: Cell) -> Cell
         cell.byte()
     };
     let attrs = cell.attrs().difference(old.attrs()).union(new.attrs());
-    Cell::new(byte, attrs).unwrap_or(Cell::blank())
+    let pair = if cell.pair() == old.pair() {
+        new.pair()
+    } else {
+        cell.pair()
+    };
+    Cell::paired(byte, attrs, pair).unwrap_or(Cell::blank())
 }

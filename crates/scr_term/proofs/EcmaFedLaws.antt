@@ -2,6 +2,7 @@
 use Rattle.std.proofs.Common.{◌≡◌, ℕ, ◌+◌, ◌<◌, ◌≤◌, Bool, true, false, List, [], ◌∷◌, ◌++◌, length, take, get_or, Option, Some, None, inl, inr, refl, sym, ap, ◌∙◌, subst}
 use Rattle.std.specs.Prelude.{option_and_then, option_map}
 use Rattle.std.proofs.lemmas.List.{append-nil, take_more}
+use Rattle.scr_cells.specs.PenViews.{PenView}
 use Rattle.scr_term.specs.Operations.States.{TerminalState, character_written}
 use Rattle.scr_term.specs.Ecma.Units.{EcmaUnit, Graphic, Control, Sequence, spelling, IsUnit, IsSequence, IsWaiting, BeginsNoUnit}
 use Rattle.scr_term.specs.Ecma.Meanings.{meaning}
@@ -147,13 +148,13 @@ held_view rows columns state waiting pushed b undefined s e view =
     ap (λ w. let x : ScreenView = record { rows = rows; columns = columns; state = state; waiting = w; undefined = undefined } in x) e in
     first ∙ ap (λ (x : ScreenView). let y : ScreenView = record x { waiting = x.waiting ++ b ∷ [] } in y) view
 
-pub took_last : (s new : ScreenView) (b : ℕ) (part : List ℕ) (rows columns attrs : ℕ) (change : Option Change)
+pub took_last : (s new : ScreenView) (b : ℕ) (part : List ℕ) (rows columns : ℕ) (pen : PenView) (change : Option Change)
     → s.undefined ≡ false → part ≡ s.waiting → IsReading part b reading.Last
-    → s.rows ≡ rows → s.columns ≡ columns → s.state.attrs ≡ attrs
-    → ((ps : List ℕ) (state : TerminalState) → part ≡ 27 ∷ 91 ∷ ps → state.attrs ≡ attrs
+    → s.rows ≡ rows → s.columns ≡ columns → s.state.pen ≡ pen
+    → ((ps : List ℕ) (state : TerminalState) → part ≡ 27 ∷ 91 ∷ ps → state.pen ≡ pen
     → option_map (changed rows columns state) change ≡ meaning rows columns state (Sequence ps b))
     → new ≡ acted s (option_map (changed s.rows s.columns s.state) change) → IsFed s (b ∷ []) new
-took_last s new b part rows columns attrs change is same read r c a means e =
+took_last s new b part rows columns pen change is same read r c a means e =
     let ps = read.0 in
     let here : option_map (changed rows columns s.state) change ≡ meaning rows columns s.state (Sequence ps b) =
     means ps s.state read.1 a in

@@ -1,50 +1,47 @@
 -- What a defined unit leads to is a state of the screen.
-use Rattle.std.proofs.Common.{◌≡◌, ℕ, ◌%◌, ◌<◌, Bool, true, false, cond, eqb, List, [], ◌∷◌, Option, Some, None, bit_and, bit_or, refl, sym, ◌∙◌, subst, arith}
+use Rattle.std.proofs.Common.{◌≡◌, ℕ, Bool, true, false, cond, eqb, List, [], ◌∷◌, Option, Some, None, bit_and, refl, sym, ap, ◌∙◌, subst}
 use Rattle.std.specs.Prelude.{option_and_then, unwrap_or}
-use Rattle.std.proofs.lemmas.Nat.{and_le_l, and_comm, and_mask, or_lt}
 use Rattle.std.specs.Option.{ForSome}
+use Rattle.scr_cells.specs.PenViews.{PenView, plain_pen, with_attribute}
+use Rattle.scr_term.specs.Operations.Profiles.{ProfileView}
+use Rattle.scr_term.specs.Operations.States.{IsShownPen}
+use Rattle.scr_term.specs.Ecma.Screens.{screen_profile}
 use Rattle.scr_term.specs.Ecma.Meanings.{rendition, renditions}
 use Rattle.scr_term.specs.Code.Readings.{IsChange}
 use Rattle.scr_term.specs.declared.ecma.controls.Change.{Change}
+use Rattle.scr_term.proofs.StepLaws.{more_is_shown, plain_is_shown}
 
--- attributes that a terminal shows are below 128
-pub shown_lt : (a : ℕ) → bit_and 127 a ≡ a → a < 128
-shown_lt a h = let le = and_le_l 127 a in omega arith
+-- what holds of each way out of a test
+one_of : (Fits : PenView → Type 0) (t : Bool) (x : PenView) (rest : Option PenView) (b : PenView) → Fits x → (rest ≡ Some b → Fits b) → cond t (Some x) rest ≡ Some b → Fits b
+one_of Fits true x rest b fits others e = let same : x ≡ b = cc in subst Fits same fits
+one_of Fits false x rest b fits others e = others e
 
-pub shown_from_lt : (a : ℕ) → a < 128 → bit_and 127 a ≡ a
-shown_from_lt a lt =
-    let masked : bit_and a 127 ≡ a % 128 = and_mask a 7 in
-    let same : a % 128 ≡ a = omega arith in
-    and_comm 127 a ∙ masked ∙ same
-
-one_of : (t : Bool) (x : ℕ) (rest : Option ℕ) (b : ℕ) → x < 128 → (rest ≡ Some b → b < 128) → cond t (Some x) rest ≡ Some b → b < 128
-one_of true x rest b small others e = let same : x ≡ b = cc in omega arith
-one_of false x rest b small others e = others e
-
-rendition_lt : (a n b : ℕ) → a < 128 → rendition a n ≡ Some b → b < 128
-rendition_lt a n b small =
-    one_of (eqb n 0) 0 _ b (omega arith)
-    (one_of (eqb n 1) (bit_or a 32) _ b (or_lt 7 a 32 small (omega arith))
-    (one_of (eqb n 2) (bit_or a 16) _ b (or_lt 7 a 16 small (omega arith))
-    (one_of (eqb n 4) (bit_or a 2) _ b (or_lt 7 a 2 small (omega arith))
-    (one_of (eqb n 5) (bit_or a 8) _ b (or_lt 7 a 8 small (omega arith))
-    (one_of (eqb n 7) (bit_or a 4) _ b (or_lt 7 a 4 small (omega arith))
-    (one_of (eqb n 8) (bit_or a 64) _ b (or_lt 7 a 64 small (omega arith))
+rendition_shown : (profile : ProfileView) → profile.shown ≡ 127 → (a : PenView) (n : ℕ) (b : PenView) → IsShownPen profile a → rendition a n ≡ Some b → IsShownPen profile b
+rendition_shown profile every a n b is =
+    let Fits : PenView → Type 0 = IsShownPen profile in
+    let more : (k : ℕ) → bit_and 127 k ≡ k → IsShownPen profile (with_attribute a k) = λ k e. more_is_shown profile a k is (ap (λ s. bit_and s k) every ∙ e) in
+    one_of Fits (eqb n 0) plain_pen _ b (plain_is_shown profile)
+    (one_of Fits (eqb n 1) (with_attribute a 32) _ b (more 32 refl)
+    (one_of Fits (eqb n 2) (with_attribute a 16) _ b (more 16 refl)
+    (one_of Fits (eqb n 4) (with_attribute a 2) _ b (more 2 refl)
+    (one_of Fits (eqb n 5) (with_attribute a 8) _ b (more 8 refl)
+    (one_of Fits (eqb n 7) (with_attribute a 4) _ b (more 4 refl)
+    (one_of Fits (eqb n 8) (with_attribute a 64) _ b (more 64 refl)
     (λ (e : None ≡ Some b). cc)))))))
 
-step : (o : Option ℕ) (f : ℕ → Option ℕ) (b : ℕ) → option_and_then f o ≡ Some b → (x : ℕ) × (o ≡ Some x) × (f x ≡ Some b)
+step : (o : Option PenView) (f : PenView → Option PenView) (b : PenView) → option_and_then f o ≡ Some b → (x : PenView) × (o ≡ Some x) × (f x ≡ Some b)
 step None f b e = cc
 step (Some x) f b e = (x, refl, e)
 
-renditions_lt : (a : ℕ) (ns : List (Option ℕ)) (b : ℕ) → a < 128 → renditions a ns ≡ Some b → b < 128
-renditions_lt a [] b small e = let same : a ≡ b = cc in omega arith
-renditions_lt a (n ∷ ns) b small e =
+all_shown : (profile : ProfileView) → profile.shown ≡ 127 → (a : PenView) (ns : List (Option ℕ)) (b : PenView) → IsShownPen profile a → renditions a ns ≡ Some b → IsShownPen profile b
+all_shown profile every a [] b is e = let same : a ≡ b = cc in subst (λ (pen : PenView). IsShownPen profile pen) same is
+all_shown profile every a (n ∷ ns) b is e =
     let first = step (rendition a (unwrap_or n 0)) (λ next. renditions next ns) b e in
-    renditions_lt first.0 ns b (rendition_lt a (unwrap_or n 0) first.0 small first.1) first.2
+    all_shown profile every first.0 ns b (rendition_shown profile every a (unwrap_or n 0) first.0 is first.1) first.2
 
--- SGR leaves attributes that a terminal shows
-pub renditions_shown : (a : ℕ) (ns : List (Option ℕ)) (b : ℕ) → bit_and 127 a ≡ a → Some b ≡ renditions a ns → bit_and 127 b ≡ b
-renditions_shown a ns b h e = shown_from_lt b (renditions_lt a ns b (shown_lt a h) (sym e))
+-- SGR leaves a pen that a screen shows
+pub renditions_shown : (rows columns : ℕ) (a : PenView) (ns : List (Option ℕ)) (b : PenView) → IsShownPen (screen_profile rows columns) a → Some b ≡ renditions a ns → IsShownPen (screen_profile rows columns) b
+renditions_shown rows columns a ns b is e = all_shown (screen_profile rows columns) refl a ns b is (sym e)
 
 -- a change that fits a screen, by what it is
 pub change_fits : (rows columns r c : ℕ) (o : Option Change) (y : Change) → ForSome o (IsChange rows columns) → o ≡ Some y

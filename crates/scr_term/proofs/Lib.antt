@@ -9,5 +9,6 @@ mod EcmaPieceLaws
 mod EcmaReadingLaws
 mod EcmaParameterLaws
 mod EcmaStateLaws
+mod EcmaViewLaws
 mod EcmaFedLaws
 mod EcmaLedLaws

@@ -45,7 +45,7 @@ is_blank rows columns = record {
 
 pub all_blank : (rows columns : ℕ) → All (All IsLook) (blank_grid rows columns)
 all_blank rows columns =
-    let look : IsLook blank = record { character = (omega arith, omega arith); attributes = omega arith } in
+    let look : IsLook blank = record { character = (omega arith, omega arith); pen = record { attributes = omega arith; foreground = tt; background = tt } } in
     All-map (All IsLook) (λ (_ : ℕ). blank_line columns) (range_with_len 0 rows) (λ k d h. All-map IsLook (λ (_ : ℕ). blank) (range_with_len 0 columns) (λ i e j. look))
 
 -- the negative of blanks is blanks, and that of a look in a place is its negative in that place
@@ -67,7 +67,7 @@ erased_is_screen old grid is e =
     let P : GridView LookView → Type 0 = λ g. IsScreen (record { rows = g.rows; columns = g.columns; state = record old.state { grid = g.lines }; waiting = old.waiting; undefined = old.undefined }) in
     subst P (sym e) (record {
       size = is.size;
-      state = record { whole = is_blank old.rows old.columns; looks = all_blank old.rows old.columns; spot = is.state.spot; attrs = is.state.attrs };
+      state = record { whole = is_blank old.rows old.columns; looks = all_blank old.rows old.columns; spot = is.state.spot; pen = is.state.pen };
       waiting = is.waiting;
       undefined = is.undefined;
     })

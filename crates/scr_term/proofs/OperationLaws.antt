@@ -7,8 +7,9 @@ use Rattle.std.proofs.lemmas.Nat.{and_le_l}
 use Rattle.std.proofs.lemmas.List.{append-nil}
 use Rattle.std.proofs.lemmas.Bool.{eqb-true, false≢true}
 use Rattle.std.proofs.lemmas.Bool.Decides.{nat_tests}
-use Rattle.scr_cells.specs.Attributes.{negative_set, all_attributes}
+use Rattle.scr_cells.specs.Attributes.{all_attributes}
 use Rattle.scr_cells.specs.LookViews.{LookView, blank_grid, negative, negative_grid}
+use Rattle.scr_cells.specs.PenViews.{PenView, is_plain_pen, negative_pen, plain_pen, with_attribute}
 use Rattle.scr_cells.specs.Grids.{grid_with}
 use Rattle.scr_cells.specs.PictureViews.{IsSize}
 use Rattle.scr_term.specs.declared.operations.operation.Op.{Op}
@@ -16,7 +17,7 @@ use Rattle.scr_term.specs.declared.operations.operation.Op.TheVariants.{Move, Cl
 use Rattle.scr_term.specs.declared.operations.operation.Spot.{Spot}
 use Rattle.scr_term.specs.declared.operations.operation.Spot.TheVariants.{At, Margin}
 use Rattle.scr_term.specs.Operations.Profiles.{ProfileView, IsEcma48}
-use Rattle.scr_term.specs.Operations.States.{TerminalState, IsState, negative_state, written_at, spot_after}
+use Rattle.scr_term.specs.Operations.States.{TerminalState, IsState, blank_state, negative_state, written_at, spot_after}
 use Rattle.scr_term.specs.Operations.Steps.{has, act}
 use Rattle.scr_term.specs.Operations.Texts.{control_sequence, rendition_of, bytes_of}
 use Rattle.scr_term.specs.Ecma.Units.{EcmaUnit, Graphic, Sequence, spelling, is_parameter_byte, IsUnit, IsDivision}
@@ -39,6 +40,13 @@ pub both_true : (a b : Bool) → (a && b) ≡ true → (a ≡ true) × (b ≡ tr
 both_true true b h = (refl, h)
 both_true false b h = absurd (false≢true h)
 
+-- a pen that the test finds plain
+pub pen_is_plain : (attrs : ℕ) (foreground background : Option ℕ) → is_plain_pen (record { attrs = attrs; foreground = foreground; background = background }) ≡ true
+    → (let pen : PenView = record { attrs = attrs; foreground = foreground; background = background } in pen) ≡ plain_pen
+pen_is_plain attrs None None h = ap (λ a. record { attrs = a; foreground = None; background = None }) (eqb-true attrs 0 ((both_true _ _ ((both_true _ _ h).0)).0))
+pen_is_plain attrs None (Some c) h = absurd (false≢true ((both_true _ _ h).1))
+pen_is_plain attrs (Some c) background h = absurd (false≢true ((both_true _ _ ((both_true _ _ h).0)).1))
+
 -- the spelling of one unit divides into that unit
 one_unit : (unit : EcmaUnit) → IsUnit unit → IsDivision (spelling unit) (unit ∷ []) []
 one_unit unit h = record {
@@ -46,7 +54,7 @@ one_unit unit h = record {
   each = (h, tt);
 }
 
-placed : (rows columns : ℕ) (state : TerminalState) (r c : ℕ) → r < rows → c < columns → cursor_at rows columns state (r + 1) (c + 1) ≡ Some (record { grid = state.grid; spot = At r c; attrs = state.attrs })
+placed : (rows columns : ℕ) (state : TerminalState) (r c : ℕ) → r < rows → c < columns → cursor_at rows columns state (r + 1) (c + 1) ≡ Some (record { grid = state.grid; spot = At r c; pen = state.pen })
 placed rows columns state r c hr hc =
     let inside : (nat_le 1 (r + 1) && nat_le (r + 1) rows && nat_le 1 (c + 1) && nat_le (c + 1) columns) ≡ true = grind (arith, nat_tests) in
     let row : r + 1 - 1 ≡ r = omega arith in
@@ -54,7 +62,7 @@ placed rows columns state r c hr hc =
     rw (inside, row, column) refl
 
 move_leads : (rows columns : ℕ) (state : TerminalState) (r c : ℕ) → IsSize rows columns → r < rows → c < columns
-    → Leads rows columns state (control_sequence (decimal (r + 1) ++ 59 ∷ decimal (c + 1)) 72) (record { grid = state.grid; spot = At r c; attrs = state.attrs })
+    → Leads rows columns state (control_sequence (decimal (r + 1) ++ 59 ∷ decimal (c + 1)) 72) (record { grid = state.grid; spot = At r c; pen = state.pen })
 move_leads rows columns state r c size hr hc =
     let few_r : r + 1 < 2 ^ 64 = omega (arith, size.few_rows) in
     let few_c : c + 1 < 2 ^ 64 = omega (arith, size.few_columns) in
@@ -72,9 +80,9 @@ move_leads rows columns state r c size hr hc =
     }
 
 -- SGR of one digit
-rendition_leads : (rows columns : ℕ) (state : TerminalState) (digit next : ℕ) → IsTrue (is_parameter_byte digit)
-    → meanings rows columns state (Sequence (digit ∷ []) 109 ∷ []) ≡ Some (record { grid = state.grid; spot = state.spot; attrs = next })
-    → Leads rows columns state (control_sequence (digit ∷ []) 109) (record { grid = state.grid; spot = state.spot; attrs = next })
+rendition_leads : (rows columns : ℕ) (state : TerminalState) (digit : ℕ) (next : PenView) → IsTrue (is_parameter_byte digit)
+    → meanings rows columns state (Sequence (digit ∷ []) 109 ∷ []) ≡ Some (record { grid = state.grid; spot = state.spot; pen = next })
+    → Leads rows columns state (control_sequence (digit ∷ []) 109) (record { grid = state.grid; spot = state.spot; pen = next })
 rendition_leads rows columns state digit next d h = record {
   units = Sequence (digit ∷ []) 109 ∷ [];
   division = one_unit (Sequence (digit ∷ []) 109) (record {
@@ -95,12 +103,12 @@ put_leads rows columns byte old new (Margin r) e low high h = absurd (no_state h
     no_state : None ≡ Some new → ⊥
     no_state n = (cc)
 put_leads rows columns byte old new (At r c) e low high h =
-    let look : LookView = record { byte = byte; attrs = old.attrs } in
-    let character_written : TerminalState = record { grid = grid_with old.grid r c look; spot = spot_after columns r c; attrs = old.attrs } in
+    let look : LookView = record { byte = byte; pen = old.pen } in
+    let character_written : TerminalState = record { grid = grid_with old.grid r c look; spot = spot_after columns r c; pen = old.pen } in
     let grid : negative_grid (grid_with old.grid r c look) ≡ grid_with (negative_grid old.grid) r c (negative look) = negative_put old.grid r c look in
     let acts : meanings rows columns (negative_state old) (Graphic byte ∷ []) ≡ Some (negative_state character_written) =
     ap (λ s. option_and_then (λ next. Some next) (written_at columns (negative_state old) byte s)) e
-    ∙ ap (λ g. Some (record { grid = g; spot = spot_after columns r c; attrs = negative_set old.attrs })) (sym grid) in
+    ∙ ap (λ g. Some (record { grid = g; spot = spot_after columns r c; pen = negative_pen old.pen })) (sym grid) in
     let leads : Leads rows columns (negative_state old) (byte ∷ []) (negative_state character_written) = record {
       units = Graphic byte ∷ [];
       division = one_unit (Graphic byte) (low, high);
@@ -109,11 +117,11 @@ put_leads rows columns byte old new (At r c) e low high h =
     subst (λ s. Leads rows columns (negative_state old) (byte ∷ []) (negative_state s)) (same_some character_written new h) leads
 
 -- the cursor to the first place, and then every place erased
-clear_leads : (rows columns : ℕ) (old : TerminalState) → IsSize rows columns → old.attrs ≡ 0
+clear_leads : (rows columns : ℕ) (old : TerminalState) → IsSize rows columns → old.pen ≡ plain_pen
     → Leads rows columns (negative_state old) (control_sequence [] 72 ++ control_sequence (codes "2") 74)
-    (negative_state (record { grid = blank_grid rows columns; spot = At 0 0; attrs = 0 }))
+    (negative_state (blank_state rows columns))
 clear_leads rows columns old size none =
-    let home : TerminalState = record { grid = negative_grid old.grid; spot = At 0 0; attrs = negative_set old.attrs } in
+    let home : TerminalState = record { grid = negative_grid old.grid; spot = At 0 0; pen = negative_pen old.pen } in
     let first : cursor_at rows columns (negative_state old) 1 1 ≡ Some home = placed rows columns (negative_state old) 0 0 size.some_rows size.some_columns in
     let blanks : negative_grid (blank_grid rows columns) ≡ blank_grid rows columns = negative_blank rows columns in
     record {
@@ -129,52 +137,52 @@ clear_leads rows columns old size none =
     }
 
 -- SGR turns on what the operation turns on
-enter_leads : (rows columns a : ℕ) (old : TerminalState) → old.attrs < 128 → list_any (λ x. x == a) all_attributes ≡ true
+enter_leads : (rows columns a : ℕ) (old : TerminalState) → old.pen.attrs < 128 → list_any (λ x. x == a) all_attributes ≡ true
     → Leads rows columns (negative_state old) (control_sequence (rendition_of a) 109)
-    (negative_state (record { grid = old.grid; spot = old.spot; attrs = bit_or old.attrs a }))
+    (negative_state (record { grid = old.grid; spot = old.spot; pen = with_attribute old.pen a }))
 enter_leads rows columns a old small one =
     let state : TerminalState = negative_state old in
-    let P : ℕ → Type 0 = λ n. Leads rows columns state (control_sequence (rendition_of n) 109) (record { grid = state.grid; spot = state.spot; attrs = negative_set (bit_or old.attrs n) }) in
+    let P : ℕ → Type 0 = λ n. Leads rows columns state (control_sequence (rendition_of n) 109) (record { grid = state.grid; spot = state.spot; pen = negative_pen (with_attribute old.pen n) }) in
     let leads : (digit next same : ℕ) → IsTrue (is_parameter_byte digit) → next ≡ same
-    → meanings rows columns state (Sequence (digit ∷ []) 109 ∷ []) ≡ Some (record { grid = state.grid; spot = state.spot; attrs = next })
-    → Leads rows columns state (control_sequence (digit ∷ []) 109) (record { grid = state.grid; spot = state.spot; attrs = same }) =
-    λ digit next same d e h. rendition_leads rows columns state digit same d (h ∙ ap (λ n. Some (record { grid = state.grid; spot = state.spot; attrs = n })) e) in
+    → meanings rows columns state (Sequence (digit ∷ []) 109 ∷ []) ≡ Some (record { grid = state.grid; spot = state.spot; pen = record old.pen { attrs = next } })
+    → Leads rows columns state (control_sequence (digit ∷ []) 109) (record { grid = state.grid; spot = state.spot; pen = record old.pen { attrs = same } }) =
+    λ digit next same d e h. rendition_leads rows columns state digit (record old.pen { attrs = same }) d (h ∙ ap (λ n. Some (record { grid = state.grid; spot = state.spot; pen = record old.pen { attrs = n } })) e) in
     each_attribute P
-    (leads 55 (bit_or state.attrs 4) _ refl (negative-or_standout old.attrs small) refl)
-    (leads 52 (bit_or state.attrs 2) _ refl (negative-or_underline old.attrs small) refl)
-    (leads 55 (bit_or state.attrs 4) _ refl (negative-or_reverse old.attrs small) refl)
-    (leads 53 (bit_or state.attrs 8) _ refl (negative-or_blink old.attrs small) refl)
-    (leads 50 (bit_or state.attrs 16) _ refl (negative-or_dim old.attrs small) refl)
-    (leads 49 (bit_or state.attrs 32) _ refl (negative-or_bold old.attrs small) refl)
-    (leads 56 (bit_or state.attrs 64) _ refl (negative-or_invis old.attrs small) refl)
+    (leads 55 (bit_or state.pen.attrs 4) _ refl (negative-or_standout old.pen.attrs small) refl)
+    (leads 52 (bit_or state.pen.attrs 2) _ refl (negative-or_underline old.pen.attrs small) refl)
+    (leads 55 (bit_or state.pen.attrs 4) _ refl (negative-or_reverse old.pen.attrs small) refl)
+    (leads 53 (bit_or state.pen.attrs 8) _ refl (negative-or_blink old.pen.attrs small) refl)
+    (leads 50 (bit_or state.pen.attrs 16) _ refl (negative-or_dim old.pen.attrs small) refl)
+    (leads 49 (bit_or state.pen.attrs 32) _ refl (negative-or_bold old.pen.attrs small) refl)
+    (leads 56 (bit_or state.pen.attrs 64) _ refl (negative-or_invis old.pen.attrs small) refl)
     a one
 
 -- the bits of a set of the seven attributes are below 128
 pub small_set : (set : ℕ) → bit_and 127 set ≡ set → set < 128
 small_set set h = omega (arith, h, and_le_l 127 set)
 
-leads_by : (profile : ProfileView) → IsEcma48 profile → (old new : TerminalState) → IsState profile.rows profile.columns profile.shown old
+leads_by : (profile : ProfileView) → IsEcma48 profile → (old new : TerminalState) → IsState profile old
     → (op : Op) → has profile op ≡ true → act profile old op ≡ Some new
     → Leads profile.rows profile.columns (negative_state old) (bytes_of profile op) (negative_state new)
 leads_by profile p old new s (Move r c) had h =
     let hr : r < profile.rows = grind (arith, nat_tests) in
     let hc : c < profile.columns = grind (arith, nat_tests) in
-    let next : TerminalState = record { grid = old.grid; spot = At r c; attrs = old.attrs } in
+    let next : TerminalState = record { grid = old.grid; spot = At r c; pen = old.pen } in
     subst (λ z. Leads profile.rows profile.columns (negative_state old) (bytes_of profile (Move r c)) (negative_state z)) (same_some next new h)
     (move_leads profile.rows profile.columns (negative_state old) r c p.size hr hc)
 leads_by profile p old new s Clear had h =
-    let next : TerminalState = record { grid = blank_grid profile.rows profile.columns; spot = At 0 0; attrs = 0 } in
-    let c = chosen (old.attrs == 0) (Some next) new h in
-    let none : old.attrs ≡ 0 = eqb-true old.attrs 0 c.0 in
+    let next : TerminalState = blank_state profile.rows profile.columns in
+    let c = chosen (is_plain_pen old.pen) (Some next) new h in
+    let none : old.pen ≡ plain_pen = pen_is_plain old.pen.attrs old.pen.foreground old.pen.background c.0 in
     subst (λ z. Leads profile.rows profile.columns (negative_state old) (bytes_of profile Clear) (negative_state z)) (same_some next new c.1)
     (clear_leads profile.rows profile.columns old p.size none)
 leads_by profile p old new s Reset had h =
-    let next : TerminalState = record { grid = old.grid; spot = old.spot; attrs = 0 } in
+    let next : TerminalState = record { grid = old.grid; spot = old.spot; pen = plain_pen } in
     subst (λ z. Leads profile.rows profile.columns (negative_state old) (bytes_of profile Reset) (negative_state z)) (same_some next new h)
-    (rendition_leads profile.rows profile.columns (negative_state old) 48 0 refl refl)
+    (rendition_leads profile.rows profile.columns (negative_state old) 48 plain_pen refl refl)
 leads_by profile p old new s (Enter a) had h =
-    let next : TerminalState = record { grid = old.grid; spot = old.spot; attrs = bit_or old.attrs a.0 } in
-    let small : old.attrs < 128 = small_set old.attrs (let e : profile.shown ≡ 127 = p.shown in rw e at s.attrs) in
+    let next : TerminalState = record { grid = old.grid; spot = old.spot; pen = with_attribute old.pen a.0 } in
+    let small : old.pen.attrs < 128 = small_set old.pen.attrs (let e : profile.shown ≡ 127 = p.shown in rw e at s.pen.attrs) in
     let one : list_any (λ x. x == a.0) all_attributes ≡ true = (both_true _ _ had).0 in
     subst (λ z. Leads profile.rows profile.columns (negative_state old) (bytes_of profile (Enter a)) (negative_state z)) (same_some next new h)
     (enter_leads profile.rows profile.columns a.0 old small one)

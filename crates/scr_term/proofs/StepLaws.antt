@@ -1,5 +1,5 @@
 -- What steps and runs keep, and how the texts of operations join.
-use Rattle.std.proofs.Common.{◌≡◌, ℕ, ◌+◌, ◌<◌, ◌≤◌, ◌==◌, Bool, true, false, cond, refl, sym, ◌∙◌, ap, subst, arith, List, [], ◌∷◌, ◌++◌, append_assoc, Option, Some, None, option_and_then, bit_and, bit_or, nat_lt}
+use Rattle.std.proofs.Common.{◌≡◌, ℕ, ◌+◌, ◌<◌, ◌≤◌, Bool, true, false, cond, refl, sym, ◌∙◌, ap, subst, arith, List, [], ◌∷◌, ◌++◌, append_assoc, Option, Some, None, IfSome, option_and_then, bit_and, bit_or, nat_lt}
 use Rattle.std.specs.List.{flat_map, AllByRecursion}
 use Rattle.std.specs.Int.{bit_at}
 use Rattle.std.proofs.lemmas.List.{append-nil}
@@ -10,13 +10,14 @@ use Rattle.std.proofs.lemmas.Nat.Bits.{same_from_bits, bit_at_and, bit_at_or}
 use Rattle.std.proofs.lemmas.Bool.{eqb-true}
 use Rattle.std.proofs.lemmas.Bool.Decides.{nat_tests}
 use Rattle.scr_cells.specs.Grids.{grid_with}
-use Rattle.scr_cells.specs.LookViews.{LookView, blank_grid}
+use Rattle.scr_cells.specs.LookViews.{LookView}
+use Rattle.scr_cells.specs.PenViews.{PenView, IsColour, IsPen, is_plain_pen, plain_pen, with_attribute}
 use Rattle.scr_term.specs.declared.operations.operation.Op.{Op}
 use Rattle.scr_term.specs.declared.operations.operation.Op.TheVariants.{Move, Clear, Reset, Enter, Put}
 use Rattle.scr_term.specs.declared.operations.operation.Spot.{Spot}
 use Rattle.scr_term.specs.declared.operations.operation.Spot.TheVariants.{At, Margin}
 use Rattle.scr_term.specs.Operations.Profiles.{ProfileView, IsProfile, IsEcma48}
-use Rattle.scr_term.specs.Operations.States.{TerminalState, IsSpot, IsState, negative_state, written_at, spot_after}
+use Rattle.scr_term.specs.Operations.States.{TerminalState, AreShownColours, IsShownPen, IsSpot, IsState, blank_state, negative_state, written_at, spot_after}
 use Rattle.scr_term.specs.Operations.Steps.{has, act, step, runs}
 use Rattle.scr_term.specs.Operations.Texts.{bytes_of, all_bytes}
 use Rattle.scr_term.specs.Ecma.Units.{EcmaUnit, spelling, IsUnit}
@@ -33,57 +34,81 @@ within-or s x a hx ha = same_from_bits _ _ (λ i.
     let ea : bit_at (bit_and s a) i ≡ bit_at a i = ap (λ n. bit_at n i) ha in
     rw (bit_at_and s (bit_or x a) i, bit_at_or x a i) (omega (arith, bit_at_and s x i, bit_at_and s a i)))
 
-keeps_put : (profile : ProfileView) → IsProfile profile → (old new : TerminalState) → IsState profile.rows profile.columns profile.shown old
+-- a pen of a terminal without an attribute and in default colours, and one with one more attribute that is shown
+pub plain_is_shown : (profile : ProfileView) → IsShownPen profile plain_pen
+plain_is_shown profile = record { attrs = omega (arith, and_le_r profile.shown 0); colours = default_is_shown profile.colours }
+  where
+    default_is_shown : (colours : Bool) → AreShownColours colours None None
+    default_is_shown true = (tt, tt)
+    default_is_shown false = (refl, refl)
+
+pub more_is_shown : (profile : ProfileView) (pen : PenView) (a : ℕ) → IsShownPen profile pen → bit_and profile.shown a ≡ a → IsShownPen profile (with_attribute pen a)
+more_is_shown profile pen a is shown = record {
+  attrs = within-or profile.shown pen.attrs a is.attrs shown;
+  colours = is.colours;
+}
+
+-- such a pen is a pen
+pub shown_is_pen : (profile : ProfileView) → IsProfile profile → (pen : PenView) → IsShownPen profile pen → IsPen pen
+shown_is_pen profile p pen is =
+    let few : pen.attrs < 256 = omega (arith, is.attrs, p.shown, and_le_l profile.shown pen.attrs, and_le_l 127 profile.shown) in
+    let colours = known profile.colours pen.foreground pen.background is.colours in
+    record { attributes = few; foreground = colours.0; background = colours.1 }
+  where
+    known : (colours : Bool) (f b : Option ℕ) → AreShownColours colours f b → IfSome f IsColour × IfSome b IsColour
+    known true f b c = c
+    known false f b c = (subst (λ o. IfSome o IsColour) (sym c.0) tt, subst (λ o. IfSome o IsColour) (sym c.1) tt)
+
+keeps_put : (profile : ProfileView) → IsProfile profile → (old new : TerminalState) → IsState profile old
     → (byte : ℕ) (spot : Spot) → IsSpot profile.rows profile.columns spot → 32 ≤ byte → byte ≤ 126
-    → written_at profile.columns old byte spot ≡ Some new → IsState profile.rows profile.columns profile.shown new
+    → written_at profile.columns old byte spot ≡ Some new → IsState profile new
 keeps_put profile p old new s byte (Margin r) inside low high h = absurd (no_state h)
   where
     no_state : None ≡ Some new → ⊥
     no_state n = (cc)
 keeps_put profile p old new s byte (At r c) inside low high h =
-    let look : LookView = record { byte = byte; attrs = old.attrs } in
-    let character_written : TerminalState = record { grid = grid_with old.grid r c look; spot = spot_after profile.columns r c; attrs = old.attrs } in
-    let few : old.attrs < 256 = omega (arith, s.attrs, p.shown, and_le_l profile.shown old.attrs, and_le_l 127 profile.shown) in
+    let look : LookView = record { byte = byte; pen = old.pen } in
+    let character_written : TerminalState = record { grid = grid_with old.grid r c look; spot = spot_after profile.columns r c; pen = old.pen } in
     let after : IsSpot profile.rows profile.columns (spot_after profile.columns r c) = next_spot (nat_lt (c + 1) profile.columns) refl in
-    let kept : IsState profile.rows profile.columns profile.shown character_written = record {
+    let kept : IsState profile character_written = record {
       whole = put_is_grid profile.rows profile.columns old.grid r c look s.whole;
-      looks = put_all profile.rows profile.columns old.grid r c look s.whole inside.0 (record { character = (low, high); attributes = few }) s.looks;
+      looks = put_all profile.rows profile.columns old.grid r c look s.whole inside.0 (record { character = (low, high); pen = shown_is_pen profile p old.pen s.pen }) s.looks;
       spot = after;
-      attrs = s.attrs;
+      pen = s.pen;
     } in
-    subst (λ z. IsState profile.rows profile.columns profile.shown z) (same_some character_written new h) kept
+    subst (λ z. IsState profile z) (same_some character_written new h) kept
   where
     next_spot : (b : Bool) → nat_lt (c + 1) profile.columns ≡ b → IsSpot profile.rows profile.columns (cond b (At r (c + 1)) (Margin r))
     next_spot true e = (inside.0, grind (arith, nat_tests))
     next_spot false e = inside.0
 
-keeps : (profile : ProfileView) → IsProfile profile → (old new : TerminalState) → IsState profile.rows profile.columns profile.shown old
-    → (op : Op) → has profile op ≡ true → act profile old op ≡ Some new → IsState profile.rows profile.columns profile.shown new
+keeps : (profile : ProfileView) → IsProfile profile → (old new : TerminalState) → IsState profile old
+    → (op : Op) → has profile op ≡ true → act profile old op ≡ Some new → IsState profile new
 keeps profile p old new s (Move r c) had h =
     let hr : r < profile.rows = grind (arith, nat_tests) in
     let hc : c < profile.columns = grind (arith, nat_tests) in
-    let next : TerminalState = record { grid = old.grid; spot = At r c; attrs = old.attrs } in
-    subst (λ z. IsState profile.rows profile.columns profile.shown z) (same_some next new h)
-    (record { whole = s.whole; looks = s.looks; spot = (hr, hc); attrs = s.attrs })
+    let next : TerminalState = record { grid = old.grid; spot = At r c; pen = old.pen } in
+    subst (λ z. IsState profile z) (same_some next new h)
+    (record { whole = s.whole; looks = s.looks; spot = (hr, hc); pen = s.pen })
 keeps profile p old new s Clear had h =
-    let next : TerminalState = record { grid = blank_grid profile.rows profile.columns; spot = At 0 0; attrs = 0 } in
-    let c = chosen (old.attrs == 0) (Some next) new h in
-    subst (λ z. IsState profile.rows profile.columns profile.shown z) (same_some next new c.1)
+    let next : TerminalState = blank_state profile.rows profile.columns in
+    let c = chosen (is_plain_pen old.pen) (Some next) new h in
+    subst (λ z. IsState profile z) (same_some next new c.1)
     (record {
       whole = is_blank profile.rows profile.columns;
       looks = all_blank profile.rows profile.columns;
       spot = (p.size.some_rows, p.size.some_columns);
-      attrs = omega (arith, and_le_r profile.shown 0);
+      pen = plain_is_shown profile;
     })
 keeps profile p old new s Reset had h =
-    let next : TerminalState = record { grid = old.grid; spot = old.spot; attrs = 0 } in
-    subst (λ z. IsState profile.rows profile.columns profile.shown z) (same_some next new h)
-    (record { whole = s.whole; looks = s.looks; spot = s.spot; attrs = omega (arith, and_le_r profile.shown 0) })
+    let next : TerminalState = record { grid = old.grid; spot = old.spot; pen = plain_pen } in
+    subst (λ z. IsState profile z) (same_some next new h)
+    (record { whole = s.whole; looks = s.looks; spot = s.spot; pen = plain_is_shown profile })
 keeps profile p old new s (Enter a) had h =
-    let next : TerminalState = record { grid = old.grid; spot = old.spot; attrs = bit_or old.attrs a.0 } in
+    let next : TerminalState = record { grid = old.grid; spot = old.spot; pen = with_attribute old.pen a.0 } in
     let shown : bit_and profile.shown a.0 ≡ a.0 = eqb-true _ _ ((both_true _ _ had).1) in
-    subst (λ z. IsState profile.rows profile.columns profile.shown z) (same_some next new h)
-    (record { whole = s.whole; looks = s.looks; spot = s.spot; attrs = within-or profile.shown old.attrs a.0 s.attrs shown })
+    subst (λ z. IsState profile z) (same_some next new h)
+    (record { whole = s.whole; looks = s.looks; spot = s.spot; pen = more_is_shown profile old.pen a.0 s.pen shown })
 keeps profile p old new s (Put byte) had h =
     let low : 32 ≤ byte = grind (arith, nat_tests) in
     let high : byte ≤ 126 = grind (arith, nat_tests) in
@@ -128,7 +153,7 @@ leads-append rows columns a b d x y first second = record {
 }
 
 pub is_profile : (profile : ProfileView) → IsEcma48 profile → IsProfile profile
-is_profile profile p = record { size = p.size; shown = rw p.shown refl }
+is_profile profile p = record { size = p.size; shown = rw p.shown refl; colours = p.colours }
 
 pub bytes_act_as_their_operations : BytesActAsTheirOperations
 bytes_act_as_their_operations profile p old new s [] h =
@@ -148,9 +173,9 @@ runs-append profile old next (op ∷ ops) ys h =
     let first = then_some (step profile old op) (λ s. runs profile s ops) next h in
     ap (option_and_then (λ s. runs profile s (ops ++ ys))) first.1 ∙ runs-append profile first.0 next ops ys first.2
 
-pub runs_keep : (profile : ProfileView) → IsProfile profile → (old new : TerminalState) → IsState profile.rows profile.columns profile.shown old
-    → (ops : List Op) → runs profile old ops ≡ Some new → IsState profile.rows profile.columns profile.shown new
-runs_keep profile p old new s [] h = subst (λ z. IsState profile.rows profile.columns profile.shown z) (same_some old new h) s
+pub runs_keep : (profile : ProfileView) → IsProfile profile → (old new : TerminalState) → IsState profile old
+    → (ops : List Op) → runs profile old ops ≡ Some new → IsState profile new
+runs_keep profile p old new s [] h = subst (λ z. IsState profile z) (same_some old new h) s
 runs_keep profile p old new s (op ∷ ops) h =
     let first = then_some (step profile old op) (λ next. runs profile next ops) new h in
     runs_keep profile p first.0 new (steps_keep_states profile p old first.0 s op first.1) ops first.2
@@ -175,7 +200,7 @@ blank_laws_hold = record {
     whole = is_blank profile.rows profile.columns;
     looks = all_blank profile.rows profile.columns;
     spot = (p.size.some_rows, p.size.some_columns);
-    attrs = omega (arith, and_le_r profile.shown 0);
+    pen = plain_is_shown profile;
   };
-  negative = λ rows columns. ap (λ g. record { grid = g; spot = At 0 0; attrs = 0 }) (negative_blank rows columns);
+  negative = λ rows columns. ap (λ g. record { grid = g; spot = At 0 0; pen = plain_pen }) (negative_blank rows columns);
 }

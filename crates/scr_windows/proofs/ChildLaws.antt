@@ -90,7 +90,7 @@ child_is_desk d i area origin h l few made inside =
       surfaces = h.surfaces;
       sheets = h.sheets;
       given = λ k e b. omega (arith, h.given k e b);
-      windows = All-push IsWindow d.windows _ h.windows (fresh_is_window frame (window_at d i).state.attrs (window_at d i).state.background inside.some_rows inside.some_columns);
+      windows = All-push IsWindow d.windows _ h.windows (fresh_is_window frame (window_at d i).state.attrs (window_at d i).state.pair (window_at d i).state.background (h.windows i no_window l).state.pair inside.some_rows inside.some_columns);
       frames = (let P : List Frame → Type 0 = λ fs. AreFrames d.rows d.columns (size_on d.surfaces) (d.made + 1) fs in
           subst P (sym (map-append frame_of d.windows _)) (frames_more d.rows d.columns (size_on d.surfaces) d.made frames frame h.frames (omega (arith, many))
           (record { some_rows = inside.some_rows; some_columns = inside.some_columns; below = omega (arith, on.below, inside.below); right = omega (arith, on.right, inside.right); origin = inside.on_screen })
@@ -101,7 +101,7 @@ child_is_desk d i area origin h l few made inside =
 -- what the code knows when the subwindow is there
 pub child_added : (d old : DeskView) → d ≡ old → (i : ℕ) (w new : WindowView) (above : Frame) (state : WindowState) (ws : List WindowView) (area : Area) (origin : Option (ℕ × ℕ)) → IsDesk d → i < length old.windows
     → IsChildPlace old i area origin → Reads d.windows i w → above ≡ w.frame → state ≡ w.state
-    → new ≡ fresh_window (record { number = d.made + 1; surface = above.surface; area = area; parent = Some above.number; origin = origin }) state.attrs state.background
+    → new ≡ fresh_window (record { number = d.made + 1; surface = above.surface; area = area; parent = Some above.number; origin = origin }) state.attrs state.pair state.background
     → ws ≡ d.windows ++ new ∷ [] → length d.windows < 1000 → d.made < 4294967295 → IsDesk (record d { windows = ws; made = d.made + 1 })
 child_added d old is i w new above state ws area origin h l inside reads frame_is state_is new_is ws_is few made =
     let here : i < length d.windows = here_too d old i is l in
@@ -110,8 +110,8 @@ child_added d old is i w new above state ws area origin h l inside reads frame_i
     let states : state ≡ (window_at d i).state = state_is ∙ ap (λ (v : WindowView). v.state) at in
     let I : DeskView → Type 0 = λ v. IsChildPlace v i area origin in
     let there : IsChildPlace d i area origin = subst I (sym is) inside in
-    let fresh : new ≡ fresh_window (child_frame d i area origin) (window_at d i).state.attrs (window_at d i).state.background
-    = new_is ∙ (λ j. fresh_window (record { number = d.made + 1; surface = (frames j).surface; area = area; parent = Some (frames j).number; origin = origin }) (states j).attrs (states j).background) in
+    let fresh : new ≡ fresh_window (child_frame d i area origin) (window_at d i).state.attrs (window_at d i).state.pair (window_at d i).state.background
+    = new_is ∙ (λ j. fresh_window (record { number = d.made + 1; surface = (frames j).surface; area = area; parent = Some (frames j).number; origin = origin }) (states j).attrs (states j).pair (states j).background) in
     let whole : record d { windows = ws; made = d.made + 1 } ≡ with_child d i area origin = (λ j. record d { windows = (ws_is ∙ ap (λ v. d.windows ++ v ∷ []) fresh) j; made = d.made + 1 }) in
     let P : DeskView → Type 0 = λ v. IsDesk v in
     subst P (sym whole) (child_is_desk d i area origin h here few made there)
@@ -222,7 +222,7 @@ root_is_desk laws d rows columns origin h few made on =
       surfaces = All-push (λ (sheet : Sheet). IsSurface sheet.surface) d.surfaces next h.surfaces (laws.blank rows columns on.size);
       sheets = all_pairs_push (λ (s : Sheet) (t : Sheet). s.number < t.number) d.surfaces next h.sheets (λ k e b. omega (arith, h.given k e b));
       given = All-push (λ (sheet : Sheet). sheet.number ≤ d.made + 1) d.surfaces next (λ k e b. omega (arith, h.given k e b)) (omega arith);
-      windows = All-push IsWindow d.windows _ h.windows (fresh_is_window frame no_attributes blank_cell on.size.some_rows on.size.some_columns);
+      windows = All-push IsWindow d.windows _ h.windows (fresh_is_window frame no_attributes 0 blank_cell (omega arith) on.size.some_rows on.size.some_columns);
       frames = (let P : List Frame → Type 0 = λ fs. AreFrames d.rows d.columns (size_on sheets) (d.made + 1) fs in
           subst P (sym (map-append frame_of d.windows _)) (frames_more d.rows d.columns (size_on sheets) d.made frames frame still (omega (arith, many))
           (record {
@@ -236,7 +236,7 @@ root_is_desk laws d rows columns origin h few made on =
     }
 
 pub root_added : SurfaceLaws → (d old : DeskView) → d ≡ old → (rows columns : ℕ) (origin : Option (ℕ × ℕ)) (surface : SurfaceView) (new : WindowView) (ss : List Sheet) (ws : List WindowView) → IsDesk d → IsRootPlace old rows columns origin
-    → surface ≡ blank_surface rows columns → new ≡ fresh_window (root_frame d rows columns origin) no_attributes blank_cell
+    → surface ≡ blank_surface rows columns → new ≡ fresh_window (root_frame d rows columns origin) no_attributes 0 blank_cell
     → ss ≡ d.surfaces ++ record { number = d.made + 1; surface = surface } ∷ [] → ws ≡ d.windows ++ new ∷ [] → length d.windows < 1000 → d.made < 4294967295 → IsDesk (record d { surfaces = ss; windows = ws; made = d.made + 1 })
 root_added laws d old is rows columns origin surface new ss ws h on surface_is new_is ss_is ws_is few made =
     let I : DeskView → Type 0 = λ v. IsRootPlace v rows columns origin in

@@ -133,7 +133,7 @@ cursor_set d old is i w new row column h l e below right n =
     let P : WindowView → Type 0 = λ v. IsState (window_at d i).frame v.state in
     let Q : DeskView → Type 0 = λ v. IsState (window_at v i).frame w.state in
     let was : IsState (window_at old i).frame w.state = subst Q is (subst P (sym at) (placed d i h here).window.state) in
-    state_set d old is i w new (record w.state { cursor = (row, column) }) h l e (record { cursor_row = below; cursor_column = right; region_order = was.region_order; region_end = was.region_end }) n
+    state_set d old is i w new (record w.state { cursor = (row, column) }) h l e (record { cursor_row = below; cursor_column = right; region_order = was.region_order; region_end = was.region_end; pair = was.pair }) n
 
 pub lines_marked : (d old : DeskView) (is : d ≡ old) (i : ℕ) (w new : WindowView) (first end : ℕ) (mark : Bool) → IsDesk d → i < length old.windows → Reads d.windows i w
     → new ≡ marked first end mark w → IsDesk (with_window d i new)

@@ -2,7 +2,7 @@
 use Rattle.std.proofs.Common.{◌≡◌, ℕ, ◌*◌, ◌<◌, ◌≤◌, ap, refl, arith, [], ◌∷◌, suc, zero, length, replicate, get_or, true}
 use Rattle.std.specs.Prelude.{All, MatchOption}
 use Rattle.std.proofs.lemmas.Nat.{mul-le}
-use Rattle.scr_cells.specs.CellViews.{CellView, blank_cell}
+use Rattle.scr_cells.specs.CellViews.{CellView, IsPair, blank_cell}
 use Rattle.scr_cells.specs.PictureViews.{IsSize}
 use Rattle.scr_windows.specs.declared.frames.Frame.{Frame}
 use Rattle.scr_windows.specs.declared.sheets.Sheet.{Sheet}
@@ -15,9 +15,9 @@ length_replicate : {X : Type 0} (n : ℕ) (x : X) → length (replicate n x) ≡
 length_replicate zero x = refl
 length_replicate (suc n) x = ap suc (length_replicate n x)
 
-pub fresh_is_window : (frame : Frame) (attrs : _) (background : CellView) → 1 ≤ frame.area.rows → 1 ≤ frame.area.columns → IsWindow (fresh_window frame attrs background)
-fresh_is_window frame attrs background h k = record {
-  state = record { cursor_row = omega arith; cursor_column = omega arith; region_order = omega arith; region_end = omega arith };
+pub fresh_is_window : (frame : Frame) (attrs : _) (pair : ℕ) (background : CellView) → IsPair pair → 1 ≤ frame.area.rows → 1 ≤ frame.area.columns → IsWindow (fresh_window frame attrs pair background)
+fresh_is_window frame attrs pair background p h k = record {
+  state = record { cursor_row = omega arith; cursor_column = omega arith; region_order = omega arith; region_end = omega arith; pair = p };
   touched = length_replicate frame.area.rows true;
 }
 
@@ -37,7 +37,7 @@ first_is_desk laws rows columns h = record {
   surfaces = all_one (λ (sheet : Sheet). IsSurface sheet.surface) (record { number = 0; surface = blank_surface rows columns }) (laws.blank rows columns (screen_is_size rows columns h));
   sheets = λ i j d l m. absurd (omega (arith, l, m));
   given = all_one (λ (sheet : Sheet). sheet.number ≤ 0) (record { number = 0; surface = blank_surface rows columns }) (omega arith);
-  windows = all_one IsWindow (fresh_window (first_frame rows columns) no_attributes blank_cell) (fresh_is_window (first_frame rows columns) no_attributes blank_cell h.some_rows h.some_columns);
+  windows = all_one IsWindow (fresh_window (first_frame rows columns) no_attributes 0 blank_cell) (fresh_is_window (first_frame rows columns) no_attributes 0 blank_cell (omega arith) h.some_rows h.some_columns);
   frames = record {
     few = omega arith;
     placed = all_one (IsPlaced rows columns (size_on (record { number = 0; surface = blank_surface rows columns } ∷ []))) (first_frame rows columns) (record { some_rows = h.some_rows; some_columns = h.some_columns; below = omega arith; right = omega arith; origin = (omega arith, omega arith) });

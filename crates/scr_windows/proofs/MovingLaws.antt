@@ -43,7 +43,7 @@ window_turned w b shift h =
     let rows : (turned b shift w.frame).area.rows ≡ w.frame.area.rows = same_rows b shift w.frame in
     let columns : (turned b shift w.frame).area.columns ≡ w.frame.area.columns = same_columns b shift w.frame in
     record {
-      state = record { cursor_row = omega (arith, h.state.cursor_row, rows); cursor_column = omega (arith, h.state.cursor_column, columns); region_order = h.state.region_order; region_end = omega (arith, h.state.region_end, rows) };
+      state = record { cursor_row = omega (arith, h.state.cursor_row, rows); cursor_column = omega (arith, h.state.cursor_column, columns); region_order = h.state.region_order; region_end = omega (arith, h.state.region_end, rows); pair = h.state.pair };
       touched = h.touched ∙ sym rows;
     }
 

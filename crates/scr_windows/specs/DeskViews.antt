@@ -1,7 +1,7 @@
 -- A desk: surfaces, and the windows on them. X/Open Curses Issue 7, 'Screens, Windows and Terminals'.
 use Rattle.std.specs.Prelude.{ℕ, Bool, true, false, ◌≡◌, ◌+◌, ◌-◌, ◌^◌, ◌<◌, ◌≤◌, List, [], ◌∷◌, length, map, replicate, None, Some, slice_index_or, MatchOption, Option, All}
 use Rattle.std.specs.List.{AllPairs}
-use Rattle.scr_cells.specs.CellViews.{CellView, blank_cell}
+use Rattle.scr_cells.specs.CellViews.{CellView, IsPair, blank_cell}
 use Rattle.scr_cells.specs.PictureViews.{IsSize}
 use Rattle.scr_surfaces.specs.declared.areas.Area.{Area}
 use Rattle.scr_windows.specs.declared.frames.Frame.{Frame}
@@ -27,11 +27,11 @@ pub record DeskView : Type 0 where
   pub made : ℕ
 
 -- a window before anything was done with it
-abbrev pub fresh_window : Frame → Attrs → CellView → WindowView
-fresh_window frame attrs background =
+abbrev pub fresh_window : Frame → Attrs → ℕ → CellView → WindowView
+fresh_window frame attrs pair background =
     record {
       frame = frame;
-      state = record { cursor = (0, 0); attrs = attrs; background = background; region = (0, frame.area.rows - 1); scroll_ok = false; clear_ok = false; leave_ok = false };
+      state = record { cursor = (0, 0); attrs = attrs; pair = pair; background = background; region = (0, frame.area.rows - 1); scroll_ok = false; clear_ok = false; leave_ok = false };
       touched = replicate frame.area.rows true;
     }
 
@@ -48,7 +48,7 @@ abbrev pub no_frame : Frame
 no_frame = record { number = 0; surface = 0; area = record { top = 0; left = 0; rows = 0; columns = 0 }; parent = None; origin = None }
 
 abbrev pub no_window : WindowView
-no_window = fresh_window no_frame no_attributes blank_cell
+no_window = fresh_window no_frame no_attributes 0 blank_cell
 
 -- the window at an index among the desk's, and the surface that bears a number
 abbrev pub window_at : DeskView → ℕ → WindowView
@@ -57,12 +57,13 @@ window_at desk i = slice_index_or desk.windows i no_window
 abbrev pub surface_at : DeskView → ℕ → SurfaceView
 surface_at desk number = surface_on desk.surfaces number
 
--- the cursor and the region are inside
+-- the cursor and the region are inside, and the pair is the number of a colour pair
 pub record IsState (frame : Frame) (state : WindowState) : Type 0 where
   pub cursor_row : state.cursor.0 < frame.area.rows
   pub cursor_column : state.cursor.1 < frame.area.columns
   pub region_order : state.region.0 ≤ state.region.1
   pub region_end : state.region.1 < frame.area.rows
+  pub pair : IsPair state.pair
 
 -- and there is a mark for each line
 pub record IsWindow (window : WindowView) : Type 0 where
@@ -137,6 +138,6 @@ first_desk rows columns =
       rows = rows;
       columns = columns;
       surfaces = record { number = 0; surface = blank_surface rows columns } ∷ [];
-      windows = fresh_window (first_frame rows columns) no_attributes blank_cell ∷ [];
+      windows = fresh_window (first_frame rows columns) no_attributes 0 blank_cell ∷ [];
       made = 0;
     }

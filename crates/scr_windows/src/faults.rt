@@ -61,6 +61,9 @@ pub enum WinFault {
     /// Memory ran out.
     #[error("out of memory")]
     NoMemory,
+    /// A number that no colour pair has.
+    #[error("bad colour pair")]
+    BadPair,
 }
 
 impl From<AllocError> for WinFault {

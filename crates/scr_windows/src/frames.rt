@@ -24,6 +24,8 @@ pub struct WindowState {
     pub cursor: (u32, u32),
     /// The attributes that bytes are added with.
     pub attrs: Attrs,
+    /// The colour pair that bytes are added with, 0 for the background's.
+    pub pair: u32,
     /// The background.
     pub background: Cell,
     /// The first and the last row of the scrolling region.

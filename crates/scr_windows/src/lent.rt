@@ -84,6 +84,14 @@ impl<'a> WindowRef<'a> {
         self.window.state().attrs
     }
 
+    /// The colour pair that bytes are added with; 0 stands for that of the background. X/Open Curses Issue 7,
+    /// wattr_get().
+    pub fn pair(&self) -> u32
+        ensures { result ≡ self.now.window.state.pair }
+    {
+        self.window.state().pair
+    }
+
     /// Its background. X/Open Curses Issue 7, getbkgd().
     pub fn background(&self) -> Cell
         ensures { result ≡ self.now.window.state.background }

@@ -33,10 +33,11 @@ impl Window {
         alloc: Global,
         frame: Frame,
         attrs: Attrs,
+        pair: u32,
         background: Cell,
     ) -> Result<Window, WinFault>
         requires { 1 ≤ frame.area.rows }
-        ensures { MatchResult result (λ window. window ≡ fresh_window frame attrs background) (λ fault. fault ≡ NoMemory) }
+        ensures { MatchResult result (λ window. window ≡ fresh_window frame attrs pair background) (λ fault. fault ≡ NoMemory) }
     {
         let rows = frame.area.rows;
         let mut touched = Vec::with_capacity(alloc, rows as usize)?;
@@ -44,6 +45,7 @@ impl Window {
         let state = WindowState {
             cursor: (0, 0),
             attrs,
+            pair,
             background,
             region: (0, rows - 1),
             scroll_ok: false,

@@ -1,12 +1,11 @@
 -- The bytes that paint a canvas bring a terminal to show it.
 use Rattle.std.proofs.Common.{◌≡◌, ℕ, refl, sym, ◌∙◌, ap, subst, List, inl}
-use Rattle.scr_cells.specs.Attributes.{every_attribute}
 use Rattle.scr_cells.specs.PictureViews.{PictureView, IsPicture}
 use Rattle.scr_term.specs.Operations.Profiles.{ProfileView, IsEcma48, IsProfile}
 use Rattle.scr_term.specs.Operations.States.{IsState, blank_state, negative_state}
 use Rattle.scr_term.specs.Ecma.Meanings.{Leads}
 use Rattle.scr_term.specs.Operations.Painted.{ShowsNegative}
-use Rattle.scr_term.specs.Ecma.Screens.{ScreenView, IsScreen, IsFed, blank_screen}
+use Rattle.scr_term.specs.Ecma.Screens.{ScreenView, IsScreen, IsFed, blank_screen, screen_profile}
 use Rattle.scr_term.specs.Ecma.Laws.{ScreensFollowTexts}
 use Rattle.scr_term.specs.Operations.Laws.{BlankLaws}
 use Rattle.scr_plan.specs.Scratch.{ScratchBytesShow}
@@ -15,19 +14,21 @@ use Rattle.screen_scripts.specs.Printing.{profile_for, sent_event}
 use Rattle.screen_scripts.specs.Showing.{IsTerminalFor}
 
 is_profile : (profile : ProfileView) → IsEcma48 profile → IsProfile profile
-is_profile profile e = record { size = e.size; shown = rw e.shown refl }
+is_profile profile e = record { size = e.size; shown = rw e.shown refl; colours = e.colours }
 
 pub ecma48_for : (picture : PictureView) → IsPicture picture → IsEcma48 (profile_for picture)
-ecma48_for picture p = record { size = p.size; shown = refl }
+ecma48_for picture p = record { size = p.size; shown = refl; colours = refl }
 
 pub blank_is_terminal : BlankLaws → (picture : PictureView) → IsPicture picture → IsTerminalFor picture (blank_screen picture.rows picture.columns)
 blank_is_terminal laws picture p =
-    let state : IsState picture.rows picture.columns every_attribute (blank_state picture.rows picture.columns) =
+    let state : IsState (profile_for picture) (blank_state picture.rows picture.columns) =
     laws.state (profile_for picture) (is_profile (profile_for picture) (ecma48_for picture p)) in
+    let shown : IsState (screen_profile picture.rows picture.columns) (blank_state picture.rows picture.columns) =
+    record { whole = state.whole; looks = state.looks; spot = state.spot; pen = record { attrs = refl; colours = (tt, tt) } } in
     record {
       rows = refl;
       columns = refl;
-      valid = record { size = p.size; state = state; waiting = inl refl; undefined = λ _. refl };
+      valid = record { size = p.size; state = shown; waiting = inl refl; undefined = λ _. refl };
       state = blank_state picture.rows picture.columns;
       is_state = state;
       negative = sym (laws.negative picture.rows picture.columns);
@@ -36,7 +37,7 @@ blank_is_terminal laws picture p =
     }
 
 pub is_profile_for : (profile : ProfileView) (picture : PictureView) → IsEcma48 profile → profile.rows ≡ picture.rows → profile.columns ≡ picture.columns → profile ≡ profile_for picture
-is_profile_for profile picture e r c = λ i. record { rows = r i; columns = c i; shown = e.shown i }
+is_profile_for profile picture e r c = λ i. record { rows = r i; columns = c i; shown = e.shown i; colours = e.colours i }
 
 -- what the terminal is after the bytes that paint a picture
 pub record IsAfter (picture : PictureView) (new : ScreenView) : Type 0 where

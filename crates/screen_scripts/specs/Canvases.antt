@@ -21,10 +21,10 @@ next_place rows columns row column =
     if nat_lt (column + 1) columns then (row, column + 1) else
     (if nat_lt (row + 1) rows then (row + 1, 0) else (row, column))
 
--- a character without attributes is written at the cursor, which goes on
+-- a character without attributes, in default colours, is written at the cursor, which goes on
 abbrev pub with_byte_at : PictureView → ℕ × ℕ → ℕ → PictureView
 with_byte_at canvas place byte = record canvas {
-  lines = grid_with canvas.lines place.0 place.1 (record { byte = byte; attrs = 0 });
+  lines = grid_with canvas.lines place.0 place.1 (record { byte = byte; attrs = 0; pair = 0 });
   wish = Some (next_place canvas.rows canvas.columns place.0 place.1);
 }
 

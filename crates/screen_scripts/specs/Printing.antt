@@ -1,5 +1,5 @@
 -- The lines that the demonstration prints, and the bytes that it sends in their place.
-use Rattle.std.specs.Prelude.{ℕ, ◌+◌, ◌/◌, ◌%◌, ◌==◌, nat_lt, Bool, List, [], ◌∷◌, ◌++◌, map, codes, if◌then◌else◌}
+use Rattle.std.specs.Prelude.{ℕ, ◌+◌, ◌/◌, ◌%◌, ◌==◌, nat_lt, Bool, false, List, [], ◌∷◌, ◌++◌, map, codes, if◌then◌else◌}
 use Rattle.std.specs.List.{flat_map, list_all}
 use Rattle.std.specs.Fmt.{decimal}
 use Rattle.scr_cells.specs.Attributes.{every_attribute}
@@ -20,7 +20,7 @@ hexadecimal_digit n = if nat_lt n 10 then 48 + n else 87 + n
 
 -- the attributes of a place, two digits
 abbrev pub attribute_digits : LookView → List ℕ
-attribute_digits look = hexadecimal_digit (look.attrs / 16) ∷ hexadecimal_digit (look.attrs % 16) ∷ []
+attribute_digits look = hexadecimal_digit (look.pen.attrs / 16) ∷ hexadecimal_digit (look.pen.attrs % 16) ∷ []
 
 -- the characters of a row between two bars
 abbrev pub character_line : List LookView → List ℕ
@@ -29,7 +29,7 @@ character_line looks = 124 ∷ map (λ look. look.byte) looks ++ 124 ∷ 10 ∷ 
 -- the attributes of a row that has some, between two colons
 abbrev pub attribute_line : List LookView → List ℕ
 attribute_line looks =
-    if list_all (λ look. look.attrs == 0) looks then [] else 58 ∷ flat_map attribute_digits looks ++ 58 ∷ 10 ∷ []
+    if list_all (λ look. look.pen.attrs == 0) looks then [] else 58 ∷ flat_map attribute_digits looks ++ 58 ∷ 10 ∷ []
 
 abbrev pub row_lines : List LookView → List ℕ
 row_lines looks = character_line looks ++ attribute_line looks
@@ -48,7 +48,7 @@ refusal_line name = codes "refused " ++ name ++ 10 ∷ []
 
 -- the profile that a picture is shown on: the bundled entry on a screen of the picture's size
 abbrev pub profile_for : PictureView → ProfileView
-profile_for picture = record { rows = picture.rows; columns = picture.columns; shown = every_attribute }
+profile_for picture = record { rows = picture.rows; columns = picture.columns; shown = every_attribute; colours = false }
 
 -- what is printed of an event: the negative of the painted picture with the cursor where it is wished, or the refusal
 abbrev pub printed_event : Event → List ℕ

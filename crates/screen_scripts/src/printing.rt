@@ -66,7 +66,7 @@ fn print_attributes(looks: &[Look], text: &mut Vec<u8>) -> Result<(), NoMemory>
 
 // Whether no place has an attribute.
 fn are_plain(looks: &[Look]) -> bool
-    ensures { result ≡ list_all (λ look. look.attrs == 0) looks.now }
+    ensures { result ≡ list_all (λ look. look.pen.attrs == 0) looks.now }
 {
     looks.iter().all(|look| look.attrs().0 == 0)
 }

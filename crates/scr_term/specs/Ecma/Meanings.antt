@@ -1,10 +1,11 @@
 -- What each unit of an ECMA-48 text does to a screen. ECMA-48, 8.3.21 CUP, 8.3.39 ED, 8.3.117 SGR.
 -- Every unit that is not named here is undefined.
-use Rattle.std.specs.Prelude.{ℕ, ◌≡◌, ◌-◌, ◌==◌, ◌&&◌, nat_le, List, [], ◌∷◌, Option, Some, None, option_and_then, option_map, unwrap_or, bit_or, if◌then◌else◌}
+use Rattle.std.specs.Prelude.{ℕ, ◌≡◌, ◌-◌, ◌==◌, ◌&&◌, nat_le, List, [], ◌∷◌, Option, Some, None, option_and_then, option_map, unwrap_or, if◌then◌else◌}
 use Rattle.std.specs.List.{slice_split}
 use Rattle.std.specs.Str.Parse.{digits_value}
 use Rattle.scr_cells.specs.Attributes.{underline, reverse, blink, dim, bold, invis}
 use Rattle.scr_cells.specs.LookViews.{blank_grid}
+use Rattle.scr_cells.specs.PenViews.{PenView, plain_pen, with_attribute}
 use Rattle.scr_term.specs.Operations.States.{TerminalState, character_written}
 use Rattle.scr_term.specs.Ecma.Units.{EcmaUnit, Graphic, Control, Sequence, IsDivision}
 use Rattle.scr_term.specs.declared.operations.operation.Spot.TheVariants.{At}
@@ -45,23 +46,23 @@ erase_in_page rows columns state (what ∷ []) =
 erase_in_page rows columns state _ = None
 
 -- one parameter of SGR: default, or one more attribute
-abbrev pub rendition : ℕ → ℕ → Option ℕ
-rendition attrs n = if n == 0 then Some 0 else
-    (if n == 1 then Some (bit_or attrs bold) else
-    (if n == 2 then Some (bit_or attrs dim) else
-    (if n == 4 then Some (bit_or attrs underline) else
-    (if n == 5 then Some (bit_or attrs blink) else
-    (if n == 7 then Some (bit_or attrs reverse) else
-    (if n == 8 then Some (bit_or attrs invis) else None))))))
+abbrev pub rendition : PenView → ℕ → Option PenView
+rendition pen n = if n == 0 then Some plain_pen else
+    (if n == 1 then Some (with_attribute pen bold) else
+    (if n == 2 then Some (with_attribute pen dim) else
+    (if n == 4 then Some (with_attribute pen underline) else
+    (if n == 5 then Some (with_attribute pen blink) else
+    (if n == 7 then Some (with_attribute pen reverse) else
+    (if n == 8 then Some (with_attribute pen invis) else None))))))
 
 -- SGR: its parameters one after another; one that is absent is 0
-abbrev pub renditions : ℕ → List (Option ℕ) → Option ℕ
-renditions attrs [] = Some attrs
-renditions attrs (n ∷ ns) = option_and_then (λ next. renditions next ns) (rendition attrs (unwrap_or n 0))
+abbrev pub renditions : PenView → List (Option ℕ) → Option PenView
+renditions pen [] = Some pen
+renditions pen (n ∷ ns) = option_and_then (λ next. renditions next ns) (rendition pen (unwrap_or n 0))
 
 abbrev pub select_graphic_rendition : TerminalState → List (Option ℕ) → Option TerminalState
 select_graphic_rendition state ns =
-    option_map (λ attrs. record state { attrs = attrs }) (renditions state.attrs ns)
+    option_map (λ pen. record state { pen = pen }) (renditions state.pen ns)
 
 -- a control sequence by its final byte: H is CUP, J is ED, m is SGR
 abbrev pub control_function : ℕ → ℕ → TerminalState → List (Option ℕ) → ℕ → Option TerminalState

@@ -2,6 +2,7 @@
 use Rattle.std.specs.Prelude.{ℕ, ◌≡◌, ◌++◌, Bool, true, false, List, [], Some, None, ◌⊎◌}
 use Rattle.scr_cells.specs.Attributes.{every_attribute}
 use Rattle.scr_cells.specs.PictureViews.{IsSize}
+use Rattle.scr_term.specs.Operations.Profiles.{ProfileView}
 use Rattle.scr_term.specs.Operations.States.{TerminalState, IsState, blank_state}
 use Rattle.scr_term.specs.Ecma.Units.{EcmaUnit, IsUnit, IsDivision, IsWaiting, BeginsNoUnit, spelling}
 use Rattle.scr_term.specs.Ecma.Meanings.{meaning, meanings}
@@ -15,14 +16,18 @@ pub record ScreenView : Type 0 where
   pub waiting : List ℕ
   pub undefined : Bool
 
+-- what such a screen shows: every attribute, and colours
+abbrev pub screen_profile : ℕ → ℕ → ProfileView
+screen_profile rows columns = record { rows = rows; columns = columns; shown = every_attribute; colours = true }
+
 -- a screen as it may be: an undefined one is not waiting
 pub record IsScreen (screen : ScreenView) : Type 0 where
   pub size : IsSize screen.rows screen.columns
-  pub state : IsState screen.rows screen.columns every_attribute screen.state
+  pub state : IsState (screen_profile screen.rows screen.columns) screen.state
   pub waiting : (screen.waiting ≡ []) ⊎ IsWaiting screen.waiting
   pub undefined : screen.undefined ≡ true → screen.waiting ≡ []
 
--- blanks everywhere, the cursor at the first place, no attribute on, and nothing came yet
+-- blanks everywhere, the cursor at the first place, no attribute on, default colours, and nothing came yet
 abbrev pub blank_screen : ℕ → ℕ → ScreenView
 blank_screen rows columns = record {
   rows = rows;

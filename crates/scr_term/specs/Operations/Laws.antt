@@ -11,7 +11,7 @@ use Rattle.scr_term.specs.declared.operations.operation.Op.{Op}
 abbrev pub BytesActAsTheirOperation : Type 0
 BytesActAsTheirOperation =
     (profile : ProfileView) → IsEcma48 profile
-    → (old new : TerminalState) → IsState profile.rows profile.columns profile.shown old
+    → (old new : TerminalState) → IsState profile old
     → (op : Op) → step profile old op ≡ Some new
     → Leads profile.rows profile.columns (negative_state old) (bytes_of profile op) (negative_state new)
 
@@ -19,7 +19,7 @@ BytesActAsTheirOperation =
 abbrev pub BytesActAsTheirOperations : Type 0
 BytesActAsTheirOperations =
     (profile : ProfileView) → IsEcma48 profile
-    → (old new : TerminalState) → IsState profile.rows profile.columns profile.shown old
+    → (old new : TerminalState) → IsState profile old
     → (ops : List Op) → runs profile old ops ≡ Some new
     → Leads profile.rows profile.columns (negative_state old) (all_bytes profile ops) (negative_state new)
 
@@ -27,18 +27,18 @@ BytesActAsTheirOperations =
 abbrev pub StepsKeepStates : Type 0
 StepsKeepStates =
     (profile : ProfileView) → IsProfile profile
-    → (old new : TerminalState) → IsState profile.rows profile.columns profile.shown old
+    → (old new : TerminalState) → IsState profile old
     → (op : Op) → step profile old op ≡ Some new
-    → IsState profile.rows profile.columns profile.shown new
+    → IsState profile new
 
 -- Runs join; a run leads from a state of the profile to one, and has only operations that the profile has.
 pub record RunLaws : Type 0 where
   pub joined : (profile : ProfileView) (old next : TerminalState) (ops more : List Op) → runs profile old ops ≡ Some next → runs profile old (ops ++ more) ≡ runs profile next more
-  pub kept : (profile : ProfileView) → IsProfile profile → (old new : TerminalState) → IsState profile.rows profile.columns profile.shown old
-      → (ops : List Op) → runs profile old ops ≡ Some new → IsState profile.rows profile.columns profile.shown new
+  pub kept : (profile : ProfileView) → IsProfile profile → (old new : TerminalState) → IsState profile old
+      → (ops : List Op) → runs profile old ops ≡ Some new → IsState profile new
   pub had : (profile : ProfileView) (old new : TerminalState) (ops : List Op) → runs profile old ops ≡ Some new → All (λ op. has profile op ≡ true) ops
 
 -- A blank screen is a state of each profile, and its own negative.
 pub record BlankLaws : Type 0 where
-  pub state : (profile : ProfileView) → IsProfile profile → IsState profile.rows profile.columns profile.shown (blank_state profile.rows profile.columns)
+  pub state : (profile : ProfileView) → IsProfile profile → IsState profile (blank_state profile.rows profile.columns)
   pub negative : (rows columns : ℕ) → negative_state (blank_state rows columns) ≡ blank_state rows columns

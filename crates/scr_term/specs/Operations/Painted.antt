@@ -1,14 +1,19 @@
 -- What a terminal shows when a picture is painted on it. curs_refresh(3X), 'doupdate'.
-use Rattle.std.specs.Prelude.{◌≡◌, List, map, IfSome}
+use Rattle.std.specs.Prelude.{ℕ, ◌≡◌, List, map, IfSome}
+use Rattle.scr_cells.specs.CellViews.{CellView}
 use Rattle.scr_cells.specs.LookViews.{LookView, seen, negative_grid}
 use Rattle.scr_cells.specs.PictureViews.{PictureView}
 use Rattle.scr_term.specs.Operations.Profiles.{ProfileView}
 use Rattle.scr_term.specs.Operations.States.{TerminalState}
 use Rattle.scr_term.specs.declared.operations.operation.Spot.TheVariants.{At}
 
+-- what is seen of a cell on a terminal, where the pairs have these colours
+abbrev pub seen_on : ProfileView → List (ℕ × ℕ) → CellView → LookView
+seen_on profile pairs = seen profile.shown profile.colours pairs
+
 -- at every place, what is seen of the picture's cell
 abbrev pub painted : ProfileView → PictureView → List (List LookView)
-painted profile picture = map (map (seen profile.shown)) picture.lines
+painted profile picture = map (map (seen_on profile picture.pairs)) picture.lines
 
 -- the terminal shows the painted picture, and its cursor is where the picture wishes it, if anywhere
 pub record Shows (profile : ProfileView) (state : TerminalState) (picture : PictureView) : Type 0 where

@@ -1,46 +1,57 @@
--- The state of a terminal: what its screen shows, where its cursor is, and which attributes are on.
+-- The state of a terminal: what its screen shows, where its cursor is, and what it writes with.
 -- terminfo(5), 'Cursor Motions' and 'Highlighting'; ECMA-48, 'active presentation position'.
-use Rattle.std.specs.Prelude.{ℕ, ◌≡◌, ◌+◌, ◌<◌, List, All, bit_and, nat_lt, if◌then◌else◌, Option, Some, None}
-use Rattle.scr_cells.specs.Attributes.{negative_set}
+use Rattle.std.specs.Prelude.{ℕ, ◌≡◌, ◌+◌, ◌<◌, Bool, true, false, List, All, bit_and, nat_lt, if◌then◌else◌, Option, Some, None, IfSome}
 use Rattle.scr_cells.specs.Grids.{IsGrid, grid_with}
 use Rattle.scr_cells.specs.LookViews.{LookView, IsLook, blank_grid, negative_grid}
+use Rattle.scr_cells.specs.PenViews.{PenView, IsColour, negative_pen, plain_pen}
+use Rattle.scr_term.specs.Operations.Profiles.{ProfileView}
 use Rattle.scr_term.specs.declared.operations.operation.Spot.{Spot}
 use Rattle.scr_term.specs.declared.operations.operation.Spot.TheVariants.{At, Margin}
 
--- the rows of looks from the top, the cursor's spot, and the attributes that are on
+-- the rows of looks from the top, the cursor's spot, and the pen: the attributes that are on and the current colours
 pub record TerminalState : Type 0 where
   pub grid : List (List LookView)
   pub spot : Spot
-  pub attrs : ℕ
+  pub pen : PenView
 
 -- a place of the grid, or the margin behind a row's last column
 abbrev pub IsSpot : ℕ → ℕ → Spot → Type 0
 IsSpot rows columns (At r c) = (r < rows) × (c < columns)
 IsSpot rows columns (Margin r) = r < rows
 
--- a state of a terminal of this size that shows these attributes
-pub record IsState (rows columns shown : ℕ) (state : TerminalState) : Type 0 where
-  pub whole : IsGrid rows columns state.grid
-  pub looks : All (All IsLook) state.grid
-  pub spot : IsSpot rows columns state.spot
-  pub attrs : bit_and shown state.attrs ≡ state.attrs
+-- a foreground and a background where a terminal shows colours, and where it does not
+abbrev pub AreShownColours : Bool → Option ℕ → Option ℕ → Type 0
+AreShownColours true foreground background = IfSome foreground IsColour × IfSome background IsColour
+AreShownColours false foreground background = (foreground ≡ None) × (background ≡ None)
 
--- blanks everywhere, the cursor at the first place, no attribute on
+-- a pen of a terminal: attributes that it shows, and default colours where it shows none
+pub record IsShownPen (profile : ProfileView) (pen : PenView) : Type 0 where
+  pub attrs : bit_and profile.shown pen.attrs ≡ pen.attrs
+  pub colours : AreShownColours profile.colours pen.foreground pen.background
+
+-- a state of a terminal
+pub record IsState (profile : ProfileView) (state : TerminalState) : Type 0 where
+  pub whole : IsGrid profile.rows profile.columns state.grid
+  pub looks : All (All IsLook) state.grid
+  pub spot : IsSpot profile.rows profile.columns state.spot
+  pub pen : IsShownPen profile state.pen
+
+-- blanks everywhere, the cursor at the first place, no attribute on, default colours
 abbrev pub blank_state : ℕ → ℕ → TerminalState
-blank_state rows columns = record { grid = blank_grid rows columns; spot = At 0 0; attrs = 0 }
+blank_state rows columns = record { grid = blank_grid rows columns; spot = At 0 0; pen = plain_pen }
 
 -- the state with reverse in place of standout, everywhere
 abbrev pub negative_state : TerminalState → TerminalState
-negative_state state = record state { grid = negative_grid state.grid; attrs = negative_set state.attrs }
+negative_state state = record state { grid = negative_grid state.grid; pen = negative_pen state.pen }
 
 -- where the cursor is after a character in a column of a row: right of it, or at the margin after the last column
 abbrev pub spot_after : ℕ → ℕ → ℕ → Spot
 spot_after columns r c = if nat_lt (c + 1) columns then At r (c + 1) else Margin r
 
--- a character is written with the attributes that are on, and the cursor goes right; nothing can be written at the margin
+-- a character is written with the pen, and the cursor goes right; nothing can be written at the margin
 abbrev pub written_at : ℕ → TerminalState → ℕ → Spot → Option TerminalState
 written_at columns state byte (At r c) = Some (record state {
-  grid = grid_with state.grid r c (record { byte = byte; attrs = state.attrs });
+  grid = grid_with state.grid r c (record { byte = byte; pen = state.pen });
   spot = spot_after columns r c;
 })
 written_at columns state byte (Margin r) = None

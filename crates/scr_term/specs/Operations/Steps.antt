@@ -1,12 +1,12 @@
 -- What each operation does to the state of a terminal. terminfo(5), 'Basic Capabilities',
 -- 'Cursor Motions', 'Area Clears' and 'Highlighting'.
-use Rattle.std.specs.Prelude.{ℕ, ◌==◌, ◌&&◌, Bool, true, nat_lt, List, [], ◌∷◌, Option, Some, None, option_and_then, bit_and, bit_or, if◌then◌else◌}
+use Rattle.std.specs.Prelude.{ℕ, ◌==◌, ◌&&◌, Bool, true, nat_lt, List, [], ◌∷◌, Option, Some, None, option_and_then, bit_and, if◌then◌else◌}
 use Rattle.std.specs.List.{list_any}
 use Rattle.scr_cells.specs.Attributes.{all_attributes}
 use Rattle.scr_cells.specs.CellViews.{is_character}
-use Rattle.scr_cells.specs.LookViews.{blank_grid}
+use Rattle.scr_cells.specs.PenViews.{is_plain_pen, plain_pen, with_attribute}
 use Rattle.scr_term.specs.Operations.Profiles.{ProfileView}
-use Rattle.scr_term.specs.Operations.States.{TerminalState, character_written}
+use Rattle.scr_term.specs.Operations.States.{TerminalState, blank_state, character_written}
 use Rattle.scr_term.specs.declared.operations.operation.Op.{Op}
 use Rattle.scr_term.specs.declared.operations.operation.Op.TheVariants.{Move, Clear, Reset, Enter, Put}
 use Rattle.scr_term.specs.declared.operations.operation.Spot.TheVariants.{At}
@@ -23,17 +23,17 @@ has profile Reset = true
 has profile (Enter a) = is_shown_attribute profile.shown a.0
 has profile (Put byte) = is_character byte
 
--- blanks everywhere and the cursor at the first place; undefined while an attribute is on
+-- blanks everywhere and the cursor at the first place; undefined while an attribute is on, or a colour that is not the default
 abbrev pub cleared : ProfileView → TerminalState → Option TerminalState
 cleared profile state =
-    if state.attrs == 0 then Some (record state { grid = blank_grid profile.rows profile.columns; spot = At 0 0; attrs = 0 }) else None
+    if is_plain_pen state.pen then Some (blank_state profile.rows profile.columns) else None
 
 -- what an operation that the terminal has does
 abbrev pub act : ProfileView → TerminalState → Op → Option TerminalState
 act profile state (Move r c) = Some (record state { spot = At r c })
 act profile state Clear = cleared profile state
-act profile state Reset = Some (record state { attrs = 0 })
-act profile state (Enter a) = Some (record state { attrs = bit_or state.attrs a.0 })
+act profile state Reset = Some (record state { pen = plain_pen })
+act profile state (Enter a) = Some (record state { pen = with_attribute state.pen a.0 })
 act profile state (Put byte) = character_written profile.columns state byte
 
 -- the state after an operation, or none where it is undefined

@@ -16,8 +16,7 @@ use crate::Spot;
 use crate::ecma::controls::{Change, control_sequence};
 use crate::ecma::readings::{Reading, read_byte};
 use arrayvec::ArrayVec;
-use bitflags::Flags;
-use scr_cells::{Attrs, Grid, Look, NoMemory, Size, grid_laws};
+use scr_cells::{Attrs, Grid, Look, NoMemory, Pen, Size, grid_laws};
 use std::alloc::Global;
 use std::marker::Model;
 use thiserror::Error;
@@ -36,7 +35,7 @@ pub struct Undefined;
 pub struct EcmaScreen {
     grid: Grid<Look>,
     spot: Spot,
-    attrs: Attrs,
+    pen: Pen,
     // The part of a control sequence that came after the last whole unit.
     waiting: ArrayVec<u8, 64>,
     undefined: bool,
@@ -50,7 +49,7 @@ impl Model for EcmaScreen {
     ghost view = { λ a. record {
       rows = a.grid.rows;
       columns = a.grid.columns;
-      state = record { grid = a.grid.lines; spot = a.spot; attrs = a.attrs.0 };
+      state = record { grid = a.grid.lines; spot = a.spot; pen = a.pen };
       waiting = a.waiting.items;
       undefined = a.undefined;
     } };
@@ -58,23 +57,24 @@ impl Model for EcmaScreen {
     ghost invariant = { λ a. IsScreen (record {
       rows = a.grid.rows;
       columns = a.grid.columns;
-      state = record { grid = a.grid.lines; spot = a.spot; attrs = a.attrs.0 };
+      state = record { grid = a.grid.lines; spot = a.spot; pen = a.pen };
       waiting = a.waiting.items;
       undefined = a.undefined;
     }) };
 }
 
 impl EcmaScreen {
-    /// A blank screen with the cursor at 0 0 and no attribute on. Fails only when
-    /// memory runs out.
+    /// A blank screen with the cursor at 0 0, no attribute on and default colours. Fails only when memory runs out.
     pub fn new(alloc: Global, size: Size) -> Result<EcmaScreen, NoMemory>
         ensures { IfOk result (λ screen. screen ≡ blank_screen size.rows size.columns) }
     {
         grid_laws::<Look>();
+        let blank = Look::blank();
+        let _byte = blank.byte();
         Ok(EcmaScreen {
-            grid: Grid::new(alloc, size.rows, size.columns, Look::blank())?,
+            grid: Grid::new(alloc, size.rows, size.columns, blank)?,
             spot: Spot::At(0, 0),
-            attrs: Attrs::empty(),
+            pen: Pen::plain(),
             waiting: ArrayVec::new(),
             undefined: false,
         })
@@ -143,10 +143,10 @@ impl EcmaScreen {
 
     /// The attributes that are on (ECMA-48, 8.3.117 SGR).
     pub fn rendition(&self) -> Attrs
-        ensures value { result.0 ≡ self.now.state.attrs }
+        ensures value { result.0 ≡ self.now.state.pen.attrs }
         ensures shown { bit_and every_attribute result.0 ≡ result.0 }
     {
-        self.attrs
+        self.pen.attrs()
     }
 
     /// Whether the text so far ends inside a control sequence (ECMA-48, 5.4 'Control sequences').
@@ -168,7 +168,7 @@ impl EcmaScreen {
             Reading::Graphic => self.write(byte),
             Reading::Held => self.waiting.push(byte),
             Reading::Last => {
-                let change = control_sequence(self.size(), self.attrs, part, byte);
+                let change = control_sequence(self.size(), self.pen, part, byte);
                 self.apply(change);
             }
             Reading::Other => self.apply(None),
@@ -181,8 +181,9 @@ impl EcmaScreen {
         requires whole { self.old.waiting ≡ [] }
         ensures { self.new ≡ acted self.old (character_written self.old.columns self.old.state byte) }
     {
-        match (self.spot, Look::new(byte, self.attrs)) {
+        match (self.spot, Look::written(byte, self.pen)) {
             (Spot::At(row, column), Some(look)) => {
+                let _byte = look.byte();
                 self.grid.put(row, column, look);
                 self.spot = if column + 1 < self.grid.columns() {
                     Spot::At(row, column + 1)
@@ -214,7 +215,7 @@ impl EcmaScreen {
         match change {
             Change::Moved(spot) => self.spot = spot,
             Change::Erased => self.grid.fill_every(Look::blank()),
-            Change::Rendered(attrs) => self.attrs = attrs,
+            Change::Rendered(pen) => self.pen = pen,
         }
     }
 }

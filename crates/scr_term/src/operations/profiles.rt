@@ -11,8 +11,8 @@ use scr_cells::{Attrs, Size, is_character};
 use std::alloc::Global;
 use std::marker::Model;
 
-/// What is known of a terminal: its size and the attributes that it shows (terminfo(5)). The texts of its
-/// operations are those of the bundled ECMA-48 entry.
+/// What is known of a terminal: its size, the attributes that it shows, and that it shows no colours (terminfo(5)). The
+/// texts of its operations are those of the bundled ECMA-48 entry.
 #[derive(Drop)]
 pub struct Profile {
     size: Size,
@@ -20,13 +20,14 @@ pub struct Profile {
 }
 
 impl Model for Profile {
+    ghost use Rattle.std.specs.Prelude.{false};
     ghost use Rattle.scr_term.specs.Operations.Profiles.{ProfileView, IsProfile};
 
     ghost Value = { ProfileView };
 
-    ghost view = { λ a. record { rows = a.size.rows; columns = a.size.columns; shown = a.shown.0 } };
+    ghost view = { λ a. record { rows = a.size.rows; columns = a.size.columns; shown = a.shown.0; colours = false } };
 
-    ghost invariant = { λ a. IsProfile (record { rows = a.size.rows; columns = a.size.columns; shown = a.shown.0 }) };
+    ghost invariant = { λ a. IsProfile (record { rows = a.size.rows; columns = a.size.columns; shown = a.shown.0; colours = false }) };
 }
 
 impl Profile {

@@ -14,13 +14,18 @@ use Rattle.scr_windows.specs.Changes.{index_of, on_window, write}
 use Rattle.scr_windows.specs.Calls.Erasing.{erased_up_to}
 use Rattle.scr_windows.specs.Calls.Settings.{with_state, cursor_at}
 
--- the written form of a byte: the background's byte in place of a blank, and its own attributes, the window's and the
--- background's
+-- the colour pair that bytes are written with: the window's, and where that is 0 the background's
+abbrev pub written_pair : WindowState → ℕ
+written_pair state = if state.pair == 0 then state.background.pair else state.pair
+
+-- the written form of a byte: the background's byte in place of a blank, its own attributes, the window's and the
+-- background's, and that pair
 abbrev pub written_form : ℕ → Attrs → WindowState → CellView
 written_form byte attrs state =
     record {
       byte = if byte == 32 then state.background.byte else byte;
       attrs = bit_or (bit_or attrs.0 state.attrs.0) state.background.attrs;
+      pair = written_pair state;
     }
 
 -- the cursor goes to a place

@@ -33,7 +33,7 @@ abbrev pub with_root : DeskView → ℕ → ℕ → Option (ℕ × ℕ) → Desk
 with_root desk rows columns origin =
     record desk {
       surfaces = desk.surfaces ++ record { number = desk.made + 1; surface = blank_surface rows columns } ∷ [];
-      windows = desk.windows ++ fresh_window (root_frame desk rows columns origin) no_attributes blank_cell ∷ [];
+      windows = desk.windows ++ fresh_window (root_frame desk rows columns origin) no_attributes 0 blank_cell ∷ [];
       made = desk.made + 1;
     }
 

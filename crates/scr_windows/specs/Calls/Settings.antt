@@ -3,7 +3,7 @@ use Rattle.std.specs.Prelude.{ℕ, Bool, Result, Ok, Err, ◌-◌, ltb, leb, ◌
 use Rattle.scr_cells.specs.CellViews.{CellView}
 use Rattle.scr_cells.specs.declared.attributes.Attrs.{Attrs}
 use Rattle.scr_windows.specs.declared.faults.WinFault.{WinFault}
-use Rattle.scr_windows.specs.declared.faults.WinFault.TheVariants.{OutOfWindow, BadRegion}
+use Rattle.scr_windows.specs.declared.faults.WinFault.TheVariants.{OutOfWindow, BadRegion, BadPair}
 use Rattle.scr_windows.specs.declared.frames.WindowState.{WindowState}
 use Rattle.scr_windows.specs.DeskViews.{WindowView, DeskView, window_at}
 use Rattle.scr_windows.specs.Changes.{index_of, on_window, with_window, write}
@@ -53,6 +53,11 @@ attr_off_call desk win attrs = setting desk win (λ s. record s { attrs = record
 
 unfoldable pub attr_set_call : DeskView → ℕ → Attrs → DeskView × Result (Unit {0}) WinFault
 attr_set_call desk win attrs = setting desk win (λ s. record s { attrs = attrs })
+
+-- color_set(): the number of a colour pair, 0 to 63
+unfoldable pub color_set_call : DeskView → ℕ → ℕ → DeskView × Result (Unit {0}) WinFault
+color_set_call desk win pair = on_window desk (index_of desk win) (λ i.
+    if ltb pair 64 then (with_state desk i (record (window_at desk i).state { pair = pair }), Ok tt) else (desk, Err BadPair))
 
 -- bkgdset()
 unfoldable pub set_background_call : DeskView → ℕ → CellView → DeskView × Result (Unit {0}) WinFault

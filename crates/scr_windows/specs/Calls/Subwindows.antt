@@ -14,11 +14,11 @@ abbrev pub child_frame : DeskView → ℕ → Area → Option (ℕ × ℕ) → F
 child_frame desk i area origin =
     record { number = desk.made + 1; surface = (window_at desk i).frame.surface; area = area; parent = Some (window_at desk i).frame.number; origin = origin }
 
--- the desk with a subwindow of a window, which has the window's attributes and background
+-- the desk with a subwindow of a window, which has the window's attributes, colour pair and background
 abbrev pub with_child : DeskView → ℕ → Area → Option (ℕ × ℕ) → DeskView
 with_child desk i area origin =
     record desk {
-      windows = desk.windows ++ fresh_window (child_frame desk i area origin) (window_at desk i).state.attrs (window_at desk i).state.background ∷ [];
+      windows = desk.windows ++ fresh_window (child_frame desk i area origin) (window_at desk i).state.attrs (window_at desk i).state.pair (window_at desk i).state.background ∷ [];
       made = desk.made + 1;
     }
 

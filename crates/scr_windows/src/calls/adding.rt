@@ -3,6 +3,7 @@
 //! The definitions are in `specs/Calls/Adding.antt`; what is drawn of them is a matter of `scr_surfaces`.
 ghost use Rattle.std.specs.Prelude.{◌≡◌, ◌+◌, ◌<◌, ◌≤◌, ◌⊎◌, length, leb, false};
 ghost use Rattle.std.specs.List.{list_any};
+ghost use Rattle.scr_cells.specs.CellViews.{IsPair};
 ghost use Rattle.scr_windows.specs.DeskViews.{window_at};
 ghost use Rattle.scr_windows.specs.Calls.Adding.{written_form, gone_to, line_begun, character_added, newline_added, tab_added, either_stayed, shown_added, byte_added, text_added, add_byte_call, add_text_call, insert_byte_call, line_across_call, line_down_call};
 
@@ -14,7 +15,8 @@ use scr_cells::{Attrs, Cell, is_character};
 use scr_surfaces::Drawing;
 
 impl Desk {
-    /// Adds a byte at the cursor, with attributes beside those of the window and of its background.
+    /// Adds a byte at the cursor, with attributes beside those of the window and of its background, and with the
+    /// window's colour pair, or where that is 0 the background's.
     ///
     /// A byte 32 to 126 is written and the cursor goes right, from the last column to the first of the
     /// line that follows. Byte 10 erases to the end of the line and begins the line that follows, 9
@@ -275,12 +277,18 @@ impl Desk {
 pub(crate) fn written_form(byte: u8, attrs: Attrs, state: WindowState) -> Cell
     requires from { 32 ≤ byte }
     requires to { byte ≤ 126 }
+    requires pair { IsPair state.pair }
     ensures { result ≡ written_form byte attrs state }
 {
     let background = state.background;
     let shown = if byte == 32 { background.byte() } else { byte };
     let all = attrs.union(state.attrs).union(background.attrs());
-    Cell::new(shown, all).unwrap_or(Cell::blank())
+    let pair = if state.pair == 0 {
+        background.pair()
+    } else {
+        state.pair
+    };
+    Cell::paired(shown, all, pair).unwrap_or(Cell::blank())
 }
 
 // Stayed where either is.

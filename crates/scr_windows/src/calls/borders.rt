@@ -1,7 +1,7 @@
 //! The call that draws a border. The definition is in `specs/Calls/Borders.antt`.
 ghost use Rattle.std.specs.Prelude.{◌≡◌, ◌<◌, length, true};
 ghost use Rattle.std.specs.List.{list_all};
-ghost use Rattle.scr_cells.specs.CellViews.{is_character};
+ghost use Rattle.scr_cells.specs.CellViews.{IsPair, is_character};
 ghost use Rattle.scr_windows.specs.Calls.Adding.{written_form};
 ghost use Rattle.scr_windows.specs.Calls.Borders.{edge_cell, border_of, border_call};
 
@@ -42,6 +42,7 @@ fn are_characters(bytes: &[u8]) -> bool
 fn border_of(bytes: &[u8], state: &WindowState) -> Border
     requires len { length bytes.now ≡ 8 }
     requires graphic { list_all is_character bytes.now ≡ true }
+    requires pair { IsPair state.now.pair }
     ensures { result ≡ border_of bytes.now state.now }
 {
     let left = edge(bytes, 0, state);
@@ -68,6 +69,7 @@ fn border_of(bytes: &[u8], state: &WindowState) -> Border
 fn edge(bytes: &[u8], k: usize, state: &WindowState) -> Cell
     requires here { k < length bytes.now }
     requires graphic { list_all is_character bytes.now ≡ true }
+    requires pair { IsPair state.now.pair }
     ensures { result ≡ edge_cell bytes.now state.now k }
 {
     written_form(bytes[k], Attrs(0), *state)

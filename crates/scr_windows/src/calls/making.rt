@@ -46,7 +46,7 @@ impl Desk {
         let surface = Surface::blank(alloc, rows, columns)?;
         surfaces.push(Sheet { number: 0, surface })?;
         let mut windows = Vec::new(alloc);
-        windows.push(Window::fresh(alloc, frame, Attrs(0), Cell::blank())?)?;
+        windows.push(Window::fresh(alloc, frame, Attrs(0), 0, Cell::blank())?)?;
         Ok(Desk {
             rows,
             columns,
@@ -138,7 +138,7 @@ impl Desk {
         };
         surface_laws();
         let surface = Surface::blank(alloc, rows, columns)?;
-        let window = Window::fresh(alloc, frame, Attrs(0), Cell::blank())?;
+        let window = Window::fresh(alloc, frame, Attrs(0), 0, Cell::blank())?;
         self.windows.reserve(1)?;
         self.surfaces.push(Sheet { number, surface })?;
         self.windows.push(window)?;

@@ -1,7 +1,7 @@
 //! Calls that set something in a window: cursor, region, attributes, background, settings. The definitions are in
 //! `specs/Calls/Settings.antt`.
 ghost use Rattle.std.specs.Prelude.{◌≡◌};
-ghost use Rattle.scr_windows.specs.Calls.Settings.{move_cursor_call, set_region_call, scroll_ok_call, clear_ok_call, leave_ok_call, attr_on_call, attr_off_call, attr_set_call, set_background_call, change_background_call};
+ghost use Rattle.scr_windows.specs.Calls.Settings.{move_cursor_call, set_region_call, scroll_ok_call, clear_ok_call, leave_ok_call, attr_on_call, attr_off_call, attr_set_call, color_set_call, set_background_call, change_background_call};
 
 use crate::desks::Desk;
 use crate::faults::{Win, WinFault};
@@ -121,6 +121,22 @@ impl Desk {
         Ok(())
     }
 
+    /// Sets the colour pair that bytes are written with; 0 stands for that of the background.
+    ///
+    /// Refused: NoWindow; BadPair for a pair above 63. X/Open Curses Issue 7, color_set().
+    #[tactic(auto, unfolding(crate::specs::Calls::Settings::color_set_call))]
+    pub fn color_set(&mut self, win: Win, pair: u32) -> Result<(), WinFault>
+        ensures { (self.new, result) ≡ color_set_call self.old win.0 pair }
+    {
+        let mut pen = self.pen(win)?;
+        if pair > Cell::MOST_PAIR {
+            return Err(WinFault::BadPair);
+        }
+        pen.state.pair = pair;
+        self.set_state(pen.index, pen.state);
+        Ok(())
+    }
+
     /// Sets the background of a window, and changes no cell.
     ///
     /// Refused: NoWindow. X/Open Curses Issue 7, bkgdset().
@@ -135,7 +151,8 @@ impl Desk {
     }
 
     /// Sets the background of a window, and exchanges it in every cell: the old background's byte becomes
-    /// the new one's, the old attributes are taken off and the new ones put on.
+    /// the new one's, the old attributes are taken off and the new ones put on, and the old colour pair becomes the
+    /// new one.
     ///
     /// Refused: NoWindow. X/Open Curses Issue 7, bkgd().
     #[tactic(auto, unfolding(crate::specs::Calls::Settings::change_background_call))]

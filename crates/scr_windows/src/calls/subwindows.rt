@@ -18,7 +18,8 @@ pub const MOST: usize = 1000;
 
 impl Desk {
     /// Makes a subwindow at a row and a column of its parent; 0 rows or columns are those to the parent's
-    /// end. It shares the parent's cells and begins with its attributes and background.
+    /// end. It shares the parent's cells and begins with its attributes, colour pair and
+    /// background.
     ///
     /// Refused: NoWindow; IsPad; NotInParent where it is not wholly in the parent, or empty; TooMany;
     /// NoMemory. X/Open Curses Issue 7, derwin().
@@ -140,7 +141,7 @@ impl Desk {
             parent: Some(above.number),
             origin,
         };
-        let window = Window::fresh(alloc, frame, state.attrs, state.background)?;
+        let window = Window::fresh(alloc, frame, state.attrs, state.pair, state.background)?;
         self.windows.push(window)?;
         self.made = number;
         Ok(Win(number))

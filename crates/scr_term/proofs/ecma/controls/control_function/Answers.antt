@@ -1,5 +1,4 @@
-use Rattle.std.proofs.Common.{sym, ap, ◌∙◌}
-use Rattle.std.specs.Prelude.{option_map}
+use Rattle.std.proofs.Common.{sym, ◌∙◌}
 use Rattle.scr_term.proofs.EcmaStateLaws.{renditions_shown}
 use Rattle.scr_term.proofs.ecma.controls.control_function.Goals as goal
 
@@ -9,5 +8,5 @@ returns-in-74-clause-change c = c.erase_in_page.ensures.change c.args.size.rows 
 pub returns-in_ok-renditions-in-109-clause-change :
     goal.returns-in_ok-renditions-in-109-clause-change
 returns-in_ok-renditions-in-109-clause-change c =
-    renditions_shown c.args.attrs.0 c.args.parameters.now c.in_ok-renditions-in-109.field-0.0 c.requires
-    (ap (option_map (λ new. new.0)) (sym c.in_ok-renditions-in-109.was) ∙ c.renditions.ensures)
+    renditions_shown c.args.size.rows c.args.size.columns c.args.pen c.args.parameters.now c.in_ok-renditions-in-109.field-0 c.requires
+    (sym c.in_ok-renditions-in-109.was ∙ c.renditions.ensures)

@@ -3,4 +3,4 @@ use Rattle.scr_term.specs.Ecma.Meanings.{renditions}
 use Rattle.scr_term.proofs.ecma.controls.renditions.Given as goal
 
 abbrev pub invariant-loop-parameter : goal.invariant-loop-parameter
-invariant-loop-parameter l = renditions l.attrs.0 (drop l.parameter-index l.parameters) ≡ renditions l.fn.attrs.0 l.parameters
+invariant-loop-parameter l = renditions l.pen (drop l.parameter-index l.parameters) ≡ renditions l.fn.pen l.parameters

@@ -9,8 +9,8 @@ use Rattle.scr_windows.proofs.desks.Desk.add_root.Goals as goal
 pub invariant_of-self-2 : goal.invariant_of-self-2
 invariant_of-self-2 c =
     let few : length c.self.inside.windows.items < 1000 = omega (arith, c.self.inside.windows.ok.0) in
-    let new : c.in_ok-window.window ≡ fresh_window (root_frame (record { rows = c.self.inside.rows; columns = c.self.inside.columns; surfaces = c.self.inside.surfaces.items; windows = c.self.inside.windows.items; made = c.self.inside.made }) c.args.rows c.args.columns c.args.origin) no_attributes blank_cell
-    = c.in_ok-window.ensures ∙ ap (λ b. fresh_window (root_frame (record { rows = c.self.inside.rows; columns = c.self.inside.columns; surfaces = c.self.inside.surfaces.items; windows = c.self.inside.windows.items; made = c.self.inside.made }) c.args.rows c.args.columns c.args.origin) no_attributes b) c.blank-2.ensures in
+    let new : c.in_ok-window.window ≡ fresh_window (root_frame (record { rows = c.self.inside.rows; columns = c.self.inside.columns; surfaces = c.self.inside.surfaces.items; windows = c.self.inside.windows.items; made = c.self.inside.made }) c.args.rows c.args.columns c.args.origin) no_attributes 0 blank_cell
+    = c.in_ok-window.ensures ∙ ap (λ b. fresh_window (root_frame (record { rows = c.self.inside.rows; columns = c.self.inside.columns; surfaces = c.self.inside.surfaces.items; windows = c.self.inside.windows.items; made = c.self.inside.made }) c.args.rows c.args.columns c.args.origin) no_attributes 0 b) c.blank-2.ensures in
     root_added c.surface_laws.ensures _ _ c.self.view_is c.args.rows c.args.columns c.args.origin c.in_ok-surface.surface c.in_ok-window.window _ _ c.self.invariant c.requires c.in_ok-surface.ensures new
     (pushed (record { number = c.self.inside.made + 1; surface = c.in_ok-surface.surface } ∷ []) refl c.in_ok-push.was c.push.ensures.items)
     (pushed (c.in_ok-window.window ∷ []) c.reserve.ensures.items c.in_ok-push-2.was c.push-2.ensures.items) few (omega arith)

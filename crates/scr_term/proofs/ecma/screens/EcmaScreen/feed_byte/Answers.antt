@@ -15,7 +15,7 @@ returns-in-Held c =
     let pushed : ScreenView = record {
       rows = c.self.inside.grid.rows;
       columns = c.self.inside.grid.columns;
-      state = record { grid = c.self.inside.grid.lines; spot = c.self.inside.spot; attrs = c.self.inside.attrs.0 };
+      state = record { grid = c.self.inside.grid.lines; spot = c.self.inside.spot; pen = c.self.inside.pen };
       waiting = c.push.new.self.items;
       undefined = c.self.inside.undefined;
     } in
@@ -24,19 +24,19 @@ returns-in-Held c =
     (c.as_slice-part.ensures.value ∙ ap (λ (s : ScreenView). s.waiting) c.self.view_is)
     c.in-Held.ensures
     (held_view c.self.inside.grid.rows c.self.inside.grid.columns
-    (record { grid = c.self.inside.grid.lines; spot = c.self.inside.spot; attrs = c.self.inside.attrs.0 })
+    (record { grid = c.self.inside.grid.lines; spot = c.self.inside.spot; pen = c.self.inside.pen })
     c.self.inside.waiting.items c.push.new.self.items c.args.byte c.self.inside.undefined c.args.self.now c.push.ensures.items c.self.view_is)
 
 pub returns-in-Last : goal.returns-in-Last
 returns-in-Last c =
-    took_last c.args.self.now c.apply.new.self c.args.byte c.as_slice-part.result.now c.size.result.rows c.size.result.columns c.self.inside.attrs.0
+    took_last c.args.self.now c.apply.new.self c.args.byte c.as_slice-part.result.now c.size.result.rows c.size.result.columns c.self.inside.pen
     c.control_sequence-change.result
     (sym (ap (λ (s : ScreenView). s.undefined) c.self.view_is) ∙ c.if-self.false)
     (c.as_slice-part.ensures.value ∙ ap (λ (s : ScreenView). s.waiting) c.self.view_is)
     c.in-Last.ensures
     (sym c.size.ensures.rows)
     (sym c.size.ensures.columns)
-    (sym (ap (λ (s : ScreenView). s.state.attrs) c.self.view_is))
+    (sym (ap (λ (s : ScreenView). s.state.pen) c.self.view_is))
     c.control_sequence-change.ensures.value c.apply.ensures
 
 pub returns-in-Other : goal.returns-in-Other

@@ -10,7 +10,7 @@ invariant_of-self-in-Erased c =
     let old : ScreenView = record {
       rows = grid.rows;
       columns = grid.columns;
-      state = record { grid = grid.lines; spot = c.self.inside.spot; attrs = c.self.inside.attrs.0 };
+      state = record { grid = grid.lines; spot = c.self.inside.spot; pen = c.self.inside.pen };
       waiting = c.self.inside.waiting.items;
       undefined = c.self.inside.undefined;
     } in
