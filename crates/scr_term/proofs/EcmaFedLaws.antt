@@ -7,8 +7,10 @@ use Rattle.scr_term.specs.Operations.States.{TerminalState, character_written}
 use Rattle.scr_term.specs.Ecma.Units.{EcmaUnit, Graphic, Control, Sequence, spelling, IsUnit, IsSequence, IsWaiting, BeginsNoUnit}
 use Rattle.scr_term.specs.Ecma.Meanings.{meaning}
 use Rattle.scr_term.specs.Ecma.Screens.{ScreenView, IsScreen, IsFed}
-use Rattle.scr_term.specs.Code.Readings.{IsReading, acted, changed}
-use Rattle.scr_term.specs.declared.ecma.controls.Change.{Change}
+use Rattle.scr_term.specs.Code.Changes.{MakesAt, MakesWith, changed}
+use Rattle.scr_term.specs.Code.Readings.{IsReading, acted}
+use Rattle.scr_term.specs.declared.displays.changes.Change.{Change}
+use Rattle.scr_term.specs.declared.operations.operation.Spot.{Spot}
 use Rattle.scr_term.specs.declared.ecma.readings.Reading.TheVariants as reading
 use Rattle.scr_term.proofs.EcmaPieceLaws.{fed_cut}
 
@@ -114,8 +116,10 @@ fed_no_unit s b is begins_none = record {
 }
 
 pub fed_other : (s : ScreenView) (b : ℕ) → s.undefined ≡ false → IsReading s.waiting b reading.Other → IsFed s (b ∷ []) (acted s None)
-fed_other s b is (inl control) = fed_unit s b (Control b) is control.1 (ap (λ w. w ++ b ∷ []) control.0)
-fed_other s b is (inr begins_none) = fed_no_unit s b is begins_none
+fed_other s b is begins_none = fed_no_unit s b is begins_none
+
+fed_control : (s : ScreenView) (b : ℕ) → s.undefined ≡ false → IsReading s.waiting b reading.Control → IsFed s (b ∷ []) (acted s (meaning s.rows s.columns s.state (Control b)))
+fed_control s b is control = fed_unit s b (Control b) is control.1 (ap (λ w. w ++ b ∷ []) control.0)
 
 -- one byte more of a piece
 pub fed_more : (old between new : ScreenView) (piece : List ℕ) (i : ℕ) (b : ℕ) → i < length piece → b ≡ get_or piece i 0
@@ -148,21 +152,33 @@ held_view rows columns state waiting pushed b undefined s e view =
     ap (λ w. let x : ScreenView = record { rows = rows; columns = columns; state = state; waiting = w; undefined = undefined } in x) e in
     first ∙ ap (λ (x : ScreenView). let y : ScreenView = record x { waiting = x.waiting ++ b ∷ [] } in y) view
 
-pub took_last : (s new : ScreenView) (b : ℕ) (part : List ℕ) (rows columns : ℕ) (pen : PenView) (change : Option Change)
+-- what a change makes of a screen's state, where the change is what a definition makes of states like it
+same_change : (s : ScreenView) (rows columns : ℕ) (change : Option Change) (u : EcmaUnit) → s.rows ≡ rows → s.columns ≡ columns
+    → option_map (changed rows columns s.state) change ≡ meaning rows columns s.state u
+    → option_map (changed s.rows s.columns s.state) change ≡ meaning s.rows s.columns s.state u
+same_change s rows columns change u r c here =
+    subst (λ n. option_map (changed n s.columns s.state) change ≡ meaning n s.columns s.state u) (sym r)
+    (subst (λ n. option_map (changed rows n s.state) change ≡ meaning rows n s.state u) (sym c) here)
+
+pub took_last : (s new : ScreenView) (b : ℕ) (part : List ℕ) (rows columns : ℕ) (spot : Spot) (pen : PenView) (change : Option Change)
     → s.undefined ≡ false → part ≡ s.waiting → IsReading part b reading.Last
-    → s.rows ≡ rows → s.columns ≡ columns → s.state.pen ≡ pen
-    → ((ps : List ℕ) (state : TerminalState) → part ≡ 27 ∷ 91 ∷ ps → state.pen ≡ pen
-    → option_map (changed rows columns state) change ≡ meaning rows columns state (Sequence ps b))
+    → s.rows ≡ rows → s.columns ≡ columns → s.state.spot ≡ spot → s.state.pen ≡ pen
+    → ((ps : List ℕ) → part ≡ 27 ∷ 91 ∷ ps → MakesWith rows columns spot pen change (λ state. meaning rows columns state (Sequence ps b)))
     → new ≡ acted s (option_map (changed s.rows s.columns s.state) change) → IsFed s (b ∷ []) new
-took_last s new b part rows columns pen change is same read r c a means e =
-    let ps = read.0 in
-    let here : option_map (changed rows columns s.state) change ≡ meaning rows columns s.state (Sequence ps b) =
-    means ps s.state read.1 a in
-    let there : option_map (changed s.rows s.columns s.state) change ≡ meaning s.rows s.columns s.state (Sequence ps b) =
-    subst (λ n. option_map (changed n s.columns s.state) change ≡ meaning n s.columns s.state (Sequence ps b)) (sym r)
-    (subst (λ n. option_map (changed rows n s.state) change ≡ meaning rows n s.state (Sequence ps b)) (sym c) here) in
+took_last s new b part rows columns spot pen change is same read r c at a means e =
+    let there = same_change s rows columns change (Sequence read.0 b) r c (means read.0 read.1 s.state at a) in
     subst (λ (n : ScreenView). IsFed s (b ∷ []) n) (ap (acted s) (sym there) ∙ sym e)
-    (fed_last s b ps is (sym same ∙ read.1) read.2)
+    (fed_last s b read.0 is (sym same ∙ read.1) read.2)
+
+pub took_control : (s new : ScreenView) (b : ℕ) (part : List ℕ) (rows columns : ℕ) (spot : Spot) (change : Option Change)
+    → s.undefined ≡ false → part ≡ s.waiting → IsReading part b reading.Control
+    → s.rows ≡ rows → s.columns ≡ columns → s.state.spot ≡ spot
+    → MakesAt rows columns spot change (λ state. meaning rows columns state (Control b))
+    → new ≡ acted s (option_map (changed s.rows s.columns s.state) change) → IsFed s (b ∷ []) new
+took_control s new b part rows columns spot change is same read r c at means e =
+    let there = same_change s rows columns change (Control b) r c (means s.state at) in
+    subst (λ (n : ScreenView). IsFed s (b ∷ []) n) (ap (acted s) (sym there) ∙ sym e)
+    (fed_control s b is (subst (λ p. IsReading p b reading.Control) same read))
 
 pub took_other : (s new : ScreenView) (b : ℕ) (part : List ℕ) → s.undefined ≡ false → part ≡ s.waiting → IsReading part b reading.Other
     → new ≡ acted s None → IsFed s (b ∷ []) new

@@ -1,10 +1,10 @@
 -- What the next byte is after a part of a unit.
 use Rattle.std.proofs.Common.{◌≡◌, ◌≢◌, ℕ, ◌+◌, ◌<◌, ◌≤◌, true, false, List, [], ◌∷◌, ◌++◌, length, ◌⊎◌, inl, inr, refl, sym, ap, ◌∙◌, subst, append_assoc, arith, eqb}
 use Rattle.std.specs.Prelude.{IsTrue}
-use Rattle.std.proofs.lemmas.Bool.Decides.{eqb_tells}
 use Rattle.scr_term.specs.Ecma.Units.{EcmaUnit, Graphic, Control, Sequence, spelling, is_parameter_byte, IsSequence, IsUnit, IsWaiting, BeginsNoUnit}
 use Rattle.scr_term.specs.Code.Readings.{IsReading}
 use Rattle.scr_term.specs.declared.ecma.readings.Reading.TheVariants.{Last, Other}
+use Rattle.scr_term.specs.declared.ecma.readings.Reading.TheVariants as reading
 use Rattle.scr_term.proofs.EcmaUnitLaws.{AreParameterBytes, parameter_byte_lt, sequence_append, append_is_nil}
 
 -- ESC [ and parameters that can still be followed by a final byte
@@ -133,20 +133,12 @@ first_escape part b none is =
     let same : 27 ∷ [] ≡ part ++ b ∷ [] = ap (λ p. p ++ 27 ∷ []) (sym none) ∙ ap (λ x. part ++ x ∷ []) (sym is) in
     subst IsWaiting same escape_waits
 
-first_by : (b : ℕ) → (b < 32) ⊎ (126 < b) → b ≢ 27
-    → ((eqb b 8 ≡ true) × (b ≡ 8)) ⊎ ((eqb b 8 ≡ false) × (b ≢ 8)) → ((eqb b 13 ≡ true) × (b ≡ 13)) ⊎ ((eqb b 13 ≡ false) × (b ≢ 13))
-    → ((b ≡ 8) ⊎ (b ≡ 13)) ⊎ BeginsNoUnit (b ∷ [])
-first_by b off escape (inl d) y = inl (inl d.1)
-first_by b off escape (inr d) (inl y) = inl (inr y.1)
-first_by b off escape (inr d) (inr y) =
-    inr (push_is_some [] b, λ u more others h e. no_first_unit b off escape d.1 y.1 u more others h e)
+pub first_control : (part : List ℕ) (b : ℕ) → part ≡ [] → (b ≡ 8) ⊎ (b ≡ 13) → IsReading part b reading.Control
+first_control part b none is = (none, is)
 
-pub first_other : (part : List ℕ) (b : ℕ) → part ≡ [] → (b < 32) ⊎ (126 < b) → b ≢ 27 → IsReading part b Other
-first_other part b none off escape =
-    elim (first_by b off escape (eqb_tells b 8) (eqb_tells b 13)) [
-      | inl control ↦ inl (none, control)
-      | inr begins_none ↦ inr (subst BeginsNoUnit (ap (λ p. p ++ b ∷ []) (sym none)) begins_none)
-    ]
+pub first_other : (part : List ℕ) (b : ℕ) → part ≡ [] → (b < 32) ⊎ (126 < b) → b ≢ 27 → b ≢ 8 → b ≢ 13 → IsReading part b Other
+first_other part b none off escape backspace return =
+    subst BeginsNoUnit (ap (λ p. p ++ b ∷ []) (sym none)) (push_is_some [] b, λ u more others h e. no_first_unit b off escape backspace return u more others h e)
 
 -- the second byte
 
@@ -165,8 +157,7 @@ second_bracket part b waits one is =
 pub second_other : (part : List ℕ) (b : ℕ) → IsWaiting part → length part ≡ 1 → b ≢ 91 → IsReading part b Other
 second_other part b waits one off =
     let same : 27 ∷ b ∷ [] ≡ part ++ b ∷ [] = ap (λ p. p ++ b ∷ []) (sym (second part waits one)) in
-    inr (subst BeginsNoUnit same
-    (push_is_some (27 ∷ []) b, λ u more others h e. no_second_unit b off u more others h e))
+    subst BeginsNoUnit same (push_is_some (27 ∷ []) b, λ u more others h e. no_second_unit b off u more others h e)
 
 -- a later byte
 
@@ -215,11 +206,11 @@ later_none part b waits long full off =
 pub later_full : (part : List ℕ) (b : ℕ) → IsWaiting part → 2 ≤ length part → IsTrue (is_parameter_byte b) → 64 ≤ length part + 1
     → IsReading part b Other
 later_full part b waits long is full =
-    inr (later_none part b waits long (inl (omega arith)) (inl (parameter_byte_lt b is)))
+    later_none part b waits long (inl (omega arith)) (inl (parameter_byte_lt b is))
 
 pub later_other : (part : List ℕ) (b : ℕ) → IsWaiting part → 2 ≤ length part → is_parameter_byte b ≡ false → (b < 64) ⊎ (126 < b)
     → IsReading part b Other
-later_other part b waits long no_parameter off = inr (later_none part b waits long (inr no_parameter) off)
+later_other part b waits long no_parameter off = later_none part b waits long (inr no_parameter) off
 
 -- a part of some length waits
 pub long_waits : (part : List ℕ) → (part ≡ []) ⊎ IsWaiting part → 1 ≤ length part → IsWaiting part

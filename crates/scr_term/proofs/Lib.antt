@@ -1,5 +1,6 @@
 pub mod Attributes
 pub mod Parameters
+mod DisplayLaws
 mod LookGridLaws
 pub mod OperationLaws
 pub mod StepLaws
@@ -9,6 +10,6 @@ mod EcmaPieceLaws
 mod EcmaReadingLaws
 mod EcmaParameterLaws
 mod EcmaStateLaws
-mod EcmaViewLaws
+mod DisplayViewLaws
 mod EcmaFedLaws
 mod EcmaLedLaws

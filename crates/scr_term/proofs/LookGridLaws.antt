@@ -8,7 +8,6 @@ use Rattle.std.proofs.lemmas.List.FromFn.{get_or-map-range_with_len, length-map-
 use Rattle.std.proofs.lemmas.List.Elements.{All-get_or, All-map, All-set}
 use Rattle.scr_cells.specs.Grids.{GridView, IsGrid, grid_row, grid_with}
 use Rattle.scr_cells.specs.LookViews.{IsLook, LookView, blank, blank_grid, negative, negative_grid}
-use Rattle.scr_term.specs.Ecma.Screens.{ScreenView, IsScreen}
 
 same_or_not : (a b : ℕ) → (a ≡ b) ⊎ (a ≢ b)
 same_or_not a b = grind arith
@@ -59,15 +58,3 @@ negative_put lines r c look =
     let line : List LookView = set (grid_row lines r) c look in
     map-set (map negative) lines r line
     ∙ ap (set (negative_grid lines) r) (map-set negative (grid_row lines r) c look ∙ ap (λ row. set row c (negative look)) (sym (get_or-map (map negative) lines r [])))
-
--- a screen whose places are all made blank
-pub erased_is_screen : (old : ScreenView) (grid : GridView LookView) → IsScreen old → grid ≡ record { rows = old.rows; columns = old.columns; lines = blank_grid old.rows old.columns }
-    → IsScreen (record { rows = grid.rows; columns = grid.columns; state = record old.state { grid = grid.lines }; waiting = old.waiting; undefined = old.undefined })
-erased_is_screen old grid is e =
-    let P : GridView LookView → Type 0 = λ g. IsScreen (record { rows = g.rows; columns = g.columns; state = record old.state { grid = g.lines }; waiting = old.waiting; undefined = old.undefined }) in
-    subst P (sym e) (record {
-      size = is.size;
-      state = record { whole = is_blank old.rows old.columns; looks = all_blank old.rows old.columns; spot = is.state.spot; pen = is.state.pen };
-      waiting = is.waiting;
-      undefined = is.undefined;
-    })

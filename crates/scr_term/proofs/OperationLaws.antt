@@ -1,5 +1,5 @@
 -- The bytes of each operation do to the negative of a state what the operation does to the state.
-use Rattle.std.proofs.Common.{◌≡◌, ℕ, ◌+◌, ◌-◌, ◌^◌, ◌<◌, ◌≤◌, ◌==◌, ◌&&◌, Bool, true, false, IsTrue, cond, refl, sym, ◌∙◌, ap, subst, arith, [], ◌∷◌, ◌++◌, length, length-append, Option, Some, None, option_and_then, bit_and, bit_or, nat_le, codes}
+use Rattle.std.proofs.Common.{◌≡◌, ℕ, ◌+◌, ◌-◌, ◌^◌, ◌<◌, ◌≤◌, ◌==◌, ◌&&◌, Bool, true, false, IsTrue, cond, refl, sym, ◌∙◌, ap, subst, arith, [], ◌∷◌, ◌++◌, length, length-append, Option, Some, None, option_and_then, bit_and, bit_or, nat_le, nat_lt, codes}
 use Rattle.std.specs.List.{list_any}
 use Rattle.std.specs.Fmt.{decimal}
 use Rattle.std.proofs.lemmas.Fmt.{length-decimal-le}
@@ -17,12 +17,12 @@ use Rattle.scr_term.specs.declared.operations.operation.Op.TheVariants.{Move, Cl
 use Rattle.scr_term.specs.declared.operations.operation.Spot.{Spot}
 use Rattle.scr_term.specs.declared.operations.operation.Spot.TheVariants.{At, Margin}
 use Rattle.scr_term.specs.Operations.Profiles.{ProfileView, IsEcma48}
-use Rattle.scr_term.specs.Operations.States.{TerminalState, IsState, blank_state, negative_state, written_at, spot_after}
+use Rattle.scr_term.specs.Operations.States.{moved_to, TerminalState, IsState, blank_state, negative_state, written_at, spot_after}
 use Rattle.scr_term.specs.Operations.Steps.{has, act}
 use Rattle.scr_term.specs.Operations.Texts.{control_sequence, rendition_of, bytes_of}
 use Rattle.scr_term.specs.Ecma.Units.{EcmaUnit, Graphic, Sequence, spelling, is_parameter_byte, IsUnit, IsDivision}
 use Rattle.scr_term.specs.Ecma.Meanings.{cursor_at, meanings}
-use Rattle.scr_term.specs.Ecma.Meanings.{Leads}
+use Rattle.scr_term.specs.Ecma.Meanings.{Leads, control_function}
 use Rattle.scr_term.specs.Operations.Laws.{BytesActAsTheirOperation}
 use Rattle.scr_term.proofs.Attributes.{each_attribute, negative-or_standout, negative-or_underline, negative-or_reverse, negative-or_blink, negative-or_dim, negative-or_bold, negative-or_invis}
 use Rattle.scr_term.proofs.LookGridLaws.{negative_blank, negative_put}
@@ -56,13 +56,17 @@ one_unit unit h = record {
 
 placed : (rows columns : ℕ) (state : TerminalState) (r c : ℕ) → r < rows → c < columns → cursor_at rows columns state (r + 1) (c + 1) ≡ Some (record { grid = state.grid; spot = At r c; pen = state.pen })
 placed rows columns state r c hr hc =
-    let inside : (nat_le 1 (r + 1) && nat_le (r + 1) rows && nat_le 1 (c + 1) && nat_le (c + 1) columns) ≡ true = grind (arith, nat_tests) in
+    let from_one : (nat_le 1 (r + 1) && nat_le 1 (c + 1)) ≡ true = grind (arith, nat_tests) in
+    let inside : (nat_lt r rows && nat_lt c columns) ≡ true = grind (arith, nat_tests) in
     let row : r + 1 - 1 ≡ r = omega arith in
     let column : c + 1 - 1 ≡ c = omega arith in
-    rw (inside, row, column) refl
+    let here : moved_to rows columns state r c ≡ Some (record { grid = state.grid; spot = At r c; pen = state.pen }) = rw inside refl in
+    ap (λ t. cond t (moved_to rows columns state (r + 1 - 1) (c + 1 - 1)) None) from_one
+    ∙ ap (λ n. moved_to rows columns state n (c + 1 - 1)) row ∙ ap (λ n. moved_to rows columns state r n) column ∙ here
 
 move_leads : (rows columns : ℕ) (state : TerminalState) (r c : ℕ) → IsSize rows columns → r < rows → c < columns
     → Leads rows columns state (control_sequence (decimal (r + 1) ++ 59 ∷ decimal (c + 1)) 72) (record { grid = state.grid; spot = At r c; pen = state.pen })
+unfolding control_function
 move_leads rows columns state r c size hr hc =
     let few_r : r + 1 < 2 ^ 64 = omega (arith, size.few_rows) in
     let few_c : c + 1 < 2 ^ 64 = omega (arith, size.few_columns) in
@@ -120,6 +124,7 @@ put_leads rows columns byte old new (At r c) e low high h =
 clear_leads : (rows columns : ℕ) (old : TerminalState) → IsSize rows columns → old.pen ≡ plain_pen
     → Leads rows columns (negative_state old) (control_sequence [] 72 ++ control_sequence (codes "2") 74)
     (negative_state (blank_state rows columns))
+unfolding control_function
 clear_leads rows columns old size none =
     let home : TerminalState = record { grid = negative_grid old.grid; spot = At 0 0; pen = negative_pen old.pen } in
     let first : cursor_at rows columns (negative_state old) 1 1 ≡ Some home = placed rows columns (negative_state old) 0 0 size.some_rows size.some_columns in
@@ -140,6 +145,7 @@ clear_leads rows columns old size none =
 enter_leads : (rows columns a : ℕ) (old : TerminalState) → old.pen.attrs < 128 → list_any (λ x. x == a) all_attributes ≡ true
     → Leads rows columns (negative_state old) (control_sequence (rendition_of a) 109)
     (negative_state (record { grid = old.grid; spot = old.spot; pen = with_attribute old.pen a }))
+unfolding control_function
 enter_leads rows columns a old small one =
     let state : TerminalState = negative_state old in
     let P : ℕ → Type 0 = λ n. Leads rows columns state (control_sequence (rendition_of n) 109) (record { grid = state.grid; spot = state.spot; pen = negative_pen (with_attribute old.pen n) }) in
@@ -164,6 +170,7 @@ small_set set h = omega (arith, h, and_le_l 127 set)
 leads_by : (profile : ProfileView) → IsEcma48 profile → (old new : TerminalState) → IsState profile old
     → (op : Op) → has profile op ≡ true → act profile old op ≡ Some new
     → Leads profile.rows profile.columns (negative_state old) (bytes_of profile op) (negative_state new)
+unfolding control_function
 leads_by profile p old new s (Move r c) had h =
     let hr : r < profile.rows = grind (arith, nat_tests) in
     let hc : c < profile.columns = grind (arith, nat_tests) in

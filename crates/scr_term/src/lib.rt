@@ -2,6 +2,7 @@
 //! is fed those bytes.
 #![tactic(auto)]
 
+mod displays;
 mod ecma;
 mod operations;
 

@@ -1,14 +1,14 @@
--- What each unit of an ECMA-48 text does to a screen. ECMA-48, 8.3.21 CUP, 8.3.39 ED, 8.3.117 SGR.
+-- What each unit of an ECMA-48 text does to a screen. ECMA-48, 8.3: CUU, CUD, CUF, CUB, CHA, VPA, CUP, ED, EL, ECH, SGR, BS, CR.
 -- Every unit that is not named here is undefined.
-use Rattle.std.specs.Prelude.{ℕ, ◌≡◌, ◌-◌, ◌==◌, ◌&&◌, nat_le, List, [], ◌∷◌, Option, Some, None, option_and_then, option_map, unwrap_or, if◌then◌else◌}
+use Rattle.std.specs.Prelude.{ℕ, ◌≡◌, ◌+◌, ◌-◌, ◌==◌, ◌&&◌, nat_le, List, [], ◌∷◌, Option, Some, None, option_and_then, option_map, unwrap_or, if◌then◌else◌}
 use Rattle.std.specs.List.{slice_split}
 use Rattle.std.specs.Str.Parse.{digits_value}
 use Rattle.scr_cells.specs.Attributes.{underline, reverse, blink, dim, bold, invis}
 use Rattle.scr_cells.specs.LookViews.{blank_grid}
 use Rattle.scr_cells.specs.PenViews.{PenView, plain_pen, with_attribute}
-use Rattle.scr_term.specs.Operations.States.{TerminalState, character_written}
+use Rattle.scr_cells.specs.Grids.{is_in_run}
+use Rattle.scr_term.specs.Operations.States.{TerminalState, character_written, characters_erased, erased, from_place, is_from_place, moved_to}
 use Rattle.scr_term.specs.Ecma.Units.{EcmaUnit, Graphic, Control, Sequence, IsDivision}
-use Rattle.scr_term.specs.declared.operations.operation.Spot.TheVariants.{At}
 
 -- a parameter is absent or a number; there is none above 9,999
 abbrev pub parameter : List ℕ → Option (Option ℕ)
@@ -24,36 +24,79 @@ each_parameter (part ∷ parts) = option_and_then (λ n. option_map (λ ns. n �
 abbrev pub parameters_of : List ℕ → Option (List (Option ℕ))
 parameters_of bytes = each_parameter (slice_split (λ byte. byte == 59) bytes)
 
--- the cursor at a row and a column, both from 1; undefined off the screen
+-- the one parameter of a motion or of ECH: one that is absent is 1, and 0 is undefined
+abbrev pub count_of : List (Option ℕ) → Option ℕ
+count_of (n ∷ []) = if nat_le 1 (unwrap_or n 1) then Some (unwrap_or n 1) else None
+count_of _ = None
+
+-- the one parameter of ED and EL; one that is absent is 0
+abbrev pub choice_of : List (Option ℕ) → Option ℕ
+choice_of (n ∷ []) = Some (unwrap_or n 0)
+choice_of _ = None
+
+-- CUU and CUD: up and down; undefined off the screen
+abbrev pub cursor_up : ℕ → ℕ → TerminalState → ℕ → Option TerminalState
+cursor_up rows columns state n = from_place state.spot (λ r c. if nat_le n r then moved_to rows columns state (r - n) c else None)
+
+abbrev pub cursor_down : ℕ → ℕ → TerminalState → ℕ → Option TerminalState
+cursor_down rows columns state n = from_place state.spot (λ r c. moved_to rows columns state (r + n) c)
+
+-- CUF and CUB: right and left; undefined off the screen
+abbrev pub cursor_forward : ℕ → ℕ → TerminalState → ℕ → Option TerminalState
+cursor_forward rows columns state n = from_place state.spot (λ r c. moved_to rows columns state r (c + n))
+
+abbrev pub cursor_backward : ℕ → ℕ → TerminalState → ℕ → Option TerminalState
+cursor_backward rows columns state n = from_place state.spot (λ r c. if nat_le n c then moved_to rows columns state r (c - n) else None)
+
+-- CHA: a column of the same line, from 1
+abbrev pub cursor_character_absolute : ℕ → ℕ → TerminalState → ℕ → Option TerminalState
+cursor_character_absolute rows columns state n = from_place state.spot (λ r c. moved_to rows columns state r (n - 1))
+
+-- VPA: a line, from 1, and the same column
+abbrev pub line_position_absolute : ℕ → ℕ → TerminalState → ℕ → Option TerminalState
+line_position_absolute rows columns state n = from_place state.spot (λ r c. moved_to rows columns state (n - 1) c)
+
+-- CUP: a row and a column, both from 1; undefined off the screen
 abbrev pub cursor_at : ℕ → ℕ → TerminalState → ℕ → ℕ → Option TerminalState
 cursor_at rows columns state row column =
-    if nat_le 1 row && nat_le row rows && nat_le 1 column && nat_le column columns
-    then Some (record state { spot = At (row - 1) (column - 1) })
-    else None
+    if nat_le 1 row && nat_le 1 column then moved_to rows columns state (row - 1) (column - 1) else None
 
--- CUP: the row and the column; one that is absent is 1
+-- one that is absent is 1
 abbrev pub cursor_position : ℕ → ℕ → TerminalState → List (Option ℕ) → Option TerminalState
 cursor_position rows columns state (row ∷ []) = cursor_at rows columns state (unwrap_or row 1) 1
 cursor_position rows columns state (row ∷ column ∷ []) = cursor_at rows columns state (unwrap_or row 1) (unwrap_or column 1)
 cursor_position rows columns state _ = None
 
--- ED 2: every place is erased to a blank of default rendition, and the cursor stays
-abbrev pub erase_in_page : ℕ → ℕ → TerminalState → List (Option ℕ) → Option TerminalState
-erase_in_page rows columns state (what ∷ []) =
-    if unwrap_or what 0 == 2
-    then Some (record state { grid = blank_grid rows columns })
-    else None
-erase_in_page rows columns state _ = None
+-- ED: 0 erases from the cursor to the end of the screen, 2 every place; the cursor stays
+abbrev pub erase_in_page : ℕ → ℕ → TerminalState → ℕ → Option TerminalState
+erase_in_page rows columns state choice =
+    if choice == 0 then from_place state.spot (λ r c. Some (erased rows columns (is_from_place r c) state)) else
+    (if choice == 2 then Some (record state { grid = blank_grid rows columns }) else None)
 
--- one parameter of SGR: default, or one more attribute
+-- EL: 0 erases from the cursor to the end of the line; the cursor stays
+abbrev pub erase_in_line : ℕ → ℕ → TerminalState → ℕ → Option TerminalState
+erase_in_line rows columns state choice =
+    if choice == 0 then from_place state.spot (λ r c. Some (erased rows columns (is_in_run r c columns) state)) else None
+
+-- the attribute that a parameter of SGR turns on
+abbrev pub rendition_attribute : ℕ → Option ℕ
+rendition_attribute n =
+    if n == 1 then Some bold else
+    (if n == 2 then Some dim else
+    (if n == 4 then Some underline else
+    (if n == 5 then Some blink else
+    (if n == 7 then Some reverse else
+    (if n == 8 then Some invis else None)))))
+
+-- one parameter of SGR: 0 is the default; an attribute more; 30 to 37 and 40 to 47 are the colours, 39 and 49 the default ones
 abbrev pub rendition : PenView → ℕ → Option PenView
-rendition pen n = if n == 0 then Some plain_pen else
-    (if n == 1 then Some (with_attribute pen bold) else
-    (if n == 2 then Some (with_attribute pen dim) else
-    (if n == 4 then Some (with_attribute pen underline) else
-    (if n == 5 then Some (with_attribute pen blink) else
-    (if n == 7 then Some (with_attribute pen reverse) else
-    (if n == 8 then Some (with_attribute pen invis) else None))))))
+rendition pen n =
+    if n == 0 then Some plain_pen else
+    (if nat_le 30 n && nat_le n 37 then Some (record pen { foreground = Some (n - 30) }) else
+    (if n == 39 then Some (record pen { foreground = None }) else
+    (if nat_le 40 n && nat_le n 47 then Some (record pen { background = Some (n - 40) }) else
+    (if n == 49 then Some (record pen { background = None }) else
+    option_map (with_attribute pen) (rendition_attribute n)))))
 
 -- SGR: its parameters one after another; one that is absent is 0
 abbrev pub renditions : PenView → List (Option ℕ) → Option PenView
@@ -64,17 +107,31 @@ abbrev pub select_graphic_rendition : TerminalState → List (Option ℕ) → Op
 select_graphic_rendition state ns =
     option_map (λ pen. record state { pen = pen }) (renditions state.pen ns)
 
--- a control sequence by its final byte: H is CUP, J is ED, m is SGR
-abbrev pub control_function : ℕ → ℕ → TerminalState → List (Option ℕ) → ℕ → Option TerminalState
+-- a control sequence by its final byte
+unfoldable pub control_function : ℕ → ℕ → TerminalState → List (Option ℕ) → ℕ → Option TerminalState
 control_function rows columns state ns final =
-    if final == 72 then cursor_position rows columns state ns else
-    (if final == 74 then erase_in_page rows columns state ns else
-    (if final == 109 then select_graphic_rendition state ns else None))
+    if final == 65 then option_and_then (cursor_up rows columns state) (count_of ns) else
+    (if final == 66 then option_and_then (cursor_down rows columns state) (count_of ns) else
+    (if final == 67 then option_and_then (cursor_forward rows columns state) (count_of ns) else
+    (if final == 68 then option_and_then (cursor_backward rows columns state) (count_of ns) else
+    (if final == 71 then option_and_then (cursor_character_absolute rows columns state) (count_of ns) else
+    (if final == 72 then cursor_position rows columns state ns else
+    (if final == 74 then option_and_then (erase_in_page rows columns state) (choice_of ns) else
+    (if final == 75 then option_and_then (erase_in_line rows columns state) (choice_of ns) else
+    (if final == 88 then option_and_then (characters_erased rows columns state) (count_of ns) else
+    (if final == 100 then option_and_then (line_position_absolute rows columns state) (count_of ns) else
+    (if final == 109 then select_graphic_rendition state ns else None))))))))))
+
+-- BS is one left, CR the first column of the line; both are undefined at the margin
+abbrev pub control_character : ℕ → ℕ → TerminalState → ℕ → Option TerminalState
+control_character rows columns state byte =
+    if byte == 8 then cursor_backward rows columns state 1 else
+    (if byte == 13 then from_place state.spot (λ r c. moved_to rows columns state r 0) else None)
 
 -- what a unit does, or none where it is undefined
 abbrev pub meaning : ℕ → ℕ → TerminalState → EcmaUnit → Option TerminalState
 meaning rows columns state (Graphic byte) = character_written columns state byte
-meaning rows columns state (Control byte) = None
+meaning rows columns state (Control byte) = control_character rows columns state byte
 meaning rows columns state (Sequence bytes final) =
     option_and_then (λ ns. control_function rows columns state ns final) (parameters_of bytes)
 

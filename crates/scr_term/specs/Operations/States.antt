@@ -1,8 +1,9 @@
 -- The state of a terminal: what its screen shows, where its cursor is, and what it writes with.
 -- terminfo(5), 'Cursor Motions' and 'Highlighting'; ECMA-48, 'active presentation position'.
-use Rattle.std.specs.Prelude.{ℕ, ◌≡◌, ◌+◌, ◌<◌, Bool, true, false, List, All, bit_and, nat_lt, if◌then◌else◌, Option, Some, None, IfSome}
-use Rattle.scr_cells.specs.Grids.{IsGrid, grid_with}
-use Rattle.scr_cells.specs.LookViews.{LookView, IsLook, blank_grid, negative_grid}
+use Rattle.std.specs.Prelude.{ℕ, ◌≡◌, ◌+◌, ◌<◌, ◌==◌, ◌&&◌, ◌||◌, Bool, true, false, List, All, bit_and, nat_le, nat_lt, if◌then◌else◌, Option, Some, None, IfSome}
+use Rattle.scr_cells.specs.Attributes.{every_attribute}
+use Rattle.scr_cells.specs.Grids.{IsGrid, grid_at, grid_filled, grid_with, is_in_run}
+use Rattle.scr_cells.specs.LookViews.{LookView, IsLook, blank, blank_grid, negative_grid}
 use Rattle.scr_cells.specs.PenViews.{PenView, IsColour, negative_pen, plain_pen}
 use Rattle.scr_term.specs.Operations.Profiles.{ProfileView}
 use Rattle.scr_term.specs.declared.operations.operation.Spot.{Spot}
@@ -36,6 +37,10 @@ pub record IsState (profile : ProfileView) (state : TerminalState) : Type 0 wher
   pub spot : IsSpot profile.rows profile.columns state.spot
   pub pen : IsShownPen profile state.pen
 
+-- a terminal that shows every attribute, and colours
+abbrev pub full_profile : ℕ → ℕ → ProfileView
+full_profile rows columns = record { rows = rows; columns = columns; shown = every_attribute; colours = true }
+
 -- blanks everywhere, the cursor at the first place, no attribute on, default colours
 abbrev pub blank_state : ℕ → ℕ → TerminalState
 blank_state rows columns = record { grid = blank_grid rows columns; spot = At 0 0; pen = plain_pen }
@@ -58,3 +63,25 @@ written_at columns state byte (Margin r) = None
 
 abbrev pub character_written : ℕ → TerminalState → ℕ → Option TerminalState
 character_written columns state byte = written_at columns state byte state.spot
+
+-- what is said of the place that the cursor is in; undefined at the margin
+abbrev pub from_place : {A : Type 0} → Spot → (ℕ → ℕ → Option A) → Option A
+from_place (At r c) f = f r c
+from_place (Margin r) f = None
+
+-- the cursor at a row and a column; undefined off the screen
+abbrev pub moved_to : ℕ → ℕ → TerminalState → ℕ → ℕ → Option TerminalState
+moved_to rows columns state r c = if nat_lt r rows && nat_lt c columns then Some (record state { spot = At r c }) else None
+
+-- some places are erased to blanks without attributes, in default colours; the cursor stays
+abbrev pub erased : ℕ → ℕ → (ℕ → ℕ → Bool) → TerminalState → TerminalState
+erased rows columns inside state = record state { grid = grid_filled rows columns inside (λ _ _. blank) (grid_at blank state.grid) }
+
+-- the places from one on to the end of the screen
+abbrev pub is_from_place : ℕ → ℕ → ℕ → ℕ → Bool
+is_from_place row column r c = nat_lt row r || (r == row && nat_le column c)
+
+-- so many characters from the cursor on are erased; undefined past the end of the line
+abbrev pub characters_erased : ℕ → ℕ → TerminalState → ℕ → Option TerminalState
+characters_erased rows columns state n =
+    from_place state.spot (λ r c. if nat_le (c + n) columns then Some (erased rows columns (is_in_run r c (c + n)) state) else None)

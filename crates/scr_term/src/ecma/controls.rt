@@ -1,50 +1,161 @@
-//! Control functions: what a whole control sequence changes. How its parameters are read is in `parameters`, and the
-//! change is made in `screens`.
-ghost use Rattle.std.specs.Prelude.{◌≡◌, ℕ, List, ◌∷◌, option_map, IfSome};
-ghost use Rattle.scr_cells.specs.PenViews.{with_attribute};
-ghost use Rattle.scr_term.specs.Operations.States.{TerminalState, IsShownPen};
-ghost use Rattle.scr_term.specs.Ecma.Screens.{screen_profile};
-ghost use Rattle.scr_term.specs.Ecma.Units.{Sequence};
-ghost use Rattle.scr_term.specs.Ecma.Meanings.{meaning, control_function, cursor_at, cursor_position, erase_in_page, rendition, renditions};
-ghost use Rattle.scr_term.specs.Code.Readings.{IsChange, IsReading, changed};
+//! Control functions: what a whole unit changes. How the parameters of a control sequence are read is in `parameters`, and the
+//! changes are made by `displays`.
+ghost use Rattle.std.specs.Prelude.{◌≡◌, ◌≤◌, ℕ, List, ◌∷◌, None, option_and_then, option_map, IfSome, unwrap_or};
+ghost use Rattle.scr_cells.specs.PenViews.{IsColour, with_attribute};
+ghost use Rattle.scr_term.specs.Operations.States.{IsShownPen, IsSpot, full_profile};
+ghost use Rattle.scr_term.specs.Ecma.Units.{Control, Sequence};
+ghost use Rattle.scr_term.specs.Ecma.Meanings.{meaning, choice_of, control_character, control_function, count_of, cursor_at, cursor_backward, cursor_character_absolute, cursor_down, cursor_forward, cursor_position, cursor_up, erase_in_line, erase_in_page, line_position_absolute, rendition, rendition_attribute, renditions};
+ghost use Rattle.scr_term.specs.Code.Changes.{IsChange, Makes, MakesAt, MakesWith};
+ghost use Rattle.scr_term.specs.Code.Readings.{IsReading};
 
 use crate::Spot;
+use crate::displays::{Change, characters_erased, moved_to};
 use crate::ecma::parameters::parameters;
 use crate::ecma::readings::Reading;
 use bitflags::Flags;
 use scr_cells::{Attrs, Pen, Size};
 
-/// What a control sequence changes.
-#[derive(Clone, Copy)]
-pub(crate) enum Change {
-    /// The cursor goes there.
-    Moved(Spot),
-    /// Every place is erased.
-    Erased,
-    /// What is written is written with this pen.
-    Rendered(Pen),
-}
-
 /// What a control sequence changes, by the part of it before its last byte; `None` where it is
 /// undefined (ECMA-48, 5.4 'Control sequences').
-pub(crate) fn control_sequence(size: Size, pen: Pen, part: &[u8], last: u8) -> Option<Change>
-    requires shown { IsShownPen (screen_profile size.rows size.columns) pen }
+pub(crate) fn control_sequence(
+    size: Size,
+    spot: Spot,
+    pen: Pen,
+    part: &[u8],
+    last: u8,
+) -> Option<Change>
+    requires spot { IsSpot size.rows size.columns spot }
+    requires shown { IsShownPen (full_profile size.rows size.columns) pen }
     requires sequence { IsReading part.now last Reading.Last }
-    ensures value { (ps : List ℕ) (state : TerminalState) → part.now ≡ 27 ∷ 91 ∷ ps → state.pen ≡ pen → option_map (changed size.rows size.columns state) result ≡ meaning size.rows size.columns state (Sequence ps last) }
+    ensures value { (ps : List ℕ) → part.now ≡ 27 ∷ 91 ∷ ps → MakesWith size.rows size.columns spot pen result (λ state. meaning size.rows size.columns state (Sequence ps last)) }
     ensures change { IfSome result (IsChange size.rows size.columns) }
 {
     let list = parameters(&part[2..])?;
-    control_function(size, pen, list.as_slice(), last)
+    control_function(size, spot, pen, list.as_slice(), last)
 }
 
-/// The spot at a row and a column, which count from 1; `None` off the screen.
-fn cursor_at(size: Size, row: u16, column: u16) -> Option<Change>
-    ensures value { (state : TerminalState) → option_map (changed size.rows size.columns state) result ≡ cursor_at size.rows size.columns state row column }
+/// What a control function of one byte changes: BS, one left, or CR, the first column (ECMA-48, 8.3.5 and 8.3.15).
+pub(crate) fn control_character(size: Size, spot: Spot, byte: u8) -> Option<Change>
+    requires { IsSpot size.rows size.columns spot }
+    ensures value { MakesAt size.rows size.columns spot result (λ state. meaning size.rows size.columns state (Control byte)) }
     ensures change { IfSome result (IsChange size.rows size.columns) }
 {
-    let (row, column) = (u32::from(row), u32::from(column));
-    if (1..=size.rows).contains(&row) && (1..=size.columns).contains(&column) {
-        Some(Change::Moved(Spot::At(row - 1, column - 1)))
+    match (byte, spot) {
+        (0x08, _) => cursor_backward(size, spot, 1),
+        (0x0D, Spot::At(row, _)) => moved_to(size, row, 0),
+        _ => None,
+    }
+}
+
+/// The one parameter of a motion or of ECH: 1 where it is absent, and not 0.
+fn count_of(parameters: &[Option<u16>]) -> Option<u32>
+    ensures value { result ≡ count_of parameters.now }
+    ensures few { IfSome result (λ count. count ≤ 65535) }
+{
+    match parameters {
+        [parameter] => {
+            let count = parameter.unwrap_or(1);
+            if count >= 1 {
+                Some(u32::from(count))
+            } else {
+                None
+            }
+        }
+        _ => None,
+    }
+}
+
+/// The one parameter of ED or EL: 0 where it is absent.
+fn choice_of(parameters: &[Option<u16>]) -> Option<u32>
+    ensures { result ≡ choice_of parameters.now }
+{
+    match parameters {
+        [parameter] => Some(u32::from(parameter.unwrap_or(0))),
+        _ => None,
+    }
+}
+
+/// CUU: up (ECMA-48, 8.3.22).
+fn cursor_up(size: Size, spot: Spot, count: u32) -> Option<Change>
+    requires spot { IsSpot size.rows size.columns spot }
+    requires few { count ≤ 65535 }
+    ensures value { MakesAt size.rows size.columns spot result (λ state. cursor_up size.rows size.columns state count) }
+    ensures change { IfSome result (IsChange size.rows size.columns) }
+{
+    match spot {
+        Spot::At(row, column) if count <= row => moved_to(size, row - count, column),
+        _ => None,
+    }
+}
+
+/// CUD: down (ECMA-48, 8.3.19).
+fn cursor_down(size: Size, spot: Spot, count: u32) -> Option<Change>
+    requires spot { IsSpot size.rows size.columns spot }
+    requires few { count ≤ 65535 }
+    ensures value { MakesAt size.rows size.columns spot result (λ state. cursor_down size.rows size.columns state count) }
+    ensures change { IfSome result (IsChange size.rows size.columns) }
+{
+    match spot {
+        Spot::At(row, column) => moved_to(size, row + count, column),
+        _ => None,
+    }
+}
+
+/// CUF: right (ECMA-48, 8.3.20).
+fn cursor_forward(size: Size, spot: Spot, count: u32) -> Option<Change>
+    requires spot { IsSpot size.rows size.columns spot }
+    requires few { count ≤ 65535 }
+    ensures value { MakesAt size.rows size.columns spot result (λ state. cursor_forward size.rows size.columns state count) }
+    ensures change { IfSome result (IsChange size.rows size.columns) }
+{
+    match spot {
+        Spot::At(row, column) => moved_to(size, row, column + count),
+        _ => None,
+    }
+}
+
+/// CUB: left (ECMA-48, 8.3.18).
+fn cursor_backward(size: Size, spot: Spot, count: u32) -> Option<Change>
+    requires spot { IsSpot size.rows size.columns spot }
+    requires few { count ≤ 65535 }
+    ensures value { MakesAt size.rows size.columns spot result (λ state. cursor_backward size.rows size.columns state count) }
+    ensures change { IfSome result (IsChange size.rows size.columns) }
+{
+    match spot {
+        Spot::At(row, column) if count <= column => moved_to(size, row, column - count),
+        _ => None,
+    }
+}
+
+/// CHA: a column of the same line, from 1 (ECMA-48, 8.3.9).
+fn cursor_character_absolute(size: Size, spot: Spot, column: u32) -> Option<Change>
+    ensures value { MakesAt size.rows size.columns spot result (λ state. cursor_character_absolute size.rows size.columns state column) }
+    ensures change { IfSome result (IsChange size.rows size.columns) }
+{
+    match spot {
+        Spot::At(row, _) => moved_to(size, row, column.saturating_sub(1)),
+        _ => None,
+    }
+}
+
+/// VPA: a line, from 1, and the same column (ECMA-48, 8.3.158).
+fn line_position_absolute(size: Size, spot: Spot, row: u32) -> Option<Change>
+    ensures value { MakesAt size.rows size.columns spot result (λ state. line_position_absolute size.rows size.columns state row) }
+    ensures change { IfSome result (IsChange size.rows size.columns) }
+{
+    match spot {
+        Spot::At(_, column) => moved_to(size, row.saturating_sub(1), column),
+        _ => None,
+    }
+}
+
+/// The cursor at a row and a column, which count from 1.
+fn cursor_at(size: Size, row: u16, column: u16) -> Option<Change>
+    ensures value { Makes size.rows size.columns result (λ state. cursor_at size.rows size.columns state row column) }
+    ensures change { IfSome result (IsChange size.rows size.columns) }
+{
+    if row >= 1 && column >= 1 {
+        moved_to(size, u32::from(row) - 1, u32::from(column) - 1)
     } else {
         None
     }
@@ -52,7 +163,7 @@ fn cursor_at(size: Size, row: u16, column: u16) -> Option<Change>
 
 /// CUP: the cursor goes to a row and a column, each 1 where it is absent (ECMA-48, 8.3.21).
 fn cursor_position(size: Size, parameters: &[Option<u16>]) -> Option<Change>
-    ensures value { (state : TerminalState) → option_map (changed size.rows size.columns state) result ≡ cursor_position size.rows size.columns state parameters.now }
+    ensures value { Makes size.rows size.columns result (λ state. cursor_position size.rows size.columns state parameters.now) }
     ensures change { IfSome result (IsChange size.rows size.columns) }
 {
     match parameters {
@@ -62,38 +173,61 @@ fn cursor_position(size: Size, parameters: &[Option<u16>]) -> Option<Change>
     }
 }
 
-/// ED 2: every place is erased (ECMA-48, 8.3.39).
-fn erase_in_page(parameters: &[Option<u16>]) -> Option<Change>
-    ensures value { (rows columns : ℕ) (state : TerminalState) → option_map (changed rows columns state) result ≡ erase_in_page rows columns state parameters.now }
-    ensures change { (rows columns : ℕ) → IfSome result (IsChange rows columns) }
+/// ED: from the cursor to the end of the screen, or every place (ECMA-48, 8.3.39).
+fn erase_in_page(size: Size, spot: Spot, choice: u32) -> Option<Change>
+    requires { IsSpot size.rows size.columns spot }
+    ensures value { MakesAt size.rows size.columns spot result (λ state. erase_in_page size.rows size.columns state choice) }
+    ensures change { IfSome result (IsChange size.rows size.columns) }
 {
-    match parameters {
-        [Some(2)] => Some(Change::Erased),
+    match (choice, spot) {
+        (0, Spot::At(row, column)) => Some(Change::ErasedFrom(row, column)),
+        (2, _) => Some(Change::ErasedAll),
         _ => None,
     }
 }
 
-/// One parameter of SGR: the plain pen, or one more attribute (ECMA-48, 8.3.117).
+/// EL: from the cursor to the end of the line (ECMA-48, 8.3.41).
+fn erase_in_line(size: Size, spot: Spot, choice: u32) -> Option<Change>
+    requires { IsSpot size.rows size.columns spot }
+    ensures value { MakesAt size.rows size.columns spot result (λ state. erase_in_line size.rows size.columns state choice) }
+    ensures change { IfSome result (IsChange size.rows size.columns) }
+{
+    match (choice, spot) {
+        (0, Spot::At(row, column)) => Some(Change::ErasedRun(row, column, size.columns)),
+        _ => None,
+    }
+}
+
+/// The attribute that a parameter of SGR turns on (ECMA-48, 8.3.117).
+fn rendition_attribute(parameter: u16) -> Option<Attrs>
+    ensures { option_map (λ a. a.0) result ≡ rendition_attribute parameter }
+{
+    match parameter {
+        1 => Some(Attrs::BOLD),
+        2 => Some(Attrs::DIM),
+        4 => Some(Attrs::UNDERLINE),
+        5 => Some(Attrs::BLINK),
+        7 => Some(Attrs::REVERSE),
+        8 => Some(Attrs::INVIS),
+        _ => None,
+    }
+}
+
+/// One parameter of SGR: the default, a colour, or one more attribute (ECMA-48, 8.3.117).
 fn rendition(pen: Pen, parameter: u16) -> Option<Pen>
     ensures { result ≡ rendition pen parameter }
 {
     match parameter {
         0 => Some(Pen::plain()),
-        1 => Some(with_attribute(pen, Attrs::BOLD)),
-        2 => Some(with_attribute(pen, Attrs::DIM)),
-        4 => Some(with_attribute(pen, Attrs::UNDERLINE)),
-        5 => Some(with_attribute(pen, Attrs::BLINK)),
-        7 => Some(with_attribute(pen, Attrs::REVERSE)),
-        8 => Some(with_attribute(pen, Attrs::INVIS)),
-        _ => None,
+        30..=37 => Some(pen.with_foreground(Some((parameter - 30) as u8))),
+        39 => Some(pen.with_foreground(None)),
+        40..=47 => Some(pen.with_background(Some((parameter - 40) as u8))),
+        49 => Some(pen.with_background(None)),
+        _ => {
+            let attribute = rendition_attribute(parameter)?;
+            Some(pen.with_attrs(pen.attrs().union(attribute)))
+        }
     }
-}
-
-/// The pen with one more attribute.
-fn with_attribute(pen: Pen, attribute: Attrs) -> Pen
-    ensures { result ≡ with_attribute pen attribute.0 }
-{
-    pen.with_attrs(pen.attrs().union(attribute))
 }
 
 /// SGR: its parameters one after another, each 0 where it is absent (ECMA-48, 8.3.117).
@@ -107,14 +241,30 @@ fn renditions(mut pen: Pen, parameters: &[Option<u16>]) -> Option<Pen>
 }
 
 /// What a control sequence changes, by its final byte; `None` where it is undefined (ECMA-48, 8.3).
-fn control_function(size: Size, pen: Pen, parameters: &[Option<u16>], last: u8) -> Option<Change>
-    requires { IsShownPen (screen_profile size.rows size.columns) pen }
-    ensures value { (state : TerminalState) → state.pen ≡ pen → option_map (changed size.rows size.columns state) result ≡ control_function size.rows size.columns state parameters.now last }
+#[tactic(auto, unfolding(crate::specs::Ecma::Meanings::control_function))]
+fn control_function(
+    size: Size,
+    spot: Spot,
+    pen: Pen,
+    parameters: &[Option<u16>],
+    last: u8,
+) -> Option<Change>
+    requires spot { IsSpot size.rows size.columns spot }
+    requires shown { IsShownPen (full_profile size.rows size.columns) pen }
+    ensures value { MakesWith size.rows size.columns spot pen result (λ state. control_function size.rows size.columns state parameters.now last) }
     ensures change { IfSome result (IsChange size.rows size.columns) }
 {
     match last {
+        b'A' => cursor_up(size, spot, count_of(parameters)?),
+        b'B' => cursor_down(size, spot, count_of(parameters)?),
+        b'C' => cursor_forward(size, spot, count_of(parameters)?),
+        b'D' => cursor_backward(size, spot, count_of(parameters)?),
+        b'G' => cursor_character_absolute(size, spot, count_of(parameters)?),
         b'H' => cursor_position(size, parameters),
-        b'J' => erase_in_page(parameters),
+        b'J' => erase_in_page(size, spot, choice_of(parameters)?),
+        b'K' => erase_in_line(size, spot, choice_of(parameters)?),
+        b'X' => characters_erased(size, spot, count_of(parameters)?),
+        b'd' => line_position_absolute(size, spot, count_of(parameters)?),
         b'm' => Some(Change::Rendered(renditions(pen, parameters)?)),
         _ => None,
     }

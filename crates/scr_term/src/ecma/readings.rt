@@ -14,7 +14,9 @@ pub(crate) enum Reading {
     Held,
     /// The last byte of a control sequence.
     Last,
-    /// A control function that is undefined here, or a byte that belongs to no unit.
+    /// A control function of one byte.
+    Control,
+    /// A byte that belongs to no unit.
     Other,
 }
 
@@ -32,6 +34,8 @@ pub(crate) fn read_byte(part: &[u8], byte: u8) -> Reading
             Reading::Graphic
         } else if byte == 0x1B {
             Reading::Held
+        } else if byte == 0x08 || byte == 0x0D {
+            Reading::Control
         } else {
             Reading::Other
         }

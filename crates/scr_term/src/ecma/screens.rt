@@ -10,13 +10,15 @@ ghost use Rattle.scr_cells.specs.PictureViews.{IsPlace};
 ghost use Rattle.scr_term.specs.Operations.States.{IsSpot, character_written};
 ghost use Rattle.scr_term.specs.Ecma.Units.{IsWaiting};
 ghost use Rattle.scr_term.specs.Ecma.Screens.{IsScreen, IsFed, blank_screen};
-ghost use Rattle.scr_term.specs.Code.Readings.{IsChange, acted, changed};
+ghost use Rattle.scr_term.specs.Code.Changes.{IsChange, changed};
+ghost use Rattle.scr_term.specs.Code.Readings.{acted};
 
 use crate::Spot;
-use crate::ecma::controls::{Change, control_sequence};
+use crate::displays::{Change, Display};
+use crate::ecma::controls::{control_character, control_sequence};
 use crate::ecma::readings::{Reading, read_byte};
 use arrayvec::ArrayVec;
-use scr_cells::{Attrs, Grid, Look, NoMemory, Pen, Size, grid_laws};
+use scr_cells::{Attrs, Look, NoMemory, Size};
 use std::alloc::Global;
 use std::marker::Model;
 use thiserror::Error;
@@ -29,13 +31,11 @@ pub struct Undefined;
 
 /// A screen that is fed an ECMA-48 text in pieces, and shows what the text does.
 ///
-/// Graphic characters, CUP, ED 2 and SGR have a meaning; every other unit is undefined. After the
-/// first undefined one the screen stays as it is.
+/// Graphic characters, BS, CR, CUU, CUD, CUF, CUB, CHA, VPA, CUP, ED of 0 and 2, EL of 0, ECH and SGR with its colours
+/// have a meaning; every other unit is undefined. After the first undefined one the screen stays as it is.
 #[derive(Drop)]
 pub struct EcmaScreen {
-    grid: Grid<Look>,
-    spot: Spot,
-    pen: Pen,
+    display: Display,
     // The part of a control sequence that came after the last whole unit.
     waiting: ArrayVec<u8, 64>,
     undefined: bool,
@@ -47,34 +47,32 @@ impl Model for EcmaScreen {
     ghost Value = { ScreenView };
 
     ghost view = { λ a. record {
-      rows = a.grid.rows;
-      columns = a.grid.columns;
-      state = record { grid = a.grid.lines; spot = a.spot; pen = a.pen };
+      rows = a.display.rows;
+      columns = a.display.columns;
+      state = a.display.state;
       waiting = a.waiting.items;
       undefined = a.undefined;
     } };
 
     ghost invariant = { λ a. IsScreen (record {
-      rows = a.grid.rows;
-      columns = a.grid.columns;
-      state = record { grid = a.grid.lines; spot = a.spot; pen = a.pen };
+      rows = a.display.rows;
+      columns = a.display.columns;
+      state = a.display.state;
       waiting = a.waiting.items;
       undefined = a.undefined;
     }) };
 }
 
 impl EcmaScreen {
-    /// A blank screen with the cursor at 0 0, no attribute on and default colours. Fails only when memory runs out.
+    /// A blank screen with the cursor at 0 0, no attribute on and default colours. Fails only when
+    /// memory runs out.
     pub fn new(alloc: Global, size: Size) -> Result<EcmaScreen, NoMemory>
         ensures { IfOk result (λ screen. screen ≡ blank_screen size.rows size.columns) }
     {
-        grid_laws::<Look>();
-        let blank = Look::blank();
-        let _byte = blank.byte();
+        let display = Display::new(alloc, size)?;
+        let _size = display.size();
         Ok(EcmaScreen {
-            grid: Grid::new(alloc, size.rows, size.columns, blank)?,
-            spot: Spot::At(0, 0),
-            pen: Pen::plain(),
+            display,
             waiting: ArrayVec::new(),
             undefined: false,
         })
@@ -107,10 +105,7 @@ impl EcmaScreen {
         ensures columns { result.columns ≡ self.now.columns }
         ensures screen { IsScreen self.now }
     {
-        Size {
-            rows: self.grid.rows(),
-            columns: self.grid.columns(),
-        }
+        self.display.size()
     }
 
     /// What is shown at a row and a column, which count from 0 at the top left.
@@ -119,9 +114,7 @@ impl EcmaScreen {
         ensures value { (other : LookView) → result ≡ grid_at other self.now.state.grid row column }
         ensures look { IsLook result }
     {
-        let look = self.grid.at(row, column);
-        let _byte = look.byte();
-        look
+        self.display.cell(row, column)
     }
 
     /// What is shown in a row, counted from 0 at the top.
@@ -130,7 +123,7 @@ impl EcmaScreen {
         ensures cells { result.now ≡ grid_row self.now.state.grid row }
         ensures width { length result.now ≡ self.now.columns }
     {
-        self.grid.row(row)
+        self.display.row(row)
     }
 
     /// Where the cursor is (ECMA-48, 'active presentation position').
@@ -138,7 +131,7 @@ impl EcmaScreen {
         ensures value { result ≡ self.now.state.spot }
         ensures inside { IsSpot self.now.rows self.now.columns result }
     {
-        self.spot
+        self.display.spot()
     }
 
     /// The attributes that are on (ECMA-48, 8.3.117 SGR).
@@ -146,7 +139,16 @@ impl EcmaScreen {
         ensures value { result.0 ≡ self.now.state.pen.attrs }
         ensures shown { bit_and every_attribute result.0 ≡ result.0 }
     {
-        self.pen.attrs()
+        self.display.pen().attrs()
+    }
+
+    /// The current foreground and background, each `None` where it is the default (ECMA-48, 8.3.117 SGR).
+    pub fn colours(&self) -> (Option<u8>, Option<u8>)
+        ensures foreground { result.0 ≡ self.now.state.pen.foreground }
+        ensures background { result.1 ≡ self.now.state.pen.background }
+    {
+        let pen = self.display.pen();
+        (pen.foreground(), pen.background())
     }
 
     /// Whether the text so far ends inside a control sequence (ECMA-48, 5.4 'Control sequences').
@@ -166,9 +168,15 @@ impl EcmaScreen {
         let part = self.waiting.as_slice();
         match read_byte(part, byte) {
             Reading::Graphic => self.write(byte),
+            Reading::Control => {
+                let change = control_character(self.display.size(), self.display.spot(), byte);
+                self.apply(change);
+            }
             Reading::Held => self.waiting.push(byte),
             Reading::Last => {
-                let change = control_sequence(self.size(), self.pen, part, byte);
+                let size = self.display.size();
+                let change =
+                    control_sequence(size, self.display.spot(), self.display.pen(), part, byte);
                 self.apply(change);
             }
             Reading::Other => self.apply(None),
@@ -181,18 +189,10 @@ impl EcmaScreen {
         requires whole { self.old.waiting ≡ [] }
         ensures { self.new ≡ acted self.old (character_written self.old.columns self.old.state byte) }
     {
-        match (self.spot, Look::written(byte, self.pen)) {
-            (Spot::At(row, column), Some(look)) => {
-                let _byte = look.byte();
-                self.grid.put(row, column, look);
-                self.spot = if column + 1 < self.grid.columns() {
-                    Spot::At(row, column + 1)
-                } else {
-                    Spot::Margin(row)
-                };
-            }
-            _ => self.undefined = true,
+        if !self.display.write(byte) {
+            self.undefined = true;
         }
+        let _size = self.display.size();
     }
 
     /// Makes a change, or becomes undefined where there is none.
@@ -202,20 +202,9 @@ impl EcmaScreen {
     {
         self.waiting.clear();
         match change {
-            Some(change) => self.make(change),
+            Some(change) => self.display.make(change),
             None => self.undefined = true,
         }
-    }
-
-    /// Makes a change.
-    fn make(&mut self, change: Change)
-        requires { IsChange self.old.rows self.old.columns change }
-        ensures { self.new ≡ record self.old { state = changed self.old.rows self.old.columns self.old.state change } }
-    {
-        match change {
-            Change::Moved(spot) => self.spot = spot,
-            Change::Erased => self.grid.fill_every(Look::blank()),
-            Change::Rendered(pen) => self.pen = pen,
-        }
+        let _size = self.display.size();
     }
 }

@@ -2,11 +2,8 @@ use Rattle.std.proofs.Common.{sym, ◌∙◌}
 use Rattle.scr_term.proofs.EcmaStateLaws.{renditions_shown}
 use Rattle.scr_term.proofs.ecma.controls.control_function.Goals as goal
 
-pub returns-in-74-clause-change : goal.returns-in-74-clause-change
-returns-in-74-clause-change c = c.erase_in_page.ensures.change c.args.size.rows c.args.size.columns
-
 pub returns-in_ok-renditions-in-109-clause-change :
     goal.returns-in_ok-renditions-in-109-clause-change
 returns-in_ok-renditions-in-109-clause-change c =
-    renditions_shown c.args.size.rows c.args.size.columns c.args.pen c.args.parameters.now c.in_ok-renditions-in-109.field-0 c.requires
+    renditions_shown c.args.size.rows c.args.size.columns c.args.pen c.args.parameters.now c.in_ok-renditions-in-109.field-0 c.requires.shown
     (sym c.in_ok-renditions-in-109.was ∙ c.renditions.ensures)

@@ -1,16 +1,11 @@
 use Rattle.std.proofs.Common.{◌⊎◌, ◌<◌, ◌≤◌, sym, ◌∙◌, arith}
 use Rattle.std.proofs.lemmas.List.{nil_from_length}
 use Rattle.std.proofs.lemmas.Bool.Decides.{nat_tests}
-use Rattle.scr_term.proofs.EcmaReadingLaws.{first_escape, first_other, second_bracket, second_other, later_parameter, later_last, later_full, later_other, long_waits}
+use Rattle.scr_term.proofs.EcmaReadingLaws.{first_escape, first_control, first_other, second_bracket, second_other, later_parameter, later_last, later_full, later_other, long_waits}
 use Rattle.scr_term.proofs.ecma.readings.read_byte.Goals as goal
 
 pub returns-then-byte-eq27 : goal.returns-then-byte-eq27
 returns-then-byte-eq27 c = first_escape c.args.part.now c.args.byte (nil_from_length c.args.part.now (omega arith)) (omega arith)
-
-pub returns-else-byte-eq27 : goal.returns-else-byte-eq27
-returns-else-byte-eq27 c =
-    let off : (c.args.byte < 32) ⊎ (126 < c.args.byte) = grind (arith, nat_tests, c.is_character.ensures.value) in
-    first_other c.args.part.now c.args.byte (nil_from_length c.args.part.now (omega arith)) off (omega arith)
 
 pub returns-then-byte-eq91 : goal.returns-then-byte-eq91
 returns-then-byte-eq91 c =

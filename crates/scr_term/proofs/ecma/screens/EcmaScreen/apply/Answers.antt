@@ -5,5 +5,5 @@ use Rattle.scr_term.proofs.ecma.screens.EcmaScreen.apply.Goals as goal
 
 pub make-requires : goal.make-requires
 make-requires c =
-    change_fits c.args.self.now.rows c.args.self.now.columns c.self.inside.grid.rows c.self.inside.grid.columns c.args.change c.in-Some.change
+    change_fits c.args.self.now.rows c.args.self.now.columns c.self.inside.display.rows c.self.inside.display.columns c.args.change c.in-Some.change
     c.requires c.in-Some.is (ap (λ (s : ScreenView). s.rows) c.self.view_is) (ap (λ (s : ScreenView). s.columns) c.self.view_is)

@@ -1,6 +1,6 @@
 use Rattle.std.proofs.Common.{sym, ap, ◌∙◌}
 use Rattle.scr_term.specs.Ecma.Screens.{ScreenView}
-use Rattle.scr_term.proofs.EcmaFedLaws.{took_graphic, took_held, held_view, took_last, took_other}
+use Rattle.scr_term.proofs.EcmaFedLaws.{took_graphic, took_held, held_view, took_last, took_control, took_other}
 use Rattle.scr_term.proofs.ecma.screens.EcmaScreen.feed_byte.Goals as goal
 
 pub returns-in-Graphic : goal.returns-in-Graphic
@@ -12,10 +12,11 @@ returns-in-Graphic c =
 
 pub returns-in-Held : goal.returns-in-Held
 returns-in-Held c =
+    let display = c.self.inside.display in
     let pushed : ScreenView = record {
-      rows = c.self.inside.grid.rows;
-      columns = c.self.inside.grid.columns;
-      state = record { grid = c.self.inside.grid.lines; spot = c.self.inside.spot; pen = c.self.inside.pen };
+      rows = display.rows;
+      columns = display.columns;
+      state = display.state;
       waiting = c.push.new.self.items;
       undefined = c.self.inside.undefined;
     } in
@@ -23,21 +24,34 @@ returns-in-Held c =
     (sym (ap (λ (s : ScreenView). s.undefined) c.self.view_is) ∙ c.if-self.false)
     (c.as_slice-part.ensures.value ∙ ap (λ (s : ScreenView). s.waiting) c.self.view_is)
     c.in-Held.ensures
-    (held_view c.self.inside.grid.rows c.self.inside.grid.columns
-    (record { grid = c.self.inside.grid.lines; spot = c.self.inside.spot; pen = c.self.inside.pen })
-    c.self.inside.waiting.items c.push.new.self.items c.args.byte c.self.inside.undefined c.args.self.now c.push.ensures.items c.self.view_is)
+    (held_view display.rows display.columns display.state c.self.inside.waiting.items c.push.new.self.items c.args.byte c.self.inside.undefined c.args.self.now c.push.ensures.items c.self.view_is)
 
 pub returns-in-Last : goal.returns-in-Last
 returns-in-Last c =
-    took_last c.args.self.now c.apply.new.self c.args.byte c.as_slice-part.result.now c.size.result.rows c.size.result.columns c.self.inside.pen
-    c.control_sequence-change.result
-    (sym (ap (λ (s : ScreenView). s.undefined) c.self.view_is) ∙ c.if-self.false)
-    (c.as_slice-part.ensures.value ∙ ap (λ (s : ScreenView). s.waiting) c.self.view_is)
+    let view = c.self.view_is in
+    took_last c.args.self.now c.apply-in-Last.new.self c.args.byte c.as_slice-part.result.now c.size-size.result.rows c.size-size.result.columns
+    c.spot-in-Last.result c.pen.result c.control_sequence-change.result
+    (sym (ap (λ (s : ScreenView). s.undefined) view) ∙ c.if-self.false)
+    (c.as_slice-part.ensures.value ∙ ap (λ (s : ScreenView). s.waiting) view)
     c.in-Last.ensures
-    (sym c.size.ensures.rows)
-    (sym c.size.ensures.columns)
-    (sym (ap (λ (s : ScreenView). s.state.pen) c.self.view_is))
-    c.control_sequence-change.ensures.value c.apply.ensures
+    (sym (c.size-size.ensures.rows ∙ ap (λ (s : ScreenView). s.rows) view))
+    (sym (c.size-size.ensures.columns ∙ ap (λ (s : ScreenView). s.columns) view))
+    (sym (c.spot-in-Last.ensures.value ∙ ap (λ (s : ScreenView). s.state.spot) view))
+    (sym (c.pen.ensures.value ∙ ap (λ (s : ScreenView). s.state.pen) view))
+    c.control_sequence-change.ensures.value c.apply-in-Last.ensures
+
+pub returns-in-Control : goal.returns-in-Control
+returns-in-Control c =
+    let view = c.self.view_is in
+    took_control c.args.self.now c.apply.new.self c.args.byte c.as_slice-part.result.now c.size.result.rows c.size.result.columns c.spot.result
+    c.control_character-change.result
+    (sym (ap (λ (s : ScreenView). s.undefined) view) ∙ c.if-self.false)
+    (c.as_slice-part.ensures.value ∙ ap (λ (s : ScreenView). s.waiting) view)
+    c.in-Control.ensures
+    (sym (c.size.ensures.rows ∙ ap (λ (s : ScreenView). s.rows) view))
+    (sym (c.size.ensures.columns ∙ ap (λ (s : ScreenView). s.columns) view))
+    (sym (c.spot.ensures.value ∙ ap (λ (s : ScreenView). s.state.spot) view))
+    c.control_character-change.ensures.value c.apply.ensures
 
 pub returns-in-Other : goal.returns-in-Other
 returns-in-Other c =

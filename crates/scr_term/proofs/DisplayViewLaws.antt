@@ -1,0 +1,105 @@
+-- What the fields of an emulated terminal make is one: a new one, one with a character written, and ones with places erased.
+use Rattle.std.proofs.Common.{◌≡◌, ℕ, ◌<◌, ◌≤◌, Bool, true, false, All, List, [], map, refl, sym, subst, cond, ap, arith, length, get_or, ◌⊎◌, inl, inr}
+use Rattle.std.specs.List.{range_with_len}
+use Rattle.std.proofs.Math.ListN.{get_or-eq_default}
+use Rattle.std.proofs.lemmas.List.Elements.{All-map}
+use Rattle.scr_cells.specs.Grids.{GridView, GridLaws, IsGrid, grid_at, grid_filled, grid_of, grid_row, grid_with, is_in_run}
+use Rattle.scr_cells.specs.LookViews.{LookView, IsLook, blank, blank_grid}
+use Rattle.scr_cells.specs.PenViews.{PenView, plain_pen}
+use Rattle.scr_cells.specs.PictureViews.{IsSize}
+use Rattle.scr_term.specs.Operations.States.{IsSpot, full_profile}
+use Rattle.scr_term.specs.declared.operations.operation.Spot.{Spot}
+use Rattle.scr_term.specs.declared.operations.operation.Spot.TheVariants.{At}
+use Rattle.scr_term.specs.Code.Changes.{DisplayView, IsDisplay, blank_display}
+use Rattle.scr_term.proofs.DisplayLaws.{blanked}
+use Rattle.scr_term.proofs.LookGridLaws.{all_blank, is_blank, put_all, put_is_grid}
+use Rattle.scr_term.proofs.StepLaws.{plain_is_shown}
+
+blank_is_display : (rows columns : ℕ) → IsSize rows columns → IsDisplay (blank_display rows columns)
+blank_is_display rows columns size = record {
+  size = size;
+  state = record {
+    whole = is_blank rows columns;
+    looks = all_blank rows columns;
+    spot = (size.some_rows, size.some_columns);
+    pen = plain_is_shown (full_profile rows columns);
+  };
+}
+
+-- a new one
+pub new_is_display : (rows columns : ℕ) (grid : GridView LookView) (look : LookView) (pen : PenView) → IsSize rows columns
+    → grid ≡ record { rows = rows; columns = columns; lines = grid_of rows columns (λ _ _. look) } → look ≡ blank → pen ≡ plain_pen
+    → IsDisplay (record { rows = grid.rows; columns = grid.columns; state = record { grid = grid.lines; spot = At 0 0; pen = pen } })
+new_is_display rows columns grid look pen size made is_blank is_plain =
+    let View : GridView LookView → PenView → DisplayView = λ g p. record { rows = g.rows; columns = g.columns; state = record { grid = g.lines; spot = At 0 0; pen = p } } in
+    subst (λ (g : GridView LookView). IsDisplay (View g pen)) (sym made)
+    (subst (λ (l : LookView). IsDisplay (View (record { rows = rows; columns = columns; lines = grid_of rows columns (λ _ _. l) }) pen)) (sym is_blank)
+    (subst (λ (p : PenView). IsDisplay (View (record { rows = rows; columns = columns; lines = grid_of rows columns (λ _ _. blank) }) p)) (sym is_plain) (blank_is_display rows columns size)))
+
+-- one with a character more
+pub written_is_display : (old : DisplayView) (grid : GridView LookView) (r c : ℕ) (look : LookView) (spot : Spot) → IsDisplay old → r < old.rows → IsLook look
+    → grid ≡ record { rows = old.rows; columns = old.columns; lines = grid_with old.state.grid r c look } → IsSpot old.rows old.columns spot
+    → IsDisplay (record { rows = grid.rows; columns = grid.columns; state = record { grid = grid.lines; spot = spot; pen = old.state.pen } })
+written_is_display old grid r c look spot is row_in one put inside =
+    let P : GridView LookView → Type 0 = λ g. IsDisplay (record { rows = g.rows; columns = g.columns; state = record { grid = g.lines; spot = spot; pen = old.state.pen } }) in
+    subst P (sym put) (record {
+      size = is.size;
+      state = record {
+        whole = put_is_grid old.rows old.columns old.state.grid r c look is.state.whole;
+        looks = put_all old.rows old.columns old.state.grid r c look is.state.whole row_in one is.state.looks;
+        spot = inside;
+        pen = is.state.pen;
+      };
+    })
+
+look_is : IsLook blank
+look_is = record { character = (omega arith, omega arith); pen = record { attributes = omega arith; foreground = tt; background = tt } }
+
+before_or_not : (a b : ℕ) → (a < b) ⊎ (b ≤ a)
+before_or_not a b = grind arith
+
+within : {A : Type 0} → (P : A → Type 0) (xs : List A) (i : ℕ) (d : A) → All P xs → P d → P (get_or xs i d)
+within P xs i d each default = elim (before_or_not i (length xs)) [
+  | inl h ↦ each i d h
+  | inr h ↦ subst P (sym (get_or-eq_default xs d h)) default
+]
+
+-- what is in a place, or a blank, is a look
+at_is_look : (lines : List (List LookView)) (r c : ℕ) → All (All IsLook) lines → IsLook (grid_at blank lines r c)
+at_is_look lines r c each = within IsLook (grid_row lines r) c blank (within (All IsLook) lines r [] each (λ i d h. absurd (omega (arith, h)))) look_is
+
+either : (t : Bool) (look : LookView) → IsLook look → IsLook (cond t blank look)
+either true look is = look_is
+either false look is = is
+
+-- a grid some of whose places are made blank
+filled_all : (rows columns : ℕ) (inside : ℕ → ℕ → Bool) (lines : List (List LookView)) → All (All IsLook) lines
+    → All (All IsLook) (grid_filled rows columns inside (λ _ _. blank) (grid_at blank lines))
+filled_all rows columns inside lines each =
+    All-map (All IsLook) (λ r. map (λ c. cond (inside r c) blank (grid_at blank lines r c)) (range_with_len 0 columns)) (range_with_len 0 rows)
+    (λ i d h. All-map IsLook _ (range_with_len 0 columns) (λ j e k. either _ _ (at_is_look lines _ _ each)))
+
+pub blanked_is_display : GridLaws LookView → (old : DisplayView) (grid : GridView LookView) (inside : ℕ → ℕ → Bool) → IsDisplay old
+    → grid ≡ blanked (record { rows = old.rows; columns = old.columns; lines = old.state.grid }) inside
+    → IsDisplay (record { rows = grid.rows; columns = grid.columns; state = record old.state { grid = grid.lines } })
+blanked_is_display laws old grid inside is e =
+    let P : GridView LookView → Type 0 = λ g. IsDisplay (record { rows = g.rows; columns = g.columns; state = record old.state { grid = g.lines } }) in
+    subst P (sym e) (record {
+      size = is.size;
+      state = record {
+        whole = laws.sized old.rows old.columns _;
+        looks = filled_all old.rows old.columns inside old.state.grid is.state.looks;
+        spot = is.state.spot;
+        pen = is.state.pen;
+      };
+    })
+
+-- one whose places are all made blank
+pub cleared_is_display : (old : DisplayView) (grid : GridView LookView) → IsDisplay old → grid ≡ record { rows = old.rows; columns = old.columns; lines = blank_grid old.rows old.columns }
+    → IsDisplay (record { rows = grid.rows; columns = grid.columns; state = record old.state { grid = grid.lines } })
+cleared_is_display old grid is e =
+    let P : GridView LookView → Type 0 = λ g. IsDisplay (record { rows = g.rows; columns = g.columns; state = record old.state { grid = g.lines } }) in
+    subst P (sym e) (record {
+      size = is.size;
+      state = record { whole = is_blank old.rows old.columns; looks = all_blank old.rows old.columns; spot = is.state.spot; pen = is.state.pen };
+    })

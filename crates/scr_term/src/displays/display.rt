@@ -1,0 +1,158 @@
+//! The grid, the spot and the pen of an emulated terminal.
+ghost use Rattle.std.specs.Prelude.{◌≡◌, ◌<◌, ◌≤◌, IfOk, is_some, length};
+ghost use Rattle.scr_cells.specs.CellViews.{IsCharacter};
+ghost use Rattle.scr_cells.specs.Grids.{grid_at, grid_filled, grid_row, is_in_run};
+ghost use Rattle.scr_cells.specs.LookViews.{IsLook, LookView, blank};
+ghost use Rattle.scr_cells.specs.PictureViews.{IsPlace};
+ghost use Rattle.scr_term.specs.Operations.States.{IsShownPen, IsSpot, character_written, full_profile, is_from_place};
+ghost use Rattle.scr_term.specs.Code.Changes.{IsChange, IsDisplay, blank_display, changed, gone_on};
+
+use crate::Spot;
+use crate::displays::changes::Change;
+use scr_cells::{Grid, Look, NoMemory, Pen, Size, grid_laws};
+use std::alloc::Global;
+use std::marker::Model;
+
+/// A grid of looks, the cursor's spot and the pen.
+#[derive(Drop)]
+pub(crate) struct Display {
+    grid: Grid<Look>,
+    spot: Spot,
+    pen: Pen,
+}
+
+impl Model for Display {
+    ghost use Rattle.scr_term.specs.Code.Changes.{DisplayView, IsDisplay};
+
+    ghost Value = { DisplayView };
+
+    ghost view = { λ a. record { rows = a.grid.rows; columns = a.grid.columns; state = record { grid = a.grid.lines; spot = a.spot; pen = a.pen } } };
+
+    ghost invariant = { λ a. IsDisplay (record { rows = a.grid.rows; columns = a.grid.columns; state = record { grid = a.grid.lines; spot = a.spot; pen = a.pen } }) };
+}
+
+impl Display {
+    /// A blank one, with the cursor at 0 0, no attribute on and default colours. Fails only when memory runs out.
+    pub(crate) fn new(alloc: Global, size: Size) -> Result<Display, NoMemory>
+        ensures { IfOk result (λ display. display ≡ blank_display size.rows size.columns) }
+    {
+        grid_laws::<Look>();
+        Ok(Display {
+            grid: Grid::new(alloc, size.rows, size.columns, Look::blank())?,
+            spot: Spot::At(0, 0),
+            pen: Pen::plain(),
+        })
+    }
+
+    /// How many rows and columns there are.
+    pub(crate) fn size(&self) -> Size
+        ensures rows { result.rows ≡ self.now.rows }
+        ensures columns { result.columns ≡ self.now.columns }
+        ensures display { IsDisplay self.now }
+    {
+        Size {
+            rows: self.grid.rows(),
+            columns: self.grid.columns(),
+        }
+    }
+
+    /// What is shown at a row and a column.
+    pub(crate) fn cell(&self, row: u32, column: u32) -> Look
+        requires { IsPlace self.now.rows self.now.columns (row, column) }
+        ensures value { (other : LookView) → result ≡ grid_at other self.now.state.grid row column }
+        ensures look { IsLook result }
+    {
+        let look = self.grid.at(row, column);
+        let _byte = look.byte();
+        look
+    }
+
+    /// What is shown in a row.
+    pub(crate) fn row(&self, row: u32) -> &[Look]
+        requires { row < self.now.rows }
+        ensures cells { result.now ≡ grid_row self.now.state.grid row }
+        ensures width { length result.now ≡ self.now.columns }
+    {
+        self.grid.row(row)
+    }
+
+    /// Where the cursor is.
+    pub(crate) fn spot(&self) -> Spot
+        ensures value { result ≡ self.now.state.spot }
+        ensures inside { IsSpot self.now.rows self.now.columns result }
+    {
+        self.spot
+    }
+
+    /// What the next character is written with.
+    pub(crate) fn pen(&self) -> Pen
+        ensures value { result ≡ self.now.state.pen }
+        ensures shown { IsShownPen (full_profile self.now.rows self.now.columns) result }
+    {
+        self.pen
+    }
+
+    /// Writes a graphic character at the cursor, which goes right; at the margin it answers false and changes nothing.
+    pub(crate) fn write(&mut self, byte: u8) -> bool
+        requires { IsCharacter byte }
+        ensures answer { result ≡ is_some (character_written self.old.columns self.old.state byte) }
+        ensures state { self.new ≡ gone_on self.old (character_written self.old.columns self.old.state byte) }
+    {
+        match (self.spot, Look::written(byte, self.pen)) {
+            (Spot::At(row, column), Some(look)) => {
+                let _byte = look.byte();
+                self.grid.put(row, column, look);
+                self.spot = if column + 1 < self.grid.columns() {
+                    Spot::At(row, column + 1)
+                } else {
+                    Spot::Margin(row)
+                };
+                true
+            }
+            _ => false,
+        }
+    }
+
+    /// Makes a change.
+    pub(crate) fn make(&mut self, change: Change)
+        requires { IsChange self.old.rows self.old.columns change }
+        ensures { self.new ≡ record self.old { state = changed self.old.rows self.old.columns self.old.state change } }
+    {
+        grid_laws::<Look>();
+        match change {
+            Change::Moved(spot) => self.spot = spot,
+            Change::ErasedRun(row, from, end) => erase_run(&mut self.grid, row, from, end),
+            Change::ErasedFrom(row, column) => erase_from(&mut self.grid, row, column),
+            Change::ErasedAll => self.grid.fill_every(Look::blank()),
+            Change::Rendered(pen) => self.pen = pen,
+        }
+    }
+}
+
+// Erases a row's places from one column up to another.
+fn erase_run(grid: &mut Grid<Look>, row: u32, from: u32, end: u32)
+    requires row { row < grid.old.rows }
+    requires order { from ≤ end }
+    requires end { end ≤ grid.old.columns }
+    ensures { grid.new ≡ record grid.old { lines = grid_filled grid.old.rows grid.old.columns (is_in_run row from end) (λ _ _. blank) (grid_at blank grid.old.lines) } }
+{
+    grid_laws::<Look>();
+    let _grid = grid.rows();
+    grid.fill(row, from, end, Look::blank());
+}
+
+// Erases the places from a row and a column on.
+fn erase_from(grid: &mut Grid<Look>, row: u32, column: u32)
+    requires row { row < grid.old.rows }
+    requires column { column < grid.old.columns }
+    ensures { grid.new ≡ record grid.old { lines = grid_filled grid.old.rows grid.old.columns (is_from_place row column) (λ _ _. blank) (grid_at blank grid.old.lines) } }
+{
+    let (rows, columns) = (grid.rows(), grid.columns());
+    grid_laws::<Look>();
+    erase_run(grid, row, column, columns);
+    let mut below = row + 1;
+    while below < rows {
+        erase_run(grid, below, 0, columns);
+        below += 1;
+    }
+}
