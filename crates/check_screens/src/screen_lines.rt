@@ -1,7 +1,7 @@
 //! Lines about an emulated screen.
 
 use crate::answers::{add_flag, add_number, add_place, add_text, add_word};
-use crate::cell_lines::add_look;
+use crate::cell_lines::{add_colour, add_look};
 use crate::picture_lines::read_size;
 use crate::texts::read_text;
 use crate::troubles::Trouble;
@@ -11,7 +11,7 @@ use scr_term::{EcmaScreen, Spot};
 use screen_scripts::print_screen;
 use std::alloc::Global;
 
-/// The lines `screen R C`, `feed TEXT`, `screen_size`, `shown R C`, `spot`, `rendition`, `marked`, `printed`,
+/// The lines `screen R C`, `feed TEXT`, `screen_size`, `shown R C`, `spot`, `rendition`, `colours`, `marked`, `printed`,
 /// `state`, `cuts TEXT` and `undefined_after TEXT TEXT`.
 pub fn answer_of_screen(
     alloc: Global,
@@ -76,6 +76,11 @@ fn answer_of_shown(
         b"shown" => add_shown(screen, words, came)?,
         b"spot" => add_spot(screen, came)?,
         b"rendition" => add_number(i64::from(screen.rendition().0), came)?,
+        b"colours" => {
+            let (foreground, background) = screen.colours();
+            add_colour(foreground, came)?;
+            add_colour(background, came)?;
+        }
         b"marked" => add_number(i64::from(marked(screen)), came)?,
         b"printed" => {
             let mut text = Vec::new(alloc);
