@@ -15,3 +15,4 @@ pub mod CompleteLaws
 pub mod FaultLaws
 pub mod OneFaultLaws
 pub mod TotalLaws
+pub mod ParsedLaws

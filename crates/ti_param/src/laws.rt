@@ -1,11 +1,17 @@
 //! Laws on texts and programs, each the contract of a call that does nothing.
 
-ghost use Rattle.ti_param.specs.ProgramLaws.{HasNotBoth, HasOneFault, HasOneTree, HasTreeOrFault, IsBounded, StackIsEnough};
+ghost use Rattle.ti_param.specs.ProgramLaws.{HasNotBoth, HasOneFault, HasOneTree, HasTreeOrFault, IsBounded, IsParsed, StackIsEnough};
 ghost use Rattle.ti_param.specs.Padding.{IsStrippedOnce};
 
 /// A text spells at most one tree.
 pub fn text_has_one_tree()
     ensures { HasOneTree }
+{}
+
+/// A text spells the tree that `parsed` computes of it, and no other; where that is none, the text spells no tree. So
+/// `refl` settles what a literal text spells.
+pub fn text_is_parsed()
+    ensures { IsParsed }
 {}
 
 /// Each text spells a tree or has a fault.

@@ -21,7 +21,7 @@ mod variables;
 pub use faults::{ParamFault, RunFault};
 pub use laws::{
     padding_is_removed_once, stack_is_enough, text_has_not_both, text_has_one_fault,
-    text_has_one_tree, text_has_tree_or_fault, text_is_bounded,
+    text_has_one_tree, text_has_tree_or_fault, text_is_bounded, text_is_parsed,
 };
 pub use out_of_memory::NoMemory;
 pub use padding::strip_padding;
