@@ -3,22 +3,10 @@ use Rattle.std.proofs.Common.{◌≡◌, ℕ, suc, List, [], ◌∷◌, refl, sy
 use Rattle.ti_param.specs.declared.tokens.Token.{Token}
 use Rattle.ti_param.specs.declared.tokens.Token.TheVariants.{If, Then, Else, EndIf}
 use Rattle.ti_param.specs.declared.tokens.Token.TheVariants as tokens
-use Rattle.ti_param.specs.Tree.{Tree, End, Do, Alone, When}
+use Rattle.ti_param.specs.Tree.{Tree, End, Alone, When}
 use Rattle.ti_param.specs.Parsed.{Closed, Second, Both, Tail, before_token, tail_of}
+use Rattle.ti_param.specs.Code.Trees.{join, join-end}
 use Rattle.ti_param.specs.Grammar.{Segment, Branches, nothing, one, alone, choice, no_else, with_else, else_if}
-
--- one list behind another
-abbrev join : Tree → Tree → Tree
-join End u = u
-join (Do d r) u = Do d (join r u)
-join (Alone a r) u = Alone a (join r u)
-join (When a b c r) u = When a b c (join r u)
-
-join-end : (t : Tree) → join t End ≡ t
-join-end End = refl
-join-end (Do d r) = ap (Do d) (join-end r)
-join-end (Alone a r) = ap (Alone a) (join-end r)
-join-end (When a b c r) = ap (When a b c) (join-end r)
 
 mutual
   segment_grown : (n : ℕ) (t : Tree) (ts us : List Token) (g : Tail) → Segment n t ts us → tail_of us ≡ g → tail_of ts ≡ record { tree = join t g.tree; open_ones = g.open_ones }
