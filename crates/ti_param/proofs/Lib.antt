@@ -1,4 +1,7 @@
 pub mod NumberLaws
+pub mod DecimalLaws
+pub mod StrideLaws
+pub mod FixedLaws
 pub mod FlatLaws
 pub mod MeasureLaws
 pub mod BuilderLaws

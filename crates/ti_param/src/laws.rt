@@ -1,6 +1,6 @@
 //! Laws on texts and programs, each the contract of a call that does nothing.
 
-ghost use Rattle.ti_param.specs.ProgramLaws.{HasNotBoth, HasOneFault, HasOneTree, HasTreeOrFault, IsBounded, IsParsed, StackIsEnough};
+ghost use Rattle.ti_param.specs.ProgramLaws.{AddsOne, HasNotBoth, HasOneFault, HasOneTree, HasTreeOrFault, IsBounded, IsParsed, StackIsEnough, WritesDecimal, WritesItself};
 ghost use Rattle.ti_param.specs.Padding.{IsStrippedOnce};
 
 /// A text spells at most one tree.
@@ -42,4 +42,19 @@ pub fn stack_is_enough()
 /// A text without its padding is one text.
 pub fn padding_is_removed_once()
     ensures { IsStrippedOnce }
+{}
+
+/// A text without `%` spells its bytes, each for itself, and a run writes them whatever the state.
+pub fn text_writes_itself()
+    ensures { WritesItself }
+{}
+
+/// `%d`, without flags, width and precision, writes the decimal digits of a number from 0.
+pub fn number_writes_decimal()
+    ensures { WritesDecimal }
+{}
+
+/// `%i` adds 1 to a parameter from 0, as far as 32 bits count.
+pub fn increment_adds_one()
+    ensures { AddsOne }
 {}
