@@ -1,5 +1,6 @@
 pub mod NumberLaws
 pub mod DecimalLaws
+pub mod CursorLaws
 pub mod StrideLaws
 pub mod FixedLaws
 pub mod FlatLaws

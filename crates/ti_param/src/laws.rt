@@ -1,6 +1,6 @@
 //! Laws on texts and programs, each the contract of a call that does nothing.
 
-ghost use Rattle.ti_param.specs.ProgramLaws.{AddsOne, HasNotBoth, HasOneFault, HasOneTree, HasTreeOrFault, IsBounded, IsParsed, StackIsEnough, WritesDecimal, WritesItself};
+ghost use Rattle.ti_param.specs.ProgramLaws.{AddsOne, HasNotBoth, HasOneFault, HasOneTree, HasTreeOrFault, IsBounded, IsParsed, StackIsEnough, WritesDecimal, WritesItself, WritesRowAndColumn};
 ghost use Rattle.ti_param.specs.Padding.{IsStrippedOnce};
 
 /// A text spells at most one tree.
@@ -57,4 +57,9 @@ pub fn number_writes_decimal()
 /// `%i` adds 1 to a parameter from 0, as far as 32 bits count.
 pub fn increment_adds_one()
     ensures { AddsOne }
+{}
+
+/// The text `\E[%i%p1%d;%p2%dH` of `cup` writes ESC [ ROW ; COLUMN H for a row and a column counted from 0.
+pub fn cup_writes_row_and_column()
+    ensures { WritesRowAndColumn }
 {}
