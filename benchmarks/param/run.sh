@@ -1,5 +1,6 @@
 #!/bin/sh
-# Counts the processor instructions of one reading and one run of two parameter strings, beside ncurses' tparm.
+# Counts the processor instructions of one run, one reading and one length of parameter strings, two of them without
+# parameters, beside ncurses' tparm.
 # It needs valgrind, a C compiler, libncurses-dev, and the program crates/bench_param, which `rt run` builds.
 # Usage: benchmarks/param/run.sh PROGRAM, from the top of the repository.
 set -e
@@ -20,10 +21,11 @@ once() {
     echo $(((many - few) / 10000))
 }
 
-for text in cup sgr; do
+for text in cup sgr clear status; do
     theirs=$(once "$folder/tparm" $text)
     ours=$(once "$program" run $text)
+    length=$(once "$program" length $text)
     reading=$(once "$program" read $text)
-    echo "$text: run $ours, tparm $theirs, ratio $((100 * ours / theirs)) percent; read $reading"
+    echo "$text: run $ours, tparm $theirs, ratio $((1000 * ours / theirs)) per mille; length $length, $((1000 * length / ours)) per mille of a run; read $reading"
 done
 rm -r "$folder"

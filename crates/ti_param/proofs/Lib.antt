@@ -1,4 +1,8 @@
 pub mod NumberLaws
+pub mod DecimalLaws
+pub mod CursorLaws
+pub mod StrideLaws
+pub mod FixedLaws
 pub mod FlatLaws
 pub mod MeasureLaws
 pub mod BuilderLaws
@@ -15,3 +19,4 @@ pub mod CompleteLaws
 pub mod FaultLaws
 pub mod OneFaultLaws
 pub mod TotalLaws
+pub mod ParsedLaws

@@ -6,7 +6,8 @@ use Rattle.std.proofs.Math.Bool.{or-true}
 use Rattle.std.proofs.lemmas.Bool.{eqb-true, leb-true, and_parts, or_parts, or_cases, and_right, cond-false, cond-true}
 use Rattle.ti_param.specs.declared.directives.Format.{Format}
 use Rattle.ti_param.specs.Spelling.{decimal_value, begins_with, has, is_flag, AreFlags, IsPrecision, IsFormat}
-use Rattle.ti_param.specs.Code.Tokens.{digits, plain, flags, all_flags, precision, number, finished, directive}
+use Rattle.ti_param.specs.Code.Tokens.{digits, flags, all_flags, precision, number, finished, directive}
+use Rattle.ti_param.specs.Numbers.{plain}
 use Rattle.ti_param.proofs.DigitLaws.{starts, digits_through}
 use Rattle.ti_param.specs.Digits.{is_digit, all_digits}
 

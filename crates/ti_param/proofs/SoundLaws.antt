@@ -15,7 +15,8 @@ use Rattle.ti_param.specs.declared.tokens.Token.TheVariants.{Do, If, Then, Else,
 use Rattle.ti_param.specs.declared.tokens.Flaw.TheVariants.{Cut, Wrong, Text}
 use Rattle.ti_param.specs.Spelling.{decimal_value, begins_with, has, AreFlags, IsPrecision, IsFormat, AreInRange, conversion_letter, Spells, BeginsWith, IsCut, in_format, in_number, before_byte, before_quote, before_parameter, before_set, before_get}
 use Rattle.ti_param.specs.Faults.{HasStringOperator}
-use Rattle.ti_param.specs.Code.Tokens.{Reading, single, parameter, letter_of, quoted, digits, closing, constant, plain, flags, all_flags, precision, conversion, converted, finished, number, choose, or_else, directive, token}
+use Rattle.ti_param.specs.Code.Tokens.{Reading, single, parameter, letter_of, quoted, digits, closing, constant, flags, all_flags, precision, conversion, converted, finished, number, choose, or_else, directive, token}
+use Rattle.ti_param.specs.Numbers.{plain}
 use Rattle.ti_param.proofs.DigitLaws.{digits_are}
 use Rattle.ti_param.proofs.FlagLaws.{flags_are}
 use Rattle.ti_param.specs.Digits.{all_digits}

@@ -50,7 +50,7 @@ spells_some Then text s = omega (arith, ap length s)
 spells_some Else text s = omega (arith, ap length s)
 spells_some EndIf text s = omega (arith, ap length s)
 
-shorter : (t : Token) (text more : List ℕ) → token text ≡ Ok (t, more) → length more < length text
+pub shorter : (t : Token) (text more : List ℕ) → token text ≡ Ok (t, more) → length more < length text
 shorter t text more e =
     let b = begins t text more e in
     omega (arith, spells_some t b.0 b.1, ap length b.2, length-append b.0 more)

@@ -3,6 +3,7 @@ pub mod Padding
 pub mod Spelling
 pub mod Grammar
 pub mod Faults
+pub mod Parsed
 pub mod Numbers
 pub mod States
 pub mod Tree

@@ -2,7 +2,8 @@
 
 ghost use Rattle.std.specs.Prelude.{◌≡◌, ◌^◌, ◌-◌, ◌<◌, ◌≤◌, min, ℕ, length, IfOk, Option, option_map};
 ghost use Rattle.ti_param.specs.Spelling.{begins_with};
-ghost use Rattle.ti_param.specs.Code.Tokens.{Gives, operator, single, parameter, letter_of, quoted, digits, constant, flags, all_flags, precision, conversion, finished, number, directive, token, plain};
+ghost use Rattle.ti_param.specs.Code.Tokens.{Gives, operator, single, parameter, letter_of, quoted, digits, constant, flags, all_flags, precision, conversion, finished, number, directive, token};
+ghost use Rattle.ti_param.specs.Numbers.{plain};
 ghost use Rattle.ti_param.specs.declared.directives.Directive.TheVariants.{SetDynamic, SetStatic, GetDynamic, GetStatic};
 
 use crate::directives::{Conversion, Directive, Format, Operator};

@@ -23,6 +23,13 @@ impl Model for Vars {
     ghost inverse = { λ xs. record { values = xs } };
 }
 
+/// All variables of a run, `a` and `A` first.
+#[derive(Clone, Copy)]
+pub(crate) struct Variables {
+    pub dynamic: [i32; LETTERS],
+    pub statics: [i32; LETTERS],
+}
+
 impl Vars {
     /// All variables at 0.
     pub fn new() -> Self

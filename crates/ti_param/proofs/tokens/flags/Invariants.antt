@@ -1,5 +1,6 @@
 use Rattle.std.proofs.Common.{◌≡◌, ◌-◌, ◌≤◌, length, drop}
-use Rattle.ti_param.specs.Code.Tokens.{flags, plain}
+use Rattle.ti_param.specs.Code.Tokens.{flags}
+use Rattle.ti_param.specs.Numbers.{plain}
 use Rattle.ti_param.proofs.tokens.flags.Given as goal
 
 abbrev pub invariant-loop-index : goal.invariant-loop-index
