@@ -109,6 +109,15 @@ pub record ReaderState : Type 0 where
 abbrev pub all_entries : ReaderState → List Described
 all_entries s = s.done ++ option_to_list s.current
 
+-- the entry that is being read, if there is one, and the notes so far
+abbrev pub entry_of : Option OpenEntry → Option Described
+entry_of None = None
+entry_of (Some f) = Some f.entry
+
+abbrev pub notes_of : Option OpenEntry → List Note
+notes_of None = []
+notes_of (Some f) = f.notes
+
 abbrev pub filled : List Described → OpenEntry → Result ReaderState SourceFault
 filled done f = Ok (record { done = done; current = Some f.entry; notes = f.notes })
 

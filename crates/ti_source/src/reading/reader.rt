@@ -1,15 +1,14 @@
 //! Reading a source line by line.
 
-ghost use Rattle.std.specs.Prelude.{None, Ok};
+ghost use Rattle.std.specs.Prelude.{◌≡◌, [], None, Ok};
 ghost use Rattle.ti_source.specs.Reading.Sources.{source_of};
 ghost use Rattle.ti_source.specs.Code.Steps.{begun, continued, filled_by, whole, with_line};
 ghost use Rattle.ti_source.specs.Reading.Field.{fields};
 ghost use Rattle.ti_source.specs.Reading.Line.{line_of};
-ghost use Rattle.ti_source.specs.Result.{Gives};
+ghost use Rattle.ti_source.specs.Result.{Becomes, Gives};
 ghost use Rattle.ti_source.specs.Code.Seen.{seen_line};
 
 use crate::fault::SourceFault;
-use crate::note::Note;
 use crate::reading::entries::Entries;
 use crate::reading::keyed_hasher::KeyedHasher;
 use crate::reading::line::{Line, line_of};
@@ -19,22 +18,23 @@ use crate::source::Source;
 use bstr::ByteSlice;
 use std::alloc::Global;
 use std::marker::Model;
+use std::mem;
 use ti_caps::{Bytes, are_names};
 
-/// The entries before, the entry that the last line belongs to, and the notes.
+/// The entries before, and the entry that the last line belongs to with the notes so far.
 #[derive(Drop)]
 struct ReaderState {
+    hasher: KeyedHasher,
     done: Entries,
-    current: Option<SourceEntry>,
-    notes: Vec<Note>,
+    current: Option<OpenEntry>,
 }
 
 impl Model for ReaderState {
-    ghost use Rattle.ti_source.specs.Code.Steps.{ReaderState};
+    ghost use Rattle.ti_source.specs.Code.Steps.{ReaderState, entry_of, notes_of};
 
     ghost Value = { ReaderState };
 
-    ghost view = { λ s. record { done = s.done; current = s.current; notes = s.notes.items } };
+    ghost view = { λ s. record { done = s.done; current = entry_of s.current; notes = notes_of s.current } };
 }
 
 /// Reads a source: its entries, and a note for each doubtful field, in their order
@@ -44,100 +44,105 @@ impl Model for ReaderState {
 pub fn read(alloc: Global, bytes: &[u8]) -> Result<Source, SourceFault>
     ensures { Gives result (source_of bytes.now) }
 {
-    let mut state = ReaderState {
-        done: Entries::new(alloc, KeyedHasher::new(bytes)),
-        current: None,
-        notes: Vec::new(alloc),
-    };
+    let mut state = ReaderState::new(alloc, KeyedHasher::new(bytes));
     let mut number = 1u32;
     for line in bytes.lines() {
-        state = state.with_line(alloc, number, line_of(line))?;
+        state.with_line(alloc, number, line_of(line))?;
         number = number.saturating_add(1);
     }
     state.close(alloc)
 }
 
 impl ReaderState {
+    fn new(alloc: Global, hasher: KeyedHasher) -> ReaderState
+        ensures { result ≡ record { done = []; current = None; notes = [] } }
+    {
+        ReaderState {
+            hasher,
+            done: Entries::new(alloc, hasher),
+            current: None,
+        }
+    }
+
+    /// The state, in whose place is one at the start.
+    fn take(&mut self, alloc: Global) -> ReaderState
+        ensures { result ≡ self.old }
+    {
+        mem::replace(self, ReaderState::new(alloc, self.hasher))
+    }
+
     /// The entries with the last one among them, and the notes.
     fn close(self, alloc: Global) -> Result<Source, SourceFault>
         ensures { Gives result (whole self) }
     {
         let ReaderState {
+            hasher: _,
             done,
             current,
-            notes,
         } = self;
-        let Some(entry) = current else {
-            return Ok(Source::new(done, notes));
+        let Some(open_entry) = current else {
+            return Ok(Source::new(done, Vec::new(alloc)));
         };
+        let OpenEntry { entry, notes } = open_entry;
         Ok(Source::new(done.with_entry(alloc, entry.shrunk())?, notes))
     }
 
-    /// An entry behind others, with the fields of a text.
-    fn filled(
+    fn continued(&mut self, alloc: Global, line: u32, text: &[u8]) -> Result<(), SourceFault>
+        ensures { Becomes result (continued line (fields text.now) self.old self.old.current) self.new }
+    {
+        match &mut self.current {
+            None => Err(SourceFault::FieldBeforeEntry(line)),
+            Some(open_entry) => {
+                open_entry.with_fields(alloc, line, text)?;
+                Ok(())
+            }
+        }
+    }
+
+    /// Puts an entry behind others, with the fields of a text.
+    fn fill(
+        &mut self,
         alloc: Global,
         line: u32,
         done: Entries,
         open_entry: OpenEntry,
         text: &[u8],
-    ) -> Result<ReaderState, SourceFault>
-        ensures { Gives result (filled_by line (fields text.now) done open_entry) }
+    ) -> Result<(), SourceFault>
+        ensures { Becomes result (filled_by line (fields text.now) done open_entry) self.new }
     {
         let mut open_entry = open_entry;
         open_entry.with_fields(alloc, line, text)?;
-        let OpenEntry { entry, notes } = open_entry;
-        Ok(ReaderState {
-            done,
-            current: Some(entry),
-            notes,
-        })
-    }
-
-    fn continued(self, alloc: Global, line: u32, text: &[u8]) -> Result<ReaderState, SourceFault>
-        ensures { Gives result (continued line (fields text.now) self self.current) }
-    {
-        let ReaderState {
-            done,
-            current,
-            notes,
-        } = self;
-        let Some(entry) = current else {
-            return Err(SourceFault::FieldBeforeEntry(line));
-        };
-        ReaderState::filled(alloc, line, done, OpenEntry { entry, notes }, text)
+        self.done = done;
+        self.current = Some(open_entry);
+        Ok(())
     }
 
     fn begun(
-        self,
+        &mut self,
         alloc: Global,
         line: u32,
         names: &[u8],
         text: &[u8],
-    ) -> Result<ReaderState, SourceFault>
-        ensures { Gives result (begun line names.now (fields text.now) self) }
+    ) -> Result<(), SourceFault>
+        ensures { Becomes result (begun line names.now (fields text.now) self.old) self.new }
     {
         if !are_names(names) {
             return Err(SourceFault::BadNames(line));
         }
-        let (done, notes) = self.close(alloc)?.into_parts();
+        let (done, notes) = self.take(alloc).close(alloc)?.into_parts();
         if done.has_any_name(names) {
             return Err(SourceFault::DuplicateName(line));
         }
         let entry = SourceEntry::new(alloc, Bytes(Vec::from_slice(alloc, names)?));
-        ReaderState::filled(alloc, line, done, OpenEntry { entry, notes }, text)
+        self.fill(alloc, line, done, OpenEntry { entry, notes }, text)
     }
 
     #[tactic(auto, unfolding(crate::specs::Code::Steps::with_line))]
-    fn with_line(
-        self,
-        alloc: Global,
-        number: u32,
-        line: Line<'_>,
-    ) -> Result<ReaderState, SourceFault>
-        ensures { Gives result (with_line number (seen_line line.entry) self) }
+    fn with_line(&mut self, alloc: Global, number: u32, line: Line<'_>) -> Result<(), SourceFault>
+        ensures { Becomes result (with_line number (seen_line line.entry) self.old) self.new }
     {
         match line {
-            Line::Skipped => Ok(self),
+            Line::Skipped => Ok(()),
             Line::NonAscii => Err(SourceFault::NotAscii(number)),
             Line::Continues(text) => self.continued(alloc, number, text),
             Line::Begins(names, text) => self.begun(alloc, number, names, text),
