@@ -16,7 +16,8 @@ const SGR: &[u8] =
 // Two texts without parameters: short, and long.
 const CLEAR: &[u8] = b"\x1b[H\x1b[2J";
 
-const STATUS: &[u8] = b"\x1b[?1049h\x1b[22;0;0t\x1b[?1h\x1b=\x1b[?7h\x1b[4l\x1b>\x1b[?1000l\x1b[?25h\x1b(B\x1b[m";
+const STATUS: &[u8] =
+    b"\x1b[?1049h\x1b[22;0;0t\x1b[?1h\x1b=\x1b[?7h\x1b[4l\x1b>\x1b[?1000l\x1b[?25h\x1b(B\x1b[m";
 
 // Runs a program so many times, and adds up what it writes.
 fn run_again(alloc: Global, text: &[u8], params: [i32; 9], count: u32) -> Result<usize> {
@@ -72,7 +73,9 @@ fn main(rt: HostRuntime) -> Result<()> {
     let mut words = env::args(&rt)?;
     let _program = words.next();
     let action = words.next().ok_or_else(|| anyhow!("read, run or length"))?;
-    let name = words.next().ok_or_else(|| anyhow!("cup, sgr, clear or status"))?;
+    let name = words
+        .next()
+        .ok_or_else(|| anyhow!("cup, sgr, clear or status"))?;
     let count = words.next().ok_or_else(|| anyhow!("how often"))?;
     let count = count.as_str().parse::<u32>().context("how often")?;
     let sum = measure(rt.alloc(), action.as_str(), name.as_str(), count)?;

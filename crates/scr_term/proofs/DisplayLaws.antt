@@ -57,9 +57,9 @@ pub blanked_again : GridLaws LookView → (g h k : GridView LookView) (p q s : �
     → ((r c : ℕ) → r < g.rows → c < g.columns → (q r c || p r c) ≡ s r c) → k ≡ blanked g s
 blanked_again laws g h k p q s first second both =
     let twice : blanked (blanked g p) q ≡ blanked g s =
-      ap {A = List (List LookView)} (λ x. record g { lines = x })
-        (same_places g.rows g.columns _ _ (λ r c row_in column_in. first_or_second (p r c) (q r c) (s r c) (grid_at blank g.lines r c) _
-          (laws.formula blank g.rows g.columns (λ r c. cond (p r c) blank (grid_at blank g.lines r c)) r c row_in column_in) (both r c row_in column_in))) in
+    ap {A = List (List LookView)} (λ x. record g { lines = x })
+    (same_places g.rows g.columns _ _ (λ r c row_in column_in. first_or_second (p r c) (q r c) (s r c) (grid_at blank g.lines r c) _
+    (laws.formula blank g.rows g.columns (λ r c. cond (p r c) blank (grid_at blank g.lines r c)) r c row_in column_in) (both r c row_in column_in))) in
     second ∙ ap {A = GridView LookView} (λ x. blanked x q) first ∙ twice
 
 -- the places from one on, as far as a row
@@ -71,7 +71,7 @@ pub first_row : GridLaws LookView → (g h : GridView LookView) (row column : �
     → h ≡ blanked g (is_from_place_above row column (row + 1))
 first_row laws g h row column e =
     e ∙ ap {A = List (List LookView)} (λ x. record g { lines = x })
-      (same_places g.rows g.columns _ _ (λ r c row_in column_in. same_test _ _ blank (grid_at blank g.lines r c) (grind (arith, nat_tests))))
+    (same_places g.rows g.columns _ _ (λ r c row_in column_in. same_test _ _ blank (grid_at blank g.lines r c) (grind (arith, nat_tests))))
 
 -- one row more
 pub next_row : GridLaws LookView → (g h k : GridView LookView) (row column below : ℕ) → row < below → h ≡ blanked g (is_from_place_above row column below)
@@ -83,4 +83,4 @@ next_row laws g h k row column below after first second =
 pub last_row : (g h : GridView LookView) (row column below : ℕ) → g.rows ≤ below → h ≡ blanked g (is_from_place_above row column below) → h ≡ blanked g (is_from_place row column)
 last_row g h row column below past e =
     e ∙ ap {A = List (List LookView)} (λ x. record g { lines = x })
-      (same_places g.rows g.columns _ _ (λ r c row_in column_in. same_test _ _ blank (grid_at blank g.lines r c) (grind (arith, nat_tests))))
+    (same_places g.rows g.columns _ _ (λ r c row_in column_in. same_test _ _ blank (grid_at blank g.lines r c) (grind (arith, nat_tests))))

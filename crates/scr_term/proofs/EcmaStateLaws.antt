@@ -55,14 +55,14 @@ rendition_shown profile every shows a n b is =
     let own = own_colours profile shows a is in
     one_of Fits (eqb n 0) plain_pen _ b (plain_is_shown profile)
     (colour_in (leb 30 n && leb n 37) 30 37 n (record a { foreground = Some (n - 30) }) _ b Fits refl
-      (λ low high. coloured profile shows a (record a { foreground = Some (n - 30) }) is refl (omega arith) own.1)
+    (λ low high. coloured profile shows a (record a { foreground = Some (n - 30) }) is refl (omega arith) own.1)
     (one_of Fits (eqb n 39) (record a { foreground = None }) _ b (coloured profile shows a (record a { foreground = None }) is refl tt own.1)
     (colour_in (leb 40 n && leb n 47) 40 47 n (record a { background = Some (n - 40) }) _ b Fits refl
-      (λ low high. coloured profile shows a (record a { background = Some (n - 40) }) is refl own.0 (omega arith))
+    (λ low high. coloured profile shows a (record a { background = Some (n - 40) }) is refl own.0 (omega arith))
     (one_of Fits (eqb n 49) (record a { background = None }) _ b (coloured profile shows a (record a { background = None }) is refl own.0 tt)
     (λ (e : option_map (with_attribute a) (rendition_attribute n) ≡ Some b).
-      let more = mapped (with_attribute a) (rendition_attribute n) b e in
-      subst Fits more.2 (attribute_shown profile every a n more.0 is more.1))))))
+    let more = mapped (with_attribute a) (rendition_attribute n) b e in
+    subst Fits more.2 (attribute_shown profile every a n more.0 is more.1))))))
 
 step : (o : Option PenView) (f : PenView → Option PenView) (b : PenView) → option_and_then f o ≡ Some b → (x : PenView) × (o ≡ Some x) × (f x ≡ Some b)
 step None f b e = cc

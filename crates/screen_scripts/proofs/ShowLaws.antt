@@ -2,10 +2,10 @@
 use Rattle.std.proofs.Common.{◌≡◌, ℕ, refl, sym, ◌∙◌, ap, subst, List, inl}
 use Rattle.scr_cells.specs.PictureViews.{PictureView, IsPicture}
 use Rattle.scr_term.specs.Operations.Profiles.{ProfileView, IsEcma48, IsProfile}
-use Rattle.scr_term.specs.Operations.States.{IsState, blank_state, negative_state}
+use Rattle.scr_term.specs.Operations.States.{IsState, blank_state, full_profile, negative_state}
 use Rattle.scr_term.specs.Ecma.Meanings.{Leads}
 use Rattle.scr_term.specs.Operations.Painted.{ShowsNegative}
-use Rattle.scr_term.specs.Ecma.Screens.{ScreenView, IsScreen, IsFed, blank_screen, screen_profile}
+use Rattle.scr_term.specs.Ecma.Screens.{ScreenView, IsScreen, IsFed, blank_screen}
 use Rattle.scr_term.specs.Ecma.Laws.{ScreensFollowTexts}
 use Rattle.scr_term.specs.Operations.Laws.{BlankLaws}
 use Rattle.scr_plan.specs.Scratch.{ScratchBytesShow}
@@ -23,7 +23,7 @@ pub blank_is_terminal : BlankLaws → (picture : PictureView) → IsPicture pict
 blank_is_terminal laws picture p =
     let state : IsState (profile_for picture) (blank_state picture.rows picture.columns) =
     laws.state (profile_for picture) (is_profile (profile_for picture) (ecma48_for picture p)) in
-    let shown : IsState (screen_profile picture.rows picture.columns) (blank_state picture.rows picture.columns) =
+    let shown : IsState (full_profile picture.rows picture.columns) (blank_state picture.rows picture.columns) =
     record { whole = state.whole; looks = state.looks; spot = state.spot; pen = record { attrs = refl; colours = (tt, tt) } } in
     record {
       rows = refl;

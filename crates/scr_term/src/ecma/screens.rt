@@ -175,8 +175,13 @@ impl EcmaScreen {
             Reading::Held => self.waiting.push(byte),
             Reading::Last => {
                 let size = self.display.size();
-                let change =
-                    control_sequence(size, self.display.spot(), self.display.pen(), part, byte);
+                let change = control_sequence(
+                    size,
+                    self.display.spot(),
+                    self.display.pen(),
+                    part,
+                    byte,
+                );
                 self.apply(change);
             }
             Reading::Other => self.apply(None),
