@@ -89,8 +89,8 @@ AreWords (n ∷ ns) = (n < 65536) × AreWords ns
 
 word_further : (n i : ℕ) (rest : List ℕ) → word_at (word n ++ rest) (2 * suc i) ≡ word_at rest (2 * i)
 word_further n i rest =
-    let place : 2 * suc i ≡ suc (suc (2 * i)) = omega arith in
-    ap (λ p. word_at (word n ++ rest) p) place
+    let offset : 2 * suc i ≡ suc (suc (2 * i)) = omega arith in
+    ap (λ p. word_at (word n ++ rest) p) offset
 
 words_back : (ns : List ℕ) → AreWords ns → words_in (words ns) (length ns) ≡ ns
 words_back [] h = refl

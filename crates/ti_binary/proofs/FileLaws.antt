@@ -13,21 +13,21 @@ use Rattle.std.proofs.lemmas.Bool.Decides.{nat_tests}
 use Rattle.ti_binary.specs.FileLaws.{FilesAreNotRefused, FilesHaveOneEntry}
 use Rattle.ti_binary.specs.Shapes.{HasRoom}
 
-part_next : (bytes : List ℕ) (place size next : ℕ) → place + size ≡ next → drop place bytes ≡ part bytes place size ++ drop next bytes
-part_next bytes place size next e =
-    sym (take-append-drop size (drop place bytes))
-    ∙ ap (λ back. part bytes place size ++ back) (drop-drop size place bytes ∙ ap (λ n. drop n bytes) e)
+part_next : (bytes : List ℕ) (offset size next : ℕ) → offset + size ≡ next → drop offset bytes ≡ part bytes offset size ++ drop next bytes
+part_next bytes offset size next e =
+    sym (take-append-drop size (drop offset bytes))
+    ∙ ap (λ back. part bytes offset size ++ back) (drop-drop size offset bytes ∙ ap (λ n. drop n bytes) e)
 
-part_length : (bytes : List ℕ) (place size : ℕ) → place + size ≤ length bytes → length (part bytes place size) ≡ size
-part_length bytes place size le = length-take-le size (drop place bytes) (omega (arith, length-drop place bytes))
+part_length : (bytes : List ℕ) (offset size : ℕ) → offset + size ≤ length bytes → length (part bytes offset size) ≡ size
+part_length bytes offset size le = length-take-le size (drop offset bytes) (omega (arith, length-drop offset bytes))
 
-word_in_header : (bytes : List ℕ) (place : ℕ) → place + 2 ≤ 12 → word_at (take 12 bytes) place ≡ word_at bytes place
-word_in_header bytes place le =
-    let left : ℕ = 12 - place in
-    let size : 12 ≡ place + (12 - place) = omega arith in
-    let front : drop place (take 12 bytes) ≡ take (12 - place) (drop place bytes) = ap (λ n. drop place (take n bytes)) size ∙ drop-take place (12 - place) bytes in
-    let low = get_or-take (12 - place) (drop place bytes) 0 0 (omega arith) in
-    let high = get_or-take (12 - place) (drop place bytes) 1 0 (omega arith) in
+word_in_header : (bytes : List ℕ) (offset : ℕ) → offset + 2 ≤ 12 → word_at (take 12 bytes) offset ≡ word_at bytes offset
+word_in_header bytes offset le =
+    let left : ℕ = 12 - offset in
+    let size : 12 ≡ offset + (12 - offset) = omega arith in
+    let front : drop offset (take 12 bytes) ≡ take (12 - offset) (drop offset bytes) = ap (λ n. drop offset (take n bytes)) size ∙ drop-take offset (12 - offset) bytes in
+    let low = get_or-take (12 - offset) (drop offset bytes) 0 0 (omega arith) in
+    let high = get_or-take (12 - offset) (drop offset bytes) 1 0 (omega arith) in
     ap (little_number 2) front ∙ (λ i. low i + 256 * (high i + 256 * 0))
 
 -- the sections, one after another
@@ -115,11 +115,11 @@ were_read bytes entry r =
 
 -- ---- the other way: bytes that are a file have these sections by position
 
-step : (bytes front back : List ℕ) (place size next : ℕ) → drop place bytes ≡ front ++ back → length front ≡ size → place + size ≡ next
-    → (part bytes place size ≡ front) × (drop next bytes ≡ back)
-step bytes front back place size next e len n = (
+step : (bytes front back : List ℕ) (offset size next : ℕ) → drop offset bytes ≡ front ++ back → length front ≡ size → offset + size ≡ next
+    → (part bytes offset size ≡ front) × (drop next bytes ≡ back)
+step bytes front back offset size next e len n = (
   ap (take size) e ∙ take_at front back size len,
-  ap (λ k. drop k bytes) (sym n) ∙ sym (drop-drop size place bytes) ∙ ap (drop size) e ∙ drop_at front back size len,
+  ap (λ k. drop k bytes) (sym n) ∙ sym (drop-drop size offset bytes) ∙ ap (drop size) e ∙ drop_at front back size len,
 )
 
 -- what is known of a file, and what follows it
@@ -137,7 +137,7 @@ was_file bytes rest entry f =
     let behind_header : List ℕ = f.names ++ behind_names in
     let header : take 12 bytes ≡ f.header = ap (take 12) f.whole ∙ take_at f.header behind_header 12 f.header_size in
     let s0 : drop 12 bytes ≡ behind_header = ap (drop 12) f.whole ∙ drop_at f.header behind_header 12 f.header_size in
-    let at : (place : ℕ) → place + 2 ≤ 12 → word_at bytes place ≡ word_at f.header place = λ place le. sym (word_in_header bytes place le) ∙ ap (λ h. word_at h place) header in
+    let at : (offset : ℕ) → offset + 2 ≤ 12 → word_at bytes offset ≡ word_at f.header offset = λ offset le. sym (word_in_header bytes offset le) ∙ ap (λ h. word_at h offset) header in
     let names : names_of bytes ≡ length f.names = at 2 (omega arith) ∙ f.names_size in
     let flags : flags_of bytes ≡ length f.flags = at 4 (omega arith) ∙ f.flag_count in
     let numbers : numbers_of bytes ≡ word_at f.header 6 = at 6 (omega arith) in

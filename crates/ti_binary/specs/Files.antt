@@ -9,9 +9,9 @@ use Rattle.ti_binary.specs.Canonical.{magic}
 use Rattle.ti_binary.specs.declared.faults.BinFault.{BinFault}
 use Rattle.ti_binary.specs.declared.faults.BinFault.TheVariants.{TooLarge, Truncated, WideNumbers, BadMagic, BadCount, BadNames, BadOffset, Unended}
 
--- the 16-bit number at a place, the lower byte first
+-- the 16-bit number at an offset, the lower byte first
 abbrev pub word_at : List ℕ → ℕ → ℕ
-word_at bytes place = little_number 2 (drop place bytes)
+word_at bytes offset = little_number 2 (drop offset bytes)
 
 -- the first numbers of a section
 abbrev pub words_in : List ℕ → ℕ → List ℕ
@@ -117,9 +117,9 @@ table_place bytes = offsets_place bytes + 2 * offsets_of bytes
 abbrev pub end_place : List ℕ → ℕ
 end_place bytes = table_place bytes + table_of bytes
 
--- the bytes from a place on, as many as these
+-- the bytes from an offset on, as many as these
 abbrev pub part : List ℕ → ℕ → ℕ → List ℕ
-part bytes place size = take size (drop place bytes)
+part bytes offset size = take size (drop offset bytes)
 
 -- a size or a count that is negative or past the limits, or names without their NUL
 abbrev pub has_bad_count : List ℕ → Bool

@@ -16,12 +16,12 @@ const MAGIC: u16 = 0o432;
 /// The magic number of the format with 32-bit numbers.
 const WIDE_MAGIC: u16 = 0o1036;
 
-/// The 16-bit number at a place, the lower byte first.
-pub(crate) fn word(bytes: &[u8], place: usize) -> u16
-    requires { place + 2 ≤ length bytes.now }
-    ensures { result ≡ word_at bytes.now place }
+/// The 16-bit number at an offset, the lower byte first.
+pub(crate) fn word(bytes: &[u8], offset: usize) -> u16
+    requires { offset + 2 ≤ length bytes.now }
+    ensures { result ≡ word_at bytes.now offset }
 {
-    LittleEndian::read_u16(&bytes[place..])
+    LittleEndian::read_u16(&bytes[offset..])
 }
 
 /// Refuses what is too large, has another magic number, or ends inside the header.

@@ -41,7 +41,7 @@ impl Shape {
         }
     }
 
-    /// Whether a byte stands between flags and numbers, so that numbers begin at an even place.
+    /// Whether a byte stands between flags and numbers, so that numbers begin at an even offset.
     pub(crate) fn is_odd(&self) -> bool
         requires names { self.now.names ≤ 128 }
         requires flags { self.now.flags ≤ 64 }

@@ -21,9 +21,9 @@ pub(crate) fn before_nul(bytes: &[u8]) -> &[u8]
     &bytes[..end]
 }
 
-/// What stands from a place on: nothing past the end.
-pub(crate) fn rest_from(table: &[u8], place: usize) -> &[u8]
-    ensures { result.now ≡ drop place table.now }
+/// What stands from an offset on: nothing past the end.
+pub(crate) fn rest_from(table: &[u8], offset: usize) -> &[u8]
+    ensures { result.now ≡ drop offset table.now }
 {
-    table.get(place..).unwrap_or(&[])
+    table.get(offset..).unwrap_or(&[])
 }

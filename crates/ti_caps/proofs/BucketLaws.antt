@@ -4,7 +4,7 @@ use Rattle.std.specs.Str.{bytes_eq}
 use Rattle.std.proofs.lemmas.Slice.Eq.{bytes_eq-Decides}
 use Rattle.ti_caps.specs.declared.table.Kind.{Kind}
 use Rattle.ti_caps.specs.Buckets.{bucket, bucket_number, if_same, found_in_run, found_at, found_in}
-use Rattle.ti_caps.specs.Table.{Names, runs, flag_names, number_names, text_names_from_0, text_names_from_55, text_names_from_90, text_names_from_139, text_names_from_158, text_names_from_216, text_names_from_297, text_names_from_359, place_from, place_in, found_among, capability_of}
+use Rattle.ti_caps.specs.Table.{Names, runs, flag_names, number_names, text_names_from_0, text_names_from_55, text_names_from_90, text_names_from_139, text_names_from_158, text_names_from_216, text_names_from_297, text_names_from_359, position_from, position_in, found_among, capability_of}
 use Rattle.ti_caps.proofs.Once.{both, chosen, first_there, mapped, all_once, runs_once, computed, once_found}
 
 abbrev by_bucket : List ℕ → Option (Kind × ℕ)
@@ -47,19 +47,19 @@ right_in_run name index (Some r) x once e =
     let h = same_here name r.kind (r.first + index) (slice_get r.names index) x e in
     rw h.1 (once_found r.kind r.first index r.names name (once r refl) h.0)
 
-right_in : (name : List ℕ) (places : List (ℕ × ℕ)) (x : Kind × ℕ) → found_in name places ≡ Some x → capability_of name ≡ Some x
+right_in : (name : List ℕ) (addresses : List (ℕ × ℕ)) (x : Kind × ℕ) → found_in name addresses ≡ Some x → capability_of name ≡ Some x
 right_in name [] x e = cc
-right_in name (place ∷ places) x e =
-    elim (first_there (found_at name place) (found_in name places) x e) [
-      | inl h ↦ right_in_run name place.1 (slice_get runs place.0) x (λ r at. run_once runs place.0 r computed at) h
-      | inr h ↦ right_in name places x h.1
+right_in name (address ∷ addresses) x e =
+    elim (first_there (found_at name address) (found_in name addresses) x e) [
+      | inl h ↦ right_in_run name address.1 (slice_get runs address.0) x (λ r at. run_once runs address.0 r computed at) h
+      | inr h ↦ right_in name addresses x h.1
     ]
 
-there : (name : List ℕ) (i p : ℕ) (ns : List (List ℕ)) → all_found ns ≡ true → place_from i name ns ≡ Some p → is_some (by_bucket name) ≡ true
+there : (name : List ℕ) (i p : ℕ) (ns : List (List ℕ)) → all_found ns ≡ true → position_from i name ns ≡ Some p → is_some (by_bucket name) ≡ true
 there name i p [] e at = cc
 there name i p (n ∷ ns) e at =
     let parts = both (is_some (by_bucket n)) (all_found ns) e in
-    elim (chosen (bytes_eq n name) (Some i) (place_from (suc i) name ns) (Some p) at) [
+    elim (chosen (bytes_eq n name) (Some i) (position_from (suc i) name ns) (Some p) at) [
       | inl h ↦ let same : name ≡ n = sym ((bytes_eq-Decides n name).0 h.0) in rw same parts.0
       | inr h ↦ there name (suc i) p ns parts.1 h.1
     ]
@@ -68,9 +68,9 @@ there_among : (name : List ℕ) (rs : List Names) (x : Kind × ℕ) → runs_fou
 there_among name [] x e at = cc
 there_among name (r ∷ rs) x e at =
     let parts = both (all_found r.names) (runs_found rs) e in
-    elim (first_there (place_in name r) (found_among name rs) x at) [
+    elim (first_there (position_in name r) (found_among name rs) x at) [
       | inl h ↦
-          let m = mapped (λ p. (r.kind, p)) (place_from r.first name r.names) x h in
+          let m = mapped (λ p. (r.kind, p)) (position_from r.first name r.names) x h in
           there name r.first m.0 r.names parts.0 m.1
       | inr h ↦ there_among name rs x parts.1 h.1
     ]

@@ -5,7 +5,7 @@ use Rattle.std.proofs.lemmas.Slice.Eq.{bytes_eq-Decides}
 use Rattle.std.proofs.lemmas.Bool.Decides.{nat_tests}
 use Rattle.ti_caps.specs.declared.table.Kind.{Kind}
 use Rattle.ti_caps.specs.declared.table.Kind.TheVariants.{Flag, Number, Text}
-use Rattle.ti_caps.specs.Table.{Names, runs, flag_names, number_names, text_names_from_0, text_names_from_55, text_names_from_90, text_names_from_139, text_names_from_158, text_names_from_216, text_names_from_297, text_names_from_359, same_kind, or_else, name_in, name_among, name_at, place_from, place_in, found_among, capability_of}
+use Rattle.ti_caps.specs.Table.{Names, runs, flag_names, number_names, text_names_from_0, text_names_from_55, text_names_from_90, text_names_from_139, text_names_from_158, text_names_from_216, text_names_from_297, text_names_from_359, same_kind, or_else, name_in, name_among, name_at, position_from, position_in, found_among, capability_of}
 
 abbrev is_capability : Kind → ℕ → Option (Kind × ℕ) → Bool
 is_capability kind i None = false
@@ -91,10 +91,10 @@ once_found kind i (suc j) (m ∷ ns) n e at =
     let steps : i + suc j ≡ suc i + j = omega arith in
     rw steps (once_found kind (suc i) j ns n (head_once kind i m ns e).rest at)
 
-once_named : (kind : Kind) (i p : ℕ) (ns : List (List ℕ)) (name : List ℕ) → all_once kind i ns ≡ true → place_from i name ns ≡ Some p → name_at kind p ≡ Some name
+once_named : (kind : Kind) (i p : ℕ) (ns : List (List ℕ)) (name : List ℕ) → all_once kind i ns ≡ true → position_from i name ns ≡ Some p → name_at kind p ≡ Some name
 once_named kind i p [] name e at = cc
 once_named kind i p (m ∷ ns) name e at =
-    elim (chosen (bytes_eq m name) (Some i) (place_from (suc i) name ns) (Some p) at) [
+    elim (chosen (bytes_eq m name) (Some i) (position_from (suc i) name ns) (Some p) at) [
       | inl h ↦
           let same : name ≡ m = sym ((bytes_eq-Decides m name).0 h.0) in
           let here : p ≡ i = cc in
@@ -122,9 +122,9 @@ found_named : (name : List ℕ) (rs : List Names) (kind : Kind) (position : ℕ)
 found_named name [] kind position e at = cc
 found_named name (r ∷ rs) kind position e at =
     let parts = both (all_once r.kind r.first r.names) (runs_once rs) e in
-    elim (first_there (place_in name r) (found_among name rs) (kind, position) at) [
+    elim (first_there (position_in name r) (found_among name rs) (kind, position) at) [
       | inl h ↦
-          let m = mapped (λ p. (r.kind, p)) (place_from r.first name r.names) (kind, position) h in
+          let m = mapped (λ p. (r.kind, p)) (position_from r.first name r.names) (kind, position) h in
           let kinds : kind ≡ r.kind = ap (λ p. p.0) (sym m.2) in
           let places : position ≡ m.0 = ap (λ p. p.1) (sym m.2) in
           rw (kinds, places) (once_named r.kind r.first m.0 r.names name parts.0 m.1)

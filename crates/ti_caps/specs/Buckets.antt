@@ -10,7 +10,7 @@ abbrev pub bucket_number : ℕ → List ℕ → ℕ
 bucket_number h [] = h
 bucket_number h (b ∷ bs) = bucket_number ((h * 53 + b) % 128) bs
 
--- the places of the names of a number: a run's index, and the place there
+-- the addresses of the names of a number: a run's index, and the name's index there
 unfoldable pub bucket : ℕ → List (ℕ × ℕ)
 bucket number = slice_index_or (map (λ s. s.now) BUCKETS) number []
 
@@ -22,11 +22,11 @@ abbrev pub found_in_run : List ℕ → ℕ → Option Names → Option (Kind × 
 found_in_run name index None = None
 found_in_run name index (Some r) = if_same name r.kind (r.first + index) (slice_get r.names index)
 
--- the capability at a place, where this is its name
+-- the capability at an address, where this is its name
 abbrev pub found_at : List ℕ → ℕ × ℕ → Option (Kind × ℕ)
-found_at name place = found_in_run name place.1 (slice_get runs place.0)
+found_at name address = found_in_run name address.1 (slice_get runs address.0)
 
--- the capability at the first of these places that has this name
+-- the capability at the first of these addresses that has this name
 abbrev pub found_in : List ℕ → List (ℕ × ℕ) → Option (Kind × ℕ)
 found_in name [] = None
-found_in name (place ∷ places) = or_else (found_at name place) (found_in name places)
+found_in name (address ∷ addresses) = or_else (found_at name address) (found_in name addresses)

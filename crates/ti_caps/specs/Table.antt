@@ -114,19 +114,19 @@ name_among kind position (r ∷ rs) = or_else (name_in kind position r) (name_am
 unfoldable pub name_at : Kind → ℕ → Option (List ℕ)
 name_at kind position = name_among kind position runs
 
--- where a name stands first in a list whose first place has the number i
-abbrev pub place_from : ℕ → List ℕ → List (List ℕ) → Option ℕ
-place_from i name [] = None
-place_from i name (n ∷ ns) = if bytes_eq n name then Some i else place_from (suc i) name ns
+-- where a name stands first in a list whose first name has the number i
+abbrev pub position_from : ℕ → List ℕ → List (List ℕ) → Option ℕ
+position_from i name [] = None
+position_from i name (n ∷ ns) = if bytes_eq n name then Some i else position_from (suc i) name ns
 
 -- where a name stands in a run
-abbrev pub place_in : List ℕ → Names → Option (Kind × ℕ)
-place_in name r = option_map (λ p. (r.kind, p)) (place_from r.first name r.names)
+abbrev pub position_in : List ℕ → Names → Option (Kind × ℕ)
+position_in name r = option_map (λ p. (r.kind, p)) (position_from r.first name r.names)
 
 -- where a name stands in the first of these runs that has it
 abbrev pub found_among : List ℕ → List Names → Option (Kind × ℕ)
 found_among name [] = None
-found_among name (r ∷ rs) = or_else (place_in name r) (found_among name rs)
+found_among name (r ∷ rs) = or_else (position_in name r) (found_among name rs)
 
 -- the kind and the position of a name, if a capability has it
 unfoldable pub capability_of : List ℕ → Option (Kind × ℕ)

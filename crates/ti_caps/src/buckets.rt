@@ -6,7 +6,7 @@ ghost use Rattle.ti_caps.specs.Table.{capability_of};
 
 use crate::table::{Kind, Slot, run_at};
 
-/// For each number the names whose bytes give it: the index of a name's run, and its place there.
+/// For each number the names whose bytes give it: the index of a name's run, and its index there.
 static BUCKETS: [&[(u8, u8)]; 128] = [
     &[(2, 28), (4, 35), (7, 5)],
     &[(2, 4), (2, 33), (2, 36), (7, 6)],
@@ -169,21 +169,21 @@ fn bucket_of<'a>(buckets: &[&'a [(u8, u8)]], number: usize) -> &'a [(u8, u8)]
     }
 }
 
-/// The capability at a place, where this is its name.
-fn found_at(place: (u8, u8), name: &[u8]) -> Option<(Kind, Slot)>
-    ensures { option_map (λ c. (c.0, c.1.0)) result ≡ found_at name.now place }
+/// The capability at an address, where this is its name.
+fn found_at(address: (u8, u8), name: &[u8]) -> Option<(Kind, Slot)>
+    ensures { option_map (λ c. (c.0, c.1.0)) result ≡ found_at name.now address }
 {
-    let run = run_at(usize::from(place.0))?;
-    let slot = run.slot_of(place.1, name)?;
+    let run = run_at(usize::from(address.0))?;
+    let slot = run.slot_of(address.1, name)?;
     Some((run.kind, slot))
 }
 
-/// The capability at the first of these places that has this name.
-fn found_in(places: &[(u8, u8)], name: &[u8]) -> Option<(Kind, Slot)>
-    ensures { option_map (λ c. (c.0, c.1.0)) result ≡ found_in name.now places.now }
+/// The capability at the first of these addresses that has this name.
+fn found_in(addresses: &[(u8, u8)], name: &[u8]) -> Option<(Kind, Slot)>
+    ensures { option_map (λ c. (c.0, c.1.0)) result ≡ found_in name.now addresses.now }
 {
-    for place in places {
-        if let Some(capability) = found_at(*place, name) {
+    for address in addresses {
+        if let Some(capability) = found_at(*address, name) {
             return Some(capability);
         }
     }

@@ -113,11 +113,11 @@ impl Entry {
         ensures ok { OnOk result (self.new ≡ record self.old { flags = slice_set self.old.flags slot.0 present }) }
         ensures err { OnErr result (self.new ≡ self.old) }
     {
-        let place = usize::from(slot.0);
-        if place >= MOST_FLAGS {
+        let index = usize::from(slot.0);
+        if index >= MOST_FLAGS {
             return Err(CapFault::SlotTooBig);
         }
-        self.flags[place] = present;
+        self.flags[index] = present;
         Ok(())
     }
 
@@ -129,11 +129,11 @@ impl Entry {
         ensures ok { OnOk result (self.new ≡ record self.old { numbers = slice_set self.old.numbers slot.0 number }) }
         ensures err { OnErr result (self.new ≡ self.old) }
     {
-        let place = usize::from(slot.0);
-        if place >= MOST_NUMBERS {
+        let index = usize::from(slot.0);
+        if index >= MOST_NUMBERS {
             return Err(CapFault::SlotTooBig);
         }
-        self.numbers[place] = number;
+        self.numbers[index] = number;
         Ok(())
     }
 
@@ -147,15 +147,15 @@ impl Entry {
         ensures ok { OnOk result (self.new ≡ record self.old { texts = slice_set self.old.texts slot.0 (option_map (λ t. t.now) text.entry) }) }
         ensures err { OnErr result (self.new ≡ self.old) }
     {
-        let place = usize::from(slot.0);
-        if place >= MOST_TEXTS {
+        let index = usize::from(slot.0);
+        if index >= MOST_TEXTS {
             return Err(CapFault::SlotTooBig);
         }
         if text.is_some_and(has_nul) {
             return Err(CapFault::NulInText);
         }
         let owned = owned(*self.texts.allocator(), text)?;
-        self.texts[place] = owned;
+        self.texts[index] = owned;
         Ok(())
     }
 

@@ -119,7 +119,7 @@ pub(crate) fn run_at(index: usize) -> Option<Run>
 }
 
 impl Run {
-    /// The position of the name at a place of the run, where it is this name.
+    /// The position of the name at an index of the run, where it is this name.
     pub(crate) fn slot_of(&self, index: u8, name: &[u8]) -> Option<Slot>
         requires { self.now.first + length self.now.names.now < 65536 }
         ensures { option_map (λ s. (self.now.kind, s.0)) result ≡ if_same name.now self.now.kind (self.now.first + index) (slice_get (seen self.now).names index) }

@@ -9,9 +9,9 @@ use Rattle.ti_source.specs.declared.reading.statement.FieldValue.{FieldValue}
 use Rattle.ti_source.specs.declared.reading.statement.Statement.{Statement}
 use Rattle.ti_source.specs.Reading.Sources.{concerns}
 use Rattle.ti_source.specs.Resolving.Uses.{value_of_capability}
-use Rattle.ti_source.specs.Code.FirstFields.{AreEffective, IsIndex, is_effective, field_at, first_of, if_present, is_place, is_present, place, room}
+use Rattle.ti_source.specs.Code.FirstFields.{AreEffective, IsIndex, is_effective, field_at, first_of, if_present, is_at, is_present, ordinal, room}
 use Rattle.ti_source.proofs.MergedBackLaws.{value_of_capability-append, or-none}
-use Rattle.ti_source.proofs.FirstFieldLaws.{same-place, same-room}
+use Rattle.ti_source.proofs.FirstFieldLaws.{same-ordinal, same-room}
 
 -- what fields say of a capability the first that is about it says
 pub field_value-of-first : (kind : Kind) (slot : ℕ) (fields : List Statement) → value_of_capability kind slot fields ≡ option_map (λ (s : Statement). s.field_value) (first_of kind slot fields)
@@ -35,28 +35,28 @@ abbrev pub so_far : Option ℕ → ℕ → List Statement → Option FieldValue
 so_far None i fields = None
 so_far (Some j) i fields = cond (nat_lt j i) (option_map (λ (s : Statement). s.field_value) (slice_get fields j)) None
 
-abbrev pub place_in : List (Option ℕ) → Kind → ℕ → Option ℕ
-place_in index kind slot = slice_index_or index (place kind slot) None
+abbrev pub ordinal_in : List (Option ℕ) → Kind → ℕ → Option ℕ
+ordinal_in index kind slot = slice_index_or index (ordinal kind slot) None
 
 -- what counts of the first i fields
 abbrev pub InForceSoFar : List Statement → List (Option ℕ) → ℕ → List Statement → Type 0
-InForceSoFar fields index i some = (kind : Kind) (slot : ℕ) → slot < room kind → value_of_capability kind slot some ≡ if_present kind (so_far (place_in index kind slot) i fields)
+InForceSoFar fields index i some = (kind : Kind) (slot : ℕ) → slot < room kind → value_of_capability kind slot some ≡ if_present kind (so_far (ordinal_in index kind slot) i fields)
 
 pub none-so-far : (fields : List Statement) (index : List (Option ℕ)) → InForceSoFar fields index 0 []
-none-so-far fields index kind slot small = by (place_in index kind slot)
+none-so-far fields index kind slot small = by (ordinal_in index kind slot)
   where
     by : (o : Option ℕ) → None ≡ if_present kind (so_far o 0 fields)
     by None = refl
     by (Some j) = let no : nat_lt j 0 ≡ false = grind (arith, nat_tests) in rw no refl
 
-later-same : (o : Option ℕ) (i : ℕ) (fields : List Statement) → is_place o i ≡ false → so_far o (i + 1) fields ≡ so_far o i fields
+later-same : (o : Option ℕ) (i : ℕ) (fields : List Statement) → is_at o i ≡ false → so_far o (i + 1) fields ≡ so_far o i fields
 later-same None i fields e = refl
 later-same (Some j) i fields e = ap (λ t. cond t (option_map (λ (s : Statement). s.field_value) (slice_get fields j)) None) same
   where
     same : nat_lt j (i + 1) ≡ nat_lt j i
     same = grind (arith, nat_tests)
 
-is-some : (o : Option ℕ) (i : ℕ) → is_place o i ≡ true → o ≡ Some i
+is-some : (o : Option ℕ) (i : ℕ) → is_at o i ≡ true → o ≡ Some i
 is-some None i e = cc
 is-some (Some j) i e = ap Some (eqb-true j i e)
 
@@ -79,7 +79,7 @@ pub one-more : (fields : List Statement) (index : List (Option ℕ)) (i : ℕ) (
 one-more fields index i s some after is at so put kind slot small = by (concerns kind slot s) refl
   where
     here : Option ℕ
-    here = place_in index kind slot
+    here = ordinal_in index kind slot
 
     with : is_effective index i s ≡ true → after ≡ some ++ s ∷ []
     with h = elim put [ inl p ↦ p.1 | inr p ↦ cc (h, p.0) ]
@@ -90,7 +90,7 @@ one-more fields index i s some after is at so put kind slot small = by (concerns
     by : (t : Bool) → concerns kind slot s ≡ t → value_of_capability kind slot after ≡ if_present kind (so_far here (i + 1) fields)
     by false e = chosen (is_effective index i s) refl
       where
-        off : (u : Bool) → is_place here i ≡ u → u ≡ false
+        off : (u : Bool) → is_at here i ≡ u → u ≡ false
         off false h = refl
         off true h =
             let first : field_at fields (Some i) ≡ first_of kind slot fields = ap (field_at fields) (sym (is-some here i h)) ∙ is.first kind slot small in
@@ -98,25 +98,25 @@ one-more fields index i s some after is at so put kind slot small = by (concerns
             cc
 
         rest : value_of_capability kind slot some ≡ if_present kind (so_far here (i + 1) fields)
-        rest = so kind slot small ∙ ap (if_present kind) (sym (later-same here i fields (off (is_place here i) refl)))
+        rest = so kind slot small ∙ ap (if_present kind) (sym (later-same here i fields (off (is_at here i) refl)))
 
         chosen : (c : Bool) → is_effective index i s ≡ c → value_of_capability kind slot after ≡ if_present kind (so_far here (i + 1) fields)
         chosen true h = ap (value_of_capability kind slot) (with h) ∙ no-field_value kind slot some s e ∙ rest
         chosen false h = ap (value_of_capability kind slot) (without h) ∙ rest
-    by true e = placed (is_place here i) refl
+    by true e = placed (is_at here i) refl
       where
         kinds : s.kind ≡ kind
         kinds = kind-is s.kind kind (eqb s.slot.0 slot) e
 
-        places : place s.kind s.slot.0 ≡ place kind slot
-        places = sym (same-place kind s.kind slot s.slot.0 e)
+        ordinals : ordinal s.kind s.slot.0 ≡ ordinal kind slot
+        ordinals = sym (same-ordinal kind s.kind slot s.slot.0 e)
 
-        counts-is : is_effective index i s ≡ (is_place here i && is_present kind s.field_value)
+        counts-is : is_effective index i s ≡ (is_at here i && is_present kind s.field_value)
         counts-is =
             let fits : nat_lt s.slot.0 (room s.kind) ≡ true = (let near = same-room kind s.kind slot s.slot.0 e small in grind (arith, nat_tests)) in
-            rw (fits, places) (ap (λ k. is_place here i && is_present k s.field_value) kinds)
+            rw (fits, ordinals) (ap (λ k. is_at here i && is_present k s.field_value) kinds)
 
-        placed : (u : Bool) → is_place here i ≡ u → value_of_capability kind slot after ≡ if_present kind (so_far here (i + 1) fields)
+        placed : (u : Bool) → is_at here i ≡ u → value_of_capability kind slot after ≡ if_present kind (so_far here (i + 1) fields)
         placed false h =
             ap (value_of_capability kind slot) (without (counts-is ∙ rw h refl)) ∙ so kind slot small ∙ ap (if_present kind) (sym (later-same here i fields h))
         placed true h =
@@ -127,7 +127,7 @@ one-more fields index i s some after is at so put kind slot small = by (concerns
             let all : so_far here (i + 1) fields ≡ Some s.field_value = ap (λ o. so_far o (i + 1) fields) there ∙ rw (now, at) refl in
             ending (is_present kind s.field_value) refl h none all
           where
-            ending : (c : Bool) → is_present kind s.field_value ≡ c → is_place here i ≡ true → value_of_capability kind slot some ≡ None → so_far here (i + 1) fields ≡ Some s.field_value → value_of_capability kind slot after ≡ if_present kind (so_far here (i + 1) fields)
+            ending : (c : Bool) → is_present kind s.field_value ≡ c → is_at here i ≡ true → value_of_capability kind slot some ≡ None → so_far here (i + 1) fields ≡ Some s.field_value → value_of_capability kind slot after ≡ if_present kind (so_far here (i + 1) fields)
             ending true c p none all =
                 ap (value_of_capability kind slot) (with (counts-is ∙ rw (p, c) refl)) ∙ value_of_capability-append kind slot some (s ∷ []) ∙ rw (none, e, all, c) refl
             ending false c p none all =
@@ -136,7 +136,7 @@ one-more fields index i s some after is at so put kind slot small = by (concerns
 -- all of them
 pub all-in-force : (fields : List Statement) (index : List (Option ℕ)) (i : ℕ) (some : List Statement) → IsIndex fields index → i ≡ length fields → InForceSoFar fields index i some → AreEffective fields some
 all-in-force fields index i some is end so kind slot small =
-    so kind slot small ∙ ap (if_present kind) (whole (place_in index kind slot) (is.first kind slot small) ∙ sym (field_value-of-first kind slot fields))
+    so kind slot small ∙ ap (if_present kind) (whole (ordinal_in index kind slot) (is.first kind slot small) ∙ sym (field_value-of-first kind slot fields))
   where
     within : (fs : List Statement) (j : ℕ) (s : Statement) → slice_get fs j ≡ Some s → j < length fs
     within [] j s e = cc

@@ -8,7 +8,7 @@ use Rattle.ti_caps.specs.declared.table.Kind.{Kind}
 use Rattle.ti_caps.specs.declared.table.Kind.TheVariants.{Flag, Number, Text}
 use Rattle.ti_caps.specs.Table.{same_kind}
 use Rattle.ti_source.specs.declared.reading.statement.Statement.{Statement}
-use Rattle.ti_source.specs.Code.FirstFields.{Indexes, field_at, first_of, place, room}
+use Rattle.ti_source.specs.Code.FirstFields.{Indexes, field_at, first_of, ordinal, room}
 
 abbrev no_place : Option ℕ
 no_place = None
@@ -19,30 +19,30 @@ none-at (suc n) zero = refl
 none-at (suc n) (suc i) = none-at n i
 
 pub nothing-indexed : (fields : List Statement) (index : List (Option ℕ)) → index ≡ replicate 640 None → Indexes fields (drop (length fields) fields) index
-nothing-indexed fields index is kind slot small = rw (is, drop_all (length fields) fields (omega arith), none-at 640 (place kind slot)) refl
+nothing-indexed fields index is kind slot small = rw (is, drop_all (length fields) fields (omega arith), none-at 640 (ordinal kind slot)) refl
 
 -- a capability's place is its own
-place-own : (a b : Kind) (i j : ℕ) → i < room a → j < room b → place a i ≡ place b j → (same_kind b a && eqb j i) ≡ true
-place-own Flag Flag i j p q e = grind (arith, nat_tests)
-place-own Number Number i j p q e = grind (arith, nat_tests)
-place-own Text Text i j p q e = grind (arith, nat_tests)
-place-own Flag Number i j p q e = absurd (omega arith)
-place-own Flag Text i j p q e = absurd (omega arith)
-place-own Number Flag i j p q e = absurd (omega arith)
-place-own Number Text i j p q e = absurd (omega arith)
-place-own Text Flag i j p q e = absurd (omega arith)
-place-own Text Number i j p q e = absurd (omega arith)
+ordinal-own : (a b : Kind) (i j : ℕ) → i < room a → j < room b → ordinal a i ≡ ordinal b j → (same_kind b a && eqb j i) ≡ true
+ordinal-own Flag Flag i j p q e = grind (arith, nat_tests)
+ordinal-own Number Number i j p q e = grind (arith, nat_tests)
+ordinal-own Text Text i j p q e = grind (arith, nat_tests)
+ordinal-own Flag Number i j p q e = absurd (omega arith)
+ordinal-own Flag Text i j p q e = absurd (omega arith)
+ordinal-own Number Flag i j p q e = absurd (omega arith)
+ordinal-own Number Text i j p q e = absurd (omega arith)
+ordinal-own Text Flag i j p q e = absurd (omega arith)
+ordinal-own Text Number i j p q e = absurd (omega arith)
 
-pub same-place : (a b : Kind) (i j : ℕ) → (same_kind b a && eqb j i) ≡ true → place a i ≡ place b j
-same-place Flag Flag i j e = sym (eqb-true j i e)
-same-place Number Number i j e = ap (λ n. 64 + n) (sym (eqb-true j i e))
-same-place Text Text i j e = ap (λ n. 128 + n) (sym (eqb-true j i e))
-same-place Flag Number i j e = cc
-same-place Flag Text i j e = cc
-same-place Number Flag i j e = cc
-same-place Number Text i j e = cc
-same-place Text Flag i j e = cc
-same-place Text Number i j e = cc
+pub same-ordinal : (a b : Kind) (i j : ℕ) → (same_kind b a && eqb j i) ≡ true → ordinal a i ≡ ordinal b j
+same-ordinal Flag Flag i j e = sym (eqb-true j i e)
+same-ordinal Number Number i j e = ap (λ n. 64 + n) (sym (eqb-true j i e))
+same-ordinal Text Text i j e = ap (λ n. 128 + n) (sym (eqb-true j i e))
+same-ordinal Flag Number i j e = cc
+same-ordinal Flag Text i j e = cc
+same-ordinal Number Flag i j e = cc
+same-ordinal Number Text i j e = cc
+same-ordinal Text Flag i j e = cc
+same-ordinal Text Number i j e = cc
 
 -- room is that of the kind
 pub same-room : (a b : Kind) (i j : ℕ) → (same_kind b a && eqb j i) ≡ true → i < room a → j < room b
@@ -64,26 +64,26 @@ at-set xs i j x d lt = by (eqb i j) refl
     by false e = get_or-set_other xs i j x d (λ p. let q : eqb i j ≡ true = eq-eqb i j (sym p) in cc)
 
 -- a field that has no place is in no index
-pub without-place : (fields behind : List Statement) (index : List (Option ℕ)) (s : Statement) → room s.kind ≤ s.slot.0 → Indexes fields behind index → Indexes fields (s ∷ behind) index
-without-place fields behind index s far is kind slot small = by (same_kind s.kind kind && eqb s.slot.0 slot) refl
+pub without-ordinal : (fields behind : List Statement) (index : List (Option ℕ)) (s : Statement) → room s.kind ≤ s.slot.0 → Indexes fields behind index → Indexes fields (s ∷ behind) index
+without-ordinal fields behind index s far is kind slot small = by (same_kind s.kind kind && eqb s.slot.0 slot) refl
   where
-    by : (t : Bool) → (same_kind s.kind kind && eqb s.slot.0 slot) ≡ t → field_at fields (slice_index_or index (place kind slot) None) ≡ first_of kind slot (s ∷ behind)
+    by : (t : Bool) → (same_kind s.kind kind && eqb s.slot.0 slot) ≡ t → field_at fields (slice_index_or index (ordinal kind slot) None) ≡ first_of kind slot (s ∷ behind)
     by false e = rw e (is kind slot small)
     by true e = let near = same-room kind s.kind slot s.slot.0 e small in absurd (omega arith)
 
-pub with-place : (fields behind : List Statement) (index : List (Option ℕ)) (s : Statement) (i : ℕ) → length index ≡ 640 → place s.kind s.slot.0 < 640 → s.slot.0 < room s.kind → slice_get fields i ≡ Some s → Indexes fields behind index → Indexes fields (s ∷ behind) (set index (place s.kind s.slot.0) (Some i))
-with-place fields behind index s i long inside near at is kind slot small = by (same_kind s.kind kind && eqb s.slot.0 slot) refl
+pub with-ordinal : (fields behind : List Statement) (index : List (Option ℕ)) (s : Statement) (i : ℕ) → length index ≡ 640 → ordinal s.kind s.slot.0 < 640 → s.slot.0 < room s.kind → slice_get fields i ≡ Some s → Indexes fields behind index → Indexes fields (s ∷ behind) (set index (ordinal s.kind s.slot.0) (Some i))
+with-ordinal fields behind index s i long inside near at is kind slot small = by (same_kind s.kind kind && eqb s.slot.0 slot) refl
   where
-    by : (t : Bool) → (same_kind s.kind kind && eqb s.slot.0 slot) ≡ t → field_at fields (slice_index_or (set index (place s.kind s.slot.0) (Some i)) (place kind slot) None) ≡ first_of kind slot (s ∷ behind)
+    by : (t : Bool) → (same_kind s.kind kind && eqb s.slot.0 slot) ≡ t → field_at fields (slice_index_or (set index (ordinal s.kind s.slot.0) (Some i)) (ordinal kind slot) None) ≡ first_of kind slot (s ∷ behind)
     by true e =
-        let here : eqb (place s.kind s.slot.0) (place kind slot) ≡ true = eq-eqb _ _ (sym (same-place kind s.kind slot s.slot.0 e)) in
-        rw (e, at-set index (place s.kind s.slot.0) (place kind slot) (Some i) None (omega arith), here, at) refl
-    by false e = elsewhere (eqb (place s.kind s.slot.0) (place kind slot)) refl
+        let here : eqb (ordinal s.kind s.slot.0) (ordinal kind slot) ≡ true = eq-eqb _ _ (sym (same-ordinal kind s.kind slot s.slot.0 e)) in
+        rw (e, at-set index (ordinal s.kind s.slot.0) (ordinal kind slot) (Some i) None (omega arith), here, at) refl
+    by false e = elsewhere (eqb (ordinal s.kind s.slot.0) (ordinal kind slot)) refl
       where
-        elsewhere : (u : Bool) → eqb (place s.kind s.slot.0) (place kind slot) ≡ u → field_at fields (slice_index_or (set index (place s.kind s.slot.0) (Some i)) (place kind slot) None) ≡ first_of kind slot (s ∷ behind)
-        elsewhere false f = rw (e, at-set index (place s.kind s.slot.0) (place kind slot) (Some i) None (omega arith), f) (is kind slot small)
+        elsewhere : (u : Bool) → eqb (ordinal s.kind s.slot.0) (ordinal kind slot) ≡ u → field_at fields (slice_index_or (set index (ordinal s.kind s.slot.0) (Some i)) (ordinal kind slot) None) ≡ first_of kind slot (s ∷ behind)
+        elsewhere false f = rw (e, at-set index (ordinal s.kind s.slot.0) (ordinal kind slot) (Some i) None (omega arith), f) (is kind slot small)
         elsewhere true f =
-            let own = place-own kind s.kind slot s.slot.0 small near (sym (eqb-true (place s.kind s.slot.0) (place kind slot) f)) in
+            let own = ordinal-own kind s.kind slot s.slot.0 small near (sym (eqb-true (ordinal s.kind s.slot.0) (ordinal kind slot) f)) in
             cc
 
 pub long-index : (index : List (Option ℕ)) → index ≡ replicate 640 None → length index ≡ 640

@@ -3,9 +3,9 @@ use Rattle.std.proofs.Common.{◌≡◌, ℕ, zero, suc, Bool, true, false, ◌|
 use Rattle.std.specs.List.{list_any}
 use Rattle.ti_source.specs.declared.reading.statement.Statement.{Statement}
 use Rattle.ti_source.specs.Reading.Sources.{concerns}
-use Rattle.ti_source.specs.Code.FirstFields.{place}
+use Rattle.ti_source.specs.Code.FirstFields.{ordinal}
 use Rattle.ti_source.specs.Code.Marked.{AreMarked}
-use Rattle.ti_source.proofs.FirstFieldLaws.{same-place}
+use Rattle.ti_source.proofs.FirstFieldLaws.{same-ordinal}
 
 -- a mark that was put
 pub at-set : (marks : List Bool) (i : ℕ) → slice_index_or (set marks i true) i true ≡ true
@@ -23,9 +23,9 @@ any-push p (y ∷ xs) x some no-last = by (p y) some (any-push p xs x)
     by false e more = more e no-last
 
 -- one more field, which is marked
-pub marked-push : (ss after : List Statement) (s : Statement) (marks : List Bool) → after ≡ ss ++ s ∷ [] → slice_index_or marks (place s.kind s.slot.0) true ≡ true → AreMarked ss marks → AreMarked after marks
+pub marked-push : (ss after : List Statement) (s : Statement) (marks : List Bool) → after ≡ ss ++ s ∷ [] → slice_index_or marks (ordinal s.kind s.slot.0) true ≡ true → AreMarked ss marks → AreMarked after marks
 marked-push ss after s marks after-is own are kind slot some = by (concerns kind slot s) refl
   where
-    by : (t : Bool) → concerns kind slot s ≡ t → slice_index_or marks (place kind slot) true ≡ true
-    by true e = rw (same-place kind s.kind slot s.slot.0 e) own
+    by : (t : Bool) → concerns kind slot s ≡ t → slice_index_or marks (ordinal kind slot) true ≡ true
+    by true e = rw (same-ordinal kind s.kind slot s.slot.0 e) own
     by false e = are kind slot (any-push (concerns kind slot) ss s (rw after-is at some) e)

@@ -3,7 +3,7 @@
 
 mod fault;
 mod note;
-mod place;
+mod ordinals;
 mod printing;
 mod reading;
 mod resolving;

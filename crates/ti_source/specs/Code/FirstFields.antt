@@ -1,4 +1,4 @@
--- For each capability the field that comes first for it, by its place among some; which fields take effect; what a resolved entry says.
+-- For each capability the field that comes first for it, by its index among some; which fields take effect; what a resolved entry says.
 use Rattle.std.specs.Prelude.{ℕ, ◌+◌, ◌<◌, ◌≡◌, Bool, true, false, List, [], ◌∷◌, Option, Some, None, length, slice_get, slice_index_or, ◌&&◌, ◌==◌, nat_lt, if◌then◌else◌}
 use Rattle.ti_caps.specs.declared.table.Kind.{Kind}
 use Rattle.ti_caps.specs.declared.table.Kind.TheVariants.{Flag, Number, Text}
@@ -16,24 +16,24 @@ room Flag = 64
 room Number = 64
 room Text = 512
 
-abbrev pub place : Kind → ℕ → ℕ
-place Flag slot = slot
-place Number slot = 64 + slot
-place Text slot = 128 + slot
+abbrev pub ordinal : Kind → ℕ → ℕ
+ordinal Flag slot = slot
+ordinal Number slot = 64 + slot
+ordinal Text slot = 128 + slot
 
 -- the first of some fields that is about a capability
 abbrev pub first_of : Kind → ℕ → List Statement → Option Statement
 first_of kind slot [] = None
 first_of kind slot (s ∷ more) = if concerns kind slot s then Some s else first_of kind slot more
 
--- the field at a place
+-- the field at an index
 abbrev pub field_at : List Statement → Option ℕ → Option Statement
 field_at fields None = None
 field_at fields (Some i) = slice_get fields i
 
--- an index has for each capability the place of the first of some of the fields that is about it
+-- an index has for each capability where the first of some of the fields that is about it
 abbrev pub Indexes : List Statement → List Statement → List (Option ℕ) → Type 0
-Indexes fields some index = (kind : Kind) (slot : ℕ) → slot < room kind → field_at fields (slice_index_or index (place kind slot) None) ≡ first_of kind slot some
+Indexes fields some index = (kind : Kind) (slot : ℕ) → slot < room kind → field_at fields (slice_index_or index (ordinal kind slot) None) ≡ first_of kind slot some
 
 -- the same of all of them
 pub record IsIndex (fields : List Statement) (index : List (Option ℕ)) : Type 0 where
@@ -51,15 +51,15 @@ abbrev pub if_present : Kind → Option FieldValue → Option FieldValue
 if_present kind None = None
 if_present kind (Some s) = if is_present kind s then Some s else None
 
--- whether the index has this place
-abbrev pub is_place : Option ℕ → ℕ → Bool
-is_place None i = false
-is_place (Some j) i = j == i
+-- whether the index has this number
+abbrev pub is_at : Option ℕ → ℕ → Bool
+is_at None i = false
+is_at (Some j) i = j == i
 
--- whether the field at a place takes effect: the index has it for its capability, and it makes that present
+-- whether the field of a number takes effect: the index has it for its capability, and it makes that present
 abbrev pub is_effective : List (Option ℕ) → ℕ → Statement → Bool
 is_effective index i field =
-    nat_lt field.slot.0 (room field.kind) && is_place (slice_index_or index (place field.kind field.slot.0) None) i && is_present field.kind field.field_value
+    nat_lt field.slot.0 (room field.kind) && is_at (slice_index_or index (ordinal field.kind field.slot.0) None) i && is_present field.kind field.field_value
 
 -- the fields that take effect say of each capability what all do, where that makes it present, and nothing else
 abbrev pub AreEffective : List Statement → List Statement → Type 0

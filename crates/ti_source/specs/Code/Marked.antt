@@ -5,11 +5,11 @@ use Rattle.ti_caps.specs.declared.table.Kind.{Kind}
 use Rattle.ti_source.specs.declared.reading.statement.Statement.{Statement}
 use Rattle.ti_source.specs.Described.{Described, IsDescribed}
 use Rattle.ti_source.specs.Reading.Sources.{concerns}
-use Rattle.ti_source.specs.Code.FirstFields.{place}
+use Rattle.ti_source.specs.Code.FirstFields.{ordinal}
 
 -- each capability that a field is about is marked, or past the marks
 abbrev pub AreMarked : List Statement → List Bool → Type 0
-AreMarked statements marks = (kind : Kind) (slot : ℕ) → list_any (concerns kind slot) statements ≡ true → slice_index_or marks (place kind slot) true ≡ true
+AreMarked statements marks = (kind : Kind) (slot : ℕ) → list_any (concerns kind slot) statements ≡ true → slice_index_or marks (ordinal kind slot) true ≡ true
 
 -- what holds of every entry, and of its marks
 pub record IsMarked (d : Described) (marks : List Bool) : Type 0 where

@@ -17,7 +17,7 @@ use crate::reading::number::number;
 use crate::reading::statement::{FieldValue, SourceEntry};
 use std::alloc::Global;
 use std::marker::Model;
-use ti_caps::{Bytes, Kind, Slot, find_name};
+use ti_caps::{Bytes, Kind, MOST_NUMBER, Slot, find_name};
 
 /// How many uses an entry may have.
 const USES: usize = 32;
@@ -116,10 +116,10 @@ impl OpenEntry {
         if self.entry.is_stated(Kind::Number, slot) {
             return self.noted(alloc, line, Cause::Repeated, name);
         }
-        if value <= 32767 {
+        if value <= u32::from(MOST_NUMBER) {
             return self.with_statement(Kind::Number, slot, FieldValue::Number(value as u16));
         }
-        self.with_statement(Kind::Number, slot, FieldValue::Number(32767))?;
+        self.with_statement(Kind::Number, slot, FieldValue::Number(MOST_NUMBER))?;
         self.noted(alloc, line, Cause::TooGreat, name)
     }
 

@@ -5,13 +5,13 @@ ghost use Rattle.std.specs.List.{list_any};
 ghost use Rattle.ti_source.specs.Reading.Sources.{concerns};
 ghost use Rattle.ti_source.specs.Result.{Becomes};
 ghost use Rattle.ti_source.specs.Described.{AreGood, IsGood};
-ghost use Rattle.ti_source.specs.Code.FirstFields.{place};
+ghost use Rattle.ti_source.specs.Code.FirstFields.{ordinal};
 ghost use Rattle.ti_source.specs.Code.Marked.{AreMarked};
 ghost use Rattle.ti_caps.specs.Table.{same_kind};
 ghost use Rattle.ti_caps.specs.Names.{are_names};
 
 use crate::fault::SourceFault;
-use crate::place::{CAPABILITIES, place};
+use crate::ordinals::{CAPABILITIES, ordinal};
 use std::alloc::{AllocError, Global};
 use std::marker::Model;
 use ti_caps::{Bytes, Kind, Slot};
@@ -168,7 +168,7 @@ fn mark(
 ) -> Result<(), AllocError>
     requires { AreMarked statements.now marks.old.items }
     ensures still { AreMarked statements.now marks.new.items }
-    ensures marked { OnOk result (slice_index_or marks.new.items (place kind slot.0) true ≡ true) }
+    ensures marked { OnOk result (slice_index_or marks.new.items (ordinal kind slot.0) true ≡ true) }
 {
     if statements.is_empty() {
         *marks = no_marks(*marks.allocator(), CAPABILITIES)?;
@@ -179,19 +179,19 @@ fn mark(
 
 /// Marks a capability that a field is about.
 fn put_mark(marks: &mut Vec<bool>, kind: Kind, slot: Slot)
-    ensures { marks.new.items ≡ slice_set marks.old.items (place kind slot.0) true }
+    ensures { marks.new.items ≡ slice_set marks.old.items (ordinal kind slot.0) true }
 {
-    let place = place(kind, slot);
-    if place < marks.len() {
-        marks[place] = true;
+    let ordinal = ordinal(kind, slot);
+    if ordinal < marks.len() {
+        marks[ordinal] = true;
     }
 }
 
 /// Whether a capability is marked, or past the marks.
 fn may_be_stated(marks: &[bool], kind: Kind, slot: Slot) -> bool
-    ensures { result ≡ slice_index_or marks.now (place kind slot.0) true }
+    ensures { result ≡ slice_index_or marks.now (ordinal kind slot.0) true }
 {
-    match marks.get(place(kind, slot)) {
+    match marks.get(ordinal(kind, slot)) {
         Some(mark) => *mark,
         None => true,
     }

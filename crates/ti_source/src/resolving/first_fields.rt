@@ -3,7 +3,7 @@
 ghost use Rattle.std.specs.Prelude.{◌≡◌, ◌<◌, ◌+◌, IfOk, length, replicate, None, drop};
 ghost use Rattle.ti_source.specs.Code.FirstFields.{AreEffective, Indexes, IsIndex, is_effective, is_present};
 
-use crate::place::{CAPABILITIES, place, room};
+use crate::ordinals::{CAPABILITIES, ordinal, room};
 use crate::reading::statement::{FieldValue, Statement};
 use crate::resolving::fields::Fields;
 use std::alloc::{AllocError, Global};
@@ -58,7 +58,7 @@ fn put(index: &mut [Option<usize>], fields: &Fields<'_>, i: usize)
     if field.slot.0 >= room(field.kind) {
         return;
     }
-    index[place(field.kind, field.slot)] = Some(i);
+    index[ordinal(field.kind, field.slot)] = Some(i);
 }
 
 fn is_present(kind: Kind, field_value: &FieldValue) -> bool
@@ -80,7 +80,7 @@ fn is_effective(field: &Statement, index: &[Option<usize>], i: usize) -> bool
     if field.slot.0 >= room(field.kind) {
         return false;
     }
-    match index[place(field.kind, field.slot)] {
+    match index[ordinal(field.kind, field.slot)] {
         Some(first) => first == i && is_present(field.kind, &field.field_value),
         None => false,
     }

@@ -10,7 +10,7 @@ ghost use Rattle.ti_source.specs.Code.Laid.{IsLaid};
 ghost use Rattle.ti_source.specs.Code.Walk.{of_fields};
 
 use crate::fault::SourceFault;
-use crate::place::room;
+use crate::ordinals::room;
 use crate::reading::statement::{FieldValue, Statement};
 use crate::resolving::fields::Fields;
 use std::alloc::Global;

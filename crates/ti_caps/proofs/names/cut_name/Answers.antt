@@ -9,7 +9,7 @@ use Rattle.ti_caps.specs.Cuts.{alternatives_behind}
 use Rattle.ti_caps.specs.Names.{alternatives, is_bar}
 use Rattle.ti_caps.proofs.names.cut_name.Goals as goal
 
--- no place is past the end
+-- no index is past the end
 position_or_len-le : (p : ℕ → Bool) (xs : List ℕ) → position_or_len p xs ≤ length xs
 position_or_len-le p xs = prefix_len-le-length (λ x. not (p x)) xs
 
@@ -44,13 +44,13 @@ parted xs n (Some x) at h =
 
 pub returns-clause-first : goal.returns-clause-first
 returns-clause-first c =
-    let place = position_from_yields_List is_bar _ _ _ c.position.ensures.ran (YieldsList-from_slice c.args.names.now cc) (λ x b q h. search rules) in
-    rw (c.unwrap_or-end.ensures, place, or_length (position_or_len is_bar c.args.names.now) (length c.args.names.now) (position_or_len-le is_bar c.args.names.now)) refl
+    let found = position_from_yields_List is_bar _ _ _ c.position.ensures.ran (YieldsList-from_slice c.args.names.now cc) (λ x b q h. search rules) in
+    rw (c.unwrap_or-end.ensures, found, or_length (position_or_len is_bar c.args.names.now) (length c.args.names.now) (position_or_len-le is_bar c.args.names.now)) refl
 
 pub returns-clause-cut : goal.returns-clause-cut
 returns-clause-cut c =
     let xs = c.args.names.now in
-    let place = position_from_yields_List is_bar _ _ _ c.position.ensures.ran (YieldsList-from_slice xs cc) (λ x b q h. search rules) in
+    let found = position_from_yields_List is_bar _ _ _ c.position.ensures.ran (YieldsList-from_slice xs cc) (λ x b q h. search rules) in
     let at : c.unwrap_or-end.result ≡ position_or_len is_bar xs =
-    rw (c.unwrap_or-end.ensures, place) (or_length (position_or_len is_bar xs) (length xs) (position_or_len-le is_bar xs)) in
+    rw (c.unwrap_or-end.ensures, found) (or_length (position_or_len is_bar xs) (length xs) (position_or_len-le is_bar xs)) in
     parted xs c.unwrap_or-end.result c.get.result at c.get.ensures.lookup.0
