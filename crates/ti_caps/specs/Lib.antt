@@ -3,7 +3,7 @@ pub mod Bundled
 pub mod Cuts
 pub mod Description
 pub mod Names
-pub mod Runs
+pub mod NameRuns
 pub mod Settings
 pub mod Slots
 pub mod Table

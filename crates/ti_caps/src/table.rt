@@ -3,7 +3,7 @@
 ghost use Rattle.std.specs.Prelude.{ℕ, List, Some, ◌≡◌, ◌+◌, ◌<◌, length, option_map, slice_get, MatchOption, ⊤};
 ghost use Rattle.ti_caps.specs.Buckets.{if_same};
 ghost use Rattle.ti_caps.specs.Table.{capability_of, name_at, name_in, runs};
-ghost use Rattle.ti_caps.specs.Runs.{seen};
+ghost use Rattle.ti_caps.specs.NameRuns.{seen};
 ghost use Rattle.ti_caps.specs.declared.table.Kind.{Kind};
 
 /// The boolean capabilities.

@@ -1,6 +1,6 @@
 use Rattle.std.proofs.Common.{◌≡◌, ◌∙◌, sym, arith, add-one}
 use Rattle.ti_caps.specs.Table.{name_at, runs}
-use Rattle.ti_caps.specs.Runs.{seen}
+use Rattle.ti_caps.specs.NameRuns.{seen}
 use Rattle.ti_caps.proofs.TableLaws.{named-step, named-end, past_runs}
 use Rattle.ti_caps.proofs.table.name_of.Goals as goal
 
