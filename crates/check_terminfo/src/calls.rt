@@ -22,7 +22,7 @@
 //! | `encode` | the compiled file of the entry, which is then the file |
 //! | `file BYTES` | takes these bytes as the file, and answers how many there are |
 //! | `decode` | how many bytes follow, and the entry of the file, which is then the entry |
-//! | `changed PLACE BYTE..` | the same, of the file with bytes changed |
+//! | `changed INDEX BYTE..` | the same, of the file with bytes changed |
 //! | `file-cuts` | how many ways there are to cut the file short, each of which is `truncated` |
 //! | `file-bytes BYTE..` | how many files come of setting each byte in turn to each of these, read or refused |
 //! | `compile SOURCE` | each `file PATH BYTES`, each `size NAME BYTES`, each `note LINE CAUSE NAME` |

@@ -18,9 +18,9 @@ pub fn decode_changed(
 ) -> Result<(), CheckFault> {
     let mut file = Vec::from_slice(current.alloc, current.file.as_slice())?;
     for pair in 0..words.len() / 2 {
-        let place = size(words, pair.saturating_mul(2).saturating_add(1))?;
+        let index = size(words, pair.saturating_mul(2).saturating_add(1))?;
         let byte = byte(words, pair.saturating_mul(2).saturating_add(2))?;
-        set(&mut file, place, byte)?;
+        set(&mut file, index, byte)?;
     }
     say_decoded(current, file.as_slice(), answer)
 }
@@ -53,18 +53,18 @@ pub fn set_each(
 }
 
 // Sets a byte of a file.
-fn set(file: &mut Vec<u8>, place: usize, byte: u8) -> Result<(), CheckFault> {
-    match file.get_mut(place) {
+fn set(file: &mut Vec<u8>, index: usize, byte: u8) -> Result<(), CheckFault> {
+    match file.get_mut(index) {
         Some(old) => {
             *old = byte;
             Ok(())
         }
-        None => Err(CheckFault::Line("no such place in the file")),
+        None => Err(CheckFault::Line("no such index in the file")),
     }
 }
 
-fn byte(words: &[Vec<u8>], place: usize) -> Result<u8, CheckFault> {
-    match u8::try_from(small(words, place)?) {
+fn byte(words: &[Vec<u8>], index: usize) -> Result<u8, CheckFault> {
+    match u8::try_from(small(words, index)?) {
         Ok(byte) => Ok(byte),
         Err(_) => Err(CheckFault::Line("no byte")),
     }
@@ -78,9 +78,9 @@ fn is_truncated(alloc: Global, file: &[u8], length: usize) -> bool {
 }
 
 fn set_everywhere(alloc: Global, file: &[u8], byte: u8) -> Result<(), CheckFault> {
-    for place in 0..file.len() {
+    for index in 0..file.len() {
         let mut changed = Vec::from_slice(alloc, file)?;
-        set(&mut changed, place, byte)?;
+        set(&mut changed, index, byte)?;
         read_twice(alloc, changed.as_slice())?;
     }
     Ok(())

@@ -27,7 +27,7 @@ impl Line {
 
 /// Where in a word the next byte stands.
 #[derive(Clone, Copy)]
-enum Place {
+enum Within {
     /// Before a word.
     Between,
     /// In a word, outside quotes.
@@ -46,7 +46,7 @@ enum Place {
 #[derive(Drop)]
 struct Reader {
     alloc: Global,
-    place: Place,
+    within: Within,
     // The word so far, and its quoted part that is not in it yet.
     word: Vec<u8>,
     part: Vec<u8>,
@@ -60,7 +60,7 @@ impl Reader {
     fn new(alloc: Global) -> Result<Reader, CheckFault> {
         Ok(Reader {
             alloc,
-            place: Place::Between,
+            within: Within::Between,
             word: Vec::with_capacity(alloc, 64)?,
             part: Vec::with_capacity(alloc, 64)?,
             is_quoted: false,
@@ -70,22 +70,22 @@ impl Reader {
     }
 
     fn step(&mut self, byte: u8) -> Result<(), CheckFault> {
-        match self.place {
-            Place::Between | Place::Bare => self.bare(byte),
-            Place::Quoted => self.quoted(byte),
-            Place::Escape => self.escape(byte),
-            Place::Digits(first) => self.digit(first, byte),
-            Place::Closed => match byte {
+        match self.within {
+            Within::Between | Within::Bare => self.bare(byte),
+            Within::Quoted => self.quoted(byte),
+            Within::Escape => self.escape(byte),
+            Within::Digits(first) => self.digit(first, byte),
+            Within::Closed => match byte {
                 b'*' => {
-                    self.place = Place::Count(0);
+                    self.within = Within::Count(0);
                     Ok(())
                 }
                 _ => self.take_part(1, byte),
             },
-            Place::Count(count) => match byte {
+            Within::Count(count) => match byte {
                 b'0'..=b'9' => {
                     let digit = u32::from(byte).saturating_sub(48);
-                    self.place = Place::Count(count.saturating_mul(10).saturating_add(digit));
+                    self.within = Within::Count(count.saturating_mul(10).saturating_add(digit));
                     Ok(())
                 }
                 _ => self.take_part(count, byte),
@@ -107,12 +107,12 @@ impl Reader {
             b' ' => self.end_word(),
             b'"' => {
                 self.is_quoted = true;
-                self.place = Place::Quoted;
+                self.within = Within::Quoted;
                 Ok(())
             }
             _ => {
                 self.word.push(byte)?;
-                self.place = Place::Bare;
+                self.within = Within::Bare;
                 Ok(())
             }
         }
@@ -120,7 +120,7 @@ impl Reader {
 
     // Ends the word, if one is there.
     fn end_word(&mut self) -> Result<(), CheckFault> {
-        self.place = Place::Between;
+        self.within = Within::Between;
         if self.is_quoted {
             self.is_quoted = false;
             return self.keep_word();
@@ -146,8 +146,8 @@ impl Reader {
 
     fn quoted(&mut self, byte: u8) -> Result<(), CheckFault> {
         match byte {
-            b'"' => self.place = Place::Closed,
-            b'\\' => self.place = Place::Escape,
+            b'"' => self.within = Within::Closed,
+            b'\\' => self.within = Within::Escape,
             _ => self.part.push(byte)?,
         }
         Ok(())
@@ -160,13 +160,13 @@ impl Reader {
             b'e' => 27,
             b'"' | b'\\' => byte,
             b'x' => {
-                self.place = Place::Digits(None);
+                self.within = Within::Digits(None);
                 return Ok(());
             }
             _ => return Err(CheckFault::Line("no such escape")),
         };
         self.part.push(meant)?;
-        self.place = Place::Quoted;
+        self.within = Within::Quoted;
         Ok(())
     }
 
@@ -175,11 +175,11 @@ impl Reader {
             return Err(CheckFault::Line("no hexadecimal digit"));
         };
         match first {
-            None => self.place = Place::Digits(Some(digit)),
+            None => self.within = Within::Digits(Some(digit)),
             Some(first) => {
                 self.part
                     .push(first.saturating_mul(16).saturating_add(digit))?;
-                self.place = Place::Quoted;
+                self.within = Within::Quoted;
             }
         }
         Ok(())
@@ -188,14 +188,14 @@ impl Reader {
     fn line(self) -> Result<Line, CheckFault> {
         let Reader {
             alloc: _,
-            place,
+            within,
             word: _,
             part: _,
             is_quoted: _,
             words,
             call,
         } = self;
-        let Place::Between = place else {
+        let Within::Between = within else {
             return Err(CheckFault::Line("a quote is open"));
         };
         let Some(call) = call else {

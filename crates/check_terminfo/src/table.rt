@@ -69,8 +69,8 @@ fn word_of(kind: Kind) -> &'static [u8] {
     }
 }
 
-fn kind(words: &[Vec<u8>], place: usize) -> Result<Kind, CheckFault> {
-    match text(words, place)? {
+fn kind(words: &[Vec<u8>], index: usize) -> Result<Kind, CheckFault> {
+    match text(words, index)? {
         b"Flag" => Ok(Kind::Flag),
         b"Number" => Ok(Kind::Number),
         b"Text" => Ok(Kind::Text),
