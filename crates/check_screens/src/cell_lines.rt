@@ -110,6 +110,7 @@ fn read_colour(words: &mut Words<'_>) -> Result<Option<u8>, Trouble> {
     Ok(Some(words.byte()?))
 }
 
+/// Adds a colour, or `-` for the default one.
 pub fn add_colour(colour: Option<u8>, came: &mut Vec<u8>) -> Result<(), Trouble> {
     match colour {
         Some(colour) => add_number(i64::from(colour), came),
