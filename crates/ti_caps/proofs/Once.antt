@@ -5,15 +5,12 @@ use Rattle.std.proofs.lemmas.Slice.Eq.{bytes_eq-Decides}
 use Rattle.std.proofs.lemmas.Bool.Decides.{nat_tests}
 use Rattle.ti_caps.specs.declared.table.Kind.{Kind}
 use Rattle.ti_caps.specs.declared.table.Kind.TheVariants.{Flag, Number, Text}
+use Rattle.ti_caps.specs.Slots.{is_name}
 use Rattle.ti_caps.specs.Table.{Names, runs, flag_names, number_names, text_names_from_0, text_names_from_55, text_names_from_90, text_names_from_139, text_names_from_158, text_names_from_216, text_names_from_297, text_names_from_359, same_kind, or_else, name_in, name_among, name_at, position_from, position_in, found_among, capability_of}
 
 abbrev is_capability : Kind → ℕ → Option (Kind × ℕ) → Bool
 is_capability kind i None = false
 is_capability kind i (Some p) = same_kind p.0 kind && eqb p.1 i
-
-abbrev is_name : List ℕ → Option (List ℕ) → Bool
-is_name name None = false
-is_name name (Some n) = bytes_eq n name
 
 -- these names, the first at position i, are found there and read there
 abbrev pub all_once : Kind → ℕ → List (List ℕ) → Bool

@@ -9,7 +9,8 @@ use Rattle.ti_source.specs.declared.reading.statement.FieldValue.{FieldValue}
 use Rattle.ti_source.specs.declared.reading.statement.Statement.{Statement}
 use Rattle.ti_source.specs.Reading.Sources.{concerns}
 use Rattle.ti_source.specs.Resolving.Uses.{value_of_capability}
-use Rattle.ti_source.specs.Code.FirstFields.{AreEffective, IsIndex, is_effective, field_at, first_of, if_present, is_at, is_present, ordinal, room}
+use Rattle.ti_source.specs.Code.FirstFields.{AreEffective, IsIndex, is_effective, field_at, first_of, if_present, is_at, is_present, ordinal}
+use Rattle.ti_caps.specs.Slots.{positions_of}
 use Rattle.ti_source.proofs.MergedBackLaws.{value_of_capability-append, or-none}
 use Rattle.ti_source.proofs.FirstFieldLaws.{same-ordinal, same-room}
 
@@ -40,7 +41,7 @@ ordinal_in index kind slot = slice_index_or index (ordinal kind slot) None
 
 -- what counts of the first i fields
 abbrev pub InForceSoFar : List Statement → List (Option ℕ) → ℕ → List Statement → Type 0
-InForceSoFar fields index i some = (kind : Kind) (slot : ℕ) → slot < room kind → value_of_capability kind slot some ≡ if_present kind (so_far (ordinal_in index kind slot) i fields)
+InForceSoFar fields index i some = (kind : Kind) (slot : ℕ) → slot < positions_of kind → value_of_capability kind slot some ≡ if_present kind (so_far (ordinal_in index kind slot) i fields)
 
 pub none-so-far : (fields : List Statement) (index : List (Option ℕ)) → InForceSoFar fields index 0 []
 none-so-far fields index kind slot small = by (ordinal_in index kind slot)
@@ -113,7 +114,7 @@ one-more fields index i s some after is at so put kind slot small = by (concerns
 
         counts-is : is_effective index i s ≡ (is_at here i && is_present kind s.field_value)
         counts-is =
-            let fits : nat_lt s.slot.0 (room s.kind) ≡ true = (let near = same-room kind s.kind slot s.slot.0 e small in grind (arith, nat_tests)) in
+            let fits : nat_lt s.slot.0 (positions_of s.kind) ≡ true = (let near = same-room kind s.kind slot s.slot.0 e small in grind (arith, nat_tests)) in
             rw (fits, ordinals) (ap (λ k. is_at here i && is_present k s.field_value) kinds)
 
         placed : (u : Bool) → is_at here i ≡ u → value_of_capability kind slot after ≡ if_present kind (so_far here (i + 1) fields)

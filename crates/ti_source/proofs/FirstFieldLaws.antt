@@ -8,7 +8,8 @@ use Rattle.ti_caps.specs.declared.table.Kind.{Kind}
 use Rattle.ti_caps.specs.declared.table.Kind.TheVariants.{Flag, Number, Text}
 use Rattle.ti_caps.specs.Table.{same_kind}
 use Rattle.ti_source.specs.declared.reading.statement.Statement.{Statement}
-use Rattle.ti_source.specs.Code.FirstFields.{Indexes, field_at, first_of, ordinal, room}
+use Rattle.ti_source.specs.Code.FirstFields.{Indexes, field_at, first_of, ordinal}
+use Rattle.ti_caps.specs.Slots.{positions_of}
 
 abbrev no_place : Option ℕ
 no_place = None
@@ -22,7 +23,7 @@ pub nothing-indexed : (fields : List Statement) (index : List (Option ℕ)) → 
 nothing-indexed fields index is kind slot small = rw (is, drop_all (length fields) fields (omega arith), none-at 640 (ordinal kind slot)) refl
 
 -- a capability's place is its own
-ordinal-own : (a b : Kind) (i j : ℕ) → i < room a → j < room b → ordinal a i ≡ ordinal b j → (same_kind b a && eqb j i) ≡ true
+ordinal-own : (a b : Kind) (i j : ℕ) → i < positions_of a → j < positions_of b → ordinal a i ≡ ordinal b j → (same_kind b a && eqb j i) ≡ true
 ordinal-own Flag Flag i j p q e = grind (arith, nat_tests)
 ordinal-own Number Number i j p q e = grind (arith, nat_tests)
 ordinal-own Text Text i j p q e = grind (arith, nat_tests)
@@ -44,8 +45,8 @@ same-ordinal Number Text i j e = cc
 same-ordinal Text Flag i j e = cc
 same-ordinal Text Number i j e = cc
 
--- room is that of the kind
-pub same-room : (a b : Kind) (i j : ℕ) → (same_kind b a && eqb j i) ≡ true → i < room a → j < room b
+-- a kind has as many positions as the same kind
+pub same-room : (a b : Kind) (i j : ℕ) → (same_kind b a && eqb j i) ≡ true → i < positions_of a → j < positions_of b
 same-room Flag Flag i j e p = rw (eqb-true j i e) p
 same-room Number Number i j e p = rw (eqb-true j i e) p
 same-room Text Text i j e p = rw (eqb-true j i e) p
@@ -64,14 +65,14 @@ at-set xs i j x d lt = by (eqb i j) refl
     by false e = get_or-set_other xs i j x d (λ p. let q : eqb i j ≡ true = eq-eqb i j (sym p) in cc)
 
 -- a field that has no place is in no index
-pub without-ordinal : (fields behind : List Statement) (index : List (Option ℕ)) (s : Statement) → room s.kind ≤ s.slot.0 → Indexes fields behind index → Indexes fields (s ∷ behind) index
+pub without-ordinal : (fields behind : List Statement) (index : List (Option ℕ)) (s : Statement) → positions_of s.kind ≤ s.slot.0 → Indexes fields behind index → Indexes fields (s ∷ behind) index
 without-ordinal fields behind index s far is kind slot small = by (same_kind s.kind kind && eqb s.slot.0 slot) refl
   where
     by : (t : Bool) → (same_kind s.kind kind && eqb s.slot.0 slot) ≡ t → field_at fields (slice_index_or index (ordinal kind slot) None) ≡ first_of kind slot (s ∷ behind)
     by false e = rw e (is kind slot small)
     by true e = let near = same-room kind s.kind slot s.slot.0 e small in absurd (omega arith)
 
-pub with-ordinal : (fields behind : List Statement) (index : List (Option ℕ)) (s : Statement) (i : ℕ) → length index ≡ 640 → ordinal s.kind s.slot.0 < 640 → s.slot.0 < room s.kind → slice_get fields i ≡ Some s → Indexes fields behind index → Indexes fields (s ∷ behind) (set index (ordinal s.kind s.slot.0) (Some i))
+pub with-ordinal : (fields behind : List Statement) (index : List (Option ℕ)) (s : Statement) (i : ℕ) → length index ≡ 640 → ordinal s.kind s.slot.0 < 640 → s.slot.0 < positions_of s.kind → slice_get fields i ≡ Some s → Indexes fields behind index → Indexes fields (s ∷ behind) (set index (ordinal s.kind s.slot.0) (Some i))
 with-ordinal fields behind index s i long inside near at is kind slot small = by (same_kind s.kind kind && eqb s.slot.0 slot) refl
   where
     by : (t : Bool) → (same_kind s.kind kind && eqb s.slot.0 slot) ≡ t → field_at fields (slice_index_or (set index (ordinal s.kind s.slot.0) (Some i)) (ordinal kind slot) None) ≡ first_of kind slot (s ∷ behind)

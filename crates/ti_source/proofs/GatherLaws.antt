@@ -10,7 +10,8 @@ use Rattle.ti_source.specs.declared.resolving.walk.Mark.TheVariants.{New, Open, 
 use Rattle.ti_source.specs.Described.{Described}
 use Rattle.ti_source.specs.Resolving.Named.{index_of}
 use Rattle.ti_source.specs.Resolving.Uses.{Resolve, nothing, merged, value_of_capability}
-use Rattle.ti_source.specs.Code.FirstFields.{AreEffective, first_value, room, value_in}
+use Rattle.ti_source.specs.Code.FirstFields.{AreEffective, first_value, value_in}
+use Rattle.ti_caps.specs.Slots.{positions_of}
 use Rattle.ti_source.specs.Code.Walk.{AreKnown, Gathers, Keeps, Kept, ResolvedAt, done_at, known, of_fields, position}
 use Rattle.ti_source.proofs.StandsForLaws.{stands-for}
 use Rattle.ti_source.proofs.MergedBackLaws.{value_of_capability-append, or-none}
@@ -42,7 +43,7 @@ pub record IsGathering (entries : List Described) (marks : List Mark) (d : Descr
   pub known : AreKnown marks (map (index_of entries) left)
   pub used : List Description
   pub goes : (ds : List Description) → Resolve entries left ds → Resolve entries d.uses (used ++ ds)
-  pub says : (kind : Kind) (slot : ℕ) → slot < room kind → value_of_capability kind slot fields ≡ or_else (value_of_capability kind slot d.statements) (first_value used kind slot)
+  pub says : (kind : Kind) (slot : ℕ) → slot < positions_of kind → value_of_capability kind slot fields ≡ or_else (value_of_capability kind slot d.statements) (first_value used kind slot)
 
 pub gathering-init : (entries : List Described) (marks : List Mark) (d : Described) (fields : List Statement) → AreKnown marks (map (index_of entries) d.uses) → fields ≡ d.statements → IsGathering entries marks d d.uses fields
 gathering-init entries marks d fields known own = record {

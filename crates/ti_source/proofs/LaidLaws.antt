@@ -9,7 +9,7 @@ use Rattle.ti_caps.specs.Description.{Description, bare}
 use Rattle.ti_source.specs.declared.reading.statement.FieldValue.{FieldValue}
 use Rattle.ti_source.specs.declared.reading.statement.Statement.{Statement}
 use Rattle.ti_source.specs.Resolving.Uses.{flag_by, flag_in, merged, number_by, number_in, text_by, text_in}
-use Rattle.ti_source.specs.Code.FirstFields.{room}
+use Rattle.ti_caps.specs.Slots.{positions_of}
 use Rattle.ti_source.specs.Code.Laid.{IsLaid}
 use Rattle.ti_source.specs.Code.Walk.{of_fields}
 
@@ -101,11 +101,11 @@ far n m names behind Text slot v text other =
     let out : m ≤ slot = text refl in
     ap (λ ts. record (sized n m names behind) { texts = ts }) (sym (range-same (text_in behind []) (text_in (says Text slot v ∷ behind) []) 0 m (λ j low high. rw (unlike slot j (λ e. absurd (omega arith))) refl)))
 
-pub far-laid : (s : Statement) (d e : Description) → room s.kind ≤ s.slot.0 → e ≡ d → IsLaid s d e
+pub far-laid : (s : Statement) (d e : Description) → positions_of s.kind ≤ s.slot.0 → e ≡ d → IsLaid s d e
 unfolding merged
 far-laid s d e out same names behind before = same ∙ before ∙ by s.kind out
   where
-    by : (kind : Kind) → room kind ≤ s.slot.0 → sized 64 512 names behind ≡ sized 64 512 names (says kind s.slot.0 s.field_value ∷ behind)
+    by : (kind : Kind) → positions_of kind ≤ s.slot.0 → sized 64 512 names behind ≡ sized 64 512 names (says kind s.slot.0 s.field_value ∷ behind)
     by Flag out = far 64 512 names behind Flag s.slot.0 s.field_value (λ e. cc) (λ other. out)
     by Number out = far 64 512 names behind Number s.slot.0 s.field_value (λ e. cc) (λ other. out)
     by Text out = far 64 512 names behind Text s.slot.0 s.field_value (λ e. out) (λ other. absurd (other refl))

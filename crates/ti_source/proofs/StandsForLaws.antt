@@ -11,7 +11,8 @@ use Rattle.ti_source.specs.declared.reading.statement.FieldValue.TheVariants as 
 use Rattle.ti_source.specs.declared.reading.statement.Statement.{Statement}
 use Rattle.ti_source.specs.Described.{Described}
 use Rattle.ti_source.specs.Resolving.Uses.{first_number, first_text, flag_by, flag_in, merged, number_by, number_in, value_of_capability, text_by, text_in}
-use Rattle.ti_source.specs.Code.FirstFields.{AreEffective, first_value, flag_value, if_present, number_value, room, value_in, text_value}
+use Rattle.ti_source.specs.Code.FirstFields.{AreEffective, first_value, flag_value, if_present, number_value, value_in, text_value}
+use Rattle.ti_caps.specs.Slots.{positions_of}
 use Rattle.ti_source.specs.Code.Walk.{Gathers, StandsFor}
 
 -- the first of the used entries that speaks
@@ -110,7 +111,7 @@ stands-for entries d all some g counts = record {
         counts Text slot small ∙ ap (if_present Text) (g.says Text slot small ∙ ap (or_else (value_of_capability Text slot d.statements)) (first-text g.used slot))
         ∙ text-kept (value_of_capability Text slot d.statements) (first_text slot g.used)
 
-    says : (kind : Kind) (slot : ℕ) → slot < room kind → value_of_capability kind slot some ≡ value_in (merged d g.used) kind slot
+    says : (kind : Kind) (slot : ℕ) → slot < positions_of kind → value_of_capability kind slot some ≡ value_in (merged d g.used) kind slot
     says Flag slot small = flag slot small ∙ ap flag_value (sym (get_or-map-range_with_len (flag_in d.statements g.used) 0 64 slot slot false small (omega arith)))
     says Number slot small = number slot small ∙ ap number_value (sym (get_or-map-range_with_len (number_in d.statements g.used) 0 64 slot slot None small (omega arith)))
     says Text slot small = text slot small ∙ ap text_value (sym (get_or-map-range_with_len (text_in d.statements g.used) 0 512 slot slot None small (omega arith)))

@@ -77,8 +77,7 @@ fn choice_of(parameters: &[Option<u16>]) -> Option<u32>
 
 /// CUU: up (ECMA-48, 8.3.22).
 fn cursor_up(size: Size, spot: Spot, count: u32) -> Option<Change>
-    requires spot { IsSpot size.rows size.columns spot }
-    requires few { count ≤ 65535 }
+    requires { IsSpot size.rows size.columns spot }
     ensures value { MakesAt size.rows size.columns spot result (λ state. cursor_up size.rows size.columns state count) }
     ensures change { IfSome result (IsChange size.rows size.columns) }
 {
@@ -116,8 +115,7 @@ fn cursor_forward(size: Size, spot: Spot, count: u32) -> Option<Change>
 
 /// CUB: left (ECMA-48, 8.3.18).
 fn cursor_backward(size: Size, spot: Spot, count: u32) -> Option<Change>
-    requires spot { IsSpot size.rows size.columns spot }
-    requires few { count ≤ 65535 }
+    requires { IsSpot size.rows size.columns spot }
     ensures value { MakesAt size.rows size.columns spot result (λ state. cursor_backward size.rows size.columns state count) }
     ensures change { IfSome result (IsChange size.rows size.columns) }
 {

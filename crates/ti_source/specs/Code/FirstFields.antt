@@ -4,18 +4,14 @@ use Rattle.ti_caps.specs.declared.table.Kind.{Kind}
 use Rattle.ti_caps.specs.declared.table.Kind.TheVariants.{Flag, Number, Text}
 use Rattle.ti_caps.specs.Description.{Description, flag_at, number_at, text_at}
 use Rattle.ti_caps.specs.Table.{or_else}
+use Rattle.ti_caps.specs.Slots.{positions_of}
 use Rattle.ti_source.specs.declared.reading.statement.FieldValue.{FieldValue}
 use Rattle.ti_source.specs.declared.reading.statement.FieldValue.TheVariants as field_value
 use Rattle.ti_source.specs.declared.reading.statement.Statement.{Statement}
 use Rattle.ti_source.specs.Reading.Sources.{concerns}
 use Rattle.ti_source.specs.Resolving.Uses.{value_of_capability}
 
--- how many positions a kind has, and where a capability stands among those of all kinds
-abbrev pub room : Kind → ℕ
-room Flag = 64
-room Number = 64
-room Text = 512
-
+-- where a capability stands among those of all kinds
 abbrev pub ordinal : Kind → ℕ → ℕ
 ordinal Flag slot = slot
 ordinal Number slot = 64 + slot
@@ -33,7 +29,7 @@ field_at fields (Some i) = slice_get fields i
 
 -- an index has for each capability where the first of some of the fields that is about it
 abbrev pub Indexes : List Statement → List Statement → List (Option ℕ) → Type 0
-Indexes fields some index = (kind : Kind) (slot : ℕ) → slot < room kind → field_at fields (slice_index_or index (ordinal kind slot) None) ≡ first_of kind slot some
+Indexes fields some index = (kind : Kind) (slot : ℕ) → slot < positions_of kind → field_at fields (slice_index_or index (ordinal kind slot) None) ≡ first_of kind slot some
 
 -- the same of all of them
 pub record IsIndex (fields : List Statement) (index : List (Option ℕ)) : Type 0 where
@@ -59,11 +55,11 @@ is_at (Some j) i = j == i
 -- whether the field of a number takes effect: the index has it for its capability, and it makes that present
 abbrev pub is_effective : List (Option ℕ) → ℕ → Statement → Bool
 is_effective index i field =
-    nat_lt field.slot.0 (room field.kind) && is_at (slice_index_or index (ordinal field.kind field.slot.0) None) i && is_present field.kind field.field_value
+    nat_lt field.slot.0 (positions_of field.kind) && is_at (slice_index_or index (ordinal field.kind field.slot.0) None) i && is_present field.kind field.field_value
 
 -- the fields that take effect say of each capability what all do, where that makes it present, and nothing else
 abbrev pub AreEffective : List Statement → List Statement → Type 0
-AreEffective fields some = (kind : Kind) (slot : ℕ) → slot < room kind → value_of_capability kind slot some ≡ if_present kind (value_of_capability kind slot fields)
+AreEffective fields some = (kind : Kind) (slot : ℕ) → slot < positions_of kind → value_of_capability kind slot some ≡ if_present kind (value_of_capability kind slot fields)
 
 -- what a resolved entry says of a capability
 abbrev pub flag_value : Bool → Option FieldValue

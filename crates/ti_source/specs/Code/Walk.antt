@@ -15,7 +15,8 @@ use Rattle.ti_source.specs.declared.reading.statement.Statement.{Statement}
 use Rattle.ti_source.specs.Described.{Described}
 use Rattle.ti_source.specs.Resolving.Named.{index_of}
 use Rattle.ti_source.specs.Resolving.Uses.{Resolve, Resolved, Fault, merged, value_of_capability}
-use Rattle.ti_source.specs.Code.FirstFields.{first_value, room, value_in}
+use Rattle.ti_source.specs.Code.FirstFields.{first_value, value_in}
+use Rattle.ti_caps.specs.Slots.{positions_of}
 
 -- a visit of each of these names
 abbrev pub visits : List Described → List (List ℕ) → List Task
@@ -88,14 +89,14 @@ of_fields names fields = record { names = names; statements = fields; uses = [] 
 
 -- fields by which a resolved entry has what it has
 pub record StandsFor (names : List ℕ) (fields : List Statement) (d : Description) : Type 0 where
-  pub says : (kind : Kind) (slot : ℕ) → slot < room kind → value_of_capability kind slot fields ≡ value_in d kind slot
+  pub says : (kind : Kind) (slot : ℕ) → slot < positions_of kind → value_of_capability kind slot fields ≡ value_in d kind slot
   pub whole : merged (of_fields names fields) [] ≡ d
 
 -- an entry's fields, and behind them those of the resolved entries that it uses
 pub record Gathers (entries : List Described) (d : Described) (fields : List Statement) : Type 0 where
   pub used : List Description
   pub resolved : Resolve entries d.uses used
-  pub says : (kind : Kind) (slot : ℕ) → slot < room kind → value_of_capability kind slot fields ≡ or_else (value_of_capability kind slot d.statements) (first_value used kind slot)
+  pub says : (kind : Kind) (slot : ℕ) → slot < positions_of kind → value_of_capability kind slot fields ≡ or_else (value_of_capability kind slot d.statements) (first_value used kind slot)
 
 -- what is kept of the resolved entry at an index
 pub record Kept (entries : List Described) (i : ℕ) (fields : List Statement) : Type 0 where
