@@ -20,3 +20,4 @@ pub mod FaultLaws
 pub mod OneFaultLaws
 pub mod TotalLaws
 pub mod ParsedLaws
+pub mod StrippedLaws

@@ -1,5 +1,6 @@
 pub mod Digits
 pub mod Padding
+pub mod Stripped
 pub mod Spelling
 pub mod Grammar
 pub mod Faults

@@ -1,6 +1,6 @@
 //! Laws on texts and programs, each the contract of a call that does nothing.
 
-ghost use Rattle.ti_param.specs.ProgramLaws.{AddsOne, HasNotBoth, HasOneFault, HasOneTree, HasTreeOrFault, IsBounded, IsParsed, StackIsEnough, WritesDecimal, WritesItself, WritesRowAndColumn};
+ghost use Rattle.ti_param.specs.ProgramLaws.{AddsOne, HasNotBoth, HasOneFault, HasOneTree, HasTreeOrFault, IsBounded, IsParsed, IsStripped, StackIsEnough, WritesDecimal, WritesItself, WritesRowAndColumn};
 ghost use Rattle.ti_param.specs.Padding.{IsStrippedOnce};
 
 /// A text spells at most one tree.
@@ -42,6 +42,11 @@ pub fn stack_is_enough()
 /// A text without its padding is one text.
 pub fn padding_is_removed_once()
     ensures { IsStrippedOnce }
+{}
+
+/// The text that `stripped` computes is the text without its padding. So `refl` settles what a literal text becomes.
+pub fn padding_is_removed()
+    ensures { IsStripped }
 {}
 
 /// A text without `%` spells its bytes, each for itself, and a run writes them whatever the state.

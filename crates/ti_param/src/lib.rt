@@ -22,9 +22,9 @@ mod variables;
 
 pub use faults::{ParamFault, RunFault};
 pub use laws::{
-    cup_writes_row_and_column, increment_adds_one, number_writes_decimal, padding_is_removed_once,
-    stack_is_enough, text_has_not_both, text_has_one_fault, text_has_one_tree,
-    text_has_tree_or_fault, text_is_bounded, text_is_parsed, text_writes_itself,
+    cup_writes_row_and_column, increment_adds_one, number_writes_decimal, padding_is_removed,
+    padding_is_removed_once, stack_is_enough, text_has_not_both, text_has_one_fault,
+    text_has_one_tree, text_has_tree_or_fault, text_is_bounded, text_is_parsed, text_writes_itself,
 };
 pub use out_of_memory::NoMemory;
 pub use padding::strip_padding;

@@ -1,0 +1,19 @@
+-- The text without its padding, computed: what a literal text becomes is then settled by `refl`. That this is the text that
+-- the relation says is the contract of `padding_is_removed`. terminfo(5), 'Delays and Padding'.
+use Rattle.std.specs.Prelude.{ℕ, zero, suc, List, [], ◌∷◌}
+use Rattle.ti_param.specs.Code.Padding.{padding_length}
+
+-- a byte and what follows it, as `go` leaves it behind so many bytes, where a padding of a length begins with the byte, or none
+abbrev pub kept_unless : ℕ → ℕ → (ℕ → List ℕ) → List ℕ
+kept_unless zero byte go = byte ∷ go 0
+kept_unless (suc n) byte go = go n
+
+-- a text without its padding, behind so many bytes of it
+abbrev pub stripped_past : ℕ → List ℕ → List ℕ
+stripped_past n [] = []
+stripped_past (suc n) (byte ∷ text) = stripped_past n text
+stripped_past zero (byte ∷ text) = kept_unless (padding_length (byte ∷ text)) byte (λ n. stripped_past n text)
+
+-- a text without its padding
+unfoldable pub stripped : List ℕ → List ℕ
+stripped text = stripped_past 0 text
