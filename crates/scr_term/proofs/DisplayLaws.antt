@@ -1,11 +1,11 @@
 -- Grids of looks whose places are erased.
-use Rattle.std.proofs.Common.{◌≡◌, ◌∙◌, ℕ, zero, suc, ◌+◌, ◌-◌, ◌<◌, ◌≤◌, Bool, List, All, length, replicate, get_or, map, cond, true, false, ◌||◌, ◌&&◌, nat_le, nat_lt, ap, sym, refl, arith}
+use Rattle.std.proofs.Common.{◌≡◌, ◌∙◌, ℕ, zero, suc, ◌+◌, ◌-◌, ◌<◌, ◌≤◌, Bool, List, length, replicate, get_or, map, cond, true, false, ◌||◌, ◌&&◌, nat_lt, ap, sym, refl, arith}
 use Rattle.std.specs.List.{range_with_len}
 use Rattle.std.proofs.lemmas.List.{length-replicate}
 use Rattle.std.proofs.lemmas.Bool.Decides.{nat_tests}
 use Rattle.scr_term.specs.Operations.States.{is_from_place}
 use Rattle.scr_cells.specs.Grids.{GridView, GridLaws, IsGrid, grid_at, grid_filled, grid_of, grid_with_run, is_in_run}
-use Rattle.scr_cells.specs.LookViews.{LookView, IsLook, blank}
+use Rattle.scr_cells.specs.LookViews.{LookView, blank}
 
 repeated : {A : Type 0} → (x : A) (n k : ℕ) → get_or (replicate n x) k x ≡ x
 repeated x zero k = refl

@@ -1,19 +1,17 @@
 -- What the fields of an emulated terminal make is one: a new one, one with a character written, and ones with places erased.
-use Rattle.std.proofs.Common.{◌≡◌, ℕ, ◌<◌, ◌≤◌, Bool, true, false, All, List, [], map, refl, sym, subst, cond, ap, arith, length, get_or, ◌⊎◌, inl, inr}
-use Rattle.std.specs.List.{range_with_len}
-use Rattle.std.proofs.Math.ListN.{get_or-eq_default}
-use Rattle.std.proofs.lemmas.List.Elements.{All-map}
-use Rattle.scr_cells.specs.Grids.{GridView, GridLaws, IsGrid, grid_at, grid_filled, grid_of, grid_row, grid_with, is_in_run}
+use Rattle.std.proofs.Common.{◌≡◌, ℕ, ◌<◌, Bool, sym, subst}
+use Rattle.scr_cells.specs.Grids.{GridView, GridLaws, grid_of, grid_with}
 use Rattle.scr_cells.specs.LookViews.{LookView, IsLook, blank, blank_grid}
 use Rattle.scr_cells.specs.PenViews.{PenView, plain_pen}
 use Rattle.scr_cells.specs.PictureViews.{IsSize}
-use Rattle.scr_term.specs.Operations.States.{IsSpot, full_profile}
+use Rattle.scr_term.specs.Operations.Abilities.{full_abilities}
+use Rattle.scr_term.specs.Operations.States.{IsSpot}
 use Rattle.scr_term.specs.declared.operations.operation.Spot.{Spot}
 use Rattle.scr_term.specs.declared.operations.operation.Spot.TheVariants.{At}
-use Rattle.scr_term.specs.Code.Changes.{DisplayView, IsDisplay, blank_display}
+use Rattle.scr_term.specs.Displays.{DisplayView, IsDisplay, blank_display}
 use Rattle.scr_term.proofs.DisplayLaws.{blanked}
-use Rattle.scr_term.proofs.LookGridLaws.{all_blank, is_blank, put_all, put_is_grid}
-use Rattle.scr_term.proofs.StepLaws.{plain_is_shown}
+use Rattle.scr_term.proofs.LookGridLaws.{all_blank, filled_all, is_blank, put_all, put_is_grid}
+use Rattle.scr_term.proofs.ShownPenLaws.{plain_is_shown}
 
 blank_is_display : (rows columns : ℕ) → IsSize rows columns → IsDisplay (blank_display rows columns)
 blank_is_display rows columns size = record {
@@ -22,7 +20,7 @@ blank_is_display rows columns size = record {
     whole = is_blank rows columns;
     looks = all_blank rows columns;
     spot = (size.some_rows, size.some_columns);
-    pen = plain_is_shown (full_profile rows columns);
+    pen = plain_is_shown (full_abilities rows columns);
   };
 }
 
@@ -51,33 +49,6 @@ written_is_display old grid r c look spot is row_in one put inside =
         pen = is.state.pen;
       };
     })
-
-look_is : IsLook blank
-look_is = record { character = (omega arith, omega arith); pen = record { attributes = omega arith; foreground = tt; background = tt } }
-
-before_or_not : (a b : ℕ) → (a < b) ⊎ (b ≤ a)
-before_or_not a b = grind arith
-
-within : {A : Type 0} → (P : A → Type 0) (xs : List A) (i : ℕ) (d : A) → All P xs → P d → P (get_or xs i d)
-within P xs i d each default = elim (before_or_not i (length xs)) [
-  | inl h ↦ each i d h
-  | inr h ↦ subst P (sym (get_or-eq_default xs d h)) default
-]
-
--- what is in a place, or a blank, is a look
-at_is_look : (lines : List (List LookView)) (r c : ℕ) → All (All IsLook) lines → IsLook (grid_at blank lines r c)
-at_is_look lines r c each = within IsLook (grid_row lines r) c blank (within (All IsLook) lines r [] each (λ i d h. absurd (omega (arith, h)))) look_is
-
-either : (t : Bool) (look : LookView) → IsLook look → IsLook (cond t blank look)
-either true look is = look_is
-either false look is = is
-
--- a grid some of whose places are made blank
-filled_all : (rows columns : ℕ) (inside : ℕ → ℕ → Bool) (lines : List (List LookView)) → All (All IsLook) lines
-    → All (All IsLook) (grid_filled rows columns inside (λ _ _. blank) (grid_at blank lines))
-filled_all rows columns inside lines each =
-    All-map (All IsLook) (λ r. map (λ c. cond (inside r c) blank (grid_at blank lines r c)) (range_with_len 0 columns)) (range_with_len 0 rows)
-    (λ i d h. All-map IsLook _ (range_with_len 0 columns) (λ j e k. either _ _ (at_is_look lines _ _ each)))
 
 pub blanked_is_display : GridLaws LookView → (old : DisplayView) (grid : GridView LookView) (inside : ℕ → ℕ → Bool) → IsDisplay old
     → grid ≡ blanked (record { rows = old.rows; columns = old.columns; lines = old.state.grid }) inside

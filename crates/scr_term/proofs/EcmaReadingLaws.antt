@@ -1,5 +1,5 @@
 -- What the next byte is after a part of a unit.
-use Rattle.std.proofs.Common.{◌≡◌, ◌≢◌, ℕ, ◌+◌, ◌<◌, ◌≤◌, true, false, List, [], ◌∷◌, ◌++◌, length, ◌⊎◌, inl, inr, refl, sym, ap, ◌∙◌, subst, append_assoc, arith, eqb}
+use Rattle.std.proofs.Common.{◌≡◌, ◌≢◌, ℕ, ◌+◌, ◌<◌, ◌≤◌, true, false, List, [], ◌∷◌, ◌++◌, length, ◌⊎◌, inl, inr, refl, sym, ap, ◌∙◌, subst, append_assoc, arith}
 use Rattle.std.specs.Prelude.{IsTrue}
 use Rattle.scr_term.specs.Ecma.Units.{EcmaUnit, Graphic, Control, Sequence, spelling, is_parameter_byte, IsSequence, IsUnit, IsWaiting, BeginsNoUnit}
 use Rattle.scr_term.specs.Code.Readings.{IsReading}

@@ -1,9 +1,18 @@
 pub mod Attributes
 pub mod Parameters
+pub mod Ecma48Laws
 mod DisplayLaws
 mod LookGridLaws
+pub mod BundledTextLaws
+pub mod NegativeLaws
+pub mod ChoiceLaws
+pub mod LeadsLaws
+pub mod RenditionLaws
+mod ShownPenLaws
+mod ProfileLaws
 pub mod OperationLaws
-pub mod StepLaws
+mod StepLaws
+mod RunTextLaws
 mod EcmaUnitLaws
 mod EcmaDivisionLaws
 mod EcmaPieceLaws
@@ -13,3 +22,6 @@ mod EcmaStateLaws
 mod DisplayViewLaws
 mod EcmaFedLaws
 mod EcmaLedLaws
+pub mod RenderingLaws
+pub mod AdmissionLaws
+pub mod BundledSuitsLaws

@@ -1,12 +1,12 @@
 -- Grids of looks: blank ones, and what a character that is put in a place keeps.
-use Rattle.std.proofs.Common.{◌≡◌, ◌≢◌, ◌⊎◌, inl, inr, ℕ, ◌<◌, All, List, [], ap, arith, length, map, set, subst, sym, ◌∙◌}
+use Rattle.std.proofs.Common.{Bool, true, false, cond, get_or, ◌≤◌, ◌≡◌, ◌≢◌, ◌⊎◌, inl, inr, ℕ, ◌<◌, All, List, [], ap, arith, length, map, set, subst, sym, ◌∙◌}
 use Rattle.std.specs.List.{range_with_len}
-use Rattle.std.proofs.Math.ListN.{get_or-map}
+use Rattle.std.proofs.Math.ListN.{get_or-eq_default, get_or-map}
 use Rattle.std.proofs.lemmas.Simd.{map-map}
 use Rattle.std.proofs.lemmas.List.{get_or-set_other, get_or-set_same, length-set, map-set}
 use Rattle.std.proofs.lemmas.List.FromFn.{get_or-map-range_with_len, length-map-range_with_len}
 use Rattle.std.proofs.lemmas.List.Elements.{All-get_or, All-map, All-set}
-use Rattle.scr_cells.specs.Grids.{GridView, IsGrid, grid_row, grid_with}
+use Rattle.scr_cells.specs.Grids.{IsGrid, grid_at, grid_filled, grid_row, grid_with}
 use Rattle.scr_cells.specs.LookViews.{IsLook, LookView, blank, blank_grid, negative, negative_grid}
 
 same_or_not : (a b : ℕ) → (a ≡ b) ⊎ (a ≢ b)
@@ -58,3 +58,41 @@ negative_put lines r c look =
     let line : List LookView = set (grid_row lines r) c look in
     map-set (map negative) lines r line
     ∙ ap (set (negative_grid lines) r) (map-set negative (grid_row lines r) c look ∙ ap (λ row. set row c (negative look)) (sym (get_or-map (map negative) lines r [])))
+
+-- ---- some places made blank
+
+look_is : IsLook blank
+look_is = record { character = (omega arith, omega arith); pen = record { attributes = omega arith; foreground = tt; background = tt } }
+
+before_or_not : (a b : ℕ) → (a < b) ⊎ (b ≤ a)
+before_or_not a b = grind arith
+
+within : {A : Type 0} → (P : A → Type 0) (xs : List A) (i : ℕ) (d : A) → All P xs → P d → P (get_or xs i d)
+within P xs i d each default = elim (before_or_not i (length xs)) [
+  | inl h ↦ each i d h
+  | inr h ↦ subst P (sym (get_or-eq_default xs d h)) default
+]
+
+-- what is in a place, or a blank, is a look
+at_is_look : (lines : List (List LookView)) (r c : ℕ) → All (All IsLook) lines → IsLook (grid_at blank lines r c)
+at_is_look lines r c each = within IsLook (grid_row lines r) c blank (within (All IsLook) lines r [] each (λ i d h. absurd (omega (arith, h)))) look_is
+
+either : (t : Bool) (look : LookView) → IsLook look → IsLook (cond t blank look)
+either true look is = look_is
+either false look is = is
+
+-- a grid some of whose places are made blank
+pub filled_all : (rows columns : ℕ) (inside : ℕ → ℕ → Bool) (lines : List (List LookView)) → All (All IsLook) lines
+    → All (All IsLook) (grid_filled rows columns inside (λ _ _. blank) (grid_at blank lines))
+filled_all rows columns inside lines each =
+    All-map (All IsLook) (λ r. map (λ c. cond (inside r c) blank (grid_at blank lines r c)) (range_with_len 0 columns)) (range_with_len 0 rows)
+    (λ i d h. All-map IsLook _ (range_with_len 0 columns) (λ j e k. either _ _ (at_is_look lines _ _ each)))
+
+pub filled_is_grid : (rows columns : ℕ) (inside : ℕ → ℕ → Bool) (old : ℕ → ℕ → LookView) → IsGrid rows columns (grid_filled rows columns inside (λ _ _. blank) old)
+filled_is_grid rows columns inside old = record {
+  high = length-map-range_with_len _ 0 rows;
+  wide = λ r h. ap length (get_or-map-range_with_len line 0 rows r r [] h (omega arith)) ∙ length-map-range_with_len _ 0 columns;
+}
+  where
+    line : ℕ → List LookView
+    line r = map (λ c. cond (inside r c) blank (old r c)) (range_with_len 0 columns)

@@ -65,3 +65,10 @@ parameters_of_two m n hm hn =
     slice_split_at (λ byte. byte == 59) (decimal m) 59 (decimal n) (All-from_recursion (λ byte. (byte == 59) ≡ false) (decimal m) (no_semicolon m small_m)) refl
     ∙ ap (λ parts. decimal m ∷ parts) (slice_split_none (λ byte. byte == 59) (decimal n) (All-from_recursion (λ byte. (byte == 59) ≡ false) (decimal n) (no_semicolon n small_n))) in
     ap each_parameter split ∙ rw (parameter-decimal m hm, parameter-decimal n hn) refl
+
+-- one number
+pub parameters_of_one : (n : ℕ) → n ≤ 9999 → parameters_of (decimal n) ≡ Some (Some n ∷ [])
+parameters_of_one n le =
+    let small : n < 2 ^ 64 = omega arith in
+    ap each_parameter (slice_split_none (λ byte. byte == 59) (decimal n) (All-from_recursion (λ byte. (byte == 59) ≡ false) (decimal n) (no_semicolon n small)))
+    ∙ rw (parameter-decimal n le) refl

@@ -1,170 +1,162 @@
--- What steps and runs keep, and how the texts of operations join.
-use Rattle.std.proofs.Common.{◌≡◌, ℕ, ◌+◌, ◌<◌, ◌≤◌, Bool, true, false, cond, refl, sym, ◌∙◌, ap, subst, arith, List, [], ◌∷◌, ◌++◌, append_assoc, Option, Some, None, IfSome, option_and_then, bit_and, bit_or, nat_lt}
-use Rattle.std.specs.List.{flat_map, AllByRecursion}
-use Rattle.std.specs.Int.{bit_at}
-use Rattle.std.proofs.lemmas.List.{append-nil}
+-- What steps and runs keep.
+use Rattle.std.proofs.Common.{◌≡◌, ℕ, ◌+◌, ◌-◌, ◌<◌, ◌≤◌, ◌&&◌, ◌||◌, ◌==◌, Bool, true, false, cond, refl, sym, ◌∙◌, ap, subst, arith, List, [], ◌∷◌, ◌++◌, Option, Some, None, option_and_then, bit_and, nat_le, nat_lt}
+use Rattle.std.specs.List.{AllByRecursion}
 use Rattle.std.proofs.lemmas.List.Concat.{flat_map-append}
 use Rattle.std.proofs.lemmas.List.Elements.{All-from_recursion}
-use Rattle.std.proofs.lemmas.Nat.{and_le_l, and_le_r}
-use Rattle.std.proofs.lemmas.Nat.Bits.{same_from_bits, bit_at_and, bit_at_or}
 use Rattle.std.proofs.lemmas.Bool.{eqb-true}
 use Rattle.std.proofs.lemmas.Bool.Decides.{nat_tests}
-use Rattle.scr_cells.specs.Grids.{grid_with}
+use Rattle.scr_cells.specs.Grids.{grid_with, is_in_run}
 use Rattle.scr_cells.specs.LookViews.{LookView}
-use Rattle.scr_cells.specs.PenViews.{PenView, IsColour, IsPen, is_plain_pen, plain_pen, with_attribute}
+use Rattle.scr_cells.specs.PenViews.{PenView, is_plain_pen, plain_pen}
 use Rattle.scr_term.specs.declared.operations.operation.Op.{Op}
-use Rattle.scr_term.specs.declared.operations.operation.Op.TheVariants.{Move, Clear, Reset, Enter, Put}
+use Rattle.scr_term.specs.declared.operations.operation.Op.TheVariants.{Home, Move, Column, Line, Up, Down, Left, Right, Return, Clear, EraseLine, EraseBelow, EraseChars, Reset, Enter, Set, Fore, Back, Put}
 use Rattle.scr_term.specs.declared.operations.operation.Spot.{Spot}
 use Rattle.scr_term.specs.declared.operations.operation.Spot.TheVariants.{At, Margin}
-use Rattle.scr_term.specs.Operations.Profiles.{ProfileView, IsProfile, IsEcma48}
-use Rattle.scr_term.specs.Operations.States.{TerminalState, AreShownColours, IsShownPen, IsSpot, IsState, blank_state, negative_state, written_at, spot_after}
-use Rattle.scr_term.specs.Operations.Steps.{has, act, step, runs}
-use Rattle.scr_term.specs.Operations.Texts.{bytes_of, all_bytes}
-use Rattle.scr_term.specs.Ecma.Units.{EcmaUnit, spelling, IsUnit}
-use Rattle.scr_term.specs.Ecma.Meanings.{meaning, meanings}
-use Rattle.scr_term.specs.Ecma.Meanings.{Leads}
-use Rattle.scr_term.specs.Operations.Laws.{BlankLaws, BytesActAsTheirOperations, RunLaws, StepsKeepStates}
-use Rattle.scr_term.proofs.LookGridLaws.{all_blank, is_blank, negative_blank, put_all, put_is_grid}
-use Rattle.scr_term.proofs.OperationLaws.{chosen, same_some, both_true, bytes_act_as_their_operation}
+use Rattle.scr_term.specs.Operations.Abilities.{Abilities, AreAbilities}
+use Rattle.scr_term.specs.Operations.Profiles.{ProfileView, IsProfile, abilities, shown_set}
+use Rattle.scr_term.specs.Operations.States.{TerminalState, AreShownColours, IsShownPen, IsSpot, IsState, blank_state, erased, from_place, is_from_place, moved_to, spot_after, written_at}
+use Rattle.scr_term.specs.Operations.Steps.{act, erasure_made, motion_made, step, runs}
+use Rattle.scr_term.specs.Operations.Texts.{bytes_of, has}
+use Rattle.scr_term.specs.Operations.Laws.{BlankLaws, RunLaws, StepsKeepStates}
+use Rattle.scr_term.proofs.ChoiceLaws.{both_true, chosen, no_some, same_some, then_some}
+use Rattle.scr_term.proofs.LookGridLaws.{all_blank, filled_all, filled_is_grid, is_blank, negative_blank, put_all, put_is_grid}
+use Rattle.scr_term.proofs.ProfileLaws.{abilities_are, entered_is_shown, is_had}
+use Rattle.scr_term.proofs.ShownPenLaws.{more_is_shown, plain_is_shown, set_is_shown, shown_is_pen}
 
--- a set and one more member within a set
-pub within-or : (s x a : ℕ) → bit_and s x ≡ x → bit_and s a ≡ a → bit_and s (bit_or x a) ≡ bit_or x a
-within-or s x a hx ha = same_from_bits _ _ (λ i.
-    let ex : bit_at (bit_and s x) i ≡ bit_at x i = ap (λ n. bit_at n i) hx in
-    let ea : bit_at (bit_and s a) i ≡ bit_at a i = ap (λ n. bit_at n i) ha in
-    rw (bit_at_and s (bit_or x a) i, bit_at_or x a i) (omega (arith, bit_at_and s x i, bit_at_and s a i)))
+-- ---- states with another spot, another pen, or some places erased
 
--- a pen of a terminal without an attribute and in default colours, and one with one more attribute that is shown
-pub plain_is_shown : (profile : ProfileView) → IsShownPen profile plain_pen
-plain_is_shown profile = record { attrs = omega (arith, and_le_r profile.shown 0); colours = default_is_shown profile.colours }
-  where
-    default_is_shown : (colours : Bool) → AreShownColours colours None None
-    default_is_shown true = (tt, tt)
-    default_is_shown false = (refl, refl)
+moved : (a : Abilities) (old : TerminalState) (spot : Spot) → IsState a old → IsSpot a.rows a.columns spot → IsState a (record old { spot = spot })
+moved a old spot s inside = record { whole = s.whole; looks = s.looks; spot = inside; pen = s.pen }
 
-pub more_is_shown : (profile : ProfileView) (pen : PenView) (a : ℕ) → IsShownPen profile pen → bit_and profile.shown a ≡ a → IsShownPen profile (with_attribute pen a)
-more_is_shown profile pen a is shown = record {
-  attrs = within-or profile.shown pen.attrs a is.attrs shown;
-  colours = is.colours;
+rendered : (a : Abilities) (old : TerminalState) (pen : PenView) → IsState a old → IsShownPen a pen → IsState a (record old { pen = pen })
+rendered a old pen s shown = record { whole = s.whole; looks = s.looks; spot = s.spot; pen = shown }
+
+erased_keeps : (a : Abilities) (old : TerminalState) (inside : ℕ → ℕ → Bool) → IsState a old → IsState a (erased a.rows a.columns inside old)
+erased_keeps a old inside s = record {
+  whole = filled_is_grid a.rows a.columns inside _;
+  looks = filled_all a.rows a.columns inside old.grid s.looks;
+  spot = s.spot;
+  pen = s.pen;
 }
 
--- such a pen is a pen
-pub shown_is_pen : (profile : ProfileView) → IsProfile profile → (pen : PenView) → IsShownPen profile pen → IsPen pen
-shown_is_pen profile p pen is =
-    let few : pen.attrs < 256 = omega (arith, is.attrs, p.shown, and_le_l profile.shown pen.attrs, and_le_l 127 profile.shown) in
-    let colours = known profile.colours pen.foreground pen.background is.colours in
-    record { attributes = few; foreground = colours.0; background = colours.1 }
-  where
-    known : (colours : Bool) (f b : Option ℕ) → AreShownColours colours f b → IfSome f IsColour × IfSome b IsColour
-    known true f b c = c
-    known false f b c = (subst (λ o. IfSome o IsColour) (sym c.0) tt, subst (λ o. IfSome o IsColour) (sym c.1) tt)
+blank_keeps : (a : Abilities) → AreAbilities a → (pen : PenView) → IsShownPen a pen → IsState a (record (blank_state a.rows a.columns) { pen = pen })
+blank_keeps a are pen shown = record {
+  whole = is_blank a.rows a.columns;
+  looks = all_blank a.rows a.columns;
+  spot = (are.size.some_rows, are.size.some_columns);
+  pen = shown;
+}
 
-keeps_put : (profile : ProfileView) → IsProfile profile → (old new : TerminalState) → IsState profile old
-    → (byte : ℕ) (spot : Spot) → IsSpot profile.rows profile.columns spot → 32 ≤ byte → byte ≤ 126
-    → written_at profile.columns old byte spot ≡ Some new → IsState profile new
-keeps_put profile p old new s byte (Margin r) inside low high h = absurd (no_state h)
-  where
-    no_state : None ≡ Some new → ⊥
-    no_state n = (cc)
-keeps_put profile p old new s byte (At r c) inside low high h =
+-- ---- what leads to a state of the terminal, wherever it leads
+
+abbrev Keeps : Abilities → Option TerminalState → Type 0
+Keeps a next = (new : TerminalState) → next ≡ Some new → IsState a new
+
+some_keeps : (a : Abilities) (state : TerminalState) → IsState a state → Keeps a (Some state)
+some_keeps a state s new h = subst (IsState a) (same_some state new h) s
+
+none_keeps : (a : Abilities) → Keeps a None
+none_keeps a new h = absurd (no_some new h)
+
+tested_keeps : (a : Abilities) (test : Bool) (next : Option TerminalState) → (test ≡ true → Keeps a next) → Keeps a (cond test next None)
+tested_keeps a true next keeps = keeps refl
+tested_keeps a false next keeps = none_keeps a
+
+place_keeps : (a : Abilities) (spot : Spot) (f : ℕ → ℕ → Option TerminalState) → IsSpot a.rows a.columns spot
+    → ((r c : ℕ) → r < a.rows → c < a.columns → Keeps a (f r c)) → Keeps a (from_place spot f)
+place_keeps a (At r c) f inside keeps = keeps r c inside.0 inside.1
+place_keeps a (Margin r) f inside keeps = none_keeps a
+
+to_keeps : (a : Abilities) (old : TerminalState) (r c : ℕ) → IsState a old → Keeps a (moved_to a.rows a.columns old r c)
+to_keeps a old r c s =
+    tested_keeps a (nat_lt r a.rows && nat_lt c a.columns) _
+    (λ test. some_keeps a _ (moved a old (At r c) s (grind (arith, nat_tests, test), grind (arith, nat_tests, test))))
+
+put_keeps : (a : Abilities) → AreAbilities a → (old : TerminalState) → IsState a old
+    → (byte : ℕ) (spot : Spot) → IsSpot a.rows a.columns spot → 32 ≤ byte → byte ≤ 126
+    → Keeps a (written_at a.columns old byte spot)
+put_keeps a are old s byte (Margin r) inside low high = none_keeps a
+put_keeps a are old s byte (At r c) inside low high =
     let look : LookView = record { byte = byte; pen = old.pen } in
-    let character_written : TerminalState = record { grid = grid_with old.grid r c look; spot = spot_after profile.columns r c; pen = old.pen } in
-    let after : IsSpot profile.rows profile.columns (spot_after profile.columns r c) = next_spot (nat_lt (c + 1) profile.columns) refl in
-    let kept : IsState profile character_written = record {
-      whole = put_is_grid profile.rows profile.columns old.grid r c look s.whole;
-      looks = put_all profile.rows profile.columns old.grid r c look s.whole inside.0 (record { character = (low, high); pen = shown_is_pen profile p old.pen s.pen }) s.looks;
-      spot = after;
+    some_keeps a (record { grid = grid_with old.grid r c look; spot = spot_after a.columns r c; pen = old.pen }) (record {
+      whole = put_is_grid a.rows a.columns old.grid r c look s.whole;
+      looks = put_all a.rows a.columns old.grid r c look s.whole inside.0 (record { character = (low, high); pen = shown_is_pen a are.shown old.pen s.pen }) s.looks;
+      spot = next_spot (nat_lt (c + 1) a.columns) refl;
       pen = s.pen;
-    } in
-    subst (λ z. IsState profile z) (same_some character_written new h) kept
+    })
   where
-    next_spot : (b : Bool) → nat_lt (c + 1) profile.columns ≡ b → IsSpot profile.rows profile.columns (cond b (At r (c + 1)) (Margin r))
+    next_spot : (b : Bool) → nat_lt (c + 1) a.columns ≡ b → IsSpot a.rows a.columns (cond b (At r (c + 1)) (Margin r))
     next_spot true e = (inside.0, grind (arith, nat_tests))
     next_spot false e = inside.0
 
-keeps : (profile : ProfileView) → IsProfile profile → (old new : TerminalState) → IsState profile old
-    → (op : Op) → has profile op ≡ true → act profile old op ≡ Some new → IsState profile new
-keeps profile p old new s (Move r c) had h =
-    let hr : r < profile.rows = grind (arith, nat_tests) in
-    let hc : c < profile.columns = grind (arith, nat_tests) in
-    let next : TerminalState = record { grid = old.grid; spot = At r c; pen = old.pen } in
-    subst (λ z. IsState profile z) (same_some next new h)
-    (record { whole = s.whole; looks = s.looks; spot = (hr, hc); pen = s.pen })
-keeps profile p old new s Clear had h =
-    let next : TerminalState = blank_state profile.rows profile.columns in
-    let c = chosen (is_plain_pen old.pen) (Some next) new h in
-    subst (λ z. IsState profile z) (same_some next new c.1)
-    (record {
-      whole = is_blank profile.rows profile.columns;
-      looks = all_blank profile.rows profile.columns;
-      spot = (p.size.some_rows, p.size.some_columns);
-      pen = plain_is_shown profile;
-    })
-keeps profile p old new s Reset had h =
-    let next : TerminalState = record { grid = old.grid; spot = old.spot; pen = plain_pen } in
-    subst (λ z. IsState profile z) (same_some next new h)
-    (record { whole = s.whole; looks = s.looks; spot = s.spot; pen = plain_is_shown profile })
-keeps profile p old new s (Enter a) had h =
-    let next : TerminalState = record { grid = old.grid; spot = old.spot; pen = with_attribute old.pen a.0 } in
-    let shown : bit_and profile.shown a.0 ≡ a.0 = eqb-true _ _ ((both_true _ _ had).1) in
-    subst (λ z. IsState profile z) (same_some next new h)
-    (record { whole = s.whole; looks = s.looks; spot = s.spot; pen = more_is_shown profile old.pen a.0 s.pen shown })
-keeps profile p old new s (Put byte) had h =
-    let low : 32 ≤ byte = grind (arith, nat_tests) in
-    let high : byte ≤ 126 = grind (arith, nat_tests) in
-    keeps_put profile p old new s byte old.spot s.spot low high h
+-- ---- each operation
+
+fore_is_shown : (a : Abilities) (pen : PenView) (n : ℕ) → IsShownPen a pen → n < 8 → a.colours ≡ true → IsShownPen a (record pen { foreground = Some n })
+fore_is_shown a pen n is few shows = record {
+  attrs = is.attrs;
+  colours = subst (λ t. AreShownColours t (Some n) pen.background) (sym shows) (few, (subst (λ t. AreShownColours t pen.foreground pen.background) shows is.colours).1);
+}
+
+back_is_shown : (a : Abilities) (pen : PenView) (n : ℕ) → IsShownPen a pen → n < 8 → a.colours ≡ true → IsShownPen a (record pen { background = Some n })
+back_is_shown a pen n is few shows = record {
+  attrs = is.attrs;
+  colours = subst (λ t. AreShownColours t pen.foreground (Some n)) (sym shows) ((subst (λ t. AreShownColours t pen.foreground pen.background) shows is.colours).0, few);
+}
+
+motion : (profile : ProfileView) (old : TerminalState) (next : Option TerminalState) → Keeps (abilities profile) next → Keeps (abilities profile) (motion_made profile old next)
+motion profile old next keep = tested_keeps (abilities profile) (profile.msgr || is_plain_pen old.pen) next (λ t. keep)
+
+erasure : (profile : ProfileView) (old : TerminalState) (next : Option TerminalState) → Keeps (abilities profile) next → Keeps (abilities profile) (erasure_made old next)
+erasure profile old next keep = tested_keeps (abilities profile) (is_plain_pen old.pen) next (λ t. keep)
+
+keeps : (profile : ProfileView) → IsProfile profile → (old : TerminalState) → IsState (abilities profile) old
+    → (op : Op) → has profile op ≡ true → Keeps (abilities profile) (act profile old op)
+keeps profile p old s Home had = motion profile old _ (to_keeps (abilities profile) old 0 0 s)
+keeps profile p old s (Move r c) had = motion profile old _ (to_keeps (abilities profile) old r c s)
+keeps profile p old s (Column n) had = motion profile old _ (place_keeps (abilities profile) old.spot _ s.spot (λ r c row_in column_in. to_keeps (abilities profile) old r n s))
+keeps profile p old s (Line n) had = motion profile old _ (place_keeps (abilities profile) old.spot _ s.spot (λ r c row_in column_in. to_keeps (abilities profile) old n c s))
+keeps profile p old s (Up n) had =
+    motion profile old _ (place_keeps (abilities profile) old.spot _ s.spot (λ r c row_in column_in. tested_keeps (abilities profile) (nat_le n r) _ (λ t. to_keeps (abilities profile) old (r - n) c s)))
+keeps profile p old s (Down n) had = motion profile old _ (place_keeps (abilities profile) old.spot _ s.spot (λ r c row_in column_in. to_keeps (abilities profile) old (r + n) c s))
+keeps profile p old s (Left n) had =
+    motion profile old _ (place_keeps (abilities profile) old.spot _ s.spot (λ r c row_in column_in. tested_keeps (abilities profile) (nat_le n c) _ (λ t. to_keeps (abilities profile) old r (c - n) s)))
+keeps profile p old s (Right n) had = motion profile old _ (place_keeps (abilities profile) old.spot _ s.spot (λ r c row_in column_in. to_keeps (abilities profile) old r (c + n) s))
+keeps profile p old s Return had = motion profile old _ (place_keeps (abilities profile) old.spot _ s.spot (λ r c row_in column_in. to_keeps (abilities profile) old r 0 s))
+keeps profile p old s Clear had = erasure profile old _ (some_keeps (abilities profile) _ (blank_keeps (abilities profile) (abilities_are profile p) old.pen s.pen))
+keeps profile p old s EraseLine had =
+    erasure profile old _ (place_keeps (abilities profile) old.spot _ s.spot (λ r c row_in column_in. some_keeps (abilities profile) _ (erased_keeps (abilities profile) old (is_in_run r c profile.columns) s)))
+keeps profile p old s EraseBelow had =
+    erasure profile old _ (place_keeps (abilities profile) old.spot _ s.spot (λ r c row_in column_in. tested_keeps (abilities profile) (c == 0) _
+    (λ t. some_keeps (abilities profile) _ (erased_keeps (abilities profile) old (is_from_place r c) s))))
+keeps profile p old s (EraseChars n) had =
+    erasure profile old _ (place_keeps (abilities profile) old.spot _ s.spot (λ r c row_in column_in. tested_keeps (abilities profile) (nat_le (c + n) profile.columns) _
+    (λ t. some_keeps (abilities profile) _ (erased_keeps (abilities profile) old (is_in_run r c (c + n)) s))))
+keeps profile p old s Reset had = some_keeps (abilities profile) _ (rendered (abilities profile) old plain_pen s (plain_is_shown (abilities profile)))
+keeps profile p old s (Enter a) had =
+    some_keeps (abilities profile) _ (rendered (abilities profile) old _ s (more_is_shown (abilities profile) old.pen a.0 s.pen (entered_is_shown profile a had)))
+keeps profile p old s (Set a) had =
+    let shown : bit_and (shown_set profile) a.0 ≡ a.0 = eqb-true _ _ ((is_had profile (Set a) had).0) in
+    some_keeps (abilities profile) _ (rendered (abilities profile) old _ s (set_is_shown (abilities profile) a.0 shown))
+keeps profile p old s (Fore n) had =
+    let within = both_true (nat_lt n 8) _ ((is_had profile (Fore n) had).0) in
+    place_keeps (abilities profile) old.spot _ s.spot (λ r c row_in column_in. some_keeps (abilities profile) _
+    (rendered (abilities profile) old _ s (fore_is_shown (abilities profile) old.pen n s.pen (grind (arith, nat_tests, within.0)) within.1)))
+keeps profile p old s (Back n) had =
+    let within = both_true (nat_lt n 8) _ ((is_had profile (Back n) had).0) in
+    place_keeps (abilities profile) old.spot _ s.spot (λ r c row_in column_in. some_keeps (abilities profile) _
+    (rendered (abilities profile) old _ s (back_is_shown (abilities profile) old.pen n s.pen (grind (arith, nat_tests, within.0)) within.1)))
+keeps profile p old s (Put byte) had =
+    let within = (is_had profile (Put byte) had).0 in
+    let low : 32 ≤ byte = grind (arith, nat_tests, within) in
+    let high : byte ≤ 126 = grind (arith, nat_tests, within) in
+    put_keeps (abilities profile) (abilities_are profile p) old s byte old.spot s.spot low high
 
 pub steps_keep_states : StepsKeepStates
 steps_keep_states profile p old new s op h =
     let c = chosen (has profile op) (act profile old op) new h in
-    keeps profile p old new s op c.0 c.1
+    keeps profile p old s op c.0 new c.1
 
--- a chain that gave something gave something at its first step
-pub then_some : {A B : Type 0} (first : Option A) (f : A → Option B) (y : B) → option_and_then f first ≡ Some y → (x : A) × (first ≡ Some x) × (f x ≡ Some y)
-then_some (Some x) f y h = (x, refl, h)
-then_some None f y h = absurd (nothing h)
-  where
-    nothing : None ≡ Some y → ⊥
-    nothing n = (cc)
-
-pub meanings-append : (rows columns : ℕ) (old next : TerminalState) (us vs : List EcmaUnit) → meanings rows columns old us ≡ Some next
-    → meanings rows columns old (us ++ vs) ≡ meanings rows columns next vs
-meanings-append rows columns old next [] vs h = ap (λ s. meanings rows columns s vs) (same_some old next h)
-meanings-append rows columns old next (u ∷ us) vs h =
-    let first = then_some (meaning rows columns old u) (λ s. meanings rows columns s us) next h in
-    ap (option_and_then (λ s. meanings rows columns s (us ++ vs))) first.1 ∙ meanings-append rows columns first.0 next us vs first.2
-
-all_units_append : (us vs : List EcmaUnit) → AllByRecursion IsUnit us → AllByRecursion IsUnit vs → AllByRecursion IsUnit (us ++ vs)
-all_units_append [] vs hu hv = hv
-all_units_append (u ∷ us) vs hu hv = (hu.0, all_units_append us vs hu.1 hv)
-
-pub leads-append : (rows columns : ℕ) (a b d : TerminalState) (x y : List ℕ) → Leads rows columns a x b → Leads rows columns b y d → Leads rows columns a (x ++ y) d
-leads-append rows columns a b d x y first second = record {
-  units = first.units ++ second.units;
-  division = record {
-    whole =
-        ap (λ t. t ++ y) (first.division.whole ∙ append-nil (flat_map spelling first.units))
-        ∙ ap (λ t. flat_map spelling first.units ++ t) second.division.whole
-        ∙ sym (append_assoc (flat_map spelling first.units) (flat_map spelling second.units) [])
-        ∙ ap (λ t. t ++ []) (sym (flat_map-append spelling first.units second.units));
-    each = all_units_append first.units second.units first.division.each second.division.each;
-  };
-  meaning = meanings-append rows columns a b first.units second.units first.meaning ∙ second.meaning;
-}
-
-pub is_profile : (profile : ProfileView) → IsEcma48 profile → IsProfile profile
-is_profile profile p = record { size = p.size; shown = rw p.shown refl; colours = p.colours }
-
-pub bytes_act_as_their_operations : BytesActAsTheirOperations
-bytes_act_as_their_operations profile p old new s [] h =
-    subst (λ z. Leads profile.rows profile.columns (negative_state old) [] (negative_state z)) (same_some old new h)
-    (record { units = []; division = record { whole = refl; each = tt }; meaning = refl })
-bytes_act_as_their_operations profile p old new s (op ∷ ops) h =
-    let first = then_some (step profile old op) (λ next. runs profile next ops) new h in
-    let kept = steps_keep_states profile (is_profile profile p) old first.0 s op first.1 in
-    leads-append profile.rows profile.columns (negative_state old) (negative_state first.0) (negative_state new) (bytes_of profile op) (all_bytes profile ops)
-    (bytes_act_as_their_operation profile p old first.0 s op first.1)
-    (bytes_act_as_their_operations profile p first.0 new kept ops first.2)
+-- ---- runs
 
 pub runs-append : (profile : ProfileView) (old next : TerminalState) (xs ys : List Op) → runs profile old xs ≡ Some next
     → runs profile old (xs ++ ys) ≡ runs profile next ys
@@ -173,9 +165,9 @@ runs-append profile old next (op ∷ ops) ys h =
     let first = then_some (step profile old op) (λ s. runs profile s ops) next h in
     ap (option_and_then (λ s. runs profile s (ops ++ ys))) first.1 ∙ runs-append profile first.0 next ops ys first.2
 
-pub runs_keep : (profile : ProfileView) → IsProfile profile → (old new : TerminalState) → IsState profile old
-    → (ops : List Op) → runs profile old ops ≡ Some new → IsState profile new
-runs_keep profile p old new s [] h = subst (λ z. IsState profile z) (same_some old new h) s
+pub runs_keep : (profile : ProfileView) → IsProfile profile → (old new : TerminalState) → IsState (abilities profile) old
+    → (ops : List Op) → runs profile old ops ≡ Some new → IsState (abilities profile) new
+runs_keep profile p old new s [] h = subst (λ z. IsState (abilities profile) z) (same_some old new h) s
 runs_keep profile p old new s (op ∷ ops) h =
     let first = then_some (step profile old op) (λ next. runs profile next ops) new h in
     runs_keep profile p first.0 new (steps_keep_states profile p old first.0 s op first.1) ops first.2
@@ -190,17 +182,13 @@ each_had profile old new (op ∷ ops) h =
 pub run_laws_hold : RunLaws
 run_laws_hold = record {
   joined = runs-append;
+  bytes = λ profile ops more. flat_map-append (bytes_of profile) ops more;
   kept = runs_keep;
   had = λ profile old new ops h. All-from_recursion (λ op. has profile op ≡ true) ops (each_had profile old new ops h);
 }
 
 pub blank_laws_hold : BlankLaws
 blank_laws_hold = record {
-  state = λ profile p. record {
-    whole = is_blank profile.rows profile.columns;
-    looks = all_blank profile.rows profile.columns;
-    spot = (p.size.some_rows, p.size.some_columns);
-    pen = plain_is_shown profile;
-  };
+  state = λ profile p. blank_keeps (abilities profile) (abilities_are profile p) plain_pen (plain_is_shown (abilities profile));
   negative = λ rows columns. ap (λ g. record { grid = g; spot = At 0 0; pen = plain_pen }) (negative_blank rows columns);
 }

@@ -1,5 +1,9 @@
 -- The operations of a terminal: what is known of it, its states, what an operation does and which bytes are sent for it.
+pub mod Abilities
+pub mod Capabilities
 pub mod Profiles
+pub mod Admission
+pub mod Ecma48
 pub mod States
 pub mod Steps
 pub mod Texts

@@ -3,5 +3,8 @@
 mod changes;
 mod display;
 
-pub(crate) use changes::{Change, characters_erased, moved_to};
+pub(crate) use changes::{
+    Change, characters_erased, moved_down, moved_left, moved_right, moved_to, moved_to_column,
+    moved_to_row, moved_up, rest_of_line_erased,
+};
 pub(crate) use display::Display;

@@ -7,4 +7,4 @@ mod readings;
 mod screens;
 
 pub use laws::{one_division, pieces_do_not_matter, screens_follow_texts};
-pub use screens::{EcmaScreen, Undefined};
+pub use screens::EcmaScreen;

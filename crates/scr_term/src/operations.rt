@@ -1,15 +1,22 @@
 //! The operations of a terminal, what is known of it, the bytes that are sent for an operation, and the laws about them.
 
+mod admission;
+mod capability;
 mod laws;
+mod making;
 mod operation;
+mod pieces;
 mod profile_faults;
 mod profiles;
 mod rendering;
+mod steps;
 
+pub use capability::Capability;
 pub use laws::{
-    blank_laws, bytes_act_as_their_operation, bytes_act_as_their_operations, run_laws,
-    steps_keep_states,
+    blank_laws, bytes_act_as_their_operation, bytes_act_as_their_operations, ecma48_laws,
+    profiles_have, run_laws, steps_keep_states,
 };
 pub use operation::{Op, Ops, Spot};
 pub use profile_faults::ProfileFault;
 pub use profiles::Profile;
+pub(crate) use steps::change_of;

@@ -6,8 +6,7 @@ use Rattle.std.specs.Str.Parse.{digits_value}
 use Rattle.scr_cells.specs.Attributes.{underline, reverse, blink, dim, bold, invis}
 use Rattle.scr_cells.specs.LookViews.{blank_grid}
 use Rattle.scr_cells.specs.PenViews.{PenView, plain_pen, with_attribute}
-use Rattle.scr_cells.specs.Grids.{is_in_run}
-use Rattle.scr_term.specs.Operations.States.{TerminalState, character_written, characters_erased, erased, from_place, is_from_place, moved_to}
+use Rattle.scr_term.specs.Operations.States.{TerminalState, character_written, characters_erased, erased, from_place, is_from_place, moved_down, moved_left, moved_right, moved_to, moved_to_column, moved_to_row, moved_up, rest_of_line_erased}
 use Rattle.scr_term.specs.Ecma.Units.{EcmaUnit, Graphic, Control, Sequence, IsDivision}
 
 -- a parameter is absent or a number; there is none above 9,999
@@ -34,27 +33,13 @@ abbrev pub choice_of : List (Option ℕ) → Option ℕ
 choice_of (n ∷ []) = Some (unwrap_or n 0)
 choice_of _ = None
 
--- CUU and CUD: up and down; undefined off the screen
-abbrev pub cursor_up : ℕ → ℕ → TerminalState → ℕ → Option TerminalState
-cursor_up rows columns state n = from_place state.spot (λ r c. if nat_le n r then moved_to rows columns state (r - n) c else None)
-
-abbrev pub cursor_down : ℕ → ℕ → TerminalState → ℕ → Option TerminalState
-cursor_down rows columns state n = from_place state.spot (λ r c. moved_to rows columns state (r + n) c)
-
--- CUF and CUB: right and left; undefined off the screen
-abbrev pub cursor_forward : ℕ → ℕ → TerminalState → ℕ → Option TerminalState
-cursor_forward rows columns state n = from_place state.spot (λ r c. moved_to rows columns state r (c + n))
-
-abbrev pub cursor_backward : ℕ → ℕ → TerminalState → ℕ → Option TerminalState
-cursor_backward rows columns state n = from_place state.spot (λ r c. if nat_le n c then moved_to rows columns state r (c - n) else None)
-
 -- CHA: a column of the same line, from 1
 abbrev pub cursor_character_absolute : ℕ → ℕ → TerminalState → ℕ → Option TerminalState
-cursor_character_absolute rows columns state n = from_place state.spot (λ r c. moved_to rows columns state r (n - 1))
+cursor_character_absolute rows columns state n = moved_to_column rows columns state (n - 1)
 
 -- VPA: a line, from 1, and the same column
 abbrev pub line_position_absolute : ℕ → ℕ → TerminalState → ℕ → Option TerminalState
-line_position_absolute rows columns state n = from_place state.spot (λ r c. moved_to rows columns state (n - 1) c)
+line_position_absolute rows columns state n = moved_to_row rows columns state (n - 1)
 
 -- CUP: a row and a column, both from 1; undefined off the screen
 abbrev pub cursor_at : ℕ → ℕ → TerminalState → ℕ → ℕ → Option TerminalState
@@ -75,8 +60,7 @@ erase_in_page rows columns state choice =
 
 -- EL: 0 erases from the cursor to the end of the line; the cursor stays
 abbrev pub erase_in_line : ℕ → ℕ → TerminalState → ℕ → Option TerminalState
-erase_in_line rows columns state choice =
-    if choice == 0 then from_place state.spot (λ r c. Some (erased rows columns (is_in_run r c columns) state)) else None
+erase_in_line rows columns state choice = if choice == 0 then rest_of_line_erased rows columns state else None
 
 -- the attribute that a parameter of SGR turns on
 abbrev pub rendition_attribute : ℕ → Option ℕ
@@ -107,13 +91,13 @@ abbrev pub select_graphic_rendition : TerminalState → List (Option ℕ) → Op
 select_graphic_rendition state ns =
     option_map (λ pen. record state { pen = pen }) (renditions state.pen ns)
 
--- a control sequence by its final byte
+-- a control sequence by its final byte: CUU, CUD, CUF, CUB, CHA, CUP, ED, EL, ECH, VPA, SGR
 unfoldable pub control_function : ℕ → ℕ → TerminalState → List (Option ℕ) → ℕ → Option TerminalState
 control_function rows columns state ns final =
-    if final == 65 then option_and_then (cursor_up rows columns state) (count_of ns) else
-    (if final == 66 then option_and_then (cursor_down rows columns state) (count_of ns) else
-    (if final == 67 then option_and_then (cursor_forward rows columns state) (count_of ns) else
-    (if final == 68 then option_and_then (cursor_backward rows columns state) (count_of ns) else
+    if final == 65 then option_and_then (moved_up rows columns state) (count_of ns) else
+    (if final == 66 then option_and_then (moved_down rows columns state) (count_of ns) else
+    (if final == 67 then option_and_then (moved_right rows columns state) (count_of ns) else
+    (if final == 68 then option_and_then (moved_left rows columns state) (count_of ns) else
     (if final == 71 then option_and_then (cursor_character_absolute rows columns state) (count_of ns) else
     (if final == 72 then cursor_position rows columns state ns else
     (if final == 74 then option_and_then (erase_in_page rows columns state) (choice_of ns) else
@@ -125,8 +109,8 @@ control_function rows columns state ns final =
 -- BS is one left, CR the first column of the line; both are undefined at the margin
 abbrev pub control_character : ℕ → ℕ → TerminalState → ℕ → Option TerminalState
 control_character rows columns state byte =
-    if byte == 8 then cursor_backward rows columns state 1 else
-    (if byte == 13 then from_place state.spot (λ r c. moved_to rows columns state r 0) else None)
+    if byte == 8 then moved_left rows columns state 1 else
+    (if byte == 13 then moved_to_column rows columns state 0 else None)
 
 -- what a unit does, or none where it is undefined
 abbrev pub meaning : ℕ → ℕ → TerminalState → EcmaUnit → Option TerminalState

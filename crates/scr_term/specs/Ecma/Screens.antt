@@ -1,7 +1,8 @@
 -- A screen that is fed an ECMA-48 text in pieces.
 use Rattle.std.specs.Prelude.{ℕ, ◌≡◌, ◌++◌, Bool, true, false, List, [], Some, None, ◌⊎◌}
 use Rattle.scr_cells.specs.PictureViews.{IsSize}
-use Rattle.scr_term.specs.Operations.States.{TerminalState, IsState, blank_state, full_profile}
+use Rattle.scr_term.specs.Operations.States.{TerminalState, IsState, blank_state}
+use Rattle.scr_term.specs.Operations.Abilities.{full_abilities}
 use Rattle.scr_term.specs.Ecma.Units.{EcmaUnit, IsUnit, IsDivision, IsWaiting, BeginsNoUnit, spelling}
 use Rattle.scr_term.specs.Ecma.Meanings.{meaning, meanings}
 
@@ -17,7 +18,7 @@ pub record ScreenView : Type 0 where
 -- a screen as it may be: it shows every attribute and colours; an undefined one is not waiting
 pub record IsScreen (screen : ScreenView) : Type 0 where
   pub size : IsSize screen.rows screen.columns
-  pub state : IsState (full_profile screen.rows screen.columns) screen.state
+  pub state : IsState (full_abilities screen.rows screen.columns) screen.state
   pub waiting : (screen.waiting ≡ []) ⊎ IsWaiting screen.waiting
   pub undefined : screen.undefined ≡ true → screen.waiting ≡ []
 

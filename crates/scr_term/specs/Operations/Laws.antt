@@ -1,17 +1,22 @@
--- The laws that tie the operations of a terminal to the bytes that are sent for them.
-use Rattle.std.specs.Prelude.{ℕ, ◌≡◌, ◌++◌, true, All, List, Some}
-use Rattle.scr_term.specs.Operations.Profiles.{ProfileView, IsProfile, IsEcma48}
+-- The laws of operations, of runs and of their bytes.
+use Rattle.std.specs.Prelude.{ℕ, ◌≡◌, ◌++◌, ◌<◌, true, false, List, [], ◌∷◌, All, Some, bit_and}
+use Rattle.scr_cells.specs.CellViews.{IsCharacter}
+use Rattle.scr_term.specs.declared.operations.capability.Capability.TheVariants.{Sgr0}
+use Rattle.scr_term.specs.Operations.Abilities.{AreAbilities}
+use Rattle.scr_term.specs.Operations.Admission.{IsEcma48}
+use Rattle.scr_term.specs.Operations.Profiles.{ProfileView, IsProfile, abilities, has_colours, is_there, shown_set}
 use Rattle.scr_term.specs.Operations.States.{TerminalState, IsState, blank_state, negative_state}
-use Rattle.scr_term.specs.Operations.Steps.{has, step, runs}
-use Rattle.scr_term.specs.Operations.Texts.{bytes_of, all_bytes}
+use Rattle.scr_term.specs.Operations.Steps.{step, runs}
+use Rattle.scr_term.specs.Operations.Texts.{has, is_attribute, bytes_of, all_bytes}
 use Rattle.scr_term.specs.Ecma.Meanings.{Leads}
 use Rattle.scr_term.specs.declared.operations.operation.Op.{Op}
+use Rattle.scr_term.specs.declared.operations.operation.Op.TheVariants.{Move, Clear, Reset, Enter, Fore, Back, Put}
 
 -- The bytes of an operation do to the negative of a state what its step does.
 abbrev pub BytesActAsTheirOperation : Type 0
 BytesActAsTheirOperation =
     (profile : ProfileView) → IsEcma48 profile
-    → (old new : TerminalState) → IsState profile old
+    → (old new : TerminalState) → IsState (abilities profile) old
     → (op : Op) → step profile old op ≡ Some new
     → Leads profile.rows profile.columns (negative_state old) (bytes_of profile op) (negative_state new)
 
@@ -19,7 +24,7 @@ BytesActAsTheirOperation =
 abbrev pub BytesActAsTheirOperations : Type 0
 BytesActAsTheirOperations =
     (profile : ProfileView) → IsEcma48 profile
-    → (old new : TerminalState) → IsState profile old
+    → (old new : TerminalState) → IsState (abilities profile) old
     → (ops : List Op) → runs profile old ops ≡ Some new
     → Leads profile.rows profile.columns (negative_state old) (all_bytes profile ops) (negative_state new)
 
@@ -27,18 +32,37 @@ BytesActAsTheirOperations =
 abbrev pub StepsKeepStates : Type 0
 StepsKeepStates =
     (profile : ProfileView) → IsProfile profile
-    → (old new : TerminalState) → IsState profile old
+    → (old new : TerminalState) → IsState (abilities profile) old
     → (op : Op) → step profile old op ≡ Some new
-    → IsState profile new
+    → IsState (abilities profile) new
 
--- Runs join; a run leads from a state of the profile to one, and has only operations that the profile has.
+-- Runs join, and so do their bytes; a run leads from a state of the profile to one, and has only operations that the profile has.
 pub record RunLaws : Type 0 where
   pub joined : (profile : ProfileView) (old next : TerminalState) (ops more : List Op) → runs profile old ops ≡ Some next → runs profile old (ops ++ more) ≡ runs profile next more
-  pub kept : (profile : ProfileView) → IsProfile profile → (old new : TerminalState) → IsState profile old
-      → (ops : List Op) → runs profile old ops ≡ Some new → IsState profile new
+  pub bytes : (profile : ProfileView) (ops more : List Op) → all_bytes profile (ops ++ more) ≡ all_bytes profile ops ++ all_bytes profile more
+  pub kept : (profile : ProfileView) → IsProfile profile → (old new : TerminalState) → IsState (abilities profile) old
+      → (ops : List Op) → runs profile old ops ≡ Some new → IsState (abilities profile) new
   pub had : (profile : ProfileView) (old new : TerminalState) (ops : List Op) → runs profile old ops ≡ Some new → All (λ op. has profile op ≡ true) ops
 
 -- A blank screen is a state of each profile, and its own negative.
 pub record BlankLaws : Type 0 where
-  pub state : (profile : ProfileView) → IsProfile profile → IsState profile (blank_state profile.rows profile.columns)
+  pub state : (profile : ProfileView) → IsProfile profile → IsState (abilities profile) (blank_state profile.rows profile.columns)
   pub negative : (rows columns : ℕ) → negative_state (blank_state rows columns) ≡ blank_state rows columns
+
+-- What can be relied on: each profile moves the cursor everywhere, clears the screen and writes each character; it can reset
+-- what it can turn on, and turn on each attribute and set each colour that it shows.
+pub record HasLaws (profile : ProfileView) : Type 0 where
+  pub can_show : AreAbilities (abilities profile)
+  pub move : (r c : ℕ) → r < profile.rows → c < profile.columns → has profile (Move r c) ≡ true
+  pub clear : has profile Clear ≡ true
+  pub put : (byte : ℕ) → IsCharacter byte → has profile (Put byte) ≡ true
+  pub reset : is_there profile Sgr0 ≡ true → has profile Reset ≡ true
+  pub enter : (a : ℕ) → is_attribute a ≡ true → bit_and (shown_set profile) a ≡ a → has profile (Enter (record { 0 = a })) ≡ true
+  pub fore : (n : ℕ) → n < 8 → has_colours profile ≡ true → has profile (Fore n) ≡ true
+  pub back : (n : ℕ) → n < 8 → has_colours profile ≡ true → has profile (Back n) ≡ true
+  pub plain_set : is_there profile Sgr0 ≡ false → shown_set profile ≡ 0
+  pub plain_colours : is_there profile Sgr0 ≡ false → has_colours profile ≡ false
+
+-- The same of every profile.
+abbrev pub ProfilesHave : Type 0
+ProfilesHave = (profile : ProfileView) → IsProfile profile → HasLaws profile

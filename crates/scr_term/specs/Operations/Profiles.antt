@@ -1,23 +1,69 @@
 -- What is known of a terminal from its terminfo entry and its size. terminfo(5), 'Capabilities'.
-use Rattle.std.specs.Prelude.{ℕ, ◌≡◌, Bool, false, bit_and}
-use Rattle.scr_cells.specs.Attributes.{every_attribute}
+use Rattle.std.specs.Prelude.{ℕ, ◌≡◌, ◌≤◌, ◌==◌, ◌&&◌, Bool, true, List, [], ◌∷◌, All, length, filter, bit_or, Option, Some, None, IfSome, slice_index_or, if◌then◌else◌}
+use Rattle.std.specs.Option.{is_some}
+use Rattle.scr_cells.specs.Attributes.{all_attributes, standout, underline, reverse, blink, dim, bold}
 use Rattle.scr_cells.specs.PictureViews.{IsSize}
+use Rattle.ti_param.specs.Tree.{Tree, bound, depth}
+use Rattle.scr_term.specs.declared.operations.capability.Capability.{Capability}
+use Rattle.scr_term.specs.declared.operations.capability.Capability.TheVariants.{Clear, Cup, Blink, Bold, Dim, Invis, Rev, Smso, Smul, Sgr0, Op, Setaf, Setab}
+use Rattle.scr_term.specs.Operations.Abilities.{Abilities}
+use Rattle.scr_term.specs.Operations.Capabilities.{ordinal}
 
--- the size of its screen, the attributes that it can show, and whether it shows colours
+-- The size of its screen; for each capability that operations send the program of its text, or none; whether the cursor can be
+-- moved while an attribute or a colour is on (`msgr`); and whether the entry promises eight colours and 64 pairs.
 pub record ProfileView : Type 0 where
   pub rows : ℕ
   pub columns : ℕ
-  pub shown : ℕ
-  pub colours : Bool
+  pub programs : List (Option Tree)
+  pub msgr : Bool
+  pub palette : Bool
 
--- of a size that a screen may have, with no attributes but the seven, and without colours: no operation sets one
+-- the program of a capability, and whether there is one
+abbrev pub program_of : ProfileView → Capability → Option Tree
+program_of profile capability = slice_index_or profile.programs (ordinal capability) None
+
+abbrev pub is_there : ProfileView → Capability → Bool
+is_there profile capability = is_some (program_of profile capability)
+
+-- the capability that turns on an attribute
+abbrev pub entering : ℕ → Capability
+entering attribute = if attribute == standout then Smso else
+    (if attribute == underline then Smul else
+    (if attribute == reverse then Rev else
+    (if attribute == blink then Blink else
+    (if attribute == dim then Dim else
+    (if attribute == bold then Bold else Invis)))))
+
+-- an attribute is shown where it can be turned on, and all can be turned off
+abbrev pub is_shown : ProfileView → ℕ → Bool
+is_shown profile attribute = is_there profile Sgr0 && is_there profile (entering attribute)
+
+-- the set of attributes
+abbrev pub set_of : List ℕ → ℕ
+set_of [] = 0
+set_of (attribute ∷ attributes) = bit_or attribute (set_of attributes)
+
+-- the attributes that are shown
+unfoldable pub shown_set : ProfileView → ℕ
+shown_set profile = set_of (filter (is_shown profile) all_attributes)
+
+-- colours are shown where both can be set and both be made default again
+unfoldable pub has_colours : ProfileView → Bool
+has_colours profile = profile.palette && is_there profile Sgr0 && is_there profile Op && is_there profile Setaf && is_there profile Setab
+
+-- what its screen can show
+abbrev pub abilities : ProfileView → Abilities
+abilities profile = record { rows = profile.rows; columns = profile.columns; shown = shown_set profile; colours = has_colours profile }
+
+-- no run finds its stack full, and none writes more than 1,024 bytes
+pub record IsPlanned (program : Tree) : Type 0 where
+  pub depth : depth program ≤ 20
+  pub bound : bound program ≤ 1024
+
+-- of a size that a screen may have, with a place for each capability, and at least `cup` and `clear`
 pub record IsProfile (profile : ProfileView) : Type 0 where
   pub size : IsSize profile.rows profile.columns
-  pub shown : bit_and every_attribute profile.shown ≡ profile.shown
-  pub colours : profile.colours ≡ false
-
--- the bundled ECMA-48 entry on a screen of some size: it shows all seven attributes, and no colours
-pub record IsEcma48 (profile : ProfileView) : Type 0 where
-  pub size : IsSize profile.rows profile.columns
-  pub shown : profile.shown ≡ every_attribute
-  pub colours : profile.colours ≡ false
+  pub whole : length profile.programs ≡ 29
+  pub programs : All (λ program. IfSome program IsPlanned) profile.programs
+  pub cup : is_there profile Cup ≡ true
+  pub clear : is_there profile Clear ≡ true

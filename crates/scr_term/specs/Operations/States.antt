@@ -1,11 +1,10 @@
 -- The state of a terminal: what its screen shows, where its cursor is, and what it writes with.
 -- terminfo(5), 'Cursor Motions' and 'Highlighting'; ECMA-48, 'active presentation position'.
-use Rattle.std.specs.Prelude.{ℕ, ◌≡◌, ◌+◌, ◌<◌, ◌==◌, ◌&&◌, ◌||◌, Bool, true, false, List, All, bit_and, nat_le, nat_lt, if◌then◌else◌, Option, Some, None, IfSome}
-use Rattle.scr_cells.specs.Attributes.{every_attribute}
+use Rattle.std.specs.Prelude.{ℕ, ◌≡◌, ◌+◌, ◌-◌, ◌<◌, ◌==◌, ◌&&◌, ◌||◌, Bool, true, false, List, All, bit_and, nat_le, nat_lt, if◌then◌else◌, Option, Some, None, IfSome}
 use Rattle.scr_cells.specs.Grids.{IsGrid, grid_at, grid_filled, grid_with, is_in_run}
 use Rattle.scr_cells.specs.LookViews.{LookView, IsLook, blank, blank_grid, negative_grid}
 use Rattle.scr_cells.specs.PenViews.{PenView, IsColour, negative_pen, plain_pen}
-use Rattle.scr_term.specs.Operations.Profiles.{ProfileView}
+use Rattle.scr_term.specs.Operations.Abilities.{Abilities}
 use Rattle.scr_term.specs.declared.operations.operation.Spot.{Spot}
 use Rattle.scr_term.specs.declared.operations.operation.Spot.TheVariants.{At, Margin}
 
@@ -25,21 +24,17 @@ abbrev pub AreShownColours : Bool → Option ℕ → Option ℕ → Type 0
 AreShownColours true foreground background = IfSome foreground IsColour × IfSome background IsColour
 AreShownColours false foreground background = (foreground ≡ None) × (background ≡ None)
 
--- a pen of a terminal: attributes that it shows, and default colours where it shows none
-pub record IsShownPen (profile : ProfileView) (pen : PenView) : Type 0 where
-  pub attrs : bit_and profile.shown pen.attrs ≡ pen.attrs
-  pub colours : AreShownColours profile.colours pen.foreground pen.background
+-- a pen of a terminal that can show this: attributes that are shown, and default colours where no colours are
+pub record IsShownPen (abilities : Abilities) (pen : PenView) : Type 0 where
+  pub attrs : bit_and abilities.shown pen.attrs ≡ pen.attrs
+  pub colours : AreShownColours abilities.colours pen.foreground pen.background
 
--- a state of a terminal
-pub record IsState (profile : ProfileView) (state : TerminalState) : Type 0 where
-  pub whole : IsGrid profile.rows profile.columns state.grid
+-- a state of a terminal that can show this
+pub record IsState (abilities : Abilities) (state : TerminalState) : Type 0 where
+  pub whole : IsGrid abilities.rows abilities.columns state.grid
   pub looks : All (All IsLook) state.grid
-  pub spot : IsSpot profile.rows profile.columns state.spot
-  pub pen : IsShownPen profile state.pen
-
--- a terminal that shows every attribute, and colours
-abbrev pub full_profile : ℕ → ℕ → ProfileView
-full_profile rows columns = record { rows = rows; columns = columns; shown = every_attribute; colours = true }
+  pub spot : IsSpot abilities.rows abilities.columns state.spot
+  pub pen : IsShownPen abilities state.pen
 
 -- blanks everywhere, the cursor at the first place, no attribute on, default colours
 abbrev pub blank_state : ℕ → ℕ → TerminalState
@@ -73,6 +68,26 @@ from_place (Margin r) f = None
 abbrev pub moved_to : ℕ → ℕ → TerminalState → ℕ → ℕ → Option TerminalState
 moved_to rows columns state r c = if nat_lt r rows && nat_lt c columns then Some (record state { spot = At r c }) else None
 
+-- so many places up, down, right and left; undefined off the screen
+abbrev pub moved_up : ℕ → ℕ → TerminalState → ℕ → Option TerminalState
+moved_up rows columns state n = from_place state.spot (λ r c. if nat_le n r then moved_to rows columns state (r - n) c else None)
+
+abbrev pub moved_down : ℕ → ℕ → TerminalState → ℕ → Option TerminalState
+moved_down rows columns state n = from_place state.spot (λ r c. moved_to rows columns state (r + n) c)
+
+abbrev pub moved_right : ℕ → ℕ → TerminalState → ℕ → Option TerminalState
+moved_right rows columns state n = from_place state.spot (λ r c. moved_to rows columns state r (c + n))
+
+abbrev pub moved_left : ℕ → ℕ → TerminalState → ℕ → Option TerminalState
+moved_left rows columns state n = from_place state.spot (λ r c. if nat_le n c then moved_to rows columns state r (c - n) else None)
+
+-- another column of the same row, and another row of the same column; undefined off the screen
+abbrev pub moved_to_column : ℕ → ℕ → TerminalState → ℕ → Option TerminalState
+moved_to_column rows columns state column = from_place state.spot (λ r _. moved_to rows columns state r column)
+
+abbrev pub moved_to_row : ℕ → ℕ → TerminalState → ℕ → Option TerminalState
+moved_to_row rows columns state row = from_place state.spot (λ _ c. moved_to rows columns state row c)
+
 -- some places are erased to blanks without attributes, in default colours; the cursor stays
 abbrev pub erased : ℕ → ℕ → (ℕ → ℕ → Bool) → TerminalState → TerminalState
 erased rows columns inside state = record state { grid = grid_filled rows columns inside (λ _ _. blank) (grid_at blank state.grid) }
@@ -80,6 +95,10 @@ erased rows columns inside state = record state { grid = grid_filled rows column
 -- the places from one on to the end of the screen
 abbrev pub is_from_place : ℕ → ℕ → ℕ → ℕ → Bool
 is_from_place row column r c = nat_lt row r || (r == row && nat_le column c)
+
+-- the places from the cursor to the end of the line are erased
+abbrev pub rest_of_line_erased : ℕ → ℕ → TerminalState → Option TerminalState
+rest_of_line_erased rows columns state = from_place state.spot (λ r c. Some (erased rows columns (is_in_run r c columns) state))
 
 -- so many characters from the cursor on are erased; undefined past the end of the line
 abbrev pub characters_erased : ℕ → ℕ → TerminalState → ℕ → Option TerminalState

@@ -1,39 +1,52 @@
--- What each operation does to the state of a terminal. terminfo(5), 'Basic Capabilities',
--- 'Cursor Motions', 'Area Clears' and 'Highlighting'.
-use Rattle.std.specs.Prelude.{ℕ, ◌==◌, ◌&&◌, Bool, true, nat_lt, List, [], ◌∷◌, Option, Some, None, option_and_then, bit_and, if◌then◌else◌}
-use Rattle.std.specs.List.{list_any}
-use Rattle.scr_cells.specs.Attributes.{all_attributes}
-use Rattle.scr_cells.specs.CellViews.{is_character}
-use Rattle.scr_cells.specs.PenViews.{is_plain_pen, plain_pen, with_attribute}
+-- What each operation does to the state of a terminal. terminfo(5), 'Basic Capabilities', 'Cursor Motions', 'Area Clears',
+-- 'Highlighting' and 'Color Handling'.
+use Rattle.std.specs.Prelude.{ℕ, ◌==◌, ◌||◌, List, [], ◌∷◌, Option, Some, None, option_and_then, if◌then◌else◌}
+use Rattle.scr_cells.specs.LookViews.{blank_grid}
+use Rattle.scr_cells.specs.PenViews.{PenView, is_plain_pen, plain_pen, with_attribute}
 use Rattle.scr_term.specs.Operations.Profiles.{ProfileView}
-use Rattle.scr_term.specs.Operations.States.{TerminalState, blank_state, character_written}
+use Rattle.scr_term.specs.Operations.States.{TerminalState, character_written, characters_erased, erased, from_place, is_from_place, moved_down, moved_left, moved_right, moved_to, moved_to_column, moved_to_row, moved_up, rest_of_line_erased}
+use Rattle.scr_term.specs.Operations.Texts.{has}
 use Rattle.scr_term.specs.declared.operations.operation.Op.{Op}
-use Rattle.scr_term.specs.declared.operations.operation.Op.TheVariants.{Move, Clear, Reset, Enter, Put}
+use Rattle.scr_term.specs.declared.operations.operation.Op.TheVariants.{Home, Move, Column, Line, Up, Down, Left, Right, Return, Clear, EraseLine, EraseBelow, EraseChars, Reset, Enter, Set, Fore, Back, Put}
 use Rattle.scr_term.specs.declared.operations.operation.Spot.TheVariants.{At}
 
--- the set has one attribute, and the terminal shows it
-abbrev pub is_shown_attribute : ℕ → ℕ → Bool
-is_shown_attribute shown set = list_any (λ a. a == set) all_attributes && (bit_and shown set == set)
+-- a motion; with an attribute or a colour on it is defined where the terminal has `msgr` alone
+abbrev pub motion_made : ProfileView → TerminalState → Option TerminalState → Option TerminalState
+motion_made profile state next = if profile.msgr || is_plain_pen state.pen then next else None
 
--- whether the terminal has the operation: its place is on the screen, its attribute is shown, its byte is a character
-abbrev pub has : ProfileView → Op → Bool
-has profile (Move r c) = nat_lt r profile.rows && nat_lt c profile.columns
-has profile Clear = true
-has profile Reset = true
-has profile (Enter a) = is_shown_attribute profile.shown a.0
-has profile (Put byte) = is_character byte
+-- an erasure; with an attribute or a colour on it is undefined
+abbrev pub erasure_made : TerminalState → Option TerminalState → Option TerminalState
+erasure_made state next = if is_plain_pen state.pen then next else None
 
--- blanks everywhere and the cursor at the first place; undefined while an attribute is on, or a colour that is not the default
-abbrev pub cleared : ProfileView → TerminalState → Option TerminalState
-cleared profile state =
-    if is_plain_pen state.pen then Some (blank_state profile.rows profile.columns) else None
+-- the line of the cursor and those below it are erased; undefined but from the first column
+abbrev pub lines_below_erased : ℕ → ℕ → TerminalState → Option TerminalState
+lines_below_erased rows columns state =
+    from_place state.spot (λ r c. if c == 0 then Some (erased rows columns (is_from_place r c) state) else None)
+
+-- another pen, with which a character can be written; undefined at the margin
+abbrev pub coloured : TerminalState → PenView → Option TerminalState
+coloured state pen = from_place state.spot (λ _ _. Some (record state { pen = pen }))
 
 -- what an operation that the terminal has does
 abbrev pub act : ProfileView → TerminalState → Op → Option TerminalState
-act profile state (Move r c) = Some (record state { spot = At r c })
-act profile state Clear = cleared profile state
+act profile state Home = motion_made profile state (moved_to profile.rows profile.columns state 0 0)
+act profile state (Move r c) = motion_made profile state (moved_to profile.rows profile.columns state r c)
+act profile state (Column c) = motion_made profile state (moved_to_column profile.rows profile.columns state c)
+act profile state (Line r) = motion_made profile state (moved_to_row profile.rows profile.columns state r)
+act profile state (Up n) = motion_made profile state (moved_up profile.rows profile.columns state n)
+act profile state (Down n) = motion_made profile state (moved_down profile.rows profile.columns state n)
+act profile state (Left n) = motion_made profile state (moved_left profile.rows profile.columns state n)
+act profile state (Right n) = motion_made profile state (moved_right profile.rows profile.columns state n)
+act profile state Return = motion_made profile state (moved_to_column profile.rows profile.columns state 0)
+act profile state Clear = erasure_made state (Some (record state { grid = blank_grid profile.rows profile.columns; spot = At 0 0 }))
+act profile state EraseLine = erasure_made state (rest_of_line_erased profile.rows profile.columns state)
+act profile state EraseBelow = erasure_made state (lines_below_erased profile.rows profile.columns state)
+act profile state (EraseChars n) = erasure_made state (characters_erased profile.rows profile.columns state n)
 act profile state Reset = Some (record state { pen = plain_pen })
 act profile state (Enter a) = Some (record state { pen = with_attribute state.pen a.0 })
+act profile state (Set a) = Some (record state { pen = record plain_pen { attrs = a.0 } })
+act profile state (Fore n) = coloured state (record state.pen { foreground = Some n })
+act profile state (Back n) = coloured state (record state.pen { background = Some n })
 act profile state (Put byte) = character_written profile.columns state byte
 
 -- the state after an operation, or none where it is undefined

@@ -1,33 +1,132 @@
--- The bytes of each operation on the bundled ECMA-48 entry. ECMA-48, 8.3: CUP, ED, SGR.
-use Rattle.std.specs.Prelude.{ℕ, ◌+◌, ◌==◌, List, [], ◌∷◌, ◌++◌, if◌then◌else◌, codes}
-use Rattle.std.specs.List.{flat_map}
-use Rattle.std.specs.Fmt.{decimal}
-use Rattle.scr_cells.specs.Attributes.{standout, underline, reverse, blink, dim, bold, invis}
-use Rattle.scr_term.specs.Operations.Profiles.{ProfileView}
+-- What each operation sends: a character, or the texts of capabilities with their parameters. terminfo(5), 'Basic
+-- Capabilities', 'Cursor Motions', 'Area Clears', 'Highlighting' and 'Color Handling'.
+use Rattle.std.specs.Prelude.{ℕ, ◌==◌, ◌&&◌, Bool, true, false, nat_lt, nat_le, ℤ, pos, List, [], ◌∷◌, ◌++◌, map, take, replicate, Option, Some, None, bit_and, if◌then◌else◌}
+use Rattle.std.specs.List.{flat_map, list_any}
+use Rattle.scr_cells.specs.Attributes.{all_attributes, standout, underline, reverse, blink, dim, bold, invis}
+use Rattle.scr_cells.specs.CellViews.{is_character}
+use Rattle.ti_param.specs.States.{Outcome}
+use Rattle.ti_param.specs.Tree.{Tree, start, value}
+use Rattle.scr_term.specs.declared.operations.capability.Capability.{Capability}
+use Rattle.scr_term.specs.declared.operations.capability.Capability.TheVariants as capability
 use Rattle.scr_term.specs.declared.operations.operation.Op.{Op}
-use Rattle.scr_term.specs.declared.operations.operation.Op.TheVariants.{Move, Clear, Reset, Enter, Put}
+use Rattle.scr_term.specs.declared.operations.operation.Op.TheVariants.{Home, Move, Column, Line, Up, Down, Left, Right, Return, Clear, EraseLine, EraseBelow, EraseChars, Reset, Enter, Set, Fore, Back, Put}
+use Rattle.scr_term.specs.declared.operations.pieces.Piece.{Piece}
+use Rattle.scr_term.specs.declared.operations.pieces.Piece.TheVariants.{Character, Text}
+use Rattle.scr_term.specs.Operations.Profiles.{ProfileView, entering, has_colours, is_shown, is_there, program_of, shown_set}
 
--- a control sequence: ESC [, parameters, and the final byte that says which it is
-abbrev pub control_sequence : List ℕ → ℕ → List ℕ
-control_sequence parameters final = 27 ∷ 91 ∷ parameters ++ final ∷ []
+-- the nine parameters of a text, of which these are the first and the others are 0
+abbrev pub nine : List ℤ → List ℤ
+nine first = take 9 (first ++ replicate 9 (pos 0))
 
--- the SGR parameter that turns an attribute on; standout is shown as reverse
-abbrev pub rendition_of : ℕ → List ℕ
-rendition_of a = if a == standout then codes "7" else
-    (if a == underline then codes "4" else
-    (if a == reverse then codes "7" else
-    (if a == blink then codes "5" else
-    (if a == dim then codes "2" else
-    (if a == bold then codes "1" else
-    (if a == invis then codes "8" else []))))))
+-- the text of a capability without parameters, with a number, and with two
+abbrev pub text : Capability → Piece
+text capability = Text capability (nine [])
 
--- cup, clear, sgr0, the strings that enter an attribute, and a character
-abbrev pub bytes_of : ProfileView → Op → List ℕ
-bytes_of profile (Move r c) = control_sequence (decimal (r + 1) ++ 59 ∷ decimal (c + 1)) 72
-bytes_of profile Clear = control_sequence [] 72 ++ control_sequence (codes "2") 74
-bytes_of profile Reset = control_sequence (codes "0") 109
-bytes_of profile (Enter a) = control_sequence (rendition_of a.0) 109
-bytes_of profile (Put byte) = byte ∷ []
+abbrev pub text_of_one : Capability → ℕ → Piece
+text_of_one capability n = Text capability (nine (pos n ∷ []))
+
+abbrev pub text_of_two : Capability → ℕ → ℕ → Piece
+text_of_two capability n m = Text capability (nine (pos n ∷ pos m ∷ []))
+
+-- a motion by one place where the terminal has a text for it, else by a number of places
+abbrev pub motion : ProfileView → Capability → Capability → ℕ → Piece
+motion profile one many n = if n == 1 && is_there profile one then text one else text_of_one many n
+
+-- 1 for an attribute of a set
+abbrev pub one_if_in : ℕ → ℕ → ℤ
+one_if_in set attribute = if bit_and set attribute == attribute then pos 1 else pos 0
+
+-- the parameters of `sgr`: one for each attribute in its order, and none for protected and alternate characters
+abbrev pub renditions_of : ℕ → List ℤ
+renditions_of set = nine (map (one_if_in set) (standout ∷ underline ∷ reverse ∷ blink ∷ dim ∷ bold ∷ invis ∷ []))
+
+-- what an operation sends, or sends first
+abbrev pub first_piece : ProfileView → Op → Piece
+first_piece profile Home = text capability.Home
+first_piece profile (Move r c) = text_of_two capability.Cup r c
+first_piece profile (Column c) = text_of_one capability.Hpa c
+first_piece profile (Line r) = text_of_one capability.Vpa r
+first_piece profile (Up n) = motion profile capability.Cuu1 capability.Cuu n
+first_piece profile (Down n) = motion profile capability.Cud1 capability.Cud n
+first_piece profile (Left n) = motion profile capability.Cub1 capability.Cub n
+first_piece profile (Right n) = motion profile capability.Cuf1 capability.Cuf n
+first_piece profile Return = text capability.Cr
+first_piece profile Clear = text capability.Clear
+first_piece profile EraseLine = text capability.El
+first_piece profile EraseBelow = text capability.Ed
+first_piece profile (EraseChars n) = text_of_one capability.Ech n
+first_piece profile Reset = text capability.Sgr0
+first_piece profile (Enter a) = text (entering a.0)
+first_piece profile (Set a) = Text capability.Sgr (renditions_of a.0)
+first_piece profile (Fore n) = text_of_one capability.Setaf n
+first_piece profile (Back n) = text_of_one capability.Setab n
+first_piece profile (Put byte) = Character byte
+
+-- the operations behind which the colours are the default ones
+abbrev pub resets_colours : Op → Bool
+resets_colours Reset = true
+resets_colours (Set a) = true
+resets_colours _ = false
+
+-- all that an operation sends: where there are colours, `op` makes them the default ones
+abbrev pub pieces : ProfileView → Op → List Piece
+pieces profile op =
+    first_piece profile op ∷ (if resets_colours op && has_colours profile then text capability.Op ∷ [] else [])
+
+-- a terminal can be sent each character, and the texts that it has
+abbrev pub is_sendable : ProfileView → Piece → Bool
+is_sendable profile (Character byte) = true
+is_sendable profile (Text capability parameters) = is_there profile capability
+
+-- how many places a motion or an erasure is by
+abbrev pub is_count : ℕ → Bool
+is_count n = nat_le 1 n && nat_le n 500
+
+-- the set has one attribute alone
+abbrev pub is_attribute : ℕ → Bool
+is_attribute set = list_any (λ a. a == set) all_attributes
+
+abbrev pub is_shown_colour : ProfileView → ℕ → Bool
+is_shown_colour profile n = nat_lt n 8 && has_colours profile
+
+-- the numbers of an operation are on the screen, its attributes and colours are shown, its byte is a character
+abbrev pub is_within : ProfileView → Op → Bool
+is_within profile (Move r c) = nat_lt r profile.rows && nat_lt c profile.columns
+is_within profile (Column c) = nat_lt c profile.columns
+is_within profile (Line r) = nat_lt r profile.rows
+is_within profile (Up n) = is_count n
+is_within profile (Down n) = is_count n
+is_within profile (Left n) = is_count n
+is_within profile (Right n) = is_count n
+is_within profile (EraseChars n) = is_count n
+is_within profile (Enter a) = is_attribute a.0 && is_shown profile a.0
+is_within profile (Set a) = bit_and (shown_set profile) a.0 == a.0
+is_within profile (Fore n) = is_shown_colour profile n
+is_within profile (Back n) = is_shown_colour profile n
+is_within profile (Put byte) = is_character byte
+is_within profile _ = true
+
+-- whether the terminal has the operation
+unfoldable pub has : ProfileView → Op → Bool
+has profile op = is_within profile op && is_sendable profile (first_piece profile op)
+
+-- the bytes of an outcome
+abbrev pub bytes_in : Outcome → List ℕ
+bytes_in None = []
+bytes_in (Some r) = r.0
+
+-- what a program writes for parameters, where all static variables are 0
+abbrev pub written : Option Tree → List ℤ → List ℕ
+written None parameters = []
+written (Some program) parameters = bytes_in (value program (start parameters (replicate 26 (pos 0))))
+
+abbrev pub piece_bytes : ProfileView → Piece → List ℕ
+piece_bytes profile (Character byte) = byte ∷ []
+piece_bytes profile (Text capability parameters) = written (program_of profile capability) parameters
+
+-- the bytes that are sent for an operation
+unfoldable pub bytes_of : ProfileView → Op → List ℕ
+bytes_of profile op = flat_map (piece_bytes profile) (pieces profile op)
 
 -- the bytes of operations one after another
 abbrev pub all_bytes : ProfileView → List Op → List ℕ

@@ -4,8 +4,10 @@ ghost use Rattle.scr_cells.specs.CellViews.{IsCharacter};
 ghost use Rattle.scr_cells.specs.Grids.{grid_at, grid_filled, grid_row, is_in_run};
 ghost use Rattle.scr_cells.specs.LookViews.{IsLook, LookView, blank};
 ghost use Rattle.scr_cells.specs.PictureViews.{IsPlace};
-ghost use Rattle.scr_term.specs.Operations.States.{IsShownPen, IsSpot, character_written, full_profile, is_from_place};
-ghost use Rattle.scr_term.specs.Code.Changes.{IsChange, IsDisplay, blank_display, changed, gone_on};
+ghost use Rattle.scr_term.specs.Operations.Abilities.{full_abilities};
+ghost use Rattle.scr_term.specs.Operations.States.{IsShownPen, IsSpot, character_written, is_from_place};
+ghost use Rattle.scr_term.specs.Code.Changes.{IsChange, changed};
+ghost use Rattle.scr_term.specs.Displays.{IsDisplay, blank_display, gone_on};
 
 use crate::Spot;
 use crate::displays::changes::Change;
@@ -22,7 +24,7 @@ pub(crate) struct Display {
 }
 
 impl Model for Display {
-    ghost use Rattle.scr_term.specs.Code.Changes.{DisplayView, IsDisplay};
+    ghost use Rattle.scr_term.specs.Displays.{DisplayView, IsDisplay};
 
     ghost Value = { DisplayView };
 
@@ -87,7 +89,7 @@ impl Display {
     /// What the next character is written with.
     pub(crate) fn pen(&self) -> Pen
         ensures value { result ≡ self.now.state.pen }
-        ensures shown { IsShownPen (full_profile self.now.rows self.now.columns) result }
+        ensures shown { IsShownPen (full_abilities self.now.rows self.now.columns) result }
     {
         self.pen
     }
@@ -124,6 +126,10 @@ impl Display {
             Change::ErasedRun(row, from, end) => erase_run(&mut self.grid, row, from, end),
             Change::ErasedFrom(row, column) => erase_from(&mut self.grid, row, column),
             Change::ErasedAll => self.grid.fill_every(Look::blank()),
+            Change::Cleared => {
+                self.grid.fill_every(Look::blank());
+                self.spot = Spot::At(0, 0);
+            }
             Change::Rendered(pen) => self.pen = pen,
         }
     }

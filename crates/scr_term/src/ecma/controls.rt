@@ -2,14 +2,18 @@
 //! changes are made by `displays`.
 ghost use Rattle.std.specs.Prelude.{◌≡◌, ◌≤◌, ℕ, List, ◌∷◌, None, option_and_then, option_map, IfSome, unwrap_or};
 ghost use Rattle.scr_cells.specs.PenViews.{IsColour, with_attribute};
-ghost use Rattle.scr_term.specs.Operations.States.{IsShownPen, IsSpot, full_profile};
+ghost use Rattle.scr_term.specs.Operations.Abilities.{full_abilities};
+ghost use Rattle.scr_term.specs.Operations.States.{IsShownPen, IsSpot};
 ghost use Rattle.scr_term.specs.Ecma.Units.{Control, Sequence};
-ghost use Rattle.scr_term.specs.Ecma.Meanings.{meaning, choice_of, control_character, control_function, count_of, cursor_at, cursor_backward, cursor_character_absolute, cursor_down, cursor_forward, cursor_position, cursor_up, erase_in_line, erase_in_page, line_position_absolute, rendition, rendition_attribute, renditions};
+ghost use Rattle.scr_term.specs.Ecma.Meanings.{meaning, choice_of, control_character, control_function, count_of, cursor_at, cursor_character_absolute, cursor_position, erase_in_line, erase_in_page, line_position_absolute, rendition, rendition_attribute, renditions};
 ghost use Rattle.scr_term.specs.Code.Changes.{IsChange, Makes, MakesAt, MakesWith};
 ghost use Rattle.scr_term.specs.Code.Readings.{IsReading};
 
 use crate::Spot;
-use crate::displays::{Change, characters_erased, moved_to};
+use crate::displays::{
+    Change, characters_erased, moved_down, moved_left, moved_right, moved_to, moved_to_column,
+    moved_to_row, moved_up, rest_of_line_erased,
+};
 use crate::ecma::parameters::parameters;
 use crate::ecma::readings::Reading;
 use bitflags::Flags;
@@ -25,7 +29,7 @@ pub(crate) fn control_sequence(
     last: u8,
 ) -> Option<Change>
     requires spot { IsSpot size.rows size.columns spot }
-    requires shown { IsShownPen (full_profile size.rows size.columns) pen }
+    requires shown { IsShownPen (full_abilities size.rows size.columns) pen }
     requires sequence { IsReading part.now last Reading.Last }
     ensures value { (ps : List ℕ) → part.now ≡ 27 ∷ 91 ∷ ps → MakesWith size.rows size.columns spot pen result (λ state. meaning size.rows size.columns state (Sequence ps last)) }
     ensures change { IfSome result (IsChange size.rows size.columns) }
@@ -40,9 +44,9 @@ pub(crate) fn control_character(size: Size, spot: Spot, byte: u8) -> Option<Chan
     ensures value { MakesAt size.rows size.columns spot result (λ state. meaning size.rows size.columns state (Control byte)) }
     ensures change { IfSome result (IsChange size.rows size.columns) }
 {
-    match (byte, spot) {
-        (0x08, _) => cursor_backward(size, spot, 1),
-        (0x0D, Spot::At(row, _)) => moved_to(size, row, 0),
+    match byte {
+        0x08 => moved_left(size, spot, 1),
+        0x0D => moved_to_column(size, spot, 0),
         _ => None,
     }
 }
@@ -75,65 +79,12 @@ fn choice_of(parameters: &[Option<u16>]) -> Option<u32>
     }
 }
 
-/// CUU: up (ECMA-48, 8.3.22).
-fn cursor_up(size: Size, spot: Spot, count: u32) -> Option<Change>
-    requires { IsSpot size.rows size.columns spot }
-    ensures value { MakesAt size.rows size.columns spot result (λ state. cursor_up size.rows size.columns state count) }
-    ensures change { IfSome result (IsChange size.rows size.columns) }
-{
-    match spot {
-        Spot::At(row, column) if count <= row => moved_to(size, row - count, column),
-        _ => None,
-    }
-}
-
-/// CUD: down (ECMA-48, 8.3.19).
-fn cursor_down(size: Size, spot: Spot, count: u32) -> Option<Change>
-    requires spot { IsSpot size.rows size.columns spot }
-    requires few { count ≤ 65535 }
-    ensures value { MakesAt size.rows size.columns spot result (λ state. cursor_down size.rows size.columns state count) }
-    ensures change { IfSome result (IsChange size.rows size.columns) }
-{
-    match spot {
-        Spot::At(row, column) => moved_to(size, row + count, column),
-        _ => None,
-    }
-}
-
-/// CUF: right (ECMA-48, 8.3.20).
-fn cursor_forward(size: Size, spot: Spot, count: u32) -> Option<Change>
-    requires spot { IsSpot size.rows size.columns spot }
-    requires few { count ≤ 65535 }
-    ensures value { MakesAt size.rows size.columns spot result (λ state. cursor_forward size.rows size.columns state count) }
-    ensures change { IfSome result (IsChange size.rows size.columns) }
-{
-    match spot {
-        Spot::At(row, column) => moved_to(size, row, column + count),
-        _ => None,
-    }
-}
-
-/// CUB: left (ECMA-48, 8.3.18).
-fn cursor_backward(size: Size, spot: Spot, count: u32) -> Option<Change>
-    requires { IsSpot size.rows size.columns spot }
-    ensures value { MakesAt size.rows size.columns spot result (λ state. cursor_backward size.rows size.columns state count) }
-    ensures change { IfSome result (IsChange size.rows size.columns) }
-{
-    match spot {
-        Spot::At(row, column) if count <= column => moved_to(size, row, column - count),
-        _ => None,
-    }
-}
-
 /// CHA: a column of the same line, from 1 (ECMA-48, 8.3.9).
 fn cursor_character_absolute(size: Size, spot: Spot, column: u32) -> Option<Change>
     ensures value { MakesAt size.rows size.columns spot result (λ state. cursor_character_absolute size.rows size.columns state column) }
     ensures change { IfSome result (IsChange size.rows size.columns) }
 {
-    match spot {
-        Spot::At(row, _) => moved_to(size, row, column.saturating_sub(1)),
-        _ => None,
-    }
+    moved_to_column(size, spot, column.saturating_sub(1))
 }
 
 /// VPA: a line, from 1, and the same column (ECMA-48, 8.3.158).
@@ -141,10 +92,7 @@ fn line_position_absolute(size: Size, spot: Spot, row: u32) -> Option<Change>
     ensures value { MakesAt size.rows size.columns spot result (λ state. line_position_absolute size.rows size.columns state row) }
     ensures change { IfSome result (IsChange size.rows size.columns) }
 {
-    match spot {
-        Spot::At(_, column) => moved_to(size, row.saturating_sub(1), column),
-        _ => None,
-    }
+    moved_to_row(size, spot, row.saturating_sub(1))
 }
 
 /// The cursor at a row and a column, which count from 1.
@@ -190,9 +138,10 @@ fn erase_in_line(size: Size, spot: Spot, choice: u32) -> Option<Change>
     ensures value { MakesAt size.rows size.columns spot result (λ state. erase_in_line size.rows size.columns state choice) }
     ensures change { IfSome result (IsChange size.rows size.columns) }
 {
-    match (choice, spot) {
-        (0, Spot::At(row, column)) => Some(Change::ErasedRun(row, column, size.columns)),
-        _ => None,
+    if choice == 0 {
+        rest_of_line_erased(size, spot)
+    } else {
+        None
     }
 }
 
@@ -238,7 +187,8 @@ fn renditions(mut pen: Pen, parameters: &[Option<u16>]) -> Option<Pen>
     Some(pen)
 }
 
-/// What a control sequence changes, by its final byte; `None` where it is undefined (ECMA-48, 8.3).
+/// What a control sequence changes, by its final byte: CUU, CUD, CUF, CUB, CHA, CUP, ED, EL, ECH, VPA, SGR; `None` where it is
+/// undefined (ECMA-48, 8.3).
 #[tactic(auto, unfolding(crate::specs::Ecma::Meanings::control_function))]
 fn control_function(
     size: Size,
@@ -248,15 +198,15 @@ fn control_function(
     last: u8,
 ) -> Option<Change>
     requires spot { IsSpot size.rows size.columns spot }
-    requires shown { IsShownPen (full_profile size.rows size.columns) pen }
+    requires shown { IsShownPen (full_abilities size.rows size.columns) pen }
     ensures value { MakesWith size.rows size.columns spot pen result (λ state. control_function size.rows size.columns state parameters.now last) }
     ensures change { IfSome result (IsChange size.rows size.columns) }
 {
     match last {
-        b'A' => cursor_up(size, spot, count_of(parameters)?),
-        b'B' => cursor_down(size, spot, count_of(parameters)?),
-        b'C' => cursor_forward(size, spot, count_of(parameters)?),
-        b'D' => cursor_backward(size, spot, count_of(parameters)?),
+        b'A' => moved_up(size, spot, count_of(parameters)?),
+        b'B' => moved_down(size, spot, count_of(parameters)?),
+        b'C' => moved_right(size, spot, count_of(parameters)?),
+        b'D' => moved_left(size, spot, count_of(parameters)?),
         b'G' => cursor_character_absolute(size, spot, count_of(parameters)?),
         b'H' => cursor_position(size, parameters),
         b'J' => erase_in_page(size, spot, choice_of(parameters)?),

@@ -13,21 +13,14 @@ ghost use Rattle.scr_term.specs.Ecma.Screens.{IsScreen, IsFed, blank_screen};
 ghost use Rattle.scr_term.specs.Code.Changes.{IsChange, changed};
 ghost use Rattle.scr_term.specs.Code.Readings.{acted};
 
-use crate::Spot;
 use crate::displays::{Change, Display};
 use crate::ecma::controls::{control_character, control_sequence};
 use crate::ecma::readings::{Reading, read_byte};
+use crate::{Spot, Undefined};
 use arrayvec::ArrayVec;
 use scr_cells::{Attrs, Look, NoMemory, Size};
 use std::alloc::Global;
 use std::marker::Model;
-use thiserror::Error;
-
-/// The text has something that is undefined (ECMA-48): a control function that this screen does not
-/// know, one that leads off the screen, or a byte that belongs to no unit.
-#[derive(Clone, Copy, Debug, PartialEq, Eq, Error)]
-#[error("undefined")]
-pub struct Undefined;
 
 /// A screen that is fed an ECMA-48 text in pieces, and shows what the text does.
 ///

@@ -8,15 +8,43 @@ use std::marker::Model;
 /// Rows and columns count from 0 at the top left.
 #[derive(Clone, Copy, Debug, PartialEq, Eq)]
 pub enum Op {
+    /// `home`: the cursor goes to the first place.
+    Home,
     /// `cup`: the cursor goes to a row and a column.
     Move(u32, u32),
+    /// `hpa`: the cursor goes to a column of the same row.
+    Column(u32),
+    /// `vpa`: the cursor goes to a row, in the same column.
+    Line(u32),
+    /// `cuu1` or `cuu`: the cursor goes so many rows up, 1 to 500.
+    Up(u32),
+    /// `cud1` or `cud`: the cursor goes so many rows down, 1 to 500.
+    Down(u32),
+    /// `cub1` or `cub`: the cursor goes so many columns to the left, 1 to 500.
+    Left(u32),
+    /// `cuf1` or `cuf`: the cursor goes so many columns to the right, 1 to 500.
+    Right(u32),
+    /// `cr`: the cursor goes to the first column of the same row.
+    Return,
     /// `clear`: the screen becomes blank and the cursor goes to the first place.
     Clear,
-    /// `sgr0`: no attribute is on any more.
+    /// `el`: the row becomes blank from the cursor on.
+    EraseLine,
+    /// `ed`: from the first column, the row of the cursor and those below it become blank.
+    EraseBelow,
+    /// `ech`: so many places of the row become blank from the cursor on, 1 to 500.
+    EraseChars(u32),
+    /// `sgr0`, and `op` where colours are shown: no attribute is on any more, and the colours are the default ones.
     Reset,
     /// `smso`, `smul`, `rev`, `blink`, `dim`, `bold`, `invis`: one more attribute is on.
     Enter(Attrs),
-    /// A character, 32 to 126: it is written with the attributes that are on.
+    /// `sgr`, and `op` where colours are shown: these attributes and no others are on, and the colours are the default ones.
+    Set(Attrs),
+    /// `setaf`: what is written has this foreground, 0 to 7.
+    Fore(u8),
+    /// `setab`: what is written has this background, 0 to 7.
+    Back(u8),
+    /// A character, 32 to 126: it is written with the attributes that are on and the colours that are set.
     Put(u8),
 }
 

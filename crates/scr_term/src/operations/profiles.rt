@@ -1,50 +1,49 @@
-//! What is known of a terminal, and which operations it has.
-ghost use Rattle.std.specs.Prelude.{◌≡◌, ◌==◌, IfErr, IfOk};
-ghost use Rattle.std.specs.List.{list_any};
-ghost use Rattle.scr_cells.specs.Attributes.{all_attributes};
-ghost use Rattle.scr_term.specs.Operations.Profiles.{IsEcma48, IsProfile};
-ghost use Rattle.scr_term.specs.Operations.Steps.{has};
+//! What is known of a terminal, and which operations it has. How an entry becomes a profile is in `admission`, what an
+//! operation sends in `pieces`, and its bytes and their number are in `rendering`.
+ghost use Rattle.std.specs.Prelude.{◌≡◌, ◌≤◌, length};
+ghost use Rattle.scr_term.specs.declared.operations.capability.Capability.TheVariants.{Sgr0};
+ghost use Rattle.scr_term.specs.declared.operations.operation.Op.{Op};
+ghost use Rattle.scr_term.specs.Operations.Profiles.{IsProfile, has_colours, is_shown, is_there, shown_set};
+ghost use Rattle.scr_term.specs.Operations.Texts.{bytes_of, has, is_attribute, is_count, is_sendable, is_within};
 
-use crate::{Op, ProfileFault};
+use crate::Op;
+use crate::operations::capability::Capability;
+use crate::operations::pieces::{Piece, entering};
 use bitflags::Flags;
 use scr_cells::{Attrs, Size, is_character};
-use std::alloc::Global;
 use std::marker::Model;
+use ti_param::Program;
 
-/// What is known of a terminal: its size, the attributes that it shows, and that it shows no colours (terminfo(5)). The
-/// texts of its operations are those of the bundled ECMA-48 entry.
+/// What is known of a terminal from its terminfo entry and its size: which operations it has, their texts, and which
+/// attributes and colours it shows (terminfo(5)).
 #[derive(Drop)]
 pub struct Profile {
-    size: Size,
-    shown: Attrs,
+    pub(crate) size: Size,
+    // By the number of the capability.
+    pub(crate) programs: Vec<Option<Program>>,
+    pub(crate) msgr: bool,
+    pub(crate) palette: bool,
+    pub(crate) shown: Attrs,
+    pub(crate) colours: bool,
+    pub(crate) longest: usize,
 }
 
 impl Model for Profile {
-    ghost use Rattle.std.specs.Prelude.{false};
-    ghost use Rattle.scr_term.specs.Operations.Profiles.{ProfileView, IsProfile};
+    ghost use Rattle.scr_term.specs.Operations.Profiles.{ProfileView};
+    ghost use Rattle.scr_term.specs.Code.Kept.{IsKept, profile_code};
+    ghost use Rattle.ti_param.specs.Code.Trees.{tree_code};
+    ghost use Rattle.ti_param.specs.contracts.tokens.Token as token;
 
     ghost Value = { ProfileView };
 
-    ghost view = { λ a. record { rows = a.size.rows; columns = a.size.columns; shown = a.shown.0; colours = false } };
+    ghost coded = { profile_code (tree_code token.the_row.coded) };
 
-    ghost invariant = { λ a. IsProfile (record { rows = a.size.rows; columns = a.size.columns; shown = a.shown.0; colours = false }) };
+    ghost view = { λ a. record { rows = a.size.rows; columns = a.size.columns; programs = a.programs.items; msgr = a.msgr; palette = a.palette } };
+
+    ghost invariant = { λ a. IsKept (record { rows = a.size.rows; columns = a.size.columns; programs = a.programs.items; msgr = a.msgr; palette = a.palette }) a.shown.0 a.colours a.longest };
 }
 
 impl Profile {
-    /// The profile of the bundled ECMA-48 entry on a screen of this size. The entry has no other fault: the only
-    /// refusal is `NoMemory`.
-    pub fn ecma48(_alloc: Global, size: Size) -> Result<Profile, ProfileFault>
-        ensures entry { IfOk result IsEcma48 }
-        ensures rows { IfOk result (λ profile. profile.rows ≡ size.rows) }
-        ensures columns { IfOk result (λ profile. profile.columns ≡ size.columns) }
-        ensures memory { IfErr result (λ fault. fault ≡ ProfileFault.NoMemory) }
-    {
-        Ok(Profile {
-            size,
-            shown: Attrs::EVERY,
-        })
-    }
-
     /// How many rows and columns the screen has.
     pub fn size(&self) -> Size
         ensures rows { result.rows ≡ self.now.rows }
@@ -54,30 +53,110 @@ impl Profile {
         self.size
     }
 
-    /// The attributes that the terminal shows; others are dropped.
+    /// The attributes that the terminal shows: those that it can turn on, if it can turn all off. Others are dropped.
     pub fn shows(&self) -> Attrs
-        ensures { result.0 ≡ self.now.shown }
+        ensures { result.0 ≡ shown_set self.now }
     {
         self.shown
     }
 
-    /// Whether the terminal has an operation: the place is on the screen, the attribute is a single
-    /// one that is shown, the byte is 32 to 126.
+    /// Whether the terminal shows colours: it can set both, make both the default ones again and turn attributes off, and
+    /// has at least eight colours and 64 pairs and no attribute that excludes a colour (`ncv`). Where it shows none, all
+    /// is seen in the default colours.
+    pub fn colours(&self) -> bool
+        ensures { result ≡ has_colours self.now }
+    {
+        self.colours
+    }
+
+    /// A number of bytes that the text of no operation exceeds, at most 2,048.
+    pub fn longest(&self) -> usize
+        ensures prices { (op : Op) → length (bytes_of self.now op) ≤ result }
+        ensures few { result ≤ 2048 }
+    {
+        self.longest
+    }
+
+    /// Whether the terminal has an operation: its numbers are on the screen (a count is 1 to 500), its attributes and
+    /// colours are shown (that of `Enter` is a single one), its byte is 32 to 126, and the entry has its text.
+    #[tactic(auto, unfolding(crate::specs::Operations::Texts::has))]
     pub fn has(&self, op: Op) -> bool
         ensures { result ≡ has self.now op }
     {
+        self.is_within(op) && self.is_sendable(self.first_piece(op))
+    }
+
+    /// Whether the entry has a text for a capability.
+    pub(crate) fn is_there(&self, capability: Capability) -> bool
+        ensures { result ≡ is_there self.now capability }
+    {
+        self.programs[capability.ordinal()].is_some()
+    }
+
+    /// Whether the terminal can turn attributes off and make its colours the default ones (`sgr0`). Where it cannot, it
+    /// shows no attribute and no colour.
+    pub fn can_reset(&self) -> bool
+        ensures { result ≡ is_there self.now Sgr0 }
+    {
+        self.is_there(Capability::Sgr0)
+    }
+
+    /// Whether motions are defined while an attribute or a colour is on (`msgr`).
+    pub fn moves_in_any_rendition(&self) -> bool
+        ensures { result ≡ self.now.msgr }
+    {
+        self.msgr
+    }
+
+    // Whether the numbers of an operation are on the screen, its attributes and colours shown, its byte a character.
+    fn is_within(&self, op: Op) -> bool
+        ensures { result ≡ is_within self.now op }
+    {
         match op {
             Op::Move(row, column) => row < self.size.rows && column < self.size.columns,
-            Op::Clear | Op::Reset => true,
-            Op::Enter(attribute) => is_attribute(attribute) && self.shown.contains(attribute),
+            Op::Column(column) => column < self.size.columns,
+            Op::Line(row) => row < self.size.rows,
+            Op::Up(count)
+            | Op::Down(count)
+            | Op::Left(count)
+            | Op::Right(count)
+            | Op::EraseChars(count) => is_count(count),
+            Op::Enter(attribute) => is_attribute(attribute) && self.is_shown(attribute),
+            Op::Set(attributes) => self.shown.contains(attributes),
+            Op::Fore(colour) | Op::Back(colour) => colour < 8 && self.colours,
             Op::Put(byte) => is_character(byte),
+            _ => true,
+        }
+    }
+
+    // Whether an attribute can be turned on, and all can be turned off.
+    fn is_shown(&self, attribute: Attrs) -> bool
+        ensures { result ≡ is_shown self.now attribute.0 }
+    {
+        self.is_there(Capability::Sgr0) && self.is_there(entering(attribute))
+    }
+
+    // Whether the terminal can be sent a piece.
+    fn is_sendable(&self, piece: Piece) -> bool
+        ensures { result ≡ is_sendable self.now piece }
+    {
+        match piece {
+            Piece::Character(_) => true,
+            Piece::Text(capability, _) => self.is_there(capability),
         }
     }
 }
 
+// Whether a motion or an erasure can be by so many places.
+fn is_count(count: u32) -> bool
+    ensures { result ≡ is_count count }
+{
+    (1..=500).contains(&count)
+}
+
 // Whether the set has one attribute alone.
 fn is_attribute(set: Attrs) -> bool
-    ensures { result ≡ list_any (λ a. a == set.0) all_attributes }
+    ensures { result ≡ is_attribute set.0 }
 {
     Attrs::EACH.contains(&set)
 }

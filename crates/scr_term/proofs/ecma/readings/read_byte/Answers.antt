@@ -1,7 +1,7 @@
 use Rattle.std.proofs.Common.{◌⊎◌, ◌<◌, ◌≤◌, sym, ◌∙◌, arith}
 use Rattle.std.proofs.lemmas.List.{nil_from_length}
 use Rattle.std.proofs.lemmas.Bool.Decides.{nat_tests}
-use Rattle.scr_term.proofs.EcmaReadingLaws.{first_escape, first_control, first_other, second_bracket, second_other, later_parameter, later_last, later_full, later_other, long_waits}
+use Rattle.scr_term.proofs.EcmaReadingLaws.{first_escape, second_bracket, second_other, later_parameter, later_last, later_full, later_other, long_waits}
 use Rattle.scr_term.proofs.ecma.readings.read_byte.Goals as goal
 
 pub returns-then-byte-eq27 : goal.returns-then-byte-eq27

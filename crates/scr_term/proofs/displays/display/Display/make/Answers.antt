@@ -1,7 +1,7 @@
 use Rattle.std.proofs.Common.{◌∙◌, ap}
 use Rattle.scr_cells.specs.Grids.{grid_of, is_in_run}
 use Rattle.scr_cells.specs.LookViews.{LookView}
-use Rattle.scr_term.specs.Code.Changes.{DisplayView}
+use Rattle.scr_term.specs.Displays.{DisplayView}
 use Rattle.scr_term.specs.Operations.States.{is_from_place}
 use Rattle.scr_term.proofs.DisplayViewLaws.{blanked_is_display, cleared_is_display}
 use Rattle.scr_term.proofs.displays.display.Display.make.Goals as goal

@@ -1,6 +1,6 @@
 use Rattle.std.proofs.Common.{sym, subst, arith}
 use Rattle.std.proofs.lemmas.Bool.Decides.{nat_tests}
-use Rattle.scr_term.specs.Code.Changes.{DisplayView}
+use Rattle.scr_term.specs.Displays.{DisplayView}
 use Rattle.scr_term.specs.Operations.States.{IsSpot}
 use Rattle.scr_term.proofs.DisplayViewLaws.{written_is_display}
 use Rattle.scr_term.proofs.displays.display.Display.write.Goals as goal

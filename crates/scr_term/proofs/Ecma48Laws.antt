@@ -1,0 +1,155 @@
+-- The profile of the bundled entry, computed.
+use Rattle.std.proofs.Common.{◌≡◌, ◌∙◌, ℕ, ◌≤◌, Bool, true, false, ◌&&◌, nat_le, refl, sym, ap, subst, arith, List, [], ◌∷◌, All, map, length, Option, Some, None, IfSome, option_and_then}
+use Rattle.std.specs.List.{list_all}
+use Rattle.std.proofs.lemmas.Bool.Decides.{nat_tests}
+use Rattle.std.proofs.lemmas.List.Elements.{All-nil, All-cons}
+use Rattle.scr_cells.specs.PictureViews.{IsSize}
+use Rattle.ti_caps.specs.Bundled.{IsBundled, bundled_texts}
+use Rattle.ti_caps.specs.Description.{Description}
+use Rattle.ti_caps.specs.declared.slots.TheConstants.{MSGR, COLORS, PAIRS, NCV}
+use Rattle.ti_param.specs.Parsed.{parsed}
+use Rattle.ti_param.specs.Stripped.{stripped}
+use Rattle.ti_param.specs.Tree.{Tree, bound, depth}
+use Rattle.scr_term.proofs.ChoiceLaws.{both_true}
+use Rattle.scr_term.specs.declared.operations.capability.Capability.{Capability}
+use Rattle.scr_term.specs.declared.operations.capability.Capability.TheVariants.{Cr, Clear, El, Ed, Hpa, Cup, Cud1, Home, Cub1, Cuf1, Cuu1, Blink, Bold, Dim, Invis, Rev, Smso, Smul, Ech, Sgr0, Cud, Cub, Cuf, Cuu, Vpa, Sgr, Op, Setaf, Setab}
+use Rattle.scr_term.specs.Operations.Abilities.{full_abilities}
+use Rattle.scr_term.specs.Operations.Admission.{IsEcma48, admitted, has_palette, is_at_least, is_zero_or_absent, planned_program, some_text}
+use Rattle.scr_term.specs.Operations.Capabilities.{each_capability, slot_of}
+use Rattle.scr_term.specs.Operations.Ecma48.{Ecma48Laws, bundled_program, ecma48_profile}
+use Rattle.scr_term.specs.Operations.Profiles.{ProfileView, IsPlanned, IsProfile, abilities, has_colours, is_there, program_of, shown_set}
+
+-- the entry's programs
+programs_are : (entry : Description) → IsBundled entry → map (planned_program entry) each_capability ≡ map bundled_program each_capability
+programs_are entry b =
+    ap (λ f. map f each_capability)
+    (λ i capability. option_and_then parsed (option_and_then (λ text. some_text (stripped text)) (b.texts (slot_of capability).0 i)))
+
+has_a_palette : (entry : Description) → IsBundled entry → has_palette entry ≡ true
+has_a_palette entry b = λ i. is_at_least 8 (b.numbers COLORS.0 i) && is_at_least 64 (b.numbers PAIRS.0 i) && is_zero_or_absent (b.numbers NCV.0 i)
+
+made_of : (rows columns : ℕ) (entry : Description) → IsBundled entry → admitted entry rows columns ≡ ecma48_profile rows columns
+unfolding admitted ecma48_profile
+made_of rows columns entry b = λ i. record {
+  rows = rows;
+  columns = columns;
+  programs = programs_are entry b i;
+  msgr = b.flags MSGR.0 i;
+  palette = has_a_palette entry b i;
+}
+
+-- the same limits as a test
+abbrev is_planned : Option Tree → Bool
+is_planned None = true
+is_planned (Some program) = nat_le (depth program) 20 && nat_le (bound program) 1024
+
+planned_is : (program : Option Tree) → is_planned program ≡ true → IfSome program IsPlanned
+planned_is None h = tt
+planned_is (Some program) h = record { depth = grind (arith, nat_tests); bound = grind (arith, nat_tests) }
+
+all_planned : (programs : List (Option Tree)) → list_all is_planned programs ≡ true → All (λ program. IfSome program IsPlanned) programs
+all_planned [] h = All-nil (λ p. IfSome p IsPlanned)
+all_planned (program ∷ programs) h =
+    let both = both_true (is_planned program) (list_all is_planned programs) h in
+    All-cons (λ p. IfSome p IsPlanned) program programs (planned_is program both.0) (all_planned programs both.1)
+
+is_one : (rows columns : ℕ) → IsSize rows columns → IsProfile (ecma48_profile rows columns)
+unfolding ecma48_profile bundled_texts stripped parsed
+is_one rows columns size = record {
+  size = size;
+  whole = refl;
+  programs = all_planned (map bundled_program each_capability) refl;
+  cup = refl;
+  clear = refl;
+}
+
+shows_all : (rows columns : ℕ) → abilities (ecma48_profile rows columns) ≡ full_abilities rows columns
+unfolding ecma48_profile bundled_texts stripped parsed shown_set has_colours
+shows_all rows columns = refl
+
+pub made : (profile : ProfileView) → IsEcma48 profile → profile ≡ ecma48_profile profile.rows profile.columns
+made profile is = is.made ∙ made_of profile.rows profile.columns is.entry is.bundled
+
+pub is_profile : (profile : ProfileView) → IsEcma48 profile → IsProfile profile
+is_profile profile is = subst IsProfile (sym (made profile is)) (is_one profile.rows profile.columns is.size)
+
+pub ecma48_laws_hold : Ecma48Laws
+ecma48_laws_hold = record { made = made; is_profile = is_profile; can_show = shows_all }
+
+-- ---- what it has
+
+there : (rows columns : ℕ) (capability : Capability) → is_there (ecma48_profile rows columns) capability ≡ true
+unfolding ecma48_profile bundled_texts stripped parsed
+there rows columns Cr = refl
+there rows columns Clear = refl
+there rows columns El = refl
+there rows columns Ed = refl
+there rows columns Hpa = refl
+there rows columns Cup = refl
+there rows columns Cud1 = refl
+there rows columns Home = refl
+there rows columns Cub1 = refl
+there rows columns Cuf1 = refl
+there rows columns Cuu1 = refl
+there rows columns Blink = refl
+there rows columns Bold = refl
+there rows columns Dim = refl
+there rows columns Invis = refl
+there rows columns Rev = refl
+there rows columns Smso = refl
+there rows columns Smul = refl
+there rows columns Ech = refl
+there rows columns Sgr0 = refl
+there rows columns Cud = refl
+there rows columns Cub = refl
+there rows columns Cuf = refl
+there rows columns Cuu = refl
+there rows columns Vpa = refl
+there rows columns Sgr = refl
+there rows columns Op = refl
+there rows columns Setaf = refl
+there rows columns Setab = refl
+
+program_at : (rows columns : ℕ) (capability : Capability) → program_of (ecma48_profile rows columns) capability ≡ bundled_program capability
+unfolding ecma48_profile
+program_at rows columns Cr = refl
+program_at rows columns Clear = refl
+program_at rows columns El = refl
+program_at rows columns Ed = refl
+program_at rows columns Hpa = refl
+program_at rows columns Cup = refl
+program_at rows columns Cud1 = refl
+program_at rows columns Home = refl
+program_at rows columns Cub1 = refl
+program_at rows columns Cuf1 = refl
+program_at rows columns Cuu1 = refl
+program_at rows columns Blink = refl
+program_at rows columns Bold = refl
+program_at rows columns Dim = refl
+program_at rows columns Invis = refl
+program_at rows columns Rev = refl
+program_at rows columns Smso = refl
+program_at rows columns Smul = refl
+program_at rows columns Ech = refl
+program_at rows columns Sgr0 = refl
+program_at rows columns Cud = refl
+program_at rows columns Cub = refl
+program_at rows columns Cuf = refl
+program_at rows columns Cuu = refl
+program_at rows columns Vpa = refl
+program_at rows columns Sgr = refl
+program_at rows columns Op = refl
+program_at rows columns Setaf = refl
+program_at rows columns Setab = refl
+
+pub program_is : (profile : ProfileView) → IsEcma48 profile → (capability : Capability) → program_of profile capability ≡ bundled_program capability
+program_is profile is capability = ap (λ p. program_of p capability) (made profile is) ∙ program_at profile.rows profile.columns capability
+
+pub all_there : (profile : ProfileView) → IsEcma48 profile → (capability : Capability) → is_there profile capability ≡ true
+all_there profile is capability = ap (λ p. is_there p capability) (made profile is) ∙ there profile.rows profile.columns capability
+
+pub colours_are_shown : (profile : ProfileView) → IsEcma48 profile → has_colours profile ≡ true
+colours_are_shown profile is = ap has_colours (made profile is) ∙ ap (λ a. a.colours) (shows_all profile.rows profile.columns)
+
+pub every_is_shown : (profile : ProfileView) → IsEcma48 profile → shown_set profile ≡ 127
+every_is_shown profile is = ap shown_set (made profile is) ∙ ap (λ a. a.shown) (shows_all profile.rows profile.columns)

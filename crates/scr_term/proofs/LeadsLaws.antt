@@ -1,0 +1,65 @@
+-- Texts that lead from a state to another: one unit, one control sequence, and one text behind another.
+use Rattle.std.proofs.Common.{◌≡◌, ℕ, ◌≤◌, ◌^◌, ◌<◌, refl, sym, ◌∙◌, ap, arith, List, [], ◌∷◌, ◌++◌, append_assoc, length, Option, Some, None, option_and_then}
+use Rattle.std.specs.List.{flat_map, AllByRecursion}
+use Rattle.std.specs.Fmt.{decimal}
+use Rattle.std.proofs.lemmas.Fmt.{length-decimal-le}
+use Rattle.std.proofs.lemmas.List.{append-nil}
+use Rattle.std.proofs.lemmas.List.Concat.{flat_map-append}
+use Rattle.scr_term.specs.Operations.States.{TerminalState}
+use Rattle.scr_term.specs.Ecma.Units.{EcmaUnit, Sequence, spelling, IsUnit, IsDivision, IsSequence}
+use Rattle.scr_term.specs.Ecma.Meanings.{Leads, control_function, meaning, meanings, parameters_of}
+use Rattle.scr_term.proofs.BundledTextLaws.{control_sequence}
+use Rattle.scr_term.proofs.ChoiceLaws.{same_some, then_some}
+use Rattle.scr_term.proofs.Parameters.{parameter_bytes}
+
+-- a unit
+pub unit_leads : (rows columns : ℕ) (old new : TerminalState) (unit : EcmaUnit) → IsUnit unit → meaning rows columns old unit ≡ Some new → Leads rows columns old (spelling unit) new
+unit_leads rows columns old new unit is means = record {
+  units = unit ∷ [];
+  division = record { whole = sym (append-nil (spelling unit ++ []) ∙ append-nil (spelling unit)); each = (is, tt) };
+  meaning = ap (option_and_then (λ next. Some next)) means;
+}
+
+-- a control sequence, by its parameters
+pub sequence_leads : (rows columns : ℕ) (old new : TerminalState) (parameters : List ℕ) (final : ℕ) (ns : List (Option ℕ)) → IsSequence parameters final
+    → parameters_of parameters ≡ Some ns → control_function rows columns old ns final ≡ Some new → Leads rows columns old (control_sequence parameters final) new
+sequence_leads rows columns old new parameters final ns is read means =
+    unit_leads rows columns old new (Sequence parameters final) is (ap (option_and_then (λ list. control_function rows columns old list final)) read ∙ means)
+
+-- a number is parameters
+pub short_decimal : (n : ℕ) → n ≤ 501 → length (decimal n) ≤ 3
+short_decimal n few = length-decimal-le 3 n (omega arith) (omega arith) (omega arith)
+
+pub decimal_is_sequence : (n final : ℕ) → n ≤ 501 → 64 ≤ final → final ≤ 126 → IsSequence (decimal n) final
+decimal_is_sequence n final few low high = record {
+  digits = parameter_bytes n (omega arith);
+  short = omega (arith, short_decimal n few);
+  from_at_sign = low;
+  to_tilde = high;
+}
+
+-- one text behind another
+meanings-append : (rows columns : ℕ) (old next : TerminalState) (us vs : List EcmaUnit) → meanings rows columns old us ≡ Some next
+    → meanings rows columns old (us ++ vs) ≡ meanings rows columns next vs
+meanings-append rows columns old next [] vs h = ap (λ s. meanings rows columns s vs) (same_some old next h)
+meanings-append rows columns old next (u ∷ us) vs h =
+    let first = then_some (meaning rows columns old u) (λ s. meanings rows columns s us) next h in
+    ap (option_and_then (λ s. meanings rows columns s (us ++ vs))) first.1 ∙ meanings-append rows columns first.0 next us vs first.2
+
+all_units_append : (us vs : List EcmaUnit) → AllByRecursion IsUnit us → AllByRecursion IsUnit vs → AllByRecursion IsUnit (us ++ vs)
+all_units_append [] vs hu hv = hv
+all_units_append (u ∷ us) vs hu hv = (hu.0, all_units_append us vs hu.1 hv)
+
+pub leads-append : (rows columns : ℕ) (a b d : TerminalState) (x y : List ℕ) → Leads rows columns a x b → Leads rows columns b y d → Leads rows columns a (x ++ y) d
+leads-append rows columns a b d x y first second = record {
+  units = first.units ++ second.units;
+  division = record {
+    whole =
+        ap (λ t. t ++ y) (first.division.whole ∙ append-nil (flat_map spelling first.units))
+        ∙ ap (λ t. flat_map spelling first.units ++ t) second.division.whole
+        ∙ sym (append_assoc (flat_map spelling first.units) (flat_map spelling second.units) [])
+        ∙ ap (λ t. t ++ []) (sym (flat_map-append spelling first.units second.units));
+    each = all_units_append first.units second.units first.division.each second.division.each;
+  };
+  meaning = meanings-append rows columns a b first.units second.units first.meaning ∙ second.meaning;
+}

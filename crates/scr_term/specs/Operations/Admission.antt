@@ -1,0 +1,151 @@
+-- Which entries make a profile, which profile, and why others do not. terminfo(5), 'Predefined Capabilities'.
+use Rattle.std.specs.Prelude.{ℕ, ◌≡◌, ◌==◌, ◌&&◌, Bool, true, false, not, nat_lt, nat_le, List, [], ◌∷◌, map, Option, Some, None, option_and_then, option_map, if◌then◌else◌, ◌⊎◌}
+use Rattle.std.specs.Option.{is_some, is_none}
+use Rattle.scr_cells.specs.declared.sizes.Size.{Size}
+use Rattle.scr_cells.specs.PictureViews.{IsSize}
+use Rattle.ti_caps.specs.Bundled.{IsBundled}
+use Rattle.ti_caps.specs.Description.{Description, flag_at, number_at, text_at}
+use Rattle.ti_caps.specs.Table.{or_else}
+use Rattle.ti_caps.specs.declared.table.Kind.{Kind}
+use Rattle.ti_caps.specs.declared.table.Kind.TheVariants as kind
+use Rattle.ti_caps.specs.declared.table.Slot.{Slot}
+use Rattle.ti_caps.specs.declared.slots.TheConstants.{AM, XENL, HC, OS, GN, HZ, UL, XHP, XT, SAM, XMC, LINES, COLS, COLORS, PAIRS, NCV, MSGR}
+use Rattle.ti_param.specs.Parsed.{parsed}
+use Rattle.ti_param.specs.Stripped.{stripped}
+use Rattle.ti_param.specs.Tree.{Tree, bound, depth}
+use Rattle.scr_term.specs.declared.operations.capability.Capability.{Capability}
+use Rattle.scr_term.specs.declared.operations.capability.Capability.TheVariants.{Clear, Cup}
+use Rattle.scr_term.specs.declared.operations.profile_faults.ProfileFault.{ProfileFault}
+use Rattle.scr_term.specs.declared.operations.profile_faults.ProfileFault.TheVariants.{Unsuitable, AutoMargin, Missing, NoSize, BadSize, BadString, LongString, NoMemory}
+use Rattle.scr_term.specs.Operations.Capabilities.{each_capability, slot_of}
+use Rattle.scr_term.specs.Operations.Profiles.{ProfileView}
+
+-- ---- the profile
+
+-- a text with a byte in it
+abbrev pub some_text : List ℕ → Option (List ℕ)
+some_text [] = None
+some_text (byte ∷ bytes) = Some (byte ∷ bytes)
+
+-- what an entry has a terminal sent for a capability: its text without padding; none where nothing is left of it
+abbrev pub sent_text : Description → Capability → Option (List ℕ)
+sent_text entry capability = option_and_then (λ text. some_text (stripped text)) (text_at entry (slot_of capability).0)
+
+-- its program, if it is one
+abbrev pub planned_program : Description → Capability → Option Tree
+planned_program entry capability = option_and_then parsed (sent_text entry capability)
+
+-- at least eight colours and 64 pairs, and no attribute that cannot be shown with a colour
+abbrev pub is_at_least : ℕ → Option ℕ → Bool
+is_at_least least None = false
+is_at_least least (Some n) = nat_le least n
+
+abbrev pub is_zero_or_absent : Option ℕ → Bool
+is_zero_or_absent None = true
+is_zero_or_absent (Some n) = n == 0
+
+abbrev pub has_palette : Description → Bool
+has_palette entry = is_at_least 8 (number_at entry COLORS.0) && is_at_least 64 (number_at entry PAIRS.0) && is_zero_or_absent (number_at entry NCV.0)
+
+-- the profile that an entry makes on a screen of some size
+unfoldable pub admitted : Description → ℕ → ℕ → ProfileView
+admitted entry rows columns = record {
+  rows = rows;
+  columns = columns;
+  programs = map (planned_program entry) each_capability;
+  msgr = flag_at entry MSGR.0;
+  palette = has_palette entry;
+}
+
+-- ---- the refusals, in their order
+
+-- the first element of which a test says yes, and the first option that is some
+abbrev pub first_where : {A : Type 0} → (A → Bool) → List A → Option A
+first_where test [] = None
+first_where test (x ∷ xs) = if test x then Some x else first_where test xs
+
+abbrev pub first_some : {A : Type 0} → List (Option A) → Option A
+first_some [] = None
+first_some (x ∷ xs) = or_else x (first_some xs)
+
+-- whether a flag or a number is present, which no suitable terminal has
+abbrev pub is_present : Description → Kind × Slot → Bool
+is_present entry (kind.Flag, slot) = flag_at entry slot.0
+is_present entry (kind.Number, slot) = is_some (number_at entry slot.0)
+is_present entry (kind.Text, slot) = is_some (text_at entry slot.0)
+
+-- the capabilities of printing and overstriking terminals, and of others that do not show each cell for itself
+abbrev pub unsuitable_capabilities : List (Kind × Slot)
+unsuitable_capabilities =
+    (kind.Flag, HC) ∷ (kind.Flag, OS) ∷ (kind.Flag, GN) ∷ (kind.Flag, HZ) ∷ (kind.Flag, UL) ∷ (kind.Flag, XHP) ∷ (kind.Flag, XT)
+    ∷ (kind.Flag, SAM) ∷ (kind.Number, XMC) ∷ []
+
+-- a text is no parameter string, or its runs could find the stack full
+abbrev pub is_unreadable : Option Tree → Bool
+is_unreadable None = true
+is_unreadable (Some program) = nat_lt 20 (depth program)
+
+abbrev pub is_bad_string : Description → Capability → Bool
+is_bad_string entry capability = is_some (sent_text entry capability) && is_unreadable (planned_program entry capability)
+
+-- a run could write more than 1,024 bytes
+abbrev pub is_over_bound : Option Tree → Bool
+is_over_bound None = false
+is_over_bound (Some program) = nat_lt 1024 (bound program)
+
+abbrev pub is_long_string : Description → Capability → Bool
+is_long_string entry capability = is_over_bound (planned_program entry capability)
+
+-- a capability as faults name it
+abbrev pub named_text : Capability → Kind × Slot
+named_text capability = (kind.Text, slot_of capability)
+
+-- how many rows and columns there are: those that are given, else the entry's
+abbrev pub number_pair : Option ℕ → Option ℕ → Option (ℕ × ℕ)
+number_pair (Some rows) (Some columns) = Some (rows, columns)
+number_pair _ _ = None
+
+abbrev pub screen_size : Description → Option Size → Option (ℕ × ℕ)
+screen_size entry (Some size) = Some (size.rows, size.columns)
+screen_size entry None = number_pair (number_at entry LINES.0) (number_at entry COLS.0)
+
+abbrev pub is_screen_length : ℕ → Bool
+is_screen_length n = nat_le 1 n && nat_le n 500
+
+abbrev pub size_fault : Option (ℕ × ℕ) → Option ProfileFault
+size_fault None = Some NoSize
+size_fault (Some size) = if is_screen_length size.0 && is_screen_length size.1 then None else Some BadSize
+
+-- why an entry and a size make no profile, if they do not: the first of these
+abbrev pub refusals : Description → Option Size → List (Option ProfileFault)
+refusals entry size =
+    option_map Unsuitable (first_where (is_present entry) unsuitable_capabilities)
+    ∷ (if flag_at entry AM.0 && not (flag_at entry XENL.0) then Some AutoMargin else None)
+    ∷ option_map (λ c. Missing (named_text c)) (first_where (λ c. is_none (sent_text entry c)) (Cup ∷ Clear ∷ []))
+    ∷ size_fault (screen_size entry size)
+    ∷ option_map (λ c. BadString (named_text c)) (first_where (is_bad_string entry) each_capability)
+    ∷ option_map (λ c. LongString (named_text c)) (first_where (is_long_string entry) each_capability)
+    ∷ []
+
+unfoldable pub refusal : Description → Option Size → Option ProfileFault
+refusal entry size = first_some (refusals entry size)
+
+-- The entry makes this profile, and nothing is against it.
+abbrev pub admitted_on : Description → Option (ℕ × ℕ) → ProfileView → Type 0
+admitted_on entry None profile = ⊥
+admitted_on entry (Some size) profile = profile ≡ admitted entry size.0 size.1
+
+pub record IsAdmitted (entry : Description) (size : Option Size) (profile : ProfileView) : Type 0 where
+  pub suits : refusal entry size ≡ None
+  pub made : admitted_on entry (screen_size entry size) profile
+
+-- A refusal is the first that there is, or memory ran out.
+abbrev pub IsRefused : Description → Option Size → ProfileFault → Type 0
+IsRefused entry size fault = (fault ≡ NoMemory) ⊎ (refusal entry size ≡ Some fault)
+
+-- the profile of the bundled entry on a screen of some size
+pub record IsEcma48 (profile : ProfileView) : Type 0 where
+  pub size : IsSize profile.rows profile.columns
+  pub entry : Description
+  pub bundled : IsBundled entry
+  pub made : profile ≡ admitted entry profile.rows profile.columns

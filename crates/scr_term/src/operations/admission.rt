@@ -1,0 +1,279 @@
+//! How a terminfo entry becomes a profile, and why it does not.
+ghost use Rattle.std.specs.Prelude.{◌≡◌, ◌++◌, ◌∷◌, [], OnOk, IfOk, IfErr, Some, map, length, option_map};
+ghost use Rattle.ti_param.specs.Parsed.{parsed};
+ghost use Rattle.scr_term.specs.Operations.Admission.{IsAdmitted, IsEcma48, IsRefused, first_where, is_bad_string, is_over_bound, is_present, named_text, planned_program, screen_size, sent_text, size_fault};
+ghost use Rattle.scr_term.specs.Code.Admission.{Judges, bad_fault_of, is_missing, margin_fault, missing_fault, program_in, unsuitable_fault};
+
+use crate::operations::capability::Capability;
+use crate::operations::making::profile;
+use crate::{Profile, ProfileFault};
+use scr_cells::{NoMemory, Size};
+use std::alloc::Global;
+use ti_caps::{Entry, Kind, Slot, bundled, slots};
+use ti_param::{ParamFault, Program, padding_is_removed, strip_padding, text_is_parsed};
+
+// The capabilities of printing and overstriking terminals, and of others that do not show each cell for itself.
+const UNSUITABLE: [(Kind, Slot); 9] = [
+    (Kind::Flag, slots::HC),
+    (Kind::Flag, slots::OS),
+    (Kind::Flag, slots::GN),
+    (Kind::Flag, slots::HZ),
+    (Kind::Flag, slots::UL),
+    (Kind::Flag, slots::XHP),
+    (Kind::Flag, slots::XT),
+    (Kind::Flag, slots::SAM),
+    (Kind::Number, slots::XMC),
+];
+
+// The capabilities that a terminal has to have.
+const NEEDED: [Capability; 2] = [Capability::Cup, Capability::Clear];
+
+// The greatest stack that the programs of a profile may need.
+const MOST_DEPTH: usize = 20;
+
+// The most bytes that a program of a profile may give.
+const MOST_BYTES: usize = 1_024;
+
+impl Profile {
+    /// The profile of a terminal by its entry, on a screen of this size, or of the entry's `lines` and `cols` where none
+    /// is given (terminfo(5)). A refusal is the first of these that there is.
+    ///
+    /// 1. `Unsuitable`: `hc`, `os`, `gn`, `hz`, `ul`, `xhp`, `xt`, `sam` or `xmc` is present.
+    /// 2. `AutoMargin`: `am` is present and `xenl` is not.
+    /// 3. `Missing`: `cup`, or else `clear`, is absent. A text of which nothing is left without its padding counts as
+    ///    absent.
+    /// 4. `NoSize`: no size is given, and `lines` or `cols` is absent.
+    /// 5. `BadSize`: the entry's `lines` or `cols` is not 1 to 500.
+    /// 6. `BadString`: the text of a capability is no parameter string, or its stack could hold more than 20 values. Only
+    ///    capabilities that operations send are looked at, in the order of their positions.
+    /// 7. `LongString`: the text of such a capability could give more than 1,024 bytes.
+    /// 8. `NoMemory`: a growth was refused, whatever would have followed.
+    pub fn admit(alloc: Global, entry: &Entry, size: Option<Size>) -> Result<Profile, ProfileFault>
+        ensures ok { IfOk result (IsAdmitted entry.now size) }
+        ensures err { IfErr result (IsRefused entry.now size) }
+    {
+        is_suitable(entry)?;
+        keeps_its_margin(entry)?;
+        has_needed_texts(alloc, entry)?;
+        let size = screen_size(entry, size)?;
+        let programs = programs(alloc, entry, &Capability::EACH)?;
+        if let Some(capability) = first_long(&programs, &Capability::EACH) {
+            return Err(ProfileFault::LongString((Kind::Text, capability.slot())));
+        }
+        Ok(profile(entry, size, programs))
+    }
+
+    /// The profile of the bundled ECMA-48 entry on a screen of this size: that which `admit` makes of it. The only
+    /// refusal is `NoMemory`.
+    pub fn ecma48(alloc: Global, size: Size) -> Result<Profile, ProfileFault>
+        ensures entry { IfOk result IsEcma48 }
+        ensures rows { IfOk result (λ profile. profile.rows ≡ size.rows) }
+        ensures columns { IfOk result (λ profile. profile.columns ≡ size.columns) }
+        ensures memory { IfErr result (λ fault. fault ≡ ProfileFault.NoMemory) }
+    {
+        let Ok(entry) = bundled(alloc) else {
+            return Err(ProfileFault::NoMemory);
+        };
+        Profile::admit(alloc, &entry, Some(size))
+    }
+}
+
+// No capability is present that no suitable terminal has.
+fn is_suitable(entry: &Entry) -> Result<(), ProfileFault>
+    ensures { Judges result (unsuitable_fault entry.now) }
+{
+    match first_present(entry, &UNSUITABLE) {
+        Some(capability) => Err(ProfileFault::Unsuitable(capability)),
+        None => Ok(()),
+    }
+}
+
+// The first of these capabilities that is present.
+fn first_present(entry: &Entry, capabilities: &[(Kind, Slot)]) -> Option<(Kind, Slot)>
+    ensures { result ≡ first_where (is_present entry.now) capabilities.now }
+{
+    for capability in capabilities {
+        if is_present(entry, *capability) {
+            return Some(*capability);
+        }
+    }
+    None
+}
+
+fn is_present(entry: &Entry, capability: (Kind, Slot)) -> bool
+    ensures { result ≡ is_present entry.now capability }
+{
+    let (kind, slot) = capability;
+    match kind {
+        Kind::Flag => entry.flag(slot),
+        Kind::Number => entry.number(slot).is_some(),
+        Kind::Text => entry.text(slot).is_some(),
+    }
+}
+
+// A character in the last place does not scroll the screen.
+fn keeps_its_margin(entry: &Entry) -> Result<(), ProfileFault>
+    ensures { Judges result (margin_fault entry.now) }
+{
+    if entry.flag(slots::AM) && !entry.flag(slots::XENL) {
+        Err(ProfileFault::AutoMargin)
+    } else {
+        Ok(())
+    }
+}
+
+// The texts are there that each terminal has to have.
+fn has_needed_texts(alloc: Global, entry: &Entry) -> Result<(), ProfileFault>
+    ensures { Judges result (missing_fault entry.now) }
+{
+    let Ok(missing) = first_missing(alloc, entry, &NEEDED) else {
+        return Err(ProfileFault::NoMemory);
+    };
+    match missing {
+        Some(capability) => Err(ProfileFault::Missing((Kind::Text, capability.slot()))),
+        None => Ok(()),
+    }
+}
+
+// The first of these capabilities for which nothing is sent.
+fn first_missing(
+    alloc: Global,
+    entry: &Entry,
+    capabilities: &[Capability],
+) -> Result<Option<Capability>, NoMemory>
+    ensures { IfOk result (λ missing. missing ≡ first_where (is_missing entry.now) capabilities.now) }
+{
+    for capability in capabilities {
+        if sent_text(alloc, entry, *capability)?.is_none() {
+            return Ok(Some(*capability));
+        }
+    }
+    Ok(None)
+}
+
+// What the terminal is sent for a capability: its text without padding, if anything is left of it.
+fn sent_text(
+    alloc: Global,
+    entry: &Entry,
+    capability: Capability,
+) -> Result<Option<Vec<u8>>, NoMemory>
+    ensures { IfOk result (λ text. option_map (λ t. t.items) text ≡ sent_text entry.now capability) }
+{
+    padding_is_removed();
+    let Some(text) = entry.text(capability.slot()) else {
+        return Ok(None);
+    };
+    let text = strip_padding(alloc, text)?;
+    if text.is_empty() {
+        Ok(None)
+    } else {
+        Ok(Some(text))
+    }
+}
+
+// The size of the screen: that which is given, or else the entry's.
+fn screen_size(entry: &Entry, size: Option<Size>) -> Result<Size, ProfileFault>
+    ensures judged { Judges result (size_fault (screen_size entry.now size)) }
+    ensures size { IfOk result (λ s. screen_size entry.now size ≡ Some (s.rows, s.columns)) }
+{
+    if let Some(size) = size {
+        return Ok(size);
+    }
+    let Some(lines) = entry.number(slots::LINES) else {
+        return Err(ProfileFault::NoSize);
+    };
+    let Some(columns) = entry.number(slots::COLS) else {
+        return Err(ProfileFault::NoSize);
+    };
+    match Size::new(u32::from(lines), u32::from(columns)) {
+        Some(size) => Ok(size),
+        None => Err(ProfileFault::BadSize),
+    }
+}
+
+// The programs of these capabilities.
+fn programs(
+    alloc: Global,
+    entry: &Entry,
+    capabilities: &[Capability],
+) -> Result<Vec<Option<Program>>, ProfileFault>
+    ensures programs { IfOk result (λ programs. programs.items ≡ map (planned_program entry.now) capabilities.now) }
+    ensures judged { Judges result (option_map (λ c. ProfileFault.BadString (named_text c)) (first_where (is_bad_string entry.now) capabilities.now)) }
+{
+    let mut programs = Vec::new(alloc);
+    for capability in capabilities {
+        let program = planned_program(alloc, entry, *capability)?;
+        if add(&mut programs, program).is_err() {
+            return Err(ProfileFault::NoMemory);
+        }
+    }
+    Ok(programs)
+}
+
+// One more program.
+fn add(programs: &mut Vec<Option<Program>>, program: Option<Program>) -> Result<(), NoMemory>
+    ensures { OnOk result (programs.new.items ≡ programs.old.items ++ program ∷ []) }
+{
+    programs.push(program)?;
+    Ok(())
+}
+
+// The program of a capability, if there is a text for it.
+fn planned_program(
+    alloc: Global,
+    entry: &Entry,
+    capability: Capability,
+) -> Result<Option<Program>, ProfileFault>
+    ensures program { IfOk result (λ program. program ≡ planned_program entry.now capability) }
+    ensures judged { Judges result (bad_fault_of entry.now capability) }
+{
+    let Ok(text) = sent_text(alloc, entry, capability) else {
+        return Err(ProfileFault::NoMemory);
+    };
+    let Some(text) = text else {
+        return Ok(None);
+    };
+    let Ok(program) = parsed_program(alloc, &text) else {
+        return Err(ProfileFault::NoMemory);
+    };
+    match program {
+        Some(program) if program.depth() <= MOST_DEPTH => Ok(Some(program)),
+        _ => Err(ProfileFault::BadString((Kind::Text, capability.slot()))),
+    }
+}
+
+// The program of a text; `None` where the text is no parameter string.
+fn parsed_program(alloc: Global, text: &[u8]) -> Result<Option<Program>, NoMemory>
+    ensures { IfOk result (λ program. program ≡ parsed text.now) }
+{
+    text_is_parsed();
+    match Program::read(alloc, text) {
+        Ok(program) => Ok(Some(program)),
+        Err(fault) => match fault {
+            ParamFault::NoMemory => Err(NoMemory),
+            _ => Ok(None),
+        },
+    }
+}
+
+// The first of these capabilities whose program could give too many bytes.
+fn first_long(programs: &[Option<Program>], capabilities: &[Capability]) -> Option<Capability>
+    requires { length programs.now ≡ 29 }
+    ensures { result ≡ first_where (λ c. is_over_bound (program_in programs.now c)) capabilities.now }
+{
+    for capability in capabilities {
+        if is_over_bound(&programs[capability.ordinal()]) {
+            return Some(*capability);
+        }
+    }
+    None
+}
+
+fn is_over_bound(program: &Option<Program>) -> bool
+    ensures { result ≡ is_over_bound program.now }
+{
+    match program {
+        Some(program) => program.bound() > MOST_BYTES,
+        None => false,
+    }
+}

@@ -1,0 +1,128 @@
+//! What each operation sends: characters, and texts of capabilities with their parameters.
+ghost use Rattle.std.specs.Prelude.{◌≡◌, ◌≤◌, ◌==◌, ◌<◌, IsTrue, pos, bit_and};
+ghost use Rattle.scr_term.specs.Operations.Profiles.{entering};
+ghost use Rattle.scr_term.specs.Operations.Texts.{first_piece, is_within, motion, nine, one_if_in, renditions_of, resets_colours, text, text_of_one, text_of_two};
+
+use crate::operations::capability::Capability;
+use crate::{Op, Profile};
+use bitflags::Flags;
+use scr_cells::Attrs;
+
+/// A piece of what an operation sends.
+#[derive(Clone, Copy, Debug, PartialEq, Eq)]
+pub(crate) enum Piece {
+    /// A character.
+    Character(u8),
+    /// The text of a capability, with its parameters.
+    Text(Capability, [i32; 9]),
+}
+
+impl Profile {
+    /// What an operation that is within the terminal's limits sends, or sends first.
+    pub(crate) fn first_piece(&self, op: Op) -> Piece
+        requires { IsTrue (is_within self.now op) }
+        ensures { result ≡ first_piece self.now op }
+    {
+        let _size = self.size();
+        match op {
+            Op::Home => text(Capability::Home),
+            Op::Move(row, column) => text_of_two(Capability::Cup, row, column),
+            Op::Column(column) => text_of_one(Capability::Hpa, column),
+            Op::Line(row) => text_of_one(Capability::Vpa, row),
+            Op::Up(count) => self.motion(Capability::Cuu1, Capability::Cuu, count),
+            Op::Down(count) => self.motion(Capability::Cud1, Capability::Cud, count),
+            Op::Left(count) => self.motion(Capability::Cub1, Capability::Cub, count),
+            Op::Right(count) => self.motion(Capability::Cuf1, Capability::Cuf, count),
+            Op::Return => text(Capability::Cr),
+            Op::Clear => text(Capability::Clear),
+            Op::EraseLine => text(Capability::El),
+            Op::EraseBelow => text(Capability::Ed),
+            Op::EraseChars(count) => text_of_one(Capability::Ech, count),
+            Op::Reset => text(Capability::Sgr0),
+            Op::Enter(attribute) => text(entering(attribute)),
+            Op::Set(attributes) => Piece::Text(Capability::Sgr, renditions_of(attributes)),
+            Op::Fore(colour) => text_of_one(Capability::Setaf, u32::from(colour)),
+            Op::Back(colour) => text_of_one(Capability::Setab, u32::from(colour)),
+            Op::Put(byte) => Piece::Character(byte),
+        }
+    }
+
+    // A motion by one place where the terminal has a text for it, else by a number of places.
+    fn motion(&self, one: Capability, many: Capability, count: u32) -> Piece
+        requires { count ≤ 500 }
+        ensures { result ≡ motion self.now one many count }
+    {
+        if count == 1 && self.is_there(one) {
+            text(one)
+        } else {
+            text_of_one(many, count)
+        }
+    }
+}
+
+/// Whether the colours are the default ones behind an operation.
+pub(crate) fn resets_colours(op: Op) -> bool
+    ensures { result ≡ resets_colours op }
+{
+    matches!(op, Op::Reset | Op::Set(_))
+}
+
+/// The text of a capability without parameters.
+pub(crate) fn text(capability: Capability) -> Piece
+    ensures { result ≡ text capability }
+{
+    Piece::Text(capability, [0; 9])
+}
+
+// The text of a capability with a number.
+fn text_of_one(capability: Capability, number: u32) -> Piece
+    requires { number ≤ 500 }
+    ensures { result ≡ text_of_one capability number }
+{
+    Piece::Text(capability, [number as i32, 0, 0, 0, 0, 0, 0, 0, 0])
+}
+
+// The text of a capability with two numbers.
+fn text_of_two(capability: Capability, first: u32, second: u32) -> Piece
+    requires first { first ≤ 500 }
+    requires second { second ≤ 500 }
+    ensures { result ≡ text_of_two capability first second }
+{
+    Piece::Text(
+        capability,
+        [first as i32, second as i32, 0, 0, 0, 0, 0, 0, 0],
+    )
+}
+
+/// The capability that turns on an attribute.
+pub(crate) fn entering(attribute: Attrs) -> Capability
+    ensures { result ≡ entering attribute.0 }
+{
+    match attribute {
+        Attrs::STANDOUT => Capability::Smso,
+        Attrs::UNDERLINE => Capability::Smul,
+        Attrs::REVERSE => Capability::Rev,
+        Attrs::BLINK => Capability::Blink,
+        Attrs::DIM => Capability::Dim,
+        Attrs::BOLD => Capability::Bold,
+        _ => Capability::Invis,
+    }
+}
+
+// The parameters of `sgr`: one for each attribute in its order, and none for protected and alternate characters.
+fn renditions_of(attributes: Attrs) -> [i32; 9]
+    ensures { result ≡ renditions_of attributes.0 }
+{
+    let one_if_in = |attribute: Attrs| i32::from(attributes.contains(attribute));
+    [
+        one_if_in(Attrs::STANDOUT),
+        one_if_in(Attrs::UNDERLINE),
+        one_if_in(Attrs::REVERSE),
+        one_if_in(Attrs::BLINK),
+        one_if_in(Attrs::DIM),
+        one_if_in(Attrs::BOLD),
+        one_if_in(Attrs::INVIS),
+        0,
+        0,
+    ]
+}

@@ -1,0 +1,96 @@
+//! What each operation but a character changes on an emulated terminal.
+ghost use Rattle.std.specs.Prelude.{◌≡◌, ◌≢◌, ◌||◌, ℕ, Some, None, IsTrue, IfSome, if◌then◌else◌};
+ghost use Rattle.scr_cells.specs.PenViews.{is_plain_pen};
+ghost use Rattle.scr_term.specs.declared.operations.operation.Op.TheVariants.{Put};
+ghost use Rattle.scr_term.specs.Operations.Abilities.{full_abilities};
+ghost use Rattle.scr_term.specs.Operations.States.{IsShownPen, IsSpot, from_place};
+ghost use Rattle.scr_term.specs.Operations.Steps.{act, lines_below_erased};
+ghost use Rattle.scr_term.specs.Operations.Texts.{has};
+ghost use Rattle.scr_term.specs.Code.Changes.{IsChange, MakesAt, MakesWith};
+
+use crate::displays::{
+    Change, characters_erased, moved_down, moved_left, moved_right, moved_to, moved_to_column,
+    moved_to_row, moved_up, rest_of_line_erased,
+};
+use crate::{Op, Profile, Spot};
+use bitflags::Flags;
+use scr_cells::{Pen, Size};
+
+/// What an operation that the terminal has, and that writes no character, changes; `None` where it is undefined.
+#[tactic(auto, unfolding(crate::specs::Operations::Texts::has))]
+pub(crate) fn change_of(profile: &Profile, spot: Spot, pen: Pen, op: Op) -> Option<Change>
+    requires has { IsTrue (has profile.now op) }
+    requires spot { IsSpot profile.now.rows profile.now.columns spot }
+    requires pen { IsShownPen (full_abilities profile.now.rows profile.now.columns) pen }
+    requires other { (byte : ℕ) → op ≢ Put byte }
+    ensures value { MakesWith profile.now.rows profile.now.columns spot pen result (λ state. act profile.now state op) }
+    ensures change { IfSome result (IsChange profile.now.rows profile.now.columns) }
+{
+    let size = profile.size();
+    match op {
+        Op::Home => motion(profile, pen, moved_to(size, 0, 0)),
+        Op::Move(row, column) => motion(profile, pen, moved_to(size, row, column)),
+        Op::Column(column) => motion(profile, pen, moved_to_column(size, spot, column)),
+        Op::Line(row) => motion(profile, pen, moved_to_row(size, spot, row)),
+        Op::Up(count) => motion(profile, pen, moved_up(size, spot, count)),
+        Op::Down(count) => motion(profile, pen, moved_down(size, spot, count)),
+        Op::Left(count) => motion(profile, pen, moved_left(size, spot, count)),
+        Op::Right(count) => motion(profile, pen, moved_right(size, spot, count)),
+        Op::Return => motion(profile, pen, moved_to_column(size, spot, 0)),
+        Op::Clear => erasure(pen, Some(Change::Cleared)),
+        Op::EraseLine => erasure(pen, rest_of_line_erased(size, spot)),
+        Op::EraseBelow => erasure(pen, lines_below_erased(size, spot)),
+        Op::EraseChars(count) => erasure(pen, characters_erased(size, spot, count)),
+        Op::Reset => Some(Change::Rendered(Pen::plain())),
+        Op::Enter(attribute) => {
+            let attributes = pen.attrs().union(attribute);
+            Some(Change::Rendered(pen.with_attrs(attributes)))
+        }
+        Op::Set(attributes) => Some(Change::Rendered(Pen::plain().with_attrs(attributes))),
+        Op::Fore(colour) => coloured(spot, pen.with_foreground(Some(colour))),
+        Op::Back(colour) => coloured(spot, pen.with_background(Some(colour))),
+        Op::Put(_) => None,
+    }
+}
+
+// A motion: with an attribute or a colour on it is defined where the terminal has `msgr` alone.
+fn motion(profile: &Profile, pen: Pen, change: Option<Change>) -> Option<Change>
+    requires { IfSome change (IsChange profile.now.rows profile.now.columns) }
+    ensures value { result ≡ if profile.now.msgr || is_plain_pen pen then change else None }
+    ensures change { IfSome result (IsChange profile.now.rows profile.now.columns) }
+{
+    if profile.moves_in_any_rendition() || pen.is_plain() {
+        change
+    } else {
+        None
+    }
+}
+
+// An erasure: with an attribute or a colour on it is undefined.
+fn erasure(pen: Pen, change: Option<Change>) -> Option<Change>
+    ensures { result ≡ if is_plain_pen pen then change else None }
+{
+    if pen.is_plain() { change } else { None }
+}
+
+// The row of the cursor and those below it are erased, from the first column alone.
+fn lines_below_erased(size: Size, spot: Spot) -> Option<Change>
+    requires { IsSpot size.rows size.columns spot }
+    ensures value { MakesAt size.rows size.columns spot result (λ state. lines_below_erased size.rows size.columns state) }
+    ensures change { IfSome result (IsChange size.rows size.columns) }
+{
+    match spot {
+        Spot::At(row, 0) => Some(Change::ErasedFrom(row, 0)),
+        _ => None,
+    }
+}
+
+// Another pen, but at the margin.
+fn coloured(spot: Spot, pen: Pen) -> Option<Change>
+    ensures { result ≡ from_place spot (λ _ _. Some (Change.Rendered pen)) }
+{
+    match spot {
+        Spot::At(..) => Some(Change::Rendered(pen)),
+        Spot::Margin(_) => None,
+    }
+}

@@ -1,0 +1,163 @@
+//! An emulated terminal that is stepped by operations.
+ghost use Rattle.std.specs.Prelude.{◌≡◌, ◌≢◌, ◌<◌, ◌↔◌, ℕ, IfOk, IsOk, IsTrue, bit_and, is_some, length, option_map};
+ghost use Rattle.std.specs.Option.{ForSome};
+ghost use Rattle.scr_cells.specs.Attributes.{every_attribute};
+ghost use Rattle.scr_cells.specs.Grids.{grid_at, grid_row};
+ghost use Rattle.scr_cells.specs.LookViews.{IsLook, LookView};
+ghost use Rattle.scr_cells.specs.PictureViews.{IsPlace};
+ghost use Rattle.scr_term.specs.Displays.{IsDisplay, blank_display, gone_on};
+ghost use Rattle.scr_term.specs.Operations.States.{IsSpot};
+ghost use Rattle.scr_term.specs.Operations.Steps.{act, step};
+ghost use Rattle.scr_term.specs.Operations.Texts.{has};
+ghost use Rattle.scr_term.specs.Code.Changes.{IsChange, changed};
+ghost use Rattle.scr_term.specs.declared.operations.operation.Op.TheVariants.{Put};
+
+use crate::displays::{Change, Display};
+use crate::operations::change_of;
+use crate::{Op, Profile, Spot, Undefined};
+use scr_cells::{Attrs, Look, NoMemory, Size};
+use std::alloc::Global;
+use std::marker::Model;
+
+/// A terminal that does what each operation of a profile means (terminfo(5)), and shows the result: programs can be
+/// tried on it where there is no terminal.
+#[derive(Drop)]
+pub struct Terminal {
+    display: Display,
+}
+
+impl Model for Terminal {
+    ghost use Rattle.scr_term.specs.Displays.{DisplayView, IsDisplay};
+
+    ghost Value = { DisplayView };
+
+    ghost view = { λ a. a.display };
+
+    ghost invariant = { λ a. IsDisplay a.display };
+}
+
+impl Terminal {
+    /// A blank terminal with the cursor at 0 0, no attribute on and default colours. Fails only when memory runs out.
+    pub fn new(alloc: Global, size: Size) -> Result<Terminal, NoMemory>
+        ensures { IfOk result (λ terminal. terminal ≡ blank_display size.rows size.columns) }
+    {
+        let display = Display::new(alloc, size)?;
+        let _size = display.size();
+        Ok(Terminal { display })
+    }
+
+    /// Does what an operation means on a terminal of this profile, whose size is the terminal's. `Undefined`: the terminal
+    /// does not have the operation, or it leads off the screen; it erases, or moves without `msgr`, while an attribute or a
+    /// colour is on; at the margin it is another one than `Home`, `Move`, `Clear`, `Reset`, `Enter` or `Set`; or it erases
+    /// below from another column than the first. Nothing changes then.
+    pub fn step(&mut self, profile: &Profile, op: Op) -> Result<(), Undefined>
+        requires rows { profile.now.rows ≡ self.old.rows }
+        requires columns { profile.now.columns ≡ self.old.columns }
+        ensures answer { IsOk result ↔ IsTrue (is_some (step profile.now self.old.state op)) }
+        ensures state { self.new ≡ gone_on self.old (step profile.now self.old.state op) }
+    {
+        if !profile.has(op) {
+            return Err(Undefined);
+        }
+        let is_defined = match op {
+            Op::Put(byte) => self.write(profile, byte),
+            _ => self.change(profile, op),
+        };
+        if is_defined { Ok(()) } else { Err(Undefined) }
+    }
+
+    /// How many rows and columns there are.
+    pub fn size(&self) -> Size
+        ensures rows { result.rows ≡ self.now.rows }
+        ensures columns { result.columns ≡ self.now.columns }
+        ensures terminal { IsDisplay self.now }
+    {
+        self.display.size()
+    }
+
+    /// What is shown at a row and a column, counted from 0 at the top left.
+    pub fn cell(&self, row: u32, column: u32) -> Look
+        requires { IsPlace self.now.rows self.now.columns (row, column) }
+        ensures value { (other : LookView) → result ≡ grid_at other self.now.state.grid row column }
+        ensures look { IsLook result }
+    {
+        self.display.cell(row, column)
+    }
+
+    /// What is shown in a row, counted from 0 at the top.
+    pub fn row(&self, row: u32) -> &[Look]
+        requires { row < self.now.rows }
+        ensures cells { result.now ≡ grid_row self.now.state.grid row }
+        ensures width { length result.now ≡ self.now.columns }
+    {
+        self.display.row(row)
+    }
+
+    /// Where the cursor is.
+    pub fn spot(&self) -> Spot
+        ensures value { result ≡ self.now.state.spot }
+        ensures inside { IsSpot self.now.rows self.now.columns result }
+    {
+        self.display.spot()
+    }
+
+    /// The attributes that are on.
+    pub fn attrs(&self) -> Attrs
+        ensures value { result.0 ≡ self.now.state.pen.attrs }
+        ensures shown { bit_and every_attribute result.0 ≡ result.0 }
+    {
+        self.display.pen().attrs()
+    }
+
+    /// The current foreground and background, each `None` where it is the default.
+    pub fn colours(&self) -> (Option<u8>, Option<u8>)
+        ensures foreground { result.0 ≡ self.now.state.pen.foreground }
+        ensures background { result.1 ≡ self.now.state.pen.background }
+    {
+        let pen = self.display.pen();
+        (pen.foreground(), pen.background())
+    }
+
+    // Writes a character; at the margin it answers false and changes nothing.
+    #[tactic(auto, unfolding(crate::specs::Operations::Texts::has))]
+    fn write(&mut self, profile: &Profile, byte: u8) -> bool
+        requires has { IsTrue (has profile.now (Put byte)) }
+        requires columns { profile.now.columns ≡ self.old.columns }
+        ensures answer { result ≡ is_some (act profile.now self.old.state (Put byte)) }
+        ensures state { self.new ≡ gone_on self.old (act profile.now self.old.state (Put byte)) }
+    {
+        let is_defined = self.display.write(byte);
+        let _size = self.display.size();
+        is_defined
+    }
+
+    // Does what another operation means; where it is undefined this answers false and changes nothing.
+    fn change(&mut self, profile: &Profile, op: Op) -> bool
+        requires has { IsTrue (has profile.now op) }
+        requires rows { profile.now.rows ≡ self.old.rows }
+        requires columns { profile.now.columns ≡ self.old.columns }
+        requires other { (byte : ℕ) → op ≢ Put byte }
+        ensures answer { result ≡ is_some (act profile.now self.old.state op) }
+        ensures state { self.new ≡ gone_on self.old (act profile.now self.old.state op) }
+    {
+        let change = change_of(profile, self.display.spot(), self.display.pen(), op);
+        self.make(change)
+    }
+
+    // Makes a change; where there is none it answers false.
+    fn make(&mut self, change: Option<Change>) -> bool
+        requires { ForSome change (IsChange self.old.rows self.old.columns) }
+        ensures answer { result ≡ is_some change }
+        ensures state { self.new ≡ gone_on self.old (option_map (changed self.old.rows self.old.columns self.old.state) change) }
+    {
+        let is_defined = match change {
+            Some(change) => {
+                self.display.make(change);
+                true
+            }
+            None => false,
+        };
+        let _size = self.display.size();
+        is_defined
+    }
+}
