@@ -1,3 +1,5 @@
+pub mod PlaceLaws
+pub mod PlacesLaws
 pub mod Rows
 pub mod ScratchLaws
 pub mod ScratchTextLaws

@@ -5,7 +5,7 @@ use Rattle.scr_cells.specs.PictureViews.{PictureView, IsPicture}
 use Rattle.scr_term.specs.Operations.Profiles.{ProfileView, IsProfile}
 use Rattle.scr_term.specs.Operations.Laws.{BlankLaws, RunLaws}
 use Rattle.scr_term.specs.Operations.States.{TerminalState, blank_state}
-use Rattle.scr_term.specs.Operations.Steps.{has}
+use Rattle.scr_term.specs.Operations.Texts.{has}
 use Rattle.scr_plan.specs.Scratch.{Fits, ScratchShows, scratch_of}
 
 pub scratch_had : ScratchShows → RunLaws → BlankLaws → (profile : ProfileView) → IsProfile profile → (picture : PictureView) → IsPicture picture → Fits profile picture

@@ -1,75 +1,145 @@
-//! The operations that paint a whole picture, row by row and cell by cell.
-ghost use Rattle.std.specs.Prelude.{◌≡◌, ◌≤◌, ◌++◌, ◌==◌, length, IfOk, OnOk, map, filter, bit_and};
+//! The operations that paint a whole picture, row by row and place by place.
+ghost use Rattle.std.specs.Prelude.{◌≡◌, ◌<◌, ◌++◌, ◌==◌, IfOk, OnOk, Option, map, filter, bit_and, if◌then◌else◌};
+ghost use Rattle.std.specs.List.{flat_map};
+ghost use Rattle.scr_cells.specs.Attributes.{attributes_of};
+ghost use Rattle.scr_cells.specs.PenViews.{pair_colours};
 ghost use Rattle.scr_term.specs.declared.operations.operation.Op.TheVariants.{Enter};
-ghost use Rattle.scr_plan.specs.Scratch.{scratch_of, paints_cell, paints_cells, Fits};
+ghost use Rattle.scr_plan.specs.Scratch.{scratch_of, row_places, enter, sets_background, sets_foreground, Fits};
+ghost use Rattle.scr_plan.specs.Code.Painters.{painter_goes, painter_of, painter_paints, painter_paints_place, painter_resets};
 
 use scr_cells::{Attrs, Cell, NoMemory, Picture};
 use scr_term::{Op, Ops, Profile};
 use std::alloc::Global;
 
 /// The operations that paint a whole picture on a terminal that may show anything (curs_refresh(3X)):
-/// no attribute, a blank screen, then every place in rows, each with the cursor moved there, no
-/// attribute, each attribute that is shown and its byte, at the end no attribute and the cursor where
-/// it is wished.
+/// no attribute and default colours, a blank screen, then every place in rows, each with the cursor moved
+/// there, no attribute and default colours, each attribute and each colour that is seen of its cell, and its
+/// byte; at the end no attribute and default colours, and the cursor where it is wished.
 ///
 /// The picture has the profile's size. Fails only when memory runs out.
 pub fn scratch(alloc: Global, profile: &Profile, picture: &Picture) -> Result<Ops, NoMemory>
     requires { Fits profile.now picture.now }
     ensures { IfOk result (λ ops. ops ≡ scratch_of profile.now picture.now) }
 {
+    let painter = Painter::of(profile);
     let mut ops = Vec::new(alloc);
-    ops.push(Op::Reset)?;
+    painter.reset(&mut ops)?;
     ops.push(Op::Clear)?;
     for row in 0..picture.size().rows {
-        paint_cells(profile, row, picture.row(row), &mut ops)?;
+        painter.paint_row(picture, row, &mut ops)?;
     }
-    ops.push(Op::Reset)?;
+    painter.reset(&mut ops)?;
     if let Some((row, column)) = picture.wish() {
         ops.push(Op::Move(row, column))?;
     }
     Ok(Ops(ops))
 }
 
-// Adds the operations for the cells of a row.
-fn paint_cells(
-    profile: &Profile,
-    row: u32,
-    cells: &[Cell],
-    ops: &mut Vec<Op>,
-) -> Result<(), NoMemory>
-    requires { length cells.now ≤ 500 }
-    ensures { OnOk result (ops.new.items ≡ ops.old.items ++ paints_cells profile.now row 0 cells.now) }
-{
-    let mut column = 0;
-    for cell in cells {
-        paint_cell(profile, row, column, *cell, ops)?;
-        column += 1;
-    }
-    Ok(())
+// What painting asks of a profile, fetched once.
+#[derive(Clone, Copy)]
+struct Painter {
+    shown: Attrs,
+    colours: bool,
+    can_reset: bool,
+    moves_in_any_rendition: bool,
 }
 
-// Adds the operations for one cell.
-fn paint_cell(
-    profile: &Profile,
-    row: u32,
-    column: u32,
-    cell: Cell,
-    ops: &mut Vec<Op>,
-) -> Result<(), NoMemory>
-    ensures { OnOk result (ops.new.items ≡ ops.old.items ++ paints_cell profile.now row column cell) }
-{
-    ops.push(Op::Move(row, column))?;
-    ops.push(Op::Reset)?;
-    let shown = profile.shows().0 & cell.attrs().0;
-    if shown != 0 {
-        enter_each(shown, &Attrs::EACH, ops)?;
+impl Painter {
+    // What the profile says.
+    fn of(profile: &Profile) -> Painter
+        ensures { result ≡ painter_of profile.now }
+    {
+        Painter {
+            shown: profile.shows(),
+            colours: profile.colours(),
+            can_reset: profile.can_reset(),
+            moves_in_any_rendition: profile.moves_in_any_rendition(),
+        }
     }
-    ops.push(Op::Put(cell.byte()))?;
-    Ok(())
+
+    // Adds the operations for every place of a row.
+    fn paint_row(self, picture: &Picture, row: u32, ops: &mut Vec<Op>) -> Result<(), NoMemory>
+        requires { row < picture.now.rows }
+        ensures { OnOk result (ops.new.items
+            ≡ ops.old.items ++ flat_map (painter_paints_place self picture.now) (row_places picture.now.columns row)) }
+    {
+        let cells = picture.row(row);
+        for column in 0..picture.size().columns {
+            self.paint_cell(picture, row, column, cells[column as usize], ops)?;
+        }
+        Ok(())
+    }
+
+    // Adds the operations for a cell of a picture in a place.
+    fn paint_cell(
+        self,
+        picture: &Picture,
+        row: u32,
+        column: u32,
+        cell: Cell,
+        ops: &mut Vec<Op>,
+    ) -> Result<(), NoMemory>
+        ensures { OnOk result (ops.new.items ≡ ops.old.items ++ painter_paints self picture.now.pairs (row, column) cell) }
+    {
+        self.go(row, column, ops)?;
+        enter_each(self.shown.0 & cell.attrs().0, ops)?;
+        let (foreground, background) = self.colours_of(picture, cell);
+        set_colours(foreground, background, ops)?;
+        ops.push(Op::Put(cell.byte()))?;
+        Ok(())
+    }
+
+    // The colours that are seen of a cell.
+    fn colours_of(self, picture: &Picture, cell: Cell) -> (Option<u8>, Option<u8>)
+        ensures foreground { result.0 ≡ if self.colours then (pair_colours picture.now.pairs cell.pair).0 else Option.None }
+        ensures background { result.1 ≡ if self.colours then (pair_colours picture.now.pairs cell.pair).1 else Option.None }
+    {
+        let pair = cell.pair();
+        if !self.colours || pair == 0 {
+            return (None, None);
+        }
+        match picture.pair(pair) {
+            Some((foreground, background)) => (Some(foreground), Some(background)),
+            None => (None, None),
+        }
+    }
+
+    // Adds what moves the cursor to a place, with no attribute and default colours there.
+    fn go(self, row: u32, column: u32, ops: &mut Vec<Op>) -> Result<(), NoMemory>
+        ensures { OnOk result (ops.new.items ≡ ops.old.items ++ painter_goes self (row, column)) }
+    {
+        if self.moves_in_any_rendition {
+            ops.push(Op::Move(row, column))?;
+            return self.reset(ops);
+        }
+        self.reset(ops)?;
+        ops.push(Op::Move(row, column))?;
+        Ok(())
+    }
+
+    // Adds what turns attributes off and makes colours the default ones.
+    fn reset(self, ops: &mut Vec<Op>) -> Result<(), NoMemory>
+        ensures { OnOk result (ops.new.items ≡ ops.old.items ++ painter_resets self) }
+    {
+        if self.can_reset {
+            ops.push(Op::Reset)?;
+        }
+        Ok(())
+    }
+}
+
+// Adds an operation for each attribute of a set.
+fn enter_each(set: u8, ops: &mut Vec<Op>) -> Result<(), NoMemory>
+    ensures { OnOk result (ops.new.items ≡ ops.old.items ++ map enter (attributes_of set)) }
+{
+    if set == 0 {
+        return Ok(());
+    }
+    enter_each_of(set, &Attrs::EACH, ops)
 }
 
 // Adds an operation for each of these attributes that the set has.
-fn enter_each(set: u8, attributes: &[Attrs], ops: &mut Vec<Op>) -> Result<(), NoMemory>
+fn enter_each_of(set: u8, attributes: &[Attrs], ops: &mut Vec<Op>) -> Result<(), NoMemory>
     ensures { OnOk result (ops.new.items
         ≡ ops.old.items ++ map Enter (filter (λ a. bit_and set a.0 == a.0) attributes.now)) }
 {
@@ -77,6 +147,23 @@ fn enter_each(set: u8, attributes: &[Attrs], ops: &mut Vec<Op>) -> Result<(), No
         if set & attribute.0 == attribute.0 {
             ops.push(Op::Enter(*attribute))?;
         }
+    }
+    Ok(())
+}
+
+// Adds what sets these colours, where they are not the default ones.
+fn set_colours(
+    foreground: Option<u8>,
+    background: Option<u8>,
+    ops: &mut Vec<Op>,
+) -> Result<(), NoMemory>
+    ensures { OnOk result (ops.new.items ≡ ops.old.items ++ sets_foreground foreground ++ sets_background background) }
+{
+    if let Some(colour) = foreground {
+        ops.push(Op::Fore(colour))?;
+    }
+    if let Some(colour) = background {
+        ops.push(Op::Back(colour))?;
     }
     Ok(())
 }

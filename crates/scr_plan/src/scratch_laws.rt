@@ -1,15 +1,26 @@
 //! Laws of painting from scratch: functions that do nothing, whose contracts are the laws.
-ghost use Rattle.scr_plan.specs.Scratch.{ScratchShows, ScratchBytesShow};
+ghost use Rattle.scr_plan.specs.Scratch.{PlaceIsPainted, ScratchShows, ScratchBytesShow};
 
 use scr_cells::{Look, grid_laws};
-use scr_term::{bytes_act_as_their_operations, run_laws};
+use scr_term::{bytes_act_as_their_operations, ecma48_laws, profiles_have, run_laws};
+
+/// From every state of a profile, the operations that paint one place are all defined: the place then has its look, and no
+/// other has changed, the cursor is behind it, and the pen is the look's.
+pub fn place_is_painted()
+    ensures { PlaceIsPainted }
+{
+    run_laws();
+    profiles_have();
+}
 
 /// From every state of a profile, the operations of `scratch` are all defined and show the picture
 /// (curs_refresh(3X)).
 pub fn scratch_shows()
     ensures { ScratchShows }
 {
+    place_is_painted();
     run_laws();
+    profiles_have();
     grid_laws::<Look>();
 }
 
@@ -20,5 +31,6 @@ pub fn scratch_bytes_show()
     ensures { ScratchBytesShow }
 {
     scratch_shows();
+    ecma48_laws();
     bytes_act_as_their_operations();
 }

@@ -1,7 +1,6 @@
 //! The bytes that paint a whole picture.
 ghost use Rattle.std.specs.Prelude.{◌≡◌, true, All, IfOk};
-ghost use Rattle.scr_term.specs.Operations.Steps.{has};
-ghost use Rattle.scr_term.specs.Operations.Texts.{all_bytes};
+ghost use Rattle.scr_term.specs.Operations.Texts.{all_bytes, has};
 ghost use Rattle.scr_plan.specs.Scratch.{Fits, scratch_of};
 
 use crate::painting::scratch;

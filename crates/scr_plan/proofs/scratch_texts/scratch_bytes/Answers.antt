@@ -1,6 +1,6 @@
 use Rattle.std.proofs.Common.{◌≡◌, true, subst, sym, ◌∙◌}
 use Rattle.std.specs.List.{All}
-use Rattle.scr_term.specs.Operations.Steps.{has}
+use Rattle.scr_term.specs.Operations.Texts.{has}
 use Rattle.scr_plan.proofs.ScratchTextLaws.{scratch_had}
 use Rattle.scr_plan.proofs.scratch_texts.scratch_bytes.Goals as goal
 

@@ -1,0 +1,207 @@
+-- One place is painted from every state of a profile.
+use Rattle.std.proofs.Common.{◌≡◌, ℕ, ◌-◌, ◌<◌, ◌==◌, ◌&&◌, ◌||◌, Bool, true, false, All, cond, refl, ◌∙◌, sym, subst, ap, arith, eqb, List, [], ◌∷◌, ◌++◌, Option, Some, None, IfSome, option_and_then, bit_and, bit_or, get_or, nat_lt, map, filter, zero, suc, if◌then◌else◌}
+use Rattle.std.specs.List.{AllByRecursion}
+use Rattle.std.specs.Int.{bit_at}
+use Rattle.std.proofs.Math.Bool.{or-true}
+use Rattle.std.proofs.lemmas.Bool.{agree_below_at, eqb-true}
+use Rattle.std.proofs.lemmas.Bool.Decides.{nat_tests}
+use Rattle.std.proofs.lemmas.List.Elements.{recursion_from_All}
+use Rattle.std.proofs.lemmas.Nat.{and_le_l}
+use Rattle.std.proofs.lemmas.Nat.Bits.{same_from_bits, bit_at_and}
+use Rattle.scr_cells.specs.Attributes.{all_attributes, attributes_of}
+use Rattle.scr_cells.specs.CellViews.{CellView, IsCell, blank_cell}
+use Rattle.scr_cells.specs.Grids.{grid_at, grid_with}
+use Rattle.scr_cells.specs.LookViews.{LookView}
+use Rattle.scr_cells.specs.PenViews.{PenView, is_plain_pen, pair_colours, plain_pen, with_attribute}
+use Rattle.scr_cells.specs.PictureViews.{PictureView, AreColours, IsPicture, IsPlace}
+use Rattle.scr_term.specs.declared.operations.capability.Capability.TheVariants.{Sgr0}
+use Rattle.scr_term.specs.declared.operations.operation.Op.{Op}
+use Rattle.scr_term.specs.declared.operations.operation.Op.TheVariants.{Move, Reset, Fore, Back, Put}
+use Rattle.scr_term.specs.declared.operations.operation.Spot.TheVariants.{At}
+use Rattle.scr_term.specs.Operations.Laws.{HasLaws, ProfilesHave, RunLaws}
+use Rattle.scr_term.specs.Operations.Profiles.{ProfileView, abilities, has_colours, is_there, shown_set}
+use Rattle.scr_term.specs.Operations.States.{TerminalState, AreShownColours, IsShownPen, moved_to, spot_after}
+use Rattle.scr_term.specs.Operations.Steps.{act, runs}
+use Rattle.scr_term.specs.Operations.Texts.{has, is_attribute}
+use Rattle.scr_plan.specs.Scratch.{enter, goes, look_at, renders, resets, sets_background, sets_foreground, PlaceIsPainted}
+
+-- ---- runs
+
+-- operations after others
+pub then_runs : RunLaws → (profile : ProfileView) (old next new : TerminalState) (xs ys : List Op) → runs profile old xs ≡ Some next → runs profile next ys ≡ Some new
+    → runs profile old (xs ++ ys) ≡ Some new
+then_runs laws profile old next new xs ys first second = laws.joined profile old next xs ys first ∙ second
+
+-- one operation that the profile has
+pub one_run : (profile : ProfileView) (old new : TerminalState) (op : Op) → has profile op ≡ true → act profile old op ≡ Some new → runs profile old (op ∷ []) ≡ Some new
+one_run profile old new op had acts =
+    ap (option_and_then (λ next. runs profile next [])) (ap (λ b. if b then act profile old op else None) had ∙ acts)
+
+-- ---- the cursor goes to a place
+
+-- a terminal that cannot reset has a plain pen
+plain_only : (profile : ProfileView) → HasLaws profile → is_there profile Sgr0 ≡ false → (pen : PenView) → IsShownPen (abilities profile) pen → pen ≡ plain_pen
+plain_only profile can none pen shown =
+    let nothing : bit_and 0 pen.attrs ≡ pen.attrs = ap (λ set. bit_and set pen.attrs) (sym (can.plain_set none)) ∙ shown.attrs in
+    let attrs : pen.attrs ≡ 0 = omega (arith, nothing, and_le_l 0 pen.attrs) in
+    let colours : AreShownColours false pen.foreground pen.background = subst (λ b. AreShownColours b pen.foreground pen.background) (can.plain_colours none) shown.colours in
+    λ i. record { attrs = attrs i; foreground = colours.0 i; background = colours.1 i }
+
+-- the state with a plain pen, and with the cursor elsewhere
+abbrev pub plain : TerminalState → TerminalState
+plain state = record { grid = state.grid; spot = state.spot; pen = plain_pen }
+
+abbrev pub at_place : TerminalState → ℕ × ℕ → TerminalState
+at_place state place = record { grid = state.grid; spot = At place.0 place.1; pen = state.pen }
+
+resets_by : (profile : ProfileView) → HasLaws profile → (old : TerminalState) → IsShownPen (abilities profile) old.pen → (b : Bool) → is_there profile Sgr0 ≡ b
+    → runs profile old (if b then Reset ∷ [] else []) ≡ Some (plain old)
+resets_by profile can old shown true there = one_run profile old (plain old) Reset (can.reset there) refl
+resets_by profile can old shown false there = ap (λ pen. Some (record { grid = old.grid; spot = old.spot; pen = pen })) (plain_only profile can there old.pen shown)
+
+pub resets_run : (profile : ProfileView) → HasLaws profile → (old : TerminalState) → IsShownPen (abilities profile) old.pen → runs profile old (resets profile) ≡ Some (plain old)
+resets_run profile can old shown = resets_by profile can old shown (is_there profile Sgr0) refl
+
+pub move_run : (profile : ProfileView) → HasLaws profile → (old : TerminalState) (place : ℕ × ℕ) → IsPlace profile.rows profile.columns place
+    → (profile.msgr || is_plain_pen old.pen) ≡ true → runs profile old (Move place.0 place.1 ∷ []) ≡ Some (at_place old place)
+move_run profile can old place inside free =
+    let here : (nat_lt place.0 profile.rows && nat_lt place.1 profile.columns) ≡ true = grind (arith, nat_tests, inside.0, inside.1) in
+    one_run profile old (at_place old place) (Move place.0 place.1) (can.move place.0 place.1 inside.0 inside.1)
+    (ap (λ b. if b then moved_to profile.rows profile.columns old place.0 place.1 else None) free
+    ∙ ap (λ b. if b then Some (at_place old place) else None) here)
+
+goes_by : RunLaws → (profile : ProfileView) → HasLaws profile → (old : TerminalState) → IsShownPen (abilities profile) old.pen → (place : ℕ × ℕ) → IsPlace profile.rows profile.columns place
+    → (b : Bool) → profile.msgr ≡ b
+    → runs profile old (if b then Move place.0 place.1 ∷ resets profile else resets profile ++ Move place.0 place.1 ∷ []) ≡ Some (plain (at_place old place))
+goes_by laws profile can old shown place inside true free =
+    then_runs laws profile old (at_place old place) (plain (at_place old place)) (Move place.0 place.1 ∷ []) (resets profile)
+    (move_run profile can old place inside (ap (λ b. b || is_plain_pen old.pen) free))
+    (resets_run profile can (at_place old place) shown)
+goes_by laws profile can old shown place inside false free =
+    then_runs laws profile old (plain old) (plain (at_place old place)) (resets profile) (Move place.0 place.1 ∷ [])
+    (resets_run profile can old shown)
+    (move_run profile can (plain old) place inside (or-true profile.msgr))
+
+-- ---- attributes and colours
+
+-- a set and these attributes
+abbrev with_each : ℕ → List ℕ → ℕ
+with_each set [] = set
+with_each set (a ∷ rest) = with_each (bit_or set a) rest
+
+-- the attributes of a set make up the set
+all_of_set : (set : ℕ) → set < 128 → with_each 0 (attributes_of set) ≡ set
+all_of_set set small = eqb-true (with_each 0 (attributes_of set)) set (agree_below_at (λ s. eqb (with_each 0 (attributes_of s)) s) (λ _. true) 128 set refl small)
+
+-- an attribute of what is shown of a set is shown
+shown_member : (shown set a : ℕ) → bit_and (bit_and shown set) a ≡ a → bit_and shown a ≡ a
+shown_member shown set a h = same_from_bits _ _ (λ i.
+    let e : bit_at (bit_and (bit_and shown set) a) i ≡ bit_at a i = ap (λ n. bit_at n i) h in
+    rw (bit_at_and shown a i) (omega (arith, bit_at_and (bit_and shown set) a i, bit_at_and shown set i)))
+
+-- the attributes of a list that are seen of a set
+abbrev seen_of : ℕ → ℕ → List ℕ → List ℕ
+seen_of shown set attributes = filter (λ a. bit_and (bit_and shown set) a == a) attributes
+
+-- these operations turn these attributes on, from any state
+abbrev Enters : ProfileView → List ℕ → Type 0
+Enters profile attributes =
+    (old : TerminalState) → runs profile old (map enter attributes) ≡ Some (record { grid = old.grid; spot = old.spot; pen = record old.pen { attrs = with_each old.pen.attrs attributes } })
+
+enters_more : RunLaws → (profile : ProfileView) → HasLaws profile → (set a : ℕ) (rest : List ℕ) → is_attribute a ≡ true → Enters profile rest
+    → (b : Bool) → (bit_and (bit_and (shown_set profile) set) a == a) ≡ b → Enters profile (cond b (a ∷ rest) rest)
+enters_more laws profile can set a rest one h true e = λ old.
+    let next : TerminalState = record { grid = old.grid; spot = old.spot; pen = with_attribute old.pen a } in
+    then_runs laws profile old next (record { grid = old.grid; spot = old.spot; pen = record old.pen { attrs = with_each old.pen.attrs (a ∷ rest) } }) (enter a ∷ []) (map enter rest)
+    (one_run profile old next (enter a) (can.enter a one (shown_member (shown_set profile) set a (eqb-true _ _ e))) refl)
+    (h next)
+enters_more laws profile can set a rest one h false e = h
+
+enters : RunLaws → (profile : ProfileView) → HasLaws profile → (set : ℕ) (attributes : List ℕ) → AllByRecursion (λ a. is_attribute a ≡ true) attributes
+    → Enters profile (seen_of (shown_set profile) set attributes)
+enters laws profile can set [] each = λ old. refl
+enters laws profile can set (a ∷ rest) each =
+    enters_more laws profile can set a (seen_of (shown_set profile) set rest) each.0 (enters laws profile can set rest each.1) (bit_and (bit_and (shown_set profile) set) a == a) refl
+
+-- a colour that the terminal shows
+abbrev IsSeen : ProfileView → ℕ → Type 0
+IsSeen profile n = (n < 8) × (has_colours profile ≡ true)
+
+-- a state at a place, with this pen
+abbrev with_pen : TerminalState → ℕ × ℕ → ℕ → Option ℕ → Option ℕ → TerminalState
+with_pen state place attrs foreground background =
+    record { grid = state.grid; spot = At place.0 place.1; pen = record { attrs = attrs; foreground = foreground; background = background } }
+
+foreground_set : (profile : ProfileView) → HasLaws profile → (old : TerminalState) (place : ℕ × ℕ) (attrs : ℕ) (f : Option ℕ) → IfSome f (IsSeen profile)
+    → runs profile (with_pen old place attrs None None) (sets_foreground f) ≡ Some (with_pen old place attrs f None)
+foreground_set profile can old place attrs None seen = refl
+foreground_set profile can old place attrs (Some n) seen =
+    one_run profile (with_pen old place attrs None None) (with_pen old place attrs (Some n) None) (Fore n) (can.fore n seen.0 seen.1) refl
+
+background_set : (profile : ProfileView) → HasLaws profile → (old : TerminalState) (place : ℕ × ℕ) (attrs : ℕ) (f b : Option ℕ) → IfSome b (IsSeen profile)
+    → runs profile (with_pen old place attrs f None) (sets_background b) ≡ Some (with_pen old place attrs f b)
+background_set profile can old place attrs f None seen = refl
+background_set profile can old place attrs f (Some n) seen =
+    one_run profile (with_pen old place attrs f None) (with_pen old place attrs f (Some n)) (Back n) (can.back n seen.0 seen.1) refl
+
+-- ---- what is seen of a cell
+
+blank_is_cell : IsCell blank_cell
+blank_is_cell = record { character = (omega arith, omega arith); attributes = omega arith; pair = omega arith }
+
+cell_of_row : (cells : List CellView) (c : ℕ) → AllByRecursion IsCell cells → IsCell (get_or cells c blank_cell)
+cell_of_row [] c each = blank_is_cell
+cell_of_row (cell ∷ cells) zero each = each.0
+cell_of_row (cell ∷ cells) (suc c) each = cell_of_row cells c each.1
+
+-- in every place of a picture there is a cell, and a blank outside
+cell_of : (lines : List (List CellView)) (r c : ℕ) → AllByRecursion (All IsCell) lines → IsCell (grid_at blank_cell lines r c)
+cell_of [] r c each = blank_is_cell
+cell_of (line ∷ lines) zero c each = cell_of_row line c (recursion_from_All IsCell line each.0)
+cell_of (line ∷ lines) (suc r) c each = cell_of lines r c each.1
+
+-- the colours of a pair can be set, where colours are shown
+abbrev colours_unless : Bool → List (ℕ × ℕ) → ℕ → Option ℕ × Option ℕ
+colours_unless none pairs pair = if none then (None, None) else (Some ((get_or pairs (pair - 1) (7, 0)).0), Some ((get_or pairs (pair - 1) (7, 0)).1))
+
+pair_seen : (profile : ProfileView) (picture : PictureView) → IsPicture picture → (pair : ℕ) → pair < 64 → has_colours profile ≡ true → (none : Bool) → (pair == 0) ≡ none
+    → IfSome (colours_unless none picture.pairs pair).0 (IsSeen profile) × IfSome (colours_unless none picture.pairs pair).1 (IsSeen profile)
+pair_seen profile picture k pair small shown true e = (tt, tt)
+pair_seen profile picture k pair small shown false e =
+    let inside : pair - 1 < 63 = grind (arith, nat_tests) in
+    let colours : AreColours (get_or picture.pairs (pair - 1) (7, 0)) = k.colours (pair - 1) (7, 0) (omega (arith, inside, k.all_pairs)) in
+    ((colours.0, shown), (colours.1, shown))
+
+colours_seen : (profile : ProfileView) (picture : PictureView) → IsPicture picture → (pair : ℕ) → pair < 64 → (b : Bool) → has_colours profile ≡ b
+    → IfSome (if b then (pair_colours picture.pairs pair).0 else None) (IsSeen profile) × IfSome (if b then (pair_colours picture.pairs pair).1 else None) (IsSeen profile)
+colours_seen profile picture k pair small true shown = pair_seen profile picture k pair small shown (pair == 0) refl
+colours_seen profile picture k pair small false shown = (tt, tt)
+
+-- ---- a place
+
+pub place_is_painted : RunLaws → ProfilesHave → PlaceIsPainted
+place_is_painted laws have profile p picture k place inside old s =
+    let can = have profile p in
+    let cell : CellView = grid_at blank_cell picture.lines place.0 place.1 in
+    let is : IsCell cell = cell_of picture.lines place.0 place.1 (recursion_from_All (All IsCell) picture.lines k.cells) in
+    let look : LookView = look_at profile picture place in
+    let attrs : ℕ = look.pen.attrs in
+    let small : attrs < 128 = omega (arith, can.can_show.shown, and_le_l (shown_set profile) cell.attrs, and_le_l 127 (shown_set profile)) in
+    let seen = colours_seen profile picture k cell.pair is.pair (has_colours profile) refl in
+    let there : TerminalState = with_pen old place 0 None None in
+    let lit : TerminalState = with_pen old place attrs None None in
+    let fore : TerminalState = with_pen old place attrs look.pen.foreground None in
+    let coloured : TerminalState = with_pen old place attrs look.pen.foreground look.pen.background in
+    let new : TerminalState = record { grid = grid_with old.grid place.0 place.1 look; spot = spot_after profile.columns place.0 place.1; pen = look.pen } in
+    let gone : runs profile old (goes profile place) ≡ Some there = goes_by laws profile can old s.pen place inside profile.msgr refl in
+    let entered : runs profile there (map enter (attributes_of attrs)) ≡ Some lit =
+    enters laws profile can cell.attrs all_attributes (refl, (refl, (refl, (refl, (refl, (refl, (refl, tt))))))) there
+    ∙ ap (λ set. Some (with_pen old place set None None)) (all_of_set attrs small) in
+    let set : runs profile there (renders look) ≡ Some coloured =
+    then_runs laws profile there fore coloured (map enter (attributes_of attrs) ++ sets_foreground look.pen.foreground) (sets_background look.pen.background)
+    (then_runs laws profile there lit fore (map enter (attributes_of attrs)) (sets_foreground look.pen.foreground) entered
+    (foreground_set profile can old place attrs look.pen.foreground seen.0))
+    (background_set profile can old place attrs look.pen.foreground look.pen.background seen.1) in
+    then_runs laws profile old coloured new (goes profile place ++ renders look) (Put look.byte ∷ [])
+    (then_runs laws profile old there coloured (goes profile place) (renders look) gone set)
+    (one_run profile coloured new (Put look.byte) (can.put look.byte is.character) refl)

@@ -1,0 +1,2 @@
+-- The words of private functions: nothing that has to be read to know what the library does.
+pub mod Painters
