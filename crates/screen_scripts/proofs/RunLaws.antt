@@ -7,11 +7,12 @@ use Rattle.std.proofs.lemmas.List.Splits.{length-slice_split}
 use Rattle.std.proofs.lemmas.List.Concat.{flat_map-append}
 use Rattle.scr_cells.specs.CellViews.{is_character}
 use Rattle.scr_cells.specs.PictureViews.{PictureView}
+use Rattle.scr_term.specs.Operations.Abilities.{full_abilities}
 use Rattle.scr_term.specs.Ecma.Screens.{ScreenView}
 use Rattle.screen_scripts.specs.Lines.{lines_of, parts_behind, without_empty_end}
 use Rattle.screen_scripts.specs.Stories.{Outcome, Story, line_outcome, story_from, story_on, story_of, next_number, Refused, Shown, added, continued, opened, outcome_of}
 use Rattle.screen_scripts.specs.Canvases.{with_byte, with_text, moved, blank_canvas}
-use Rattle.screen_scripts.specs.Printing.{profile_for, written_event, output_of, refused_event, refusals_of}
+use Rattle.screen_scripts.specs.Printing.{abilities_for, written_event, output_of, refused_event, refusals_of}
 use Rattle.screen_scripts.specs.declared.stage.Effect.{Effect}
 use Rattle.screen_scripts.specs.StageViews.{ActsOn, events_of}
 use Rattle.screen_scripts.specs.Commands.{CommandView, SizeCommand, AddCommand, ShowCommand, command_of}
@@ -142,14 +143,14 @@ terminal_follows old new screen f t = record {
   columns = t.columns ∙ sym f.columns;
   valid = t.valid;
   state = t.state;
-  is_state = subst (λ profile. IsState profile t.state) same t.is_state;
+  is_state = subst (λ a. IsState a t.state) same t.is_state;
   negative = t.negative;
   nothing_waits = t.nothing_waits;
   defined = t.defined;
 }
   where
-    same : profile_for old ≡ profile_for new
-    same = λ i. record { rows = sym f.rows i; columns = sym f.columns i; shown = 127; colours = false }
+    same : abilities_for old ≡ abilities_for new
+    same = λ i. full_abilities (sym f.rows i) (sym f.columns i)
 
 ready_behind : (old new : PictureView) (screen : Option ScreenView) → Follows old new → IfSome screen (λ s. IsTerminalFor old s) → IsReady (Some new) screen
 ready_behind old new None f t = record { cursor = f.cursor; terminal = tt; closed = λ e. refl }

@@ -1,12 +1,14 @@
 -- The lines that the demonstration prints, and the bytes that it sends in their place.
-use Rattle.std.specs.Prelude.{ℕ, ◌+◌, ◌/◌, ◌%◌, ◌==◌, nat_lt, Bool, false, List, [], ◌∷◌, ◌++◌, map, codes, if◌then◌else◌}
+use Rattle.std.specs.Prelude.{ℕ, ◌+◌, ◌/◌, ◌%◌, ◌==◌, ◌&&◌, nat_lt, Bool, List, [], ◌∷◌, ◌++◌, map, codes, Option, Some, None, if◌then◌else◌}
 use Rattle.std.specs.List.{flat_map, list_all}
+use Rattle.std.specs.Option.{is_none}
 use Rattle.std.specs.Fmt.{decimal}
-use Rattle.scr_cells.specs.Attributes.{every_attribute}
 use Rattle.scr_cells.specs.LookViews.{LookView, negative_grid}
 use Rattle.scr_cells.specs.PictureViews.{PictureView}
 use Rattle.scr_term.specs.declared.operations.operation.Spot.{Spot}
 use Rattle.scr_term.specs.declared.operations.operation.Spot.TheVariants.{At, Margin}
+use Rattle.scr_term.specs.Operations.Abilities.{Abilities, full_abilities}
+use Rattle.scr_term.specs.Operations.Ecma48.{ecma48_profile}
 use Rattle.scr_term.specs.Operations.Profiles.{ProfileView}
 use Rattle.scr_term.specs.Operations.Painted.{painted}
 use Rattle.scr_term.specs.Operations.Texts.{all_bytes}
@@ -31,8 +33,24 @@ abbrev pub attribute_line : List LookView → List ℕ
 attribute_line looks =
     if list_all (λ look. look.pen.attrs == 0) looks then [] else 58 ∷ flat_map attribute_digits looks ++ 58 ∷ 10 ∷ []
 
+-- the digit of a colour, or a dash where it is the default
+abbrev pub colour_digit : Option ℕ → ℕ
+colour_digit None = 45
+colour_digit (Some colour) = 48 + colour
+
+-- the foreground and the background of a place
+abbrev pub colour_digits : LookView → List ℕ
+colour_digits look = colour_digit look.pen.foreground ∷ colour_digit look.pen.background ∷ []
+
+abbrev pub has_default_colours : LookView → Bool
+has_default_colours look = is_none look.pen.foreground && is_none look.pen.background
+
+-- the colours of a row where one of them is not the default, between two signs `=`
+abbrev pub colour_line : List LookView → List ℕ
+colour_line looks = if list_all has_default_colours looks then [] else 61 ∷ flat_map colour_digits looks ++ 61 ∷ 10 ∷ []
+
 abbrev pub row_lines : List LookView → List ℕ
-row_lines looks = character_line looks ++ attribute_line looks
+row_lines looks = character_line looks ++ attribute_line looks ++ colour_line looks
 
 -- where the cursor is
 abbrev pub cursor_line : Spot → List ℕ
@@ -48,13 +66,17 @@ refusal_line name = codes "refused " ++ name ++ 10 ∷ []
 
 -- the profile that a picture is shown on: the bundled entry on a screen of the picture's size
 abbrev pub profile_for : PictureView → ProfileView
-profile_for picture = record { rows = picture.rows; columns = picture.columns; shown = every_attribute; colours = false }
+profile_for picture = ecma48_profile picture.rows picture.columns
+
+-- what its terminal shows: every attribute, and colours
+abbrev pub abilities_for : PictureView → Abilities
+abilities_for picture = full_abilities picture.rows picture.columns
 
 -- what is printed of an event: the negative of the painted picture with the cursor where it is wished, or the refusal
 abbrev pub printed_event : Event → List ℕ
 printed_event (Refused name) = refusal_line name
 printed_event (Shown picture) =
-    screen_lines (negative_grid (painted (profile_for picture) picture)) (At (cursor_of picture).0 (cursor_of picture).1)
+    screen_lines (negative_grid (painted (abilities_for picture) picture)) (At (cursor_of picture).0 (cursor_of picture).1)
 
 -- what is sent of an event: the bytes that paint the picture from scratch
 abbrev pub sent_event : Event → List ℕ

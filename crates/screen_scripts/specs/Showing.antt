@@ -5,7 +5,7 @@ use Rattle.scr_cells.specs.PictureViews.{PictureView}
 use Rattle.scr_term.specs.Operations.States.{TerminalState, IsState, negative_state}
 use Rattle.scr_term.specs.Ecma.Screens.{ScreenView, IsScreen}
 use Rattle.screen_scripts.specs.Stories.{Outcome, line_outcome}
-use Rattle.screen_scripts.specs.Printing.{output_of, profile_for, refusals_of}
+use Rattle.screen_scripts.specs.Printing.{abilities_for, output_of, refusals_of}
 
 -- a screen of the picture's size that shows the negative of some state of the terminal, with nothing waiting
 pub record IsTerminalFor (picture : PictureView) (screen : ScreenView) : Type 0 where
@@ -13,7 +13,7 @@ pub record IsTerminalFor (picture : PictureView) (screen : ScreenView) : Type 0 
   pub columns : screen.columns ≡ picture.columns
   pub valid : IsScreen screen
   pub state : TerminalState
-  pub is_state : IsState (profile_for picture) state
+  pub is_state : IsState (abilities_for picture) state
   pub negative : screen.state ≡ negative_state state
   pub nothing_waits : screen.waiting ≡ []
   pub defined : screen.undefined ≡ false

@@ -1,8 +1,9 @@
 //! The lines that show a screen.
-ghost use Rattle.std.specs.Prelude.{◌≡◌, ◌==◌, ◌++◌, ◌<◌, OnOk};
+ghost use Rattle.std.specs.Prelude.{◌≡◌, ◌==◌, ◌++◌, ◌<◌, IfSome, OnOk};
 ghost use Rattle.std.specs.Fmt.{decimal};
 ghost use Rattle.std.specs.List.{list_all};
-ghost use Rattle.screen_scripts.specs.Printing.{attribute_line, character_line, cursor_line, refusal_line, row_lines, screen_lines, hexadecimal_digit as hexadecimal_digit_of};
+ghost use Rattle.scr_cells.specs.PenViews.{IsColour};
+ghost use Rattle.screen_scripts.specs.Printing.{attribute_line, character_line, colour_line, cursor_line, has_default_colours, refusal_line, row_lines, screen_lines, colour_digit as colour_digit_of, hexadecimal_digit as hexadecimal_digit_of};
 
 use scr_cells::{Look, NoMemory};
 use scr_term::{EcmaScreen, Spot};
@@ -27,12 +28,13 @@ pub fn print_refusal(name: &str, text: &mut Vec<u8>) -> Result<(), NoMemory>
     Ok(())
 }
 
-// Adds a row's characters, and its attributes where it has some.
+// Adds a row's characters, its attributes where it has some, and its colours where one is not the default.
 fn print_row(looks: &[Look], text: &mut Vec<u8>) -> Result<(), NoMemory>
     ensures { OnOk result (text.new.items ≡ text.old.items ++ row_lines looks.now) }
 {
     print_characters(looks, text)?;
-    print_attributes(looks, text)
+    print_attributes(looks, text)?;
+    print_colours(looks, text)
 }
 
 // Adds the characters of a row between two bars.
@@ -69,6 +71,40 @@ fn are_plain(looks: &[Look]) -> bool
     ensures { result ≡ list_all (λ look. look.pen.attrs == 0) looks.now }
 {
     looks.iter().all(|look| look.attrs().0 == 0)
+}
+
+// Adds the colours of a row between two signs `=`, or nothing where all are the default ones.
+fn print_colours(looks: &[Look], text: &mut Vec<u8>) -> Result<(), NoMemory>
+    ensures { OnOk result (text.new.items ≡ text.old.items ++ colour_line looks.now) }
+{
+    if have_default_colours(looks) {
+        return Ok(());
+    }
+    text.push(b'=')?;
+    for look in looks {
+        text.push(colour_digit(look.foreground()))?;
+        text.push(colour_digit(look.background()))?;
+    }
+    text.extend_from_slice(b"=\n")?;
+    Ok(())
+}
+
+// Whether every place is in the default colours.
+fn have_default_colours(looks: &[Look]) -> bool
+    ensures { result ≡ list_all has_default_colours looks.now }
+{
+    looks.iter().all(|look| look.foreground().is_none() && look.background().is_none())
+}
+
+// The digit of a colour, or a dash for the default.
+fn colour_digit(colour: Option<u8>) -> u8
+    requires { IfSome colour IsColour }
+    ensures { result ≡ colour_digit_of colour }
+{
+    match colour {
+        Some(colour) => b'0' + colour,
+        None => b'-',
+    }
 }
 
 // The digit of a number below 16.

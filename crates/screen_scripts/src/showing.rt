@@ -1,16 +1,18 @@
 //! Showing a canvas: the bytes that paint it, and what a terminal then shows.
 ghost use Rattle.std.specs.Prelude.{◌≡◌, IsSome, IfSome, IfOk, OnOk};
 ghost use Rattle.std.specs.Option.{ForSome};
-ghost use Rattle.scr_term.specs.Operations.Profiles.{IsEcma48};
-ghost use Rattle.screen_scripts.specs.Stories.{Shown};
+ghost use Rattle.scr_term.specs.Operations.Admission.{IsEcma48};
 ghost use Rattle.scr_term.specs.Operations.Painted.{ShowsNegative};
-ghost use Rattle.screen_scripts.specs.Printing.{printed_event, profile_for, sent_event, written_event};
+ghost use Rattle.scr_term.specs.Operations.Texts.{all_bytes};
+ghost use Rattle.scr_plan.specs.Scratch.{Fits, scratch_of};
+ghost use Rattle.screen_scripts.specs.Stories.{Shown};
+ghost use Rattle.screen_scripts.specs.Printing.{abilities_for, printed_event, profile_for, sent_event, written_event};
 ghost use Rattle.screen_scripts.specs.Showing.{IsTerminalFor};
 
 use crate::printing::print_screen;
-use scr_cells::{NoMemory, Picture, Size};
+use scr_cells::{NoMemory, Picture};
 use scr_plan::{scratch_bytes, scratch_bytes_show};
-use scr_term::{EcmaScreen, Profile, blank_laws, screens_follow_texts};
+use scr_term::{EcmaScreen, Profile, blank_laws, ecma48_laws, screens_follow_texts};
 use std::alloc::Global;
 
 /// What is written of a canvas that is shown: raw, the bytes that paint it, else the lines that the
@@ -44,6 +46,7 @@ fn blank_terminal(alloc: Global, canvas: &Picture) -> Result<EcmaScreen, NoMemor
 {
     blank_laws();
     let screen = EcmaScreen::new(alloc, canvas.size())?;
+    let _size = screen.size();
     Ok(screen)
 }
 
@@ -58,22 +61,27 @@ fn shown_lines(
     ensures text { IfOk result (λ text. text.items ≡ printed_event (Shown canvas.now)) }
     ensures ready { OnOk result (IsTerminalFor canvas.now screen.new) }
 {
-    let bytes = update_bytes(alloc, canvas)?;
-    paint(canvas, &bytes, screen);
+    let profile = bundled_profile(alloc, canvas)?;
+    let bytes = scratch_bytes(alloc, &profile, canvas)?;
+    paint(&profile, canvas, &bytes, screen);
     let mut text = Vec::new(alloc);
     print_screen(screen, &mut text)?;
     Ok(text)
 }
 
 // Feeds a terminal the bytes that paint a canvas.
-fn paint(canvas: &Picture, bytes: &[u8], screen: &mut EcmaScreen)
+fn paint(profile: &Profile, canvas: &Picture, bytes: &[u8], screen: &mut EcmaScreen)
+    requires profile { IsEcma48 profile.now }
+    requires fits { Fits profile.now canvas.now }
     requires terminal { IsTerminalFor canvas.now screen.old }
-    requires bytes { bytes.now ≡ sent_event (Shown canvas.now) }
-    ensures painted { ShowsNegative (profile_for canvas.now) screen.new.state canvas.now }
+    requires bytes { bytes.now ≡ all_bytes profile.now (scratch_of profile.now canvas.now) }
+    ensures painted { ShowsNegative (abilities_for canvas.now) screen.new.state canvas.now }
     ensures ready { IsTerminalFor canvas.now screen.new }
 {
-    let _size = canvas.size();
+    let _profile = profile.size();
+    let _canvas = canvas.size();
     scratch_bytes_show();
+    ecma48_laws();
     screens_follow_texts();
     // The bytes are all defined, by these laws.
     let _ = screen.feed(bytes);
@@ -83,15 +91,16 @@ fn paint(canvas: &Picture, bytes: &[u8], screen: &mut EcmaScreen)
 fn update_bytes(alloc: Global, canvas: &Picture) -> Result<Vec<u8>, NoMemory>
     ensures { IfOk result (λ bytes. bytes.items ≡ sent_event (Shown canvas.now)) }
 {
-    let profile = bundled_profile(alloc, canvas.size())?;
+    let profile = bundled_profile(alloc, canvas)?;
     scratch_bytes(alloc, &profile, canvas)
 }
 
-// The profile of the bundled entry. Fails only when memory runs out.
-fn bundled_profile(alloc: Global, size: Size) -> Result<Profile, NoMemory>
+// The profile of the bundled entry on a screen of a canvas's size. Fails only when memory runs out.
+fn bundled_profile(alloc: Global, canvas: &Picture) -> Result<Profile, NoMemory>
     ensures entry { IfOk result IsEcma48 }
-    ensures rows { IfOk result (λ profile. profile.rows ≡ size.rows) }
-    ensures columns { IfOk result (λ profile. profile.columns ≡ size.columns) }
+    ensures profile { IfOk result (λ profile. profile ≡ profile_for canvas.now) }
+    ensures fits { IfOk result (λ profile. Fits profile canvas.now) }
 {
-    Profile::ecma48(alloc, size).map_err(|_| NoMemory)
+    ecma48_laws();
+    Profile::ecma48(alloc, canvas.size()).map_err(|_| NoMemory)
 }
