@@ -1,9 +1,9 @@
 //! Lines about sizes, sets of attributes, cells and looks.
 
-use crate::answers::{add_flag, add_held, add_number, add_word};
-use crate::troubles::Trouble;
-use crate::words::Words;
 use bitflags::Flags;
+use check_scripts::answers::{add_cell, add_flag, add_look, add_number, add_word};
+use check_scripts::troubles::Trouble;
+use check_scripts::words::Words;
 use scr_cells::{Attrs, Cell, Look, Size};
 
 /// The lines `new_size R C`, `union A B`, `difference A B`, `contains A B`, `all_attributes`, `new_cell B A`,
@@ -31,28 +31,6 @@ pub fn answer_of_cells(
         _ => return Ok(false),
     }
     Ok(true)
-}
-
-/// Adds what a cell holds.
-pub fn add_cell(cell: Cell, came: &mut Vec<u8>) -> Result<(), Trouble> {
-    add_held(cell.byte(), cell.attrs().0, cell.pair(), came)
-}
-
-/// Adds the byte and the attributes of a look, and its foreground and background where one is not the default.
-pub fn add_look(look: Look, came: &mut Vec<u8>) -> Result<(), Trouble> {
-    add_held(look.byte(), look.attrs().0, 0, came)?;
-    let (foreground, background) = (look.foreground(), look.background());
-    if foreground.is_some() || background.is_some() {
-        add_colour(foreground, came)?;
-        add_colour(background, came)?;
-    }
-    Ok(())
-}
-
-/// Reads what a cell is made of: a byte, attributes, and a colour pair if there is one more word.
-pub fn read_parts(words: &mut Words<'_>) -> Result<(u8, Attrs, u32), Trouble> {
-    let (byte, attrs) = (words.byte()?, Attrs(words.byte()?));
-    Ok((byte, attrs, words.number_if_any()?))
 }
 
 fn answer_of_sets(word: &[u8], words: &mut Words<'_>, came: &mut Vec<u8>) -> Result<(), Trouble> {
@@ -108,14 +86,6 @@ fn read_colour(words: &mut Words<'_>) -> Result<Option<u8>, Trouble> {
         return Ok(None);
     }
     Ok(Some(words.byte()?))
-}
-
-/// Adds a colour, or `-` for the default one.
-pub fn add_colour(colour: Option<u8>, came: &mut Vec<u8>) -> Result<(), Trouble> {
-    match colour {
-        Some(colour) => add_number(i64::from(colour), came),
-        None => add_word("-", came),
-    }
 }
 
 fn add_same_look(words: &mut Words<'_>, came: &mut Vec<u8>) -> Result<(), Trouble> {

@@ -1,9 +1,9 @@
 //! Where the library's desk and the plain one differ.
 
-use crate::answers::{add_answer, add_number, add_word};
-use crate::desk_lines::add_text_of;
+use crate::answers::add_answer;
 use crate::lent_windows::{FIELDS, Field, lent_field, lent_line, narrow, plain_field, win};
-use crate::troubles::Trouble;
+use check_scripts::answers::{add_number, add_text_of, add_word};
+use check_scripts::troubles::Trouble;
 use plain_desk::calls::Answer;
 use plain_desk::plain::{Plain, Window};
 use scr_cells::{Cell, Size};

@@ -1,10 +1,11 @@
 //! Lines about a whole desk: how one is made, and what a window holds.
 
-use crate::answers::{add_number, add_word, fault_name};
+use crate::answers::fault_name;
 use crate::lent_lines::answer_of_lent;
-use crate::texts::{read_text, write_byte};
-use crate::troubles::Trouble;
-use crate::words::Words;
+use check_scripts::answers::{add_number, add_text_of, add_word};
+use check_scripts::texts::read_text;
+use check_scripts::troubles::Trouble;
+use check_scripts::words::Words;
 use scr_cells::{Cell, Size};
 use scr_windows::{Desk, Win, WinFault};
 use std::alloc::Global;
@@ -33,16 +34,6 @@ pub fn answer_of_desk(
         _ => return answer_of_made_desk(desk.as_ref(), word, words, came),
     }
     Ok(true)
-}
-
-/// Adds the bytes of cells as a text.
-pub fn add_text_of(cells: &[Cell], came: &mut Vec<u8>) -> Result<(), Trouble> {
-    came.extend_from_slice(b" \"")?;
-    for cell in cells {
-        write_byte(cell.byte(), came)?;
-    }
-    came.push(b'"')?;
-    Ok(())
 }
 
 // The lines that say what a desk holds.

@@ -1,12 +1,13 @@
 //! Generated calls on the library's desk and on the plain one, compared after each.
 
-use crate::answers::{add_answer, add_number, add_text, add_word};
+use crate::answers::add_answer;
 use crate::comparing::{What, add_difference, first_difference};
 use crate::desk_calls::call_desk;
 use crate::generating::{TEXT, next_call, next_form};
 use crate::random::Random;
-use crate::troubles::Trouble;
-use crate::words::Words;
+use check_scripts::answers::{add_number, add_text, add_word};
+use check_scripts::troubles::Trouble;
+use check_scripts::words::Words;
 use plain_desk::calls::{Answered, Call};
 use plain_desk::plain::Plain;
 use scr_cells::Size;

@@ -1,10 +1,10 @@
 //! Lines about which windows there are, and about what one that is lent tells.
 
-use crate::answers::{add_answer, add_flag, add_number, add_place, add_word, fault_name};
-use crate::desk_lines::add_text_of;
+use crate::answers::{add_answer, fault_name};
 use crate::lent_windows::{FIELDS, Field, lent_field, lent_line};
-use crate::troubles::Trouble;
-use crate::words::Words;
+use check_scripts::answers::{add_flag, add_number, add_place, add_text_of, add_word};
+use check_scripts::troubles::Trouble;
+use check_scripts::words::Words;
 use scr_windows::{Desk, Win, WindowRef};
 
 /// The lines `desk_screen`, `count`, `nth INDEX`, and `window W FIELD`, `window W is_touched R` and `window W line R`.

@@ -1,55 +1,43 @@
-//! What the lines of a script work on: one desk, one picture, one profile and one screen, each from the line that makes
-//! it on.
+//! What the lines of a script work on: one desk, from the line that makes it on.
 
 use crate::answers::add_answer;
 use crate::cell_lines::answer_of_cells;
 use crate::desk_calls::call_desk;
 use crate::desk_lines::answer_of_desk;
-use crate::painting_lines::answer_of_painting;
-use crate::picture_lines::answer_of_picture;
-use crate::screen_lines::answer_of_screen;
-use crate::script_lines::answer_of_script;
-use crate::terminal_lines::answer_of_terminal;
-use crate::texts::read_text;
-use crate::troubles::Trouble;
-use crate::words::{Words, byte, integer};
+use crate::dumps::dump_desk;
+use crate::generated::check_generated;
+use check_scripts::checking::Stage;
+use check_scripts::texts::read_text;
+use check_scripts::troubles::Trouble;
+use check_scripts::words::{Words, byte, integer};
 use plain_desk::calls::{Call, MOST_NUMBERS};
 use plain_desk::forms::{Form, find};
-use scr_cells::Picture;
-use scr_term::{EcmaScreen, Profile};
 use scr_windows::Desk;
 use std::alloc::Global;
 
 /// The state of a script.
 #[derive(Drop)]
-pub struct Stage {
+pub struct DeskStage {
     pub alloc: Global,
     pub desk: Option<Desk>,
-    pub picture: Option<Picture>,
-    pub profile: Option<Profile>,
-    pub screen: Option<EcmaScreen>,
     /// Room for texts of a line.
     pub text: Vec<u8>,
-    pub other_text: Vec<u8>,
 }
 
-impl Stage {
-    /// Nothing is there.
-    pub fn new(alloc: Global) -> Stage {
-        Stage {
+impl Stage for DeskStage {
+    fn new(alloc: Global) -> DeskStage {
+        DeskStage {
             alloc,
             desk: None,
-            picture: None,
-            profile: None,
-            screen: None,
             text: Vec::new(alloc),
-            other_text: Vec::new(alloc),
         }
     }
 
-    /// Makes the call of a line, and adds what it answers, in words.
-    pub fn answer(&mut self, words: &mut Words<'_>, came: &mut Vec<u8>) -> Result<(), Trouble> {
+    fn answer(&mut self, words: &mut Words<'_>, came: &mut Vec<u8>) -> Result<(), Trouble> {
         let word = words.next();
+        if word == b"calls".as_slice() {
+            return check_generated(self.alloc, words, came);
+        }
         if let Some(form) = find(word) {
             return self.call(form, words, came);
         }
@@ -61,7 +49,20 @@ impl Stage {
         }
     }
 
-    // Makes the call of a line that is not one on windows, on the part of the state that it is about.
+    fn dump(&self, bytes: &mut Vec<u8>) -> Result<(), Trouble> {
+        match &self.desk {
+            Some(desk) => dump_desk(desk, bytes),
+            None => Ok(()),
+        }
+    }
+
+    fn leaves_all(word: &[u8]) -> bool {
+        word == b"calls".as_slice()
+    }
+}
+
+impl DeskStage {
+    // Makes the call of a line that is not one of a window's calls.
     fn answer_of_parts(
         &mut self,
         word: &[u8],
@@ -71,20 +72,7 @@ impl Stage {
         let (alloc, text) = (self.alloc, &mut self.text);
         Ok(
             answer_of_desk(alloc, &mut self.desk, text, word, words, came)?
-                || answer_of_cells(word, words, came)?
-                || answer_of_picture(alloc, &mut self.picture, word, words, came)?
-                || answer_of_painting(alloc, &self.picture, &mut self.screen, word, came)?
-                || answer_of_terminal(alloc, &mut self.profile, word, words, came)?
-                || answer_of_screen(
-                    alloc,
-                    &mut self.screen,
-                    text,
-                    &mut self.other_text,
-                    word,
-                    words,
-                    came,
-                )?
-                || answer_of_script(alloc, &mut self.screen, text, word, words, came)?,
+                || answer_of_cells(word, words, came)?,
         )
     }
 

@@ -1,10 +1,10 @@
 //! Lines about the scripts of the demonstration program.
 
-use crate::answers::{add_number, add_text, add_word};
 use crate::screen_lines::ready_mut;
-use crate::texts::read_text;
-use crate::troubles::Trouble;
-use crate::words::Words;
+use check_scripts::answers::{add_number, add_text, add_word};
+use check_scripts::texts::read_text;
+use check_scripts::troubles::Trouble;
+use check_scripts::words::Words;
 use scr_cells::NoMemory;
 use scr_term::EcmaScreen;
 use screen_scripts::{DemoFault, refusals, run};

@@ -1,18 +1,37 @@
 //! A script of calls with the answers that are wanted, line by line.
 
 use crate::answers::{add_wanted, add_word};
-use crate::generated::check_generated;
-use crate::stages::Stage;
 use crate::troubles::Trouble;
 use crate::words::Words;
+use program_input::{InputFault, read_input};
 use std::alloc::Global;
+use std::io;
+use std::io::Write;
+use std::process::ExitCode;
+
+/// What the lines of a script work on.
+pub trait Stage: Sized {
+    /// Nothing is there yet.
+    fn new(alloc: Global) -> Self;
+
+    /// Makes the call of a line, and adds what it answers, in words.
+    fn answer(&mut self, words: &mut Words<'_>, came: &mut Vec<u8>) -> Result<(), Trouble>;
+
+    /// Adds all that can be seen.
+    fn dump(&self, bytes: &mut Vec<u8>) -> Result<(), Trouble>;
+
+    /// Whether a call of this name leaves all as it is, so that it need not be made to have the state behind it.
+    fn leaves_all(word: &[u8]) -> bool;
+}
 
 /// A script, and how far it was checked.
 #[derive(Drop)]
-pub struct Checker<'a> {
+pub struct Checker<'a, S: Stage + Drop> {
     alloc: Global,
     script: &'a [u8],
-    stage: Stage,
+    stage: S,
+    // Room for texts of what is wanted.
+    text: Vec<u8>,
     wanted: Vec<u8>,
     came: Vec<u8>,
     /// The number of the line, from 1 on.
@@ -20,13 +39,14 @@ pub struct Checker<'a> {
     agree: u32,
 }
 
-impl<'a> Checker<'a> {
+impl<'a, S: Stage + Drop> Checker<'a, S> {
     /// A checker before a script's first line.
-    pub fn new(alloc: Global, script: &'a [u8]) -> Checker<'a> {
+    pub fn new(alloc: Global, script: &'a [u8]) -> Checker<'a, S> {
         Checker {
             alloc,
             script,
-            stage: Stage::new(alloc),
+            stage: S::new(alloc),
+            text: Vec::new(alloc),
             wanted: Vec::new(alloc),
             came: Vec::new(alloc),
             line: 0,
@@ -96,22 +116,17 @@ impl<'a> Checker<'a> {
         let mut words = line;
         self.came.clear();
         self.wanted.clear();
-        if words.peek() == b"calls".as_slice() {
-            let _word = words.next();
-            check_generated(self.alloc, &mut words, &mut self.came)?;
-        } else {
-            self.stage.answer(&mut words, &mut self.came)?;
-        }
+        self.stage.answer(&mut words, &mut self.came)?;
         match words.next() {
             b"" => Ok(()),
-            b"=" => add_wanted(&mut words, &mut self.stage.text, &mut self.wanted),
+            b"=" => add_wanted(&mut words, &mut self.text, &mut self.wanted),
             _ => Err(Trouble::Bad("too many arguments")),
         }
     }
 
     // Whether the state is the one that the lines before this call make anew.
     fn is_as_before(&self, words: Words<'_>, done: u32) -> Result<bool, Trouble> {
-        let mut anew = Stage::new(self.alloc);
+        let mut anew = S::new(self.alloc);
         let mut came = Vec::new(self.alloc);
         let mut number: u32 = 0;
         for line in self.script.split(|byte| *byte == b'\n') {
@@ -134,13 +149,13 @@ impl<'a> Checker<'a> {
 }
 
 // Makes the call of a line so often, whatever it answers.
-fn make_again(
-    stage: &mut Stage,
+fn make_again<S: Stage>(
+    stage: &mut S,
     line: Words<'_>,
     times: u32,
     came: &mut Vec<u8>,
 ) -> Result<(), Trouble> {
-    if line.peek() == b"calls".as_slice() {
+    if S::leaves_all(line.peek()) {
         return Ok(());
     }
     for _ in 0..times {
@@ -180,5 +195,50 @@ fn agrees(wanted: &[u8], came: &[u8]) -> bool {
         b" Ok" | b" Done" => true,
         [_, first, ..] => first.is_ascii_digit(),
         _ => false,
+    }
+}
+
+/// Checks the script that the standard input has, and prints how many lines agree, or the first that does not with what
+/// was wanted and what came.
+pub fn check_input<S: Stage + Drop>(rt: &HostRuntime) -> ExitCode {
+    match check_script::<S>(rt) {
+        Ok(true) => ExitCode::SUCCESS,
+        Ok(false) => ExitCode::from(1),
+        Err(trouble) => {
+            let _ = eprintln!(rt; "{trouble}");
+            ExitCode::from(1)
+        }
+    }
+}
+
+// Reads the script and checks it.
+fn check_script<S: Stage + Drop>(rt: &HostRuntime) -> Result<bool, Trouble> {
+    let script = match read_input(rt.alloc(), &mut rt.reader()) {
+        Ok(script) => script,
+        Err(InputFault::NoMemory) => return Err(Trouble::NoMemory),
+        Err(InputFault::Failed) => return Err(Trouble::Bad("read failed")),
+    };
+    let mut checker = Checker::<S>::new(rt.alloc(), &script);
+    let ended = checker.check();
+    let line = checker.line;
+    match ended {
+        Ok(true) => {
+            let agree = checker.agree();
+            let written = println!(rt; "{agree} lines agree");
+            Ok(written.is_ok())
+        }
+        Ok(false) => {
+            let _ = print!(rt; "line {line}: wanted");
+            let _ = io::writer(rt).write_all(checker.wanted());
+            let _ = print!(rt; ", came");
+            let _ = io::writer(rt).write_all(checker.came());
+            let _ = println!(rt; "");
+            Ok(false)
+        }
+        Err(Trouble::Bad(cause)) => {
+            let _ = println!(rt; "line {line}: {cause}");
+            Ok(false)
+        }
+        Err(Trouble::NoMemory) => Err(Trouble::NoMemory),
     }
 }

@@ -1,13 +1,14 @@
 //! Lines about an emulated screen.
 
-use crate::answers::{add_flag, add_number, add_place, add_text, add_word};
-use crate::cell_lines::{add_colour, add_look};
-use crate::picture_lines::read_size;
-use crate::texts::read_text;
-use crate::troubles::Trouble;
-use crate::words::Words;
+use crate::emulated_lines::add_spot;
+use check_scripts::answers::{
+    add_colour, add_flag, add_look, add_number, add_place, add_text, add_word, read_size,
+};
+use check_scripts::texts::read_text;
+use check_scripts::troubles::Trouble;
+use check_scripts::words::Words;
 use scr_cells::{Look, NoMemory, Size};
-use scr_term::{EcmaScreen, Spot};
+use scr_term::EcmaScreen;
 use screen_scripts::print_screen;
 use std::alloc::Global;
 
@@ -74,7 +75,7 @@ fn answer_of_shown(
             add_place(size.rows, size.columns, came)?;
         }
         b"shown" => add_shown(screen, words, came)?,
-        b"spot" => add_spot(screen, came)?,
+        b"spot" => add_spot(screen.spot(), came)?,
         b"rendition" => add_number(i64::from(screen.rendition().0), came)?,
         b"colours" => {
             let (foreground, background) = screen.colours();
@@ -145,16 +146,6 @@ fn add_shown(
         return Err(Trouble::Bad("no place of the screen"));
     }
     add_look(screen.cell(row, column), came)
-}
-
-fn add_spot(screen: &EcmaScreen, came: &mut Vec<u8>) -> Result<(), Trouble> {
-    match screen.spot() {
-        Spot::At(row, column) => add_place(row, column, came),
-        Spot::Margin(row) => {
-            add_word("margin", came)?;
-            add_number(i64::from(row), came)
-        }
-    }
 }
 
 // Feeds a text to a blank screen of the same size in two pieces, once for each place where it can be cut, and adds

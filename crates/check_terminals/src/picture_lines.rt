@@ -1,11 +1,9 @@
 //! Lines about a picture.
 
-use crate::answers::{add_place, add_word};
-use crate::cell_lines::{add_cell, read_parts};
-use crate::desk_lines::add_text_of;
-use crate::troubles::Trouble;
-use crate::words::Words;
-use scr_cells::{Cell, NoMemory, Picture, Size};
+use check_scripts::answers::{add_cell, add_place, add_text_of, add_word, read_parts, read_size};
+use check_scripts::troubles::Trouble;
+use check_scripts::words::Words;
+use scr_cells::{Cell, NoMemory, Picture};
 use std::alloc::Global;
 
 /// The lines `picture R C`, `put R C B A P`, `put_row R C B A P`, `wish R C`, `wish none`, `wished`, `picture_size`,
@@ -39,11 +37,6 @@ pub fn answer_of_picture(
 /// The picture, which a line asks for.
 pub fn ready(picture: &Option<Picture>) -> Result<&Picture, Trouble> {
     picture.as_ref().ok_or(Trouble::Bad("no picture"))
-}
-
-/// Reads a size of a screen.
-pub fn read_size(words: &mut Words<'_>) -> Result<Size, Trouble> {
-    Size::new(words.number()?, words.number()?).ok_or(Trouble::Bad("no size"))
 }
 
 fn make_picture(

@@ -1,0 +1,22 @@
+//! Runs a script of calls on terminals, each with the answer or the state that is wanted, which it reads from the standard input.
+//! It prints how many lines agree, or the first that does not with what was wanted and what came (status 1).
+#![tactic(auto)]
+
+mod dumps;
+mod emulated_lines;
+mod entry_lines;
+mod operation_lines;
+mod painting_lines;
+mod picture_lines;
+mod screen_lines;
+mod script_lines;
+mod stages;
+mod terminal_lines;
+
+use check_scripts::checking::check_input;
+use stages::TerminalStage;
+use std::process::ExitCode;
+
+fn main(rt: HostRuntime) -> ExitCode {
+    check_input::<TerminalStage>(&rt)
+}

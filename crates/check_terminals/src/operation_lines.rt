@@ -1,0 +1,83 @@
+//! Operations of a terminal, as words.
+
+use check_scripts::answers::{add_number, add_place, add_text, add_word};
+use check_scripts::troubles::Trouble;
+use check_scripts::words::Words;
+use scr_cells::Attrs;
+use scr_term::Op;
+
+/// Reads an operation: `home`, `move R C`, `column C`, `line R`, `up N`, `down N`, `left N`, `right N`, `return`, `clear`,
+/// `erase_line`, `erase_below`, `erase_chars N`, `reset`, `enter A`, `set A`, `fore N`, `back N` or `put B`.
+pub fn read_op(words: &mut Words<'_>) -> Result<Op, Trouble> {
+    match words.next() {
+        b"reset" => Ok(Op::Reset),
+        b"enter" => Ok(Op::Enter(Attrs(words.byte()?))),
+        b"set" => Ok(Op::Set(Attrs(words.byte()?))),
+        b"fore" => Ok(Op::Fore(words.byte()?)),
+        b"back" => Ok(Op::Back(words.byte()?)),
+        b"put" => Ok(Op::Put(words.byte()?)),
+        b"clear" => Ok(Op::Clear),
+        b"erase_line" => Ok(Op::EraseLine),
+        b"erase_below" => Ok(Op::EraseBelow),
+        b"erase_chars" => Ok(Op::EraseChars(words.number()?)),
+        word => read_motion(word, words),
+    }
+}
+
+/// Adds an operation.
+pub fn add_op(op: Op, came: &mut Vec<u8>) -> Result<(), Trouble> {
+    match op {
+        Op::Move(row, column) => {
+            add_word("move", came)?;
+            add_place(row, column, came)
+        }
+        Op::Enter(attrs) => add_op_of("enter", i64::from(attrs.0), came),
+        Op::Set(attrs) => add_op_of("set", i64::from(attrs.0), came),
+        Op::Fore(colour) => add_op_of("fore", i64::from(colour), came),
+        Op::Back(colour) => add_op_of("back", i64::from(colour), came),
+        Op::Put(byte) => {
+            add_word("put", came)?;
+            add_text(&[byte], came)
+        }
+        Op::EraseChars(count) => add_op_of("erase_chars", i64::from(count), came),
+        op => add_bare_op(op, came),
+    }
+}
+
+fn read_motion(word: &[u8], words: &mut Words<'_>) -> Result<Op, Trouble> {
+    match word {
+        b"home" => Ok(Op::Home),
+        b"return" => Ok(Op::Return),
+        b"move" => Ok(Op::Move(words.number()?, words.number()?)),
+        b"column" => Ok(Op::Column(words.number()?)),
+        b"line" => Ok(Op::Line(words.number()?)),
+        b"up" => Ok(Op::Up(words.number()?)),
+        b"down" => Ok(Op::Down(words.number()?)),
+        b"left" => Ok(Op::Left(words.number()?)),
+        b"right" => Ok(Op::Right(words.number()?)),
+        _ => Err(Trouble::Bad("no operation")),
+    }
+}
+
+fn add_op_of(name: &str, number: i64, came: &mut Vec<u8>) -> Result<(), Trouble> {
+    add_word(name, came)?;
+    add_number(number, came)
+}
+
+// Adds an operation that is a motion by a number, or has none.
+fn add_bare_op(op: Op, came: &mut Vec<u8>) -> Result<(), Trouble> {
+    match op {
+        Op::Column(column) => add_op_of("column", i64::from(column), came),
+        Op::Line(row) => add_op_of("line", i64::from(row), came),
+        Op::Up(count) => add_op_of("up", i64::from(count), came),
+        Op::Down(count) => add_op_of("down", i64::from(count), came),
+        Op::Left(count) => add_op_of("left", i64::from(count), came),
+        Op::Right(count) => add_op_of("right", i64::from(count), came),
+        Op::Home => add_word("home", came),
+        Op::Return => add_word("return", came),
+        Op::Clear => add_word("clear", came),
+        Op::EraseLine => add_word("erase_line", came),
+        Op::EraseBelow => add_word("erase_below", came),
+        _ => add_word("reset", came),
+    }
+}
