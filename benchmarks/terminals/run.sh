@@ -1,0 +1,43 @@
+#!/bin/sh
+# Counts the processor instructions of what terminals cost: one run, one reading and one length of parameter strings, two of
+# them without parameters, beside ncurses' tparm; one admission of the bundled entry; one graphic character that the
+# emulated screen is fed; the operations for one place, a bold character, and their bytes; and one price of a cursor
+# address.
+# It needs valgrind, a C compiler, libncurses-dev, and the program crates/bench_terminals, which `rt run` builds.
+# Usage: benchmarks/terminals/run.sh PROGRAM, from the top of the repository.
+set -e
+program=$1
+here=$(dirname "$0")
+folder=$(mktemp -d)
+cc -O2 -o "$folder/tparm" "$here/tparm.c" -lncurses -ltinfo
+
+# The instructions of a command.
+count() {
+    valgrind --tool=callgrind --callgrind-out-file=/dev/null "$@" 2>&1 >/dev/null | sed -n 's/.*Collected : //p'
+}
+
+# The instructions of one time, from the difference of FEW times and FEW and 10 times STEP.
+once() {
+    few=$1 step=$2
+    shift 2
+    least=$(count "$@" "$few")
+    most=$(count "$@" $((few + 10 * step)))
+    echo $(((most - least) / (10 * step)))
+}
+
+for text in cup sgr clear status; do
+    theirs=$(once 1000 1000 "$folder/tparm" $text)
+    ours=$(once 1000 1000 "$program" run $text)
+    length=$(once 1000 1000 "$program" length $text)
+    reading=$(once 1000 1000 "$program" read $text)
+    echo "$text: run $ours, tparm $theirs, ratio $((1000 * ours / theirs)) per mille; length $length, $((1000 * length / ours)) per mille of a run; read $reading"
+done
+admission=$(once 10 10 "$program" admit bundled)
+echo "admission of the bundled entry: $admission (goal: at most 300000)"
+line=$(once 100 100 "$program" feed bundled)
+echo "a line of 79 graphic characters that is fed, behind a cursor address: $line, $((line / 79)) a character (goal: at most 40)"
+place=$(once 1000 1000 "$program" paint bundled)
+echo "the operations for one place, 26 bytes: $place, $((10 * place / 26)) tenths a byte"
+price=$(once 1000 1000 "$program" price bundled)
+echo "the price of a cursor address: $price"
+rm -r "$folder"

@@ -1,0 +1,169 @@
+//! Does one thing again and again, so that the instructions of one time can be counted, and prints a number that is made of
+//! all results. `bench_terminals read|run|length cup|sgr|clear|status COUNT` reads, runs or measures a parameter string;
+//! `bench_terminals admit|feed|paint|price bundled COUNT` makes a profile of the bundled entry, feeds the emulated screen a line of
+//! 79 graphic characters, renders the operations for one place of a screen, or asks for the price of a cursor address.
+#![tactic(auto)]
+
+use anyhow::{Context, Result, anyhow, bail};
+use scr_cells::{Attrs, Size};
+use scr_term::{EcmaScreen, Op, Profile};
+use std::alloc::Global;
+use std::env;
+use ti_param::{Program, Vars};
+
+const CUP: &[u8] = b"\x1b[%i%p1%d;%p2%dH";
+
+const SGR: &[u8] =
+    b"\x1b[0%?%p1%p3%|%t;7%;%?%p2%t;4%;%?%p4%t;5%;%?%p5%t;2%;%?%p6%t;1%;%?%p7%t;8%;m";
+
+// Two texts without parameters: short, and long.
+const CLEAR: &[u8] = b"\x1b[H\x1b[2J";
+
+const STATUS: &[u8] =
+    b"\x1b[?1049h\x1b[22;0;0t\x1b[?1h\x1b=\x1b[?7h\x1b[4l\x1b>\x1b[?1000l\x1b[?25h\x1b(B\x1b[m";
+
+// Runs a program so many times, and adds up what it writes.
+fn run_again(alloc: Global, text: &[u8], params: [i32; 9], count: u32) -> Result<usize> {
+    let program = Program::read(alloc, text)?;
+    let mut vars = Vars::new();
+    let mut out = Vec::with_capacity(alloc, 256)?;
+    let mut sum = 0usize;
+    for _ in 0..count {
+        out.clear();
+        program.run(params, &mut vars, &mut out)?;
+        sum = sum.wrapping_add(out.len());
+    }
+    Ok(sum)
+}
+
+// Asks so many times how much a program would write, and adds it up.
+fn measure_again(alloc: Global, text: &[u8], params: [i32; 9], count: u32) -> Result<usize> {
+    let program = Program::read(alloc, text)?;
+    let vars = Vars::new();
+    let mut sum = 0usize;
+    for _ in 0..count {
+        sum = sum.wrapping_add(program.length(params, &vars)?);
+    }
+    Ok(sum)
+}
+
+// Reads a text so many times, and adds up the bounds.
+fn read_again(alloc: Global, text: &[u8], count: u32) -> Result<usize> {
+    let mut sum = 0usize;
+    for _ in 0..count {
+        sum = sum.wrapping_add(Program::read(alloc, text)?.bound());
+    }
+    Ok(sum)
+}
+
+// The size of the screens here.
+fn size() -> Result<Size> {
+    Size::new(24, 80).ok_or_else(|| anyhow!("no size"))
+}
+
+// Makes the profile of the bundled entry so many times, and adds up the lengths of the longest texts.
+fn admit_again(alloc: Global, count: u32) -> Result<usize> {
+    let size = size()?;
+    let mut sum = 0usize;
+    for _ in 0..count {
+        let profile = Profile::ecma48(alloc, size)?;
+        sum = sum.wrapping_add(profile.longest());
+    }
+    Ok(sum)
+}
+
+// Feeds an emulated screen so many lines of graphic characters, and counts those that are undefined.
+fn feed_again(alloc: Global, count: u32) -> Result<usize> {
+    let mut screen = EcmaScreen::new(alloc, size()?)?;
+    let mut line = Vec::with_capacity(alloc, 128)?;
+    line.extend_from_slice(b"\x1b[1;1H")?;
+    for byte in 33..112u8 {
+        line.push(byte)?;
+    }
+    let mut sum = 0usize;
+    for _ in 0..count {
+        if screen.feed(&line).is_err() {
+            sum = sum.wrapping_add(1);
+        }
+    }
+    Ok(sum)
+}
+
+// Renders the operations for one place, a bold character, so many times, and adds up the bytes.
+fn paint_again(alloc: Global, count: u32) -> Result<usize> {
+    let profile = Profile::ecma48(alloc, size()?)?;
+    let place = [
+        Op::Move(23, 78),
+        Op::Reset,
+        Op::Enter(Attrs(32)),
+        Op::Put(b'x'),
+    ];
+    let mut out = Vec::with_capacity(alloc, 256)?;
+    let mut sum = 0usize;
+    for _ in 0..count {
+        out.clear();
+        render(&profile, &place, &mut out)?;
+        sum = sum.wrapping_add(out.len());
+    }
+    Ok(sum)
+}
+
+// Asks for the price of a cursor address so many times, and adds it up.
+fn price_again(alloc: Global, count: u32) -> Result<usize> {
+    let profile = Profile::ecma48(alloc, size()?)?;
+    let mut sum = 0usize;
+    for _ in 0..count {
+        sum = sum.wrapping_add(profile.cost(Op::Move(23, 78)).unwrap_or(0));
+    }
+    Ok(sum)
+}
+
+// Renders operations, those that the profile has.
+fn render(profile: &Profile, ops: &[Op], out: &mut Vec<u8>) -> Result<()> {
+    for op in ops {
+        if profile.has(*op) {
+            profile.render(*op, out)?;
+        }
+    }
+    Ok(())
+}
+
+fn measure(alloc: Global, action: &str, name: &str, count: u32) -> Result<usize> {
+    match action {
+        "admit" => return admit_again(alloc, count),
+        "feed" => return feed_again(alloc, count),
+        "paint" => return paint_again(alloc, count),
+        "price" => return price_again(alloc, count),
+        _ => {}
+    }
+    let (text, params) = text_of(name)?;
+    match action {
+        "run" => run_again(alloc, text, params, count),
+        "length" => measure_again(alloc, text, params, count),
+        "read" => read_again(alloc, text, count),
+        _ => bail!("no such action"),
+    }
+}
+
+// A text and its parameters.
+fn text_of(name: &str) -> Result<(&'static [u8], [i32; 9])> {
+    match name {
+        "cup" => Ok((CUP, [23, 79, 0, 0, 0, 0, 0, 0, 0])),
+        "sgr" => Ok((SGR, [0, 1, 1, 0, 0, 1, 0, 0, 0])),
+        "clear" => Ok((CLEAR, [0; 9])),
+        "status" => Ok((STATUS, [0; 9])),
+        _ => bail!("no such text"),
+    }
+}
+
+fn main(rt: HostRuntime) -> Result<()> {
+    let mut words = env::args(&rt)?;
+    let _program = words.next();
+    let action = words.next().ok_or_else(|| anyhow!("what to do"))?;
+    let name = words.next().ok_or_else(|| anyhow!("a text, or bundled"))?;
+    let count = words.next().ok_or_else(|| anyhow!("how often"))?;
+    let count = count.as_str().parse::<u32>().context("how often")?;
+    let sum = measure(rt.alloc(), action.as_str(), name.as_str(), count)?;
+    println!(rt; "{sum}")?;
+    Ok(())
+}
