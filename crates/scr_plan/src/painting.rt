@@ -14,7 +14,8 @@ use std::alloc::Global;
 /// The operations that paint a whole picture on a terminal that may show anything (curs_refresh(3X)):
 /// no attribute and default colours, a blank screen, then every place in rows, each with the cursor moved
 /// there, no attribute and default colours, each attribute and each colour that is seen of its cell, and its
-/// byte; at the end no attribute and default colours, and the cursor where it is wished.
+/// byte; at the end no attribute and default colours, and the cursor where it is wished. Where the terminal has no
+/// `msgr`, attributes and colours go before the cursor moves; where it has no `sgr0`, there are none.
 ///
 /// The picture has the profile's size. Fails only when memory runs out.
 pub fn scratch(alloc: Global, profile: &Profile, picture: &Picture) -> Result<Ops, NoMemory>

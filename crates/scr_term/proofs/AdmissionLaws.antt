@@ -28,7 +28,8 @@ use Rattle.scr_term.specs.Operations.Admission.{IsRefused, admitted, first_some,
 use Rattle.scr_term.specs.Operations.Capabilities.{each_capability, ordinal}
 use Rattle.scr_term.specs.Operations.Profiles.{IsPlanned, IsProfile, ProfileView, has_colours, is_shown, program_of, set_of, shown_set}
 use Rattle.scr_term.specs.Operations.Texts.{bytes_in, bytes_of, first_piece, nine, piece_bytes, resets_colours, text, written}
-use Rattle.scr_term.specs.Code.Admission.{ArePlanned, AreTexts, bad_fault, bad_fault_of, program_in, counted_bound, greatest_bound, is_missing, long_fault, longest, margin_fault, missing_fault, with_programs, unsuitable_fault}
+use Rattle.scr_term.specs.Code.Admission.{ArePlanned, AreTexts, bad_fault_of, program_in, counted_bound, greatest_bound, longest, with_programs}
+use Rattle.scr_term.specs.Operations.Admission.{bad_fault, is_missing, long_fault, margin_fault, missing_fault, unsuitable_fault}
 use Rattle.scr_term.specs.Code.Kept.{IsKept}
 use Rattle.scr_term.proofs.RenderingLaws.{bytes_of_one, bytes_of_two}
 

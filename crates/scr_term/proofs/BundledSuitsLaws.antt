@@ -19,7 +19,7 @@ use Rattle.scr_term.specs.declared.operations.profile_faults.ProfileFault.TheVar
 use Rattle.scr_term.specs.Operations.Admission.{IsAdmitted, IsEcma48, IsRefused, admitted, first_where, is_bad_string, is_long_string, is_over_bound, is_present, is_unreadable, named_text, refusal, size_fault, some_text, unsuitable_capabilities}
 use Rattle.scr_term.specs.Operations.Capabilities.{each_capability, slot_of}
 use Rattle.scr_term.specs.Operations.Profiles.{ProfileView}
-use Rattle.scr_term.specs.Code.Admission.{is_missing, margin_fault}
+use Rattle.scr_term.specs.Operations.Admission.{is_missing, margin_fault}
 use Rattle.scr_term.proofs.AdmissionLaws.{none_refused}
 use Rattle.scr_term.specs.Operations.Ecma48.{bundled_program}
 

@@ -179,8 +179,20 @@ each_had profile old new (op ∷ ops) h =
     let first = then_some (step profile old op) (λ next. runs profile next ops) new h in
     ((chosen (has profile op) (act profile old op) first.0 first.1).0, each_had profile first.0 new ops first.2)
 
+-- a step, and then operations and others: the run of the others goes on from where the first led, if they led anywhere
+after_step : (profile : ProfileView) (ops more : List Op) (first : Option TerminalState)
+    → ((next : TerminalState) → runs profile next (ops ++ more) ≡ option_and_then (λ n. runs profile n more) (runs profile next ops))
+    → option_and_then (λ next. runs profile next (ops ++ more)) first ≡ option_and_then (λ n. runs profile n more) (option_and_then (λ next. runs profile next ops) first)
+after_step profile ops more None go = refl
+after_step profile ops more (Some next) go = go next
+
+runs-after : (profile : ProfileView) (ops more : List Op) (old : TerminalState) → runs profile old (ops ++ more) ≡ option_and_then (λ n. runs profile n more) (runs profile old ops)
+runs-after profile [] more old = refl
+runs-after profile (op ∷ ops) more old = after_step profile ops more (step profile old op) (runs-after profile ops more)
+
 pub run_laws_hold : RunLaws
 run_laws_hold = record {
+  after = λ profile old ops more. runs-after profile ops more old;
   joined = runs-append;
   bytes = λ profile ops more. flat_map-append (bytes_of profile) ops more;
   kept = runs_keep;

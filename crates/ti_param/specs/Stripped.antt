@@ -3,7 +3,8 @@
 use Rattle.std.specs.Prelude.{ℕ, zero, suc, List, [], ◌∷◌}
 use Rattle.ti_param.specs.Code.Padding.{padding_length}
 
--- a byte and what follows it, as `go` leaves it behind so many bytes, where a padding of a length begins with the byte, or none
+-- A byte, and what follows it: kept where no padding begins with it (length 0), else left out with the rest of the padding. `go` is
+-- what follows behind so many bytes, without its padding.
 abbrev pub kept_unless : ℕ → ℕ → (ℕ → List ℕ) → List ℕ
 kept_unless zero byte go = byte ∷ go 0
 kept_unless (suc n) byte go = go n

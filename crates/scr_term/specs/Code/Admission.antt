@@ -1,15 +1,13 @@
 -- How the code admits an entry: nothing that a reader has to believe.
-use Rattle.std.specs.Prelude.{ℕ, ◌≡◌, ◌+◌, ◌-◌, ◌^◌, ◌&&◌, ◌⊎◌, All, IfSome, Bool, false, not, min, max, List, [], ◌∷◌, Option, Some, None, option_map, Result, Ok, Err, slice_index_or, if◌then◌else◌}
-use Rattle.std.specs.Option.{is_none}
-use Rattle.ti_caps.specs.Description.{Description, flag_at}
-use Rattle.ti_caps.specs.declared.slots.TheConstants.{AM, XENL}
+use Rattle.std.specs.Prelude.{ℕ, ◌≡◌, ◌+◌, ◌-◌, ◌^◌, ◌⊎◌, All, IfSome, Bool, false, min, max, List, [], ◌∷◌, Option, Some, None, Result, Ok, Err, slice_index_or, if◌then◌else◌}
+use Rattle.ti_caps.specs.Description.{Description}
 use Rattle.ti_param.specs.Tree.{Tree, bound}
 use Rattle.scr_term.specs.declared.operations.capability.Capability.{Capability}
-use Rattle.scr_term.specs.declared.operations.capability.Capability.TheVariants.{Clear, Cup, Op}
+use Rattle.scr_term.specs.declared.operations.capability.Capability.TheVariants.{Op}
 use Rattle.scr_term.specs.declared.operations.profile_faults.ProfileFault.{ProfileFault}
-use Rattle.scr_term.specs.declared.operations.profile_faults.ProfileFault.TheVariants.{Unsuitable, AutoMargin, Missing, BadString, LongString, NoMemory}
-use Rattle.scr_term.specs.Operations.Admission.{first_where, is_bad_string, is_long_string, is_present, named_text, sent_text, unsuitable_capabilities}
-use Rattle.scr_term.specs.Operations.Capabilities.{each_capability, ordinal}
+use Rattle.scr_term.specs.declared.operations.profile_faults.ProfileFault.TheVariants.{BadString, NoMemory}
+use Rattle.scr_term.specs.Operations.Admission.{bad_fault, is_bad_string, long_fault, missing_fault, named_text}
+use Rattle.scr_term.specs.Operations.Capabilities.{ordinal}
 use Rattle.scr_term.specs.Operations.Profiles.{IsPlanned, ProfileView}
 
 -- ---- the steps of an admission
@@ -18,24 +16,6 @@ use Rattle.scr_term.specs.Operations.Profiles.{IsPlanned, ProfileView}
 abbrev pub Judges : {A : Type 0} → Result A ProfileFault → Option ProfileFault → Type 0
 Judges (Ok x) refusal = refusal ≡ None
 Judges (Err fault) refusal = (fault ≡ NoMemory) ⊎ (refusal ≡ Some fault)
-
-abbrev pub unsuitable_fault : Description → Option ProfileFault
-unsuitable_fault entry = option_map Unsuitable (first_where (is_present entry) unsuitable_capabilities)
-
-abbrev pub margin_fault : Description → Option ProfileFault
-margin_fault entry = if flag_at entry AM.0 && not (flag_at entry XENL.0) then Some AutoMargin else None
-
-abbrev pub is_missing : Description → Capability → Bool
-is_missing entry capability = is_none (sent_text entry capability)
-
-abbrev pub missing_fault : Description → Option ProfileFault
-missing_fault entry = option_map (λ c. Missing (named_text c)) (first_where (is_missing entry) (Cup ∷ Clear ∷ []))
-
-abbrev pub bad_fault : Description → Option ProfileFault
-bad_fault entry = option_map (λ c. BadString (named_text c)) (first_where (is_bad_string entry) each_capability)
-
-abbrev pub long_fault : Description → Option ProfileFault
-long_fault entry = option_map (λ c. LongString (named_text c)) (first_where (is_long_string entry) each_capability)
 
 -- a text that is no program, or too deep a one
 abbrev pub bad_fault_of : Description → Capability → Option ProfileFault

@@ -116,16 +116,29 @@ abbrev pub size_fault : Option (ℕ × ℕ) → Option ProfileFault
 size_fault None = Some NoSize
 size_fault (Some size) = if is_screen_length size.0 && is_screen_length size.1 then None else Some BadSize
 
--- why an entry and a size make no profile, if they do not: the first of these
+-- what is against an entry, one by one
+abbrev pub unsuitable_fault : Description → Option ProfileFault
+unsuitable_fault entry = option_map Unsuitable (first_where (is_present entry) unsuitable_capabilities)
+
+abbrev pub margin_fault : Description → Option ProfileFault
+margin_fault entry = if flag_at entry AM.0 && not (flag_at entry XENL.0) then Some AutoMargin else None
+
+abbrev pub is_missing : Description → Capability → Bool
+is_missing entry capability = is_none (sent_text entry capability)
+
+abbrev pub missing_fault : Description → Option ProfileFault
+missing_fault entry = option_map (λ c. Missing (named_text c)) (first_where (is_missing entry) (Cup ∷ Clear ∷ []))
+
+abbrev pub bad_fault : Description → Option ProfileFault
+bad_fault entry = option_map (λ c. BadString (named_text c)) (first_where (is_bad_string entry) each_capability)
+
+abbrev pub long_fault : Description → Option ProfileFault
+long_fault entry = option_map (λ c. LongString (named_text c)) (first_where (is_long_string entry) each_capability)
+
+-- Why an entry and a size make no profile, in order: the first that there is counts.
 abbrev pub refusals : Description → Option Size → List (Option ProfileFault)
 refusals entry size =
-    option_map Unsuitable (first_where (is_present entry) unsuitable_capabilities)
-    ∷ (if flag_at entry AM.0 && not (flag_at entry XENL.0) then Some AutoMargin else None)
-    ∷ option_map (λ c. Missing (named_text c)) (first_where (λ c. is_none (sent_text entry c)) (Cup ∷ Clear ∷ []))
-    ∷ size_fault (screen_size entry size)
-    ∷ option_map (λ c. BadString (named_text c)) (first_where (is_bad_string entry) each_capability)
-    ∷ option_map (λ c. LongString (named_text c)) (first_where (is_long_string entry) each_capability)
-    ∷ []
+    unsuitable_fault entry ∷ margin_fault entry ∷ missing_fault entry ∷ size_fault (screen_size entry size) ∷ bad_fault entry ∷ long_fault entry ∷ []
 
 unfoldable pub refusal : Description → Option Size → Option ProfileFault
 refusal entry size = first_some (refusals entry size)
@@ -149,3 +162,7 @@ pub record IsEcma48 (profile : ProfileView) : Type 0 where
   pub entry : Description
   pub bundled : IsBundled entry
   pub made : profile ≡ admitted entry profile.rows profile.columns
+
+-- the bundled entry makes this profile on a screen of this size, and nothing is against it
+abbrev pub IsBundledAdmitted : Size → ProfileView → Type 0
+IsBundledAdmitted size profile = (entry : Description) × (IsBundled entry × IsAdmitted entry (Some size) profile)

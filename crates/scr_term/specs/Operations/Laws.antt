@@ -1,5 +1,5 @@
 -- The laws of operations, of runs and of their bytes.
-use Rattle.std.specs.Prelude.{ℕ, ◌≡◌, ◌++◌, ◌<◌, true, false, List, [], ◌∷◌, All, Some, bit_and}
+use Rattle.std.specs.Prelude.{ℕ, ◌≡◌, ◌++◌, ◌<◌, true, false, List, All, Some, option_and_then, bit_and}
 use Rattle.scr_cells.specs.CellViews.{IsCharacter}
 use Rattle.scr_term.specs.declared.operations.capability.Capability.TheVariants.{Sgr0}
 use Rattle.scr_term.specs.Operations.Abilities.{AreAbilities}
@@ -36,8 +36,9 @@ StepsKeepStates =
     → (op : Op) → step profile old op ≡ Some new
     → IsState (abilities profile) new
 
--- Runs join, and so do their bytes; a run leads from a state of the profile to one, and has only operations that the profile has.
+-- Runs join, also where the first is undefined, and so do their bytes; a run leads from a state of the profile to one, and has only operations that the profile has.
 pub record RunLaws : Type 0 where
+  pub after : (profile : ProfileView) (old : TerminalState) (ops more : List Op) → runs profile old (ops ++ more) ≡ option_and_then (λ next. runs profile next more) (runs profile old ops)
   pub joined : (profile : ProfileView) (old next : TerminalState) (ops more : List Op) → runs profile old ops ≡ Some next → runs profile old (ops ++ more) ≡ runs profile next more
   pub bytes : (profile : ProfileView) (ops more : List Op) → all_bytes profile (ops ++ more) ≡ all_bytes profile ops ++ all_bytes profile more
   pub kept : (profile : ProfileView) → IsProfile profile → (old new : TerminalState) → IsState (abilities profile) old
@@ -50,7 +51,7 @@ pub record BlankLaws : Type 0 where
   pub negative : (rows columns : ℕ) → negative_state (blank_state rows columns) ≡ blank_state rows columns
 
 -- What can be relied on: each profile moves the cursor everywhere, clears the screen and writes each character; it can reset
--- what it can turn on, and turn on each attribute and set each colour that it shows.
+-- what it can turn on, and turn on each attribute and set each colour that it shows; without `sgr0` it shows none.
 pub record HasLaws (profile : ProfileView) : Type 0 where
   pub can_show : AreAbilities (abilities profile)
   pub move : (r c : ℕ) → r < profile.rows → c < profile.columns → has profile (Move r c) ≡ true

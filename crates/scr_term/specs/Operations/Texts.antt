@@ -104,7 +104,12 @@ is_within profile (Set a) = bit_and (shown_set profile) a.0 == a.0
 is_within profile (Fore n) = is_shown_colour profile n
 is_within profile (Back n) = is_shown_colour profile n
 is_within profile (Put byte) = is_character byte
-is_within profile _ = true
+is_within profile Home = true
+is_within profile Return = true
+is_within profile Clear = true
+is_within profile EraseLine = true
+is_within profile EraseBelow = true
+is_within profile Reset = true
 
 -- whether the terminal has the operation
 unfoldable pub has : ProfileView → Op → Bool

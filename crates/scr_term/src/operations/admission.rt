@@ -1,8 +1,9 @@
 //! How a terminfo entry becomes a profile, and why it does not.
 ghost use Rattle.std.specs.Prelude.{◌≡◌, ◌++◌, ◌∷◌, [], OnOk, IfOk, IfErr, Some, map, length, option_map};
 ghost use Rattle.ti_param.specs.Parsed.{parsed};
-ghost use Rattle.scr_term.specs.Operations.Admission.{IsAdmitted, IsEcma48, IsRefused, first_where, is_bad_string, is_over_bound, is_present, named_text, planned_program, screen_size, sent_text, size_fault};
-ghost use Rattle.scr_term.specs.Code.Admission.{Judges, bad_fault_of, is_missing, margin_fault, missing_fault, program_in, unsuitable_fault};
+ghost use Rattle.scr_term.specs.Operations.Admission.{IsAdmitted, IsBundledAdmitted, IsEcma48, IsRefused, first_where, is_bad_string, is_over_bound, is_present, named_text, planned_program, screen_size, sent_text, size_fault};
+ghost use Rattle.scr_term.specs.Code.Admission.{Judges, bad_fault_of, program_in};
+ghost use Rattle.scr_term.specs.Operations.Admission.{is_missing, margin_fault, missing_fault, unsuitable_fault};
 
 use crate::operations::capability::Capability;
 use crate::operations::making::profile;
@@ -66,6 +67,7 @@ impl Profile {
     /// The profile of the bundled ECMA-48 entry on a screen of this size: that which `admit` makes of it. The only
     /// refusal is `NoMemory`.
     pub fn ecma48(alloc: Global, size: Size) -> Result<Profile, ProfileFault>
+        ensures admitted { IfOk result (IsBundledAdmitted size) }
         ensures entry { IfOk result IsEcma48 }
         ensures rows { IfOk result (λ profile. profile.rows ≡ size.rows) }
         ensures columns { IfOk result (λ profile. profile.columns ≡ size.columns) }

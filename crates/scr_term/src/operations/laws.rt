@@ -6,7 +6,7 @@ ghost use Rattle.scr_term.specs.Operations.Laws.{BlankLaws, BytesActAsTheirOpera
 use ti_param::{increment_adds_one, number_writes_decimal};
 
 /// Each profile moves the cursor everywhere, clears the screen and writes each character; it can reset what it can turn on,
-/// and turn on each attribute and set each colour that it shows.
+/// and turn on each attribute and set each colour that it shows. Without `sgr0` it shows none.
 pub fn profiles_have()
     ensures { ProfilesHave }
 {}

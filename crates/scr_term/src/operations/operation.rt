@@ -3,7 +3,7 @@
 use scr_cells::Attrs;
 use std::marker::Model;
 
-/// One operation of a terminal: one capability text, or one character (terminfo(5)).
+/// One operation of a terminal: a character, or the text of a capability, behind which `op` may stand (terminfo(5)).
 ///
 /// Rows and columns count from 0 at the top left.
 #[derive(Clone, Copy, Debug, PartialEq, Eq)]
@@ -36,7 +36,7 @@ pub enum Op {
     EraseChars(u32),
     /// `sgr0`, and `op` where colours are shown: no attribute is on any more, and the colours are the default ones.
     Reset,
-    /// `smso`, `smul`, `rev`, `blink`, `dim`, `bold`, `invis`: one more attribute is on.
+    /// `smso`, `smul`, `rev`, `blink`, `dim`, `bold`, `invis`: one more attribute is on, the single one of the set.
     Enter(Attrs),
     /// `sgr`, and `op` where colours are shown: these attributes and no others are on, and the colours are the default ones.
     Set(Attrs),

@@ -13,7 +13,7 @@ pub enum ProfileFault {
     /// `am` is present and `xenl` is not: a character in the last place would scroll the screen.
     #[error("am without xenl")]
     AutoMargin,
-    /// `cup` or `clear` is absent.
+    /// `cup` or `clear` is absent, or nothing is left of it without its padding.
     #[error("missing capability {}", name(.0))]
     Missing((Kind, Slot)),
     /// `lines` or `cols` is absent, and no size is given.
@@ -22,7 +22,7 @@ pub enum ProfileFault {
     /// The rows or the columns are not 1 to 500.
     #[error("bad size")]
     BadSize,
-    /// The text of a capability is no parameter string.
+    /// The text of a capability is no parameter string, or could need a stack of more than 20 values.
     #[error("bad string {}", name(.0))]
     BadString((Kind, Slot)),
     /// The text of a capability could give more than 1,024 bytes.

@@ -93,8 +93,7 @@ impl Profile {
         self.programs[capability.ordinal()].is_some()
     }
 
-    /// Whether the terminal can turn attributes off and make its colours the default ones (`sgr0`). Where it cannot, it
-    /// shows no attribute and no colour.
+    /// Whether the terminal can turn attributes off (`sgr0`). Where it cannot, it shows no attribute and no colour.
     pub fn can_reset(&self) -> bool
         ensures { result ≡ is_there self.now Sgr0 }
     {
@@ -125,7 +124,7 @@ impl Profile {
             Op::Set(attributes) => self.shown.contains(attributes),
             Op::Fore(colour) | Op::Back(colour) => colour < 8 && self.colours,
             Op::Put(byte) => is_character(byte),
-            _ => true,
+            Op::Home | Op::Return | Op::Clear | Op::EraseLine | Op::EraseBelow | Op::Reset => true,
         }
     }
 

@@ -1,6 +1,6 @@
 use Rattle.std.proofs.Common.{◌≡◌, drop}
 use Rattle.scr_term.specs.Operations.Admission.{first_where}
-use Rattle.scr_term.specs.Code.Admission.{is_missing}
+use Rattle.scr_term.specs.Operations.Admission.{is_missing}
 use Rattle.scr_term.proofs.operations.admission.first_missing.Given as goal
 
 -- the rest of the capabilities gives the answer

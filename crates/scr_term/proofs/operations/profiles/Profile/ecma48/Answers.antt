@@ -13,3 +13,6 @@ returns-clause-columns c = IfOk-weaker c.admit.result _ _ (ecma48_columns c.in-O
 
 pub returns-clause-memory : goal.returns-clause-memory
 returns-clause-memory c = IfErr-weaker c.admit.result _ _ (memory_alone c.in-Ok.entry c.args.size c.in-Ok.ensures.entry) c.admit.ensures.err
+
+pub returns-clause-admitted : goal.returns-clause-admitted
+returns-clause-admitted c = IfOk-weaker c.admit.result _ _ (λ profile is. (c.in-Ok.entry, (c.in-Ok.ensures.entry, is))) c.admit.ensures.ok
