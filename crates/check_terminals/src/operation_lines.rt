@@ -78,6 +78,7 @@ fn add_bare_op(op: Op, came: &mut Vec<u8>) -> Result<(), Trouble> {
         Op::Clear => add_word("clear", came),
         Op::EraseLine => add_word("erase_line", came),
         Op::EraseBelow => add_word("erase_below", came),
-        _ => add_word("reset", came),
+        Op::Reset => add_word("reset", came),
+        _ => Err(Trouble::Bad("an operation without a word")),
     }
 }
