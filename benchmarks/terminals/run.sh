@@ -37,7 +37,8 @@ echo "admission of the bundled entry: $admission (goal: at most 300000)"
 line=$(once 100 100 "$program" feed bundled)
 echo "a line of 79 graphic characters that is fed, behind a cursor address: $line, $((line / 79)) a character (goal: at most 40)"
 place=$(once 1000 1000 "$program" paint bundled)
-echo "the operations for one place, 26 bytes: $place, $((10 * place / 26)) tenths a byte"
+echo "the bytes of the operations for one place, 25 bytes: $place, $((10 * place / 25)) tenths a byte"
 price=$(once 1000 1000 "$program" price bundled)
-echo "the price of a cursor address: $price"
+address=$(once 1000 1000 "$program" address bundled)
+echo "a cursor address: bytes $address, price $price, $((1000 * price / address)) per mille (goal: at most 667)"
 rm -r "$folder"

@@ -1,7 +1,7 @@
 //! Does one thing again and again, so that the instructions of one time can be counted, and prints a number that is made of
 //! all results. `bench_terminals read|run|length cup|sgr|clear|status COUNT` reads, runs or measures a parameter string;
-//! `bench_terminals admit|feed|paint|price bundled COUNT` makes a profile of the bundled entry, feeds the emulated screen a line of
-//! 79 graphic characters, renders the operations for one place of a screen, or asks for the price of a cursor address.
+//! `bench_terminals admit|feed|paint|address|price bundled COUNT` makes a profile of the bundled entry, feeds the emulated screen
+//! a line of 79 graphic characters, renders the operations for one place of a screen or a cursor address, or asks for its price.
 #![tactic(auto)]
 
 use anyhow::{Context, Result, anyhow, bail};
@@ -91,18 +91,23 @@ fn feed_again(alloc: Global, count: u32) -> Result<usize> {
 
 // Renders the operations for one place, a bold character, so many times, and adds up the bytes.
 fn paint_again(alloc: Global, count: u32) -> Result<usize> {
-    let profile = Profile::ecma48(alloc, size()?)?;
     let place = [
         Op::Move(23, 78),
         Op::Reset,
         Op::Enter(Attrs(32)),
         Op::Put(b'x'),
     ];
+    render_again(alloc, &place, count)
+}
+
+// Renders operations so many times, and adds up the bytes.
+fn render_again(alloc: Global, place: &[Op], count: u32) -> Result<usize> {
+    let profile = Profile::ecma48(alloc, size()?)?;
     let mut out = Vec::with_capacity(alloc, 256)?;
     let mut sum = 0usize;
     for _ in 0..count {
         out.clear();
-        render(&profile, &place, &mut out)?;
+        render(&profile, place, &mut out)?;
         sum = sum.wrapping_add(out.len());
     }
     Ok(sum)
@@ -134,6 +139,7 @@ fn measure(alloc: Global, action: &str, name: &str, count: u32) -> Result<usize>
         "feed" => return feed_again(alloc, count),
         "paint" => return paint_again(alloc, count),
         "price" => return price_again(alloc, count),
+        "address" => return render_again(alloc, &[Op::Move(23, 78)], count),
         _ => {}
     }
     let (text, params) = text_of(name)?;

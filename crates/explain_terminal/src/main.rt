@@ -1,6 +1,6 @@
 //! Reads a compiled terminfo entry on the standard input and says in one line whether this library can serve the terminal: the
-//! size of its screen, the attributes that it shows, whether it shows colours, and how long a text can be; or why it cannot
-//! (status 1).
+//! size of its screen, or that the entry has none (24 rows of 80 columns are tried then), the attributes that it shows, whether
+//! it shows colours, and how long the text of an operation can be; or why it cannot (status 1).
 #![tactic(auto)]
 
 use program_input::{InputFault, read_input};
@@ -12,7 +12,7 @@ use thiserror::Error;
 use ti_binary::{BinFault, decode};
 
 // Why a terminal cannot be served.
-#[derive(Debug, Error)]
+#[derive(Debug, Drop, Error)]
 enum Refusal {
     #[error("read failed")]
     Read,
@@ -27,22 +27,23 @@ enum Refusal {
 // What is said of a terminal that can be served.
 #[derive(Clone, Copy)]
 struct Report {
-    size: Size,
+    // None where the entry has no size.
+    size: Option<Size>,
     attributes: u8,
     colours: bool,
     longest: usize,
 }
 
-fn report(profile: &Profile) -> Report {
+fn report_of(profile: &Profile, size: Option<Size>) -> Report {
     Report {
-        size: profile.size(),
+        size,
         attributes: profile.shows().0,
         colours: profile.colours(),
         longest: profile.longest(),
     }
 }
 
-// Reads an entry and admits it. An entry without a size gets 24 rows of 80 columns.
+// Reads an entry and admits it.
 fn explain(alloc: Global, bytes: &[u8]) -> Result<Report, Refusal> {
     let (entry, _) = match decode(alloc, bytes) {
         Ok(read) => read,
@@ -53,13 +54,34 @@ fn explain(alloc: Global, bytes: &[u8]) -> Result<Report, Refusal> {
         Err(ProfileFault::NoSize) => {}
         Err(ProfileFault::NoMemory) => return Err(Refusal::NoMemory),
         Err(fault) => return Err(Refusal::Profile(fault)),
-        Ok(profile) => return Ok(report(&profile)),
+        Ok(profile) => return Ok(report_of(&profile, Some(profile.size()))),
     }
     match Profile::admit(alloc, &entry, Size::new(24, 80)) {
-        Ok(profile) => Ok(report(&profile)),
+        Ok(profile) => Ok(report_of(&profile, None)),
         Err(ProfileFault::NoMemory) => Err(Refusal::NoMemory),
         Err(fault) => Err(Refusal::Profile(fault)),
     }
+}
+
+// The words of a set of attributes, with the names of their capabilities.
+fn attribute_words(set: u8) -> [&'static str; 7] {
+    if set == 0 {
+        return [" no attribute", "", "", "", "", "", ""];
+    }
+    [
+        word_of(set & 1, " smso"),
+        word_of(set & 2, " smul"),
+        word_of(set & 4, " rev"),
+        word_of(set & 8, " blink"),
+        word_of(set & 16, " dim"),
+        word_of(set & 32, " bold"),
+        word_of(set & 64, " invis"),
+    ]
+}
+
+// The word, where the bit is there.
+fn word_of(bit: u8, word: &'static str) -> &'static str {
+    if bit == 0 { "" } else { word }
 }
 
 fn main(rt: HostRuntime) -> ExitCode {
@@ -70,16 +92,7 @@ fn main(rt: HostRuntime) -> ExitCode {
     };
     match explained {
         Ok(said) => {
-            let size = said.size;
-            let colours = if said.colours {
-                "colours"
-            } else {
-                "no colours"
-            };
-            let _ = println!(rt;
-                "admitted: {} rows of {} columns, attributes {}, {colours}, texts of at most {} bytes",
-                size.rows, size.columns, said.attributes, said.longest
-            );
+            print_report(&rt, said);
             ExitCode::SUCCESS
         }
         Err(refusal) => {
@@ -87,4 +100,15 @@ fn main(rt: HostRuntime) -> ExitCode {
             ExitCode::from(1)
         }
     }
+}
+
+fn print_report(rt: &HostRuntime, said: Report) {
+    let _ = match said.size {
+        Some(size) => print!(rt; "admitted: {} rows of {} columns", size.rows, size.columns),
+        None => print!(rt; "admitted: no size of its own"),
+    };
+    let [standout, underline, reverse, blink, dim, bold, invis] = attribute_words(said.attributes);
+    let _ = print!(rt; ", shows{standout}{underline}{reverse}{blink}{dim}{bold}{invis}");
+    let colours = if said.colours { " colours" } else { "" };
+    let _ = println!(rt; "{colours}, texts of at most {} bytes", said.longest);
 }
