@@ -8,7 +8,8 @@ ghost use Rattle.screen_scripts.specs.Printing.{attribute_line, character_line, 
 use scr_cells::{Look, NoMemory};
 use scr_term::{EcmaScreen, Spot};
 
-/// Adds the lines of a screen: each row, and the cursor.
+/// Adds the lines of a screen: each row with the lines of its attributes and its colours, if it has any, and the cursor. Fails
+/// only when memory runs out; what was added until then stays.
 pub fn print_screen(screen: &EcmaScreen, text: &mut Vec<u8>) -> Result<(), NoMemory>
     ensures { OnOk result (text.new.items ≡ text.old.items ++ screen_lines screen.now.state.grid screen.now.state.spot) }
 {

@@ -37,7 +37,7 @@ pub fn ecma48_laws()
     ensures { Ecma48Laws }
 {}
 
-/// Runs of operations join, and so do their bytes. A run leads from a state of a profile to a state of that profile, and has
+/// Runs of operations join, also where the first is undefined, and so do their bytes. A run leads from a state of a profile to a state of that profile, and has
 /// only operations that the profile has.
 pub fn run_laws()
     ensures { RunLaws }

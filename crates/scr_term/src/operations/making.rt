@@ -56,7 +56,7 @@ fn is_there(programs: &[Option<Program>], capability: Capability) -> bool
     programs[capability.ordinal()].is_some()
 }
 
-// Which of these attributes can be turned on, and all be turned off.
+// Which of these attributes can be turned on, and all be turned off; from the last one on, as `set_of` unites them.
 fn shown_set(programs: &[Option<Program>], attributes: &[Attrs]) -> Attrs
     requires { length programs.now ≡ 29 }
     ensures { result.0 ≡ set_of (filter (is_shown (with_programs false programs.now)) (map (λ a. a.0) attributes.now)) }
