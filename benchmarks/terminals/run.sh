@@ -1,8 +1,8 @@
 #!/bin/sh
 # Counts the processor instructions of what terminals cost: one run, one reading and one length of parameter strings, two of
 # them without parameters, beside ncurses' tparm; one admission of the bundled entry; one graphic character that the
-# emulated screen is fed; the operations for one place, a bold character, and their bytes; and one price of a cursor
-# address.
+# emulated screen is fed; the operations for one place, a bold character, and their bytes; those that paint a whole screen;
+# and one price of a cursor address.
 # It needs valgrind, a C compiler, libncurses-dev, and the program crates/bench_terminals, which `rt run` builds.
 # Usage: benchmarks/terminals/run.sh PROGRAM, from the top of the repository.
 set -e
@@ -35,9 +35,13 @@ done
 admission=$(once 10 10 "$program" admit bundled)
 echo "admission of the bundled entry: $admission (goal: at most 300000)"
 line=$(once 100 100 "$program" feed bundled)
-echo "a line of 79 graphic characters that is fed, behind a cursor address: $line, $((line / 79)) a character (goal: at most 40)"
+address=$(once 100 100 "$program" place bundled)
+echo "a line of 79 graphic characters that is fed, behind a cursor address: $line, the address alone: $address, $((10 * (line - address) / 79)) tenths a character (goal: at most 400)"
 place=$(once 1000 1000 "$program" paint bundled)
 echo "the bytes of the operations for one place, 25 bytes: $place, $((10 * place / 25)) tenths a byte"
+screen=$(once 2 2 "$program" scratch bundled)
+bytes=$("$program" scratch bundled 1)
+echo "the bytes that paint a screen of 24 rows and 80 columns from scratch: $screen for $bytes bytes, $((10 * screen / bytes)) tenths a byte (goal: at most 266)"
 price=$(once 1000 1000 "$program" price bundled)
 address=$(once 1000 1000 "$program" address bundled)
 echo "a cursor address: bytes $address, price $price, $((1000 * price / address)) per mille (goal: at most 667)"

@@ -1,11 +1,13 @@
 //! Does one thing again and again, so that the instructions of one time can be counted, and prints a number that is made of
 //! all results. `bench_terminals read|run|length cup|sgr|clear|status COUNT` reads, runs or measures a parameter string;
-//! `bench_terminals admit|feed|paint|address|price bundled COUNT` makes a profile of the bundled entry, feeds the emulated screen
-//! a line of 79 graphic characters, renders the operations for one place of a screen or a cursor address, or asks for its price.
+//! `bench_terminals admit|feed|place|paint|scratch|address|price bundled COUNT` makes a profile of the bundled entry, feeds the
+//! emulated screen a cursor address with a line of 79 graphic characters behind it or alone, renders the operations for one place
+//! of a screen, makes the bytes that paint a whole one of 24 rows and 80 columns, renders a cursor address, or asks for its price.
 #![tactic(auto)]
 
 use anyhow::{Context, Result, anyhow, bail};
-use scr_cells::{Attrs, Size};
+use scr_cells::{Attrs, Picture, Size};
+use scr_plan::scratch_bytes;
 use scr_term::{EcmaScreen, Op, Profile};
 use std::alloc::Global;
 use std::env;
@@ -72,14 +74,21 @@ fn admit_again(alloc: Global, count: u32) -> Result<usize> {
     Ok(sum)
 }
 
-// Feeds an emulated screen so many lines of graphic characters, and counts those that are undefined.
-fn feed_again(alloc: Global, count: u32) -> Result<usize> {
-    let mut screen = EcmaScreen::new(alloc, size()?)?;
+// A cursor address, and graphic characters behind it.
+fn line(alloc: Global, characters: u8) -> Result<Vec<u8>> {
     let mut line = Vec::with_capacity(alloc, 128)?;
     line.extend_from_slice(b"\x1b[1;1H")?;
-    for byte in 33..112u8 {
+    for byte in 33..33u8.saturating_add(characters) {
         line.push(byte)?;
     }
+    Ok(line)
+}
+
+// Feeds an emulated screen a cursor address with so many graphic characters behind it again and again, and counts how often
+// that is undefined.
+fn feed_again(alloc: Global, characters: u8, count: u32) -> Result<usize> {
+    let mut screen = EcmaScreen::new(alloc, size()?)?;
+    let line = line(alloc, characters)?;
     let mut sum = 0usize;
     for _ in 0..count {
         if screen.feed(&line).is_err() {
@@ -113,6 +122,18 @@ fn render_again(alloc: Global, place: &[Op], count: u32) -> Result<usize> {
     Ok(sum)
 }
 
+// Makes the bytes that paint a whole screen so many times, and adds them up.
+fn scratch_again(alloc: Global, count: u32) -> Result<usize> {
+    let size = size()?;
+    let profile = Profile::ecma48(alloc, size)?;
+    let picture = Picture::new(alloc, size)?;
+    let mut sum = 0usize;
+    for _ in 0..count {
+        sum = sum.wrapping_add(scratch_bytes(alloc, &profile, &picture)?.len());
+    }
+    Ok(sum)
+}
+
 // Asks for the price of a cursor address so many times, and adds it up.
 fn price_again(alloc: Global, count: u32) -> Result<usize> {
     let profile = Profile::ecma48(alloc, size()?)?;
@@ -136,7 +157,9 @@ fn render(profile: &Profile, ops: &[Op], out: &mut Vec<u8>) -> Result<()> {
 fn measure(alloc: Global, action: &str, name: &str, count: u32) -> Result<usize> {
     match action {
         "admit" => return admit_again(alloc, count),
-        "feed" => return feed_again(alloc, count),
+        "feed" => return feed_again(alloc, 79, count),
+        "place" => return feed_again(alloc, 0, count),
+        "scratch" => return scratch_again(alloc, count),
         "paint" => return paint_again(alloc, count),
         "price" => return price_again(alloc, count),
         "address" => return render_again(alloc, &[Op::Move(23, 78)], count),

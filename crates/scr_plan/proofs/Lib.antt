@@ -1,3 +1,4 @@
+pub mod CountLaws
 pub mod PlaceLaws
 pub mod PlacesLaws
 pub mod Rows

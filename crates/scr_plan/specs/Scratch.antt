@@ -1,5 +1,5 @@
 -- Painting a whole picture from scratch. curs_refresh(3X), 'doupdate' of a screen that nothing is known of.
-use Rattle.std.specs.Prelude.{ℕ, ◌≡◌, List, [], ◌∷◌, ◌++◌, map, Option, Some, None, if◌then◌else◌}
+use Rattle.std.specs.Prelude.{ℕ, ◌≡◌, ◌≤◌, ◌+◌, ◌*◌, length, List, [], ◌∷◌, ◌++◌, map, Option, Some, None, if◌then◌else◌}
 use Rattle.std.specs.List.{flat_map, range_with_len}
 use Rattle.scr_cells.specs.Attributes.{attributes_of}
 use Rattle.scr_cells.specs.CellViews.{blank_cell}
@@ -109,6 +109,12 @@ ScratchShows =
     → (picture : PictureView) → IsPicture picture → Fits profile picture
     → (old : TerminalState) → IsState (abilities profile) old
     → RunsToShow profile old (scratch_of profile picture) picture
+
+-- Scratch has at most so many operations for a place, and four besides.
+abbrev pub ScratchIsBounded : Type 0
+ScratchIsBounded =
+    (profile : ProfileView) (picture : PictureView)
+    → length (scratch_of profile picture) ≤ picture.rows * picture.columns * 12 + 4
 
 -- as an ECMA-48 text, from the negative of this state, the bytes are all defined, and lead to the negative of a state
 -- of the profile that shows the picture

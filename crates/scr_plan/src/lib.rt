@@ -6,5 +6,5 @@ mod scratch_laws;
 mod scratch_texts;
 
 pub use painting::scratch;
-pub use scratch_laws::{place_is_painted, scratch_bytes_show, scratch_shows};
+pub use scratch_laws::{place_is_painted, scratch_bytes_show, scratch_is_bounded, scratch_shows};
 pub use scratch_texts::scratch_bytes;

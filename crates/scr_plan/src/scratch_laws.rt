@@ -1,5 +1,5 @@
 //! Laws of painting from scratch: functions that do nothing, whose contracts are the laws.
-ghost use Rattle.scr_plan.specs.Scratch.{PlaceIsPainted, ScratchShows, ScratchBytesShow};
+ghost use Rattle.scr_plan.specs.Scratch.{PlaceIsPainted, ScratchIsBounded, ScratchShows, ScratchBytesShow};
 
 use scr_cells::{Look, grid_laws};
 use scr_term::{bytes_act_as_their_operations, ecma48_laws, profiles_have, run_laws};
@@ -23,6 +23,11 @@ pub fn scratch_shows()
     profiles_have();
     grid_laws::<Look>();
 }
+
+/// Scratch has at most twelve operations for each place, and four besides.
+pub fn scratch_is_bounded()
+    ensures { ScratchIsBounded }
+{}
 
 /// On the bundled ECMA-48 entry, from the negative of every state of its profile, the bytes of `scratch`
 /// are all defined as a text and show the negative of the painted picture, with the cursor where it is

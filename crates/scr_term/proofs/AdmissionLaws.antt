@@ -20,8 +20,7 @@ use Rattle.scr_term.specs.declared.operations.capability.Capability.{Capability}
 use Rattle.scr_term.specs.declared.operations.capability.Capability.TheVariants.{Clear, Cup}
 use Rattle.scr_term.specs.declared.operations.capability.Capability.TheVariants as capability
 use Rattle.scr_term.specs.declared.operations.operation.Op.{Op}
-use Rattle.scr_term.specs.declared.operations.pieces.Piece.{Piece}
-use Rattle.scr_term.specs.declared.operations.pieces.Piece.TheVariants.{Character, Text}
+use Rattle.scr_term.specs.Operations.Pieces.{Piece, Character, Text}
 use Rattle.scr_term.specs.declared.operations.profile_faults.ProfileFault.{ProfileFault}
 use Rattle.scr_term.specs.declared.operations.profile_faults.ProfileFault.TheVariants.{BadString, LongString, NoMemory}
 use Rattle.scr_term.specs.Operations.Admission.{IsRefused, admitted, first_some, first_where, has_palette, is_bad_string, is_long_string, is_over_bound, is_unreadable, named_text, planned_program, refusal, refusals, screen_size, sent_text, size_fault}

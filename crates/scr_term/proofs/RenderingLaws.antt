@@ -4,7 +4,7 @@ use Rattle.std.specs.List.{flat_map}
 use Rattle.std.proofs.lemmas.List.{append-nil}
 use Rattle.scr_term.specs.declared.operations.capability.Capability.TheVariants as capability
 use Rattle.scr_term.specs.declared.operations.operation.Op.{Op}
-use Rattle.scr_term.specs.declared.operations.pieces.Piece.{Piece}
+use Rattle.scr_term.specs.Operations.Pieces.{Piece}
 use Rattle.scr_term.specs.Operations.Profiles.{ProfileView, has_colours}
 use Rattle.scr_term.specs.Operations.Texts.{bytes_of, first_piece, has, piece_bytes, resets_colours, text}
 

@@ -2,4 +2,5 @@
 pub mod Readings
 pub mod Changes
 pub mod Kept
+pub mod Sent
 pub mod Admission

@@ -11,6 +11,7 @@ mod machine;
 mod marks;
 mod measures;
 mod padding;
+mod phrases;
 mod programs;
 mod reader;
 mod runs;

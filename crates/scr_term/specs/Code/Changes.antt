@@ -2,10 +2,12 @@
 use Rattle.std.specs.Prelude.{ℕ, ◌≡◌, ◌<◌, ◌≤◌, Option, option_map, unwrap_or}
 use Rattle.scr_cells.specs.Grids.{is_in_run}
 use Rattle.scr_cells.specs.LookViews.{blank_grid}
-use Rattle.scr_cells.specs.PenViews.{PenView}
+use Rattle.scr_cells.specs.PenViews.{PenView, plain_pen, with_attribute}
 use Rattle.scr_cells.specs.PictureViews.{IsSize}
 use Rattle.scr_term.specs.Operations.Abilities.{full_abilities}
 use Rattle.scr_term.specs.Operations.States.{TerminalState, IsSpot, IsShownPen, IsState, blank_state, erased, is_from_place}
+use Rattle.scr_term.specs.declared.operations.operation.Op.{Op}
+use Rattle.scr_term.specs.declared.operations.operation.Op.TheVariants.{Reset, Enter, Set}
 use Rattle.scr_term.specs.declared.operations.operation.Spot.{Spot}
 use Rattle.scr_term.specs.declared.operations.operation.Spot.TheVariants.{At}
 use Rattle.scr_term.specs.declared.displays.changes.Change.{Change}
@@ -40,3 +42,10 @@ MakesAt rows columns spot change f = (state : TerminalState) → state.spot ≡ 
 abbrev pub MakesWith : ℕ → ℕ → Spot → PenView → Option Change → (TerminalState → Option TerminalState) → Type 0
 MakesWith rows columns spot pen change f =
     (state : TerminalState) → state.spot ≡ spot → state.pen ≡ pen → option_map (changed rows columns state) change ≡ f state
+
+-- the pen behind an operation that turns attributes on or off
+abbrev pub next_pen : PenView → Op → PenView
+next_pen pen Reset = plain_pen
+next_pen pen (Enter a) = with_attribute pen a.0
+next_pen pen (Set a) = record plain_pen { attrs = a.0 }
+next_pen pen _ = pen

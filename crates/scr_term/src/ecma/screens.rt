@@ -11,7 +11,7 @@ ghost use Rattle.scr_term.specs.Operations.States.{IsSpot, character_written};
 ghost use Rattle.scr_term.specs.Ecma.Units.{IsWaiting};
 ghost use Rattle.scr_term.specs.Ecma.Screens.{IsScreen, IsFed, blank_screen};
 ghost use Rattle.scr_term.specs.Code.Changes.{IsChange, changed};
-ghost use Rattle.scr_term.specs.Code.Readings.{acted};
+ghost use Rattle.scr_term.specs.Code.Readings.{IsReading, acted};
 
 use crate::displays::{Change, Display};
 use crate::ecma::controls::{control_character, control_sequence};
@@ -161,24 +161,35 @@ impl EcmaScreen {
         let part = self.waiting.as_slice();
         match read_byte(part, byte) {
             Reading::Graphic => self.write(byte),
-            Reading::Control => {
-                let change = control_character(self.display.size(), self.display.spot(), byte);
-                self.apply(change);
-            }
+            Reading::Control => self.take_control(byte),
             Reading::Held => self.waiting.push(byte),
-            Reading::Last => {
-                let size = self.display.size();
-                let change = control_sequence(
-                    size,
-                    self.display.spot(),
-                    self.display.pen(),
-                    part,
-                    byte,
-                );
-                self.apply(change);
-            }
+            Reading::Last => self.take_last(byte),
             Reading::Other => self.apply(None),
         }
+    }
+
+    // Takes a control function of one byte. It stands apart, as the next one does, so that graphic characters set up no change.
+    #[inline(never)]
+    fn take_control(&mut self, byte: u8)
+        requires defined { self.old.undefined ≡ false }
+        requires reading { IsReading self.old.waiting byte Reading.Control }
+        ensures { IsFed self.old (byte ∷ []) self.new }
+    {
+        let change = control_character(self.display.size(), self.display.spot(), byte);
+        self.apply(change);
+    }
+
+    // Takes the last byte of a control sequence.
+    #[inline(never)]
+    fn take_last(&mut self, byte: u8)
+        requires defined { self.old.undefined ≡ false }
+        requires reading { IsReading self.old.waiting byte Reading.Last }
+        ensures { IsFed self.old (byte ∷ []) self.new }
+    {
+        let part = self.waiting.as_slice();
+        let size = self.display.size();
+        let change = control_sequence(size, self.display.spot(), self.display.pen(), part, byte);
+        self.apply(change);
     }
 
     /// Writes a graphic character at the cursor, which goes right; undefined at the margin.

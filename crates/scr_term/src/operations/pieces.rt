@@ -2,26 +2,30 @@
 ghost use Rattle.std.specs.Prelude.{◌≡◌, ◌≤◌, ◌==◌, ◌<◌, IsTrue, pos, bit_and};
 ghost use Rattle.scr_term.specs.Operations.Profiles.{entering};
 ghost use Rattle.scr_term.specs.Operations.Texts.{first_piece, is_within, motion, nine, one_if_in, renditions_of, resets_colours, text, text_of_one, text_of_two};
+ghost use Rattle.scr_term.specs.Code.Sent.{piece_of};
 
 use crate::operations::capability::Capability;
 use crate::{Op, Profile};
 use bitflags::Flags;
 use scr_cells::Attrs;
 
-/// A piece of what an operation sends.
+/// A piece of what an operation sends. Only `sgr` takes more than two numbers, so that a piece is small.
 #[derive(Clone, Copy, Debug, PartialEq, Eq)]
-pub(crate) enum Piece {
+pub(crate) enum Sent {
     /// A character.
-    Character(u8),
-    /// The text of a capability, with its parameters.
-    Text(Capability, [i32; 9]),
+    Byte(u8),
+    /// The text of a capability, with two parameters; the others are 0.
+    Numbers(Capability, i32, i32),
+    /// The text of `sgr` for a set of attributes.
+    Renditions(Attrs),
 }
 
 impl Profile {
     /// What an operation that is within the terminal's limits sends, or sends first.
-    pub(crate) fn first_piece(&self, op: Op) -> Piece
+    #[inline(always)]
+    pub(crate) fn first_piece(&self, op: Op) -> Sent
         requires { IsTrue (is_within self.now op) }
-        ensures { result ≡ first_piece self.now op }
+        ensures { piece_of result ≡ first_piece self.now op }
     {
         let _size = self.size();
         match op {
@@ -40,17 +44,17 @@ impl Profile {
             Op::EraseChars(count) => text_of_one(Capability::Ech, count),
             Op::Reset => text(Capability::Sgr0),
             Op::Enter(attribute) => text(entering(attribute)),
-            Op::Set(attributes) => Piece::Text(Capability::Sgr, renditions_of(attributes)),
+            Op::Set(attributes) => Sent::Renditions(attributes),
             Op::Fore(colour) => text_of_one(Capability::Setaf, u32::from(colour)),
             Op::Back(colour) => text_of_one(Capability::Setab, u32::from(colour)),
-            Op::Put(byte) => Piece::Character(byte),
+            Op::Put(byte) => Sent::Byte(byte),
         }
     }
 
     // A motion by one place where the terminal has a text for it, else by a number of places.
-    fn motion(&self, one: Capability, many: Capability, count: u32) -> Piece
+    fn motion(&self, one: Capability, many: Capability, count: u32) -> Sent
         requires { count ≤ 500 }
-        ensures { result ≡ motion self.now one many count }
+        ensures { piece_of result ≡ motion self.now one many count }
     {
         if count == 1 && self.is_there(one) {
             text(one)
@@ -68,30 +72,27 @@ pub(crate) fn resets_colours(op: Op) -> bool
 }
 
 /// The text of a capability without parameters.
-pub(crate) fn text(capability: Capability) -> Piece
-    ensures { result ≡ text capability }
+pub(crate) fn text(capability: Capability) -> Sent
+    ensures { piece_of result ≡ text capability }
 {
-    Piece::Text(capability, [0; 9])
+    Sent::Numbers(capability, 0, 0)
 }
 
 // The text of a capability with a number.
-fn text_of_one(capability: Capability, number: u32) -> Piece
+fn text_of_one(capability: Capability, number: u32) -> Sent
     requires { number ≤ 500 }
-    ensures { result ≡ text_of_one capability number }
+    ensures { piece_of result ≡ text_of_one capability number }
 {
-    Piece::Text(capability, [number as i32, 0, 0, 0, 0, 0, 0, 0, 0])
+    Sent::Numbers(capability, number as i32, 0)
 }
 
 // The text of a capability with two numbers.
-fn text_of_two(capability: Capability, first: u32, second: u32) -> Piece
+fn text_of_two(capability: Capability, first: u32, second: u32) -> Sent
     requires first { first ≤ 500 }
     requires second { second ≤ 500 }
-    ensures { result ≡ text_of_two capability first second }
+    ensures { piece_of result ≡ text_of_two capability first second }
 {
-    Piece::Text(
-        capability,
-        [first as i32, second as i32, 0, 0, 0, 0, 0, 0, 0],
-    )
+    Sent::Numbers(capability, first as i32, second as i32)
 }
 
 /// The capability that turns on an attribute.
@@ -109,8 +110,8 @@ pub(crate) fn entering(attribute: Attrs) -> Capability
     }
 }
 
-// The parameters of `sgr`: one for each attribute in its order, and none for protected and alternate characters.
-fn renditions_of(attributes: Attrs) -> [i32; 9]
+/// The parameters of `sgr`: one for each attribute in its order, and none for protected and alternate characters.
+pub(crate) fn renditions_of(attributes: Attrs) -> [i32; 9]
     ensures { result ≡ renditions_of attributes.0 }
 {
     let one_if_in = |attribute: Attrs| i32::from(attributes.contains(attribute));

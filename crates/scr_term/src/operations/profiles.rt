@@ -4,11 +4,12 @@ ghost use Rattle.std.specs.Prelude.{◌≡◌, ◌≤◌, length};
 ghost use Rattle.scr_term.specs.declared.operations.capability.Capability.TheVariants.{Sgr0};
 ghost use Rattle.scr_term.specs.declared.operations.operation.Op.{Op};
 ghost use Rattle.scr_term.specs.Operations.Profiles.{IsProfile, has_colours, is_shown, is_there, shown_set};
+ghost use Rattle.scr_term.specs.Code.Sent.{piece_of};
 ghost use Rattle.scr_term.specs.Operations.Texts.{bytes_of, has, is_attribute, is_count, is_sendable, is_within};
 
 use crate::Op;
 use crate::operations::capability::Capability;
-use crate::operations::pieces::{Piece, entering};
+use crate::operations::pieces::{Sent, entering};
 use bitflags::Flags;
 use scr_cells::{Attrs, Size, is_character};
 use std::marker::Model;
@@ -136,12 +137,13 @@ impl Profile {
     }
 
     // Whether the terminal can be sent a piece.
-    fn is_sendable(&self, piece: Piece) -> bool
-        ensures { result ≡ is_sendable self.now piece }
+    fn is_sendable(&self, piece: Sent) -> bool
+        ensures { result ≡ is_sendable self.now (piece_of piece) }
     {
         match piece {
-            Piece::Character(_) => true,
-            Piece::Text(capability, _) => self.is_there(capability),
+            Sent::Byte(_) => true,
+            Sent::Numbers(capability, ..) => self.is_there(capability),
+            Sent::Renditions(_) => self.is_there(Capability::Sgr),
         }
     }
 }

@@ -1,12 +1,14 @@
 //! The bytes of each operation, and how many they are. Nothing is sent here: they are appended to a vector.
-ghost use Rattle.std.specs.Prelude.{◌≡◌, ◌+◌, ◌<◌, ◌≤◌, ◌++◌, ◌&&◌, IsTrue, OnOk, OnErr, Some, None, if◌then◌else◌, length, vec_len, vec_capacity};
-ghost use Rattle.scr_term.specs.Operations.Profiles.{has_colours, is_there};
-ghost use Rattle.scr_term.specs.Operations.Texts.{bytes_of, first_piece, has, is_sendable, piece_bytes, resets_colours};
+ghost use Rattle.std.specs.Prelude.{◌≡◌, ◌+◌, ◌<◌, ◌≤◌, ◌∷◌, [], ◌++◌, ◌&&◌, IsTrue, OnOk, OnErr, Some, None, if◌then◌else◌, length, vec_len, vec_capacity};
+ghost use Rattle.scr_term.specs.Operations.Profiles.{has_colours, is_there, program_of};
+ghost use Rattle.scr_term.specs.Code.Sent.{piece_of};
+ghost use Rattle.scr_term.specs.declared.operations.operation.Op.TheVariants.{Put};
+ghost use Rattle.scr_term.specs.Operations.Texts.{bytes_of, first_piece, has, is_sendable, nine, piece_bytes, renditions_of, resets_colours, written};
 
 use crate::operations::capability::Capability;
-use crate::operations::pieces::{Piece, resets_colours, text};
+use crate::operations::pieces::{Sent, renditions_of, resets_colours, text};
 use crate::{Op, Profile};
-use scr_cells::NoMemory;
+use scr_cells::{Attrs, NoMemory};
 use ti_param::{RunFault, Vars, stack_is_enough, text_is_bounded};
 
 impl Profile {
@@ -31,8 +33,35 @@ impl Profile {
     ///
     /// Fails only when memory runs out, and then nothing is appended; never fails where `out` has room for the bytes. Its
     /// capacity never shrinks.
-    #[tactic(auto, using(crate::proofs::RenderingLaws::bytes_of_one))]
     pub fn render(&self, op: Op, out: &mut Vec<u8>) -> Result<(), NoMemory>
+        requires { IsTrue (has self.now op) }
+        ensures ok { OnOk result (out.new.items ≡ out.old.items ++ bytes_of self.now op) }
+        ensures err { OnErr result (out.new.items ≡ out.old.items) }
+        ensures room { OnErr result (vec_capacity out.old < vec_len out.old + length (bytes_of self.now op)) }
+        ensures kept { vec_capacity out.old ≤ vec_capacity out.new }
+    {
+        match op {
+            Op::Put(byte) => self.render_character(byte, out),
+            _ => self.render_any(op, out),
+        }
+    }
+
+    // Appends a character. It stands apart, since a third of what paints a screen is characters.
+    #[tactic(auto, unfolding(crate::specs::Operations::Texts::bytes_of))]
+    fn render_character(&self, byte: u8, out: &mut Vec<u8>) -> Result<(), NoMemory>
+        ensures ok { OnOk result (out.new.items ≡ out.old.items ++ bytes_of self.now (Put byte)) }
+        ensures err { OnErr result (out.new.items ≡ out.old.items) }
+        ensures room { OnErr result (vec_capacity out.old < vec_len out.old + length (bytes_of self.now (Put byte))) }
+        ensures kept { vec_capacity out.old ≤ vec_capacity out.new }
+    {
+        out.push(byte)?;
+        Ok(())
+    }
+
+    // Appends the bytes of any operation that the terminal has.
+    #[inline(never)]
+    #[tactic(auto, using(crate::proofs::RenderingLaws::bytes_of_one))]
+    fn render_any(&self, op: Op, out: &mut Vec<u8>) -> Result<(), NoMemory>
         requires { IsTrue (has self.now op) }
         ensures ok { OnOk result (out.new.items ≡ out.old.items ++ bytes_of self.now op) }
         ensures err { OnErr result (out.new.items ≡ out.old.items) }
@@ -51,11 +80,12 @@ impl Profile {
     }
 
     // What an operation that the terminal has sends, or sends first.
+    #[inline(always)]
     #[tactic(auto, unfolding(crate::specs::Operations::Texts::has))]
-    fn first_sent(&self, op: Op) -> Piece
+    fn first_sent(&self, op: Op) -> Sent
         requires { IsTrue (has self.now op) }
-        ensures value { result ≡ first_piece self.now op }
-        ensures sendable { IsTrue (is_sendable self.now result) }
+        ensures value { piece_of result ≡ first_piece self.now op }
+        ensures sendable { IsTrue (is_sendable self.now (piece_of result)) }
     {
         self.first_piece(op)
     }
@@ -70,42 +100,80 @@ impl Profile {
     }
 
     // How many bytes a piece has.
-    fn piece_cost(&self, piece: Piece) -> usize
-        requires { IsTrue (is_sendable self.now piece) }
-        ensures value { result ≡ length (piece_bytes self.now piece) }
+    fn piece_cost(&self, piece: Sent) -> usize
+        requires { IsTrue (is_sendable self.now (piece_of piece)) }
+        ensures value { result ≡ length (piece_bytes self.now (piece_of piece)) }
         ensures few { result ≤ 1024 }
     {
-        let Piece::Text(capability, parameters) = piece else {
-            return 1;
-        };
+        match piece {
+            Sent::Byte(_) => 1,
+            Sent::Numbers(capability, first, second) => {
+                self.numbers_cost(capability, first, second)
+            }
+            Sent::Renditions(set) => self.renditions_cost(set),
+        }
+    }
+
+    // How many bytes the text of a capability has for two numbers.
+    fn numbers_cost(&self, capability: Capability, first: i32, second: i32) -> usize
+        requires { IsTrue (is_there self.now capability) }
+        ensures value { result ≡ length (written (program_of self.now capability) (nine (first ∷ second ∷ []))) }
+        ensures few { result ≤ 1024 }
+    {
         stack_is_enough();
         text_is_bounded();
         let Some(program) = &self.programs[capability.ordinal()] else {
             return 0;
         };
-        program.length(parameters, &Vars::new()).unwrap_or(0)
+        program.length_of_two(first, second).unwrap_or(0)
+    }
+
+    // How many bytes the text of `sgr` has for a set of attributes.
+    fn renditions_cost(&self, set: Attrs) -> usize
+        requires { IsTrue (is_there self.now Capability.Sgr) }
+        ensures value { result ≡ length (written (program_of self.now Capability.Sgr) (renditions_of set.0)) }
+        ensures few { result ≤ 1024 }
+    {
+        stack_is_enough();
+        text_is_bounded();
+        let Some(program) = &self.programs[Capability::Sgr.ordinal()] else {
+            return 0;
+        };
+        program
+            .length(renditions_of(set), &Vars::new())
+            .unwrap_or(0)
     }
 
     // Appends the bytes of a piece.
-    fn render_piece(&self, piece: Piece, out: &mut Vec<u8>) -> Result<(), NoMemory>
-        requires { IsTrue (is_sendable self.now piece) }
-        ensures ok { OnOk result (out.new.items ≡ out.old.items ++ piece_bytes self.now piece) }
+    #[inline(always)]
+    fn render_piece(&self, piece: Sent, out: &mut Vec<u8>) -> Result<(), NoMemory>
+        requires { IsTrue (is_sendable self.now (piece_of piece)) }
+        ensures ok { OnOk result (out.new.items ≡ out.old.items ++ piece_bytes self.now (piece_of piece)) }
         ensures err { OnErr result (out.new.items ≡ out.old.items) }
-        ensures room { OnErr result (vec_capacity out.old < vec_len out.old + length (piece_bytes self.now piece)) }
+        ensures room { OnErr result (vec_capacity out.old < vec_len out.old + length (piece_bytes self.now (piece_of piece))) }
         ensures kept { vec_capacity out.old ≤ vec_capacity out.new }
     {
         match piece {
-            Piece::Character(byte) => {
+            Sent::Byte(byte) => {
                 out.push(byte)?;
                 Ok(())
             }
-            Piece::Text(capability, parameters) => {
+            Sent::Numbers(capability, first, second) => {
                 stack_is_enough();
                 let Some(program) = &self.programs[capability.ordinal()] else {
                     return Ok(());
                 };
                 program
-                    .run(parameters, &mut Vars::new(), out)
+                    .run_of_two(first, second, out)
+                    .map_err(|_: RunFault| NoMemory)
+            }
+            Sent::Renditions(set) => {
+                stack_is_enough();
+                let Some(program) = &self.programs[Capability::Sgr.ordinal()] else {
+                    return Ok(());
+                };
+                program
+                    .run(renditions_of(set), &mut Vars::new(), out)
                     .map_err(|_: RunFault| NoMemory)
             }
         }

@@ -6,7 +6,7 @@ ghost use Rattle.scr_term.specs.Operations.Abilities.{full_abilities};
 ghost use Rattle.scr_term.specs.Operations.States.{IsShownPen, IsSpot, from_place};
 ghost use Rattle.scr_term.specs.Operations.Steps.{act, lines_below_erased};
 ghost use Rattle.scr_term.specs.Operations.Texts.{has};
-ghost use Rattle.scr_term.specs.Code.Changes.{IsChange, MakesAt, MakesWith};
+ghost use Rattle.scr_term.specs.Code.Changes.{IsChange, MakesAt, MakesWith, next_pen};
 
 use crate::displays::{
     Change, characters_erased, moved_down, moved_left, moved_right, moved_to, moved_to_column,
@@ -41,12 +41,7 @@ pub(crate) fn change_of(profile: &Profile, spot: Spot, pen: Pen, op: Op) -> Opti
         Op::EraseLine => erasure(pen, rest_of_line_erased(size, spot)),
         Op::EraseBelow => erasure(pen, lines_below_erased(size, spot)),
         Op::EraseChars(count) => erasure(pen, characters_erased(size, spot, count)),
-        Op::Reset => Some(Change::Rendered(Pen::plain())),
-        Op::Enter(attribute) => {
-            let attributes = pen.attrs().union(attribute);
-            Some(Change::Rendered(pen.with_attrs(attributes)))
-        }
-        Op::Set(attributes) => Some(Change::Rendered(Pen::plain().with_attrs(attributes))),
+        Op::Reset | Op::Enter(_) | Op::Set(_) => Some(Change::Rendered(next_pen(pen, op))),
         Op::Fore(colour) => coloured(spot, pen.with_foreground(Some(colour))),
         Op::Back(colour) => coloured(spot, pen.with_background(Some(colour))),
         Op::Put(_) => None,
@@ -82,6 +77,18 @@ fn lines_below_erased(size: Size, spot: Spot) -> Option<Change>
     match spot {
         Spot::At(row, 0) => Some(Change::ErasedFrom(row, 0)),
         _ => None,
+    }
+}
+
+// The pen behind an operation that turns attributes on or off.
+fn next_pen(pen: Pen, op: Op) -> Pen
+    ensures { result ≡ next_pen pen op }
+{
+    match op {
+        Op::Reset => Pen::plain(),
+        Op::Enter(attribute) => pen.with_attrs(pen.attrs().union(attribute)),
+        Op::Set(attributes) => Pen::plain().with_attrs(attributes),
+        _ => pen,
     }
 }
 

@@ -1,6 +1,6 @@
 use Rattle.std.proofs.Common.{sym, ap, ◌∙◌}
 use Rattle.scr_term.specs.Ecma.Screens.{ScreenView}
-use Rattle.scr_term.proofs.EcmaFedLaws.{took_graphic, took_held, held_view, took_last, took_control, took_other}
+use Rattle.scr_term.proofs.EcmaFedLaws.{took_graphic, took_held, held_view, took_other}
 use Rattle.scr_term.proofs.ecma.screens.EcmaScreen.feed_byte.Goals as goal
 
 pub returns-in-Graphic : goal.returns-in-Graphic
@@ -26,36 +26,9 @@ returns-in-Held c =
     c.in-Held.ensures
     (held_view display.rows display.columns display.state c.self.inside.waiting.items c.push.new.self.items c.args.byte c.self.inside.undefined c.args.self.now c.push.ensures.items c.self.view_is)
 
-pub returns-in-Last : goal.returns-in-Last
-returns-in-Last c =
-    let view = c.self.view_is in
-    took_last c.args.self.now c.apply-in-Last.new.self c.args.byte c.as_slice-part.result.now c.size-size.result.rows c.size-size.result.columns
-    c.spot-in-Last.result c.pen.result c.control_sequence-change.result
-    (sym (ap (λ (s : ScreenView). s.undefined) view) ∙ c.if-self.false)
-    (c.as_slice-part.ensures.value ∙ ap (λ (s : ScreenView). s.waiting) view)
-    c.in-Last.ensures
-    (sym (c.size-size.ensures.rows ∙ ap (λ (s : ScreenView). s.rows) view))
-    (sym (c.size-size.ensures.columns ∙ ap (λ (s : ScreenView). s.columns) view))
-    (sym (c.spot-in-Last.ensures.value ∙ ap (λ (s : ScreenView). s.state.spot) view))
-    (sym (c.pen.ensures.value ∙ ap (λ (s : ScreenView). s.state.pen) view))
-    c.control_sequence-change.ensures.value c.apply-in-Last.ensures
-
-pub returns-in-Control : goal.returns-in-Control
-returns-in-Control c =
-    let view = c.self.view_is in
-    took_control c.args.self.now c.apply.new.self c.args.byte c.as_slice-part.result.now c.size.result.rows c.size.result.columns c.spot.result
-    c.control_character-change.result
-    (sym (ap (λ (s : ScreenView). s.undefined) view) ∙ c.if-self.false)
-    (c.as_slice-part.ensures.value ∙ ap (λ (s : ScreenView). s.waiting) view)
-    c.in-Control.ensures
-    (sym (c.size.ensures.rows ∙ ap (λ (s : ScreenView). s.rows) view))
-    (sym (c.size.ensures.columns ∙ ap (λ (s : ScreenView). s.columns) view))
-    (sym (c.spot.ensures.value ∙ ap (λ (s : ScreenView). s.state.spot) view))
-    c.control_character-change.ensures.value c.apply.ensures
-
 pub returns-in-Other : goal.returns-in-Other
 returns-in-Other c =
-    took_other c.args.self.now c.apply-in-Other.new.self c.args.byte c.as_slice-part.result.now
+    took_other c.args.self.now c.apply.new.self c.args.byte c.as_slice-part.result.now
     (sym (ap (λ (s : ScreenView). s.undefined) c.self.view_is) ∙ c.if-self.false)
     (c.as_slice-part.ensures.value ∙ ap (λ (s : ScreenView). s.waiting) c.self.view_is)
-    c.in-Other.ensures c.apply-in-Other.ensures
+    c.in-Other.ensures c.apply.ensures

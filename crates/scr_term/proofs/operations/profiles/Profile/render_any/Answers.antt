@@ -1,7 +1,8 @@
 use Rattle.std.proofs.Common.{◌≡◌, ap, arith, rules, length, vec_len}
 use Rattle.scr_term.specs.Operations.Texts.{piece_bytes}
+use Rattle.scr_term.specs.Code.Sent.{piece_of}
 use Rattle.scr_term.proofs.RenderingLaws.{first_within, both_appended, room_of_two, at_refusal}
-use Rattle.scr_term.proofs.operations.profiles.Profile.render.Goals as goal
+use Rattle.scr_term.proofs.operations.profiles.Profile.render_any.Goals as goal
 
 pub returns-in_err-render_piece-clause-room : goal.returns-in_err-render_piece-clause-room
 returns-in_err-render_piece-clause-room c =
@@ -12,9 +13,9 @@ pub returns-in-Err-clause-room : goal.returns-in-Err-clause-room
 returns-in-Err-clause-room c =
     let old : length c.args.out.now.items ≡ vec_len c.args.out.now = search rules in
     let middle : length c.render_piece.new.out.items ≡ vec_len c.render_piece.new.out = search rules in
-    let whole = room_of_two c.args.self.now c.args.op c.text.result c.args.out.now.items c.render_piece.new.out.items (search rules) (search rules) (search rules) in
+    let whole = room_of_two c.args.self.now c.args.op (piece_of c.text.result) c.args.out.now.items c.render_piece.new.out.items (search rules) (search rules) (search rules) in
     omega (arith, c.in-Err.ensures.room, c.render_piece.ensures.kept, old, middle, whole)
 
 pub returns-in_default-clause-ok : goal.returns-in_default-clause-ok
 returns-in_default-clause-ok c =
-    both_appended c.args.self.now c.args.op c.text.result c.args.out.now.items c.render_piece.new.out.items _ (search rules) (search rules) (search rules) (search rules)
+    both_appended c.args.self.now c.args.op (piece_of c.text.result) c.args.out.now.items c.render_piece.new.out.items _ (search rules) (search rules) (search rules) (search rules)
