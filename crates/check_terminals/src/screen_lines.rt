@@ -45,16 +45,33 @@ pub fn ready_mut(screen: &mut Option<EcmaScreen>) -> Result<&mut EcmaScreen, Tro
     screen.as_mut().ok_or(Trouble::Bad("no screen"))
 }
 
-/// Adds the lines of a screen, the attributes that are on, and whether it waits for the rest of a sequence.
+/// Adds the lines of a screen, the attributes that are on, the colours that are set where one is not the default, and whether
+/// it waits for the rest of a sequence.
 pub fn print_state(screen: &EcmaScreen, text: &mut Vec<u8>) -> Result<(), NoMemory> {
     print_screen(screen, text)?;
     let mut digits = itoa::Buffer::new();
     text.extend_from_slice(b"on ")?;
     text.extend_from_slice(digits.format(screen.rendition().0).as_bytes())?;
+    let (foreground, background) = screen.colours();
+    if foreground.is_some() || background.is_some() {
+        text.extend_from_slice(b" colours")?;
+        print_colour(foreground, text)?;
+        print_colour(background, text)?;
+    }
     if screen.waiting() {
         text.extend_from_slice(b" waiting")?;
     }
     text.push(b'\n')?;
+    Ok(())
+}
+
+// Adds a colour, or `-` for the default one.
+fn print_colour(colour: Option<u8>, text: &mut Vec<u8>) -> Result<(), NoMemory> {
+    text.push(b' ')?;
+    match colour {
+        Some(colour) => text.push(b'0'.saturating_add(colour))?,
+        None => text.push(b'-')?,
+    }
     Ok(())
 }
 

@@ -1,7 +1,7 @@
 //! What the lines of a script work on: one entry, one profile, one terminal, one picture and one screen, each from the line
 //! that makes it on.
 
-use crate::dumps::dump_picture;
+use crate::dumps::{dump_entry, dump_picture, dump_profile};
 use crate::emulated_lines::{answer_of_emulated, dump_terminal};
 use crate::entry_lines::answer_of_entry;
 use crate::painting_lines::answer_of_painting;
@@ -55,6 +55,12 @@ impl Stage for TerminalStage {
     }
 
     fn dump(&self, bytes: &mut Vec<u8>) -> Result<(), Trouble> {
+        if let Some(entry) = &self.entry {
+            dump_entry(entry, bytes)?;
+        }
+        if let Some(profile) = &self.profile {
+            dump_profile(profile, bytes)?;
+        }
         if let Some(terminal) = &self.terminal {
             dump_terminal(terminal, bytes)?;
         }
