@@ -39,5 +39,6 @@ pub fn fault_name(fault: WinFault) -> &'static str {
         WinFault::TooMany => "TooMany",
         WinFault::NoMemory => "NoMemory",
         WinFault::BadPair => "BadPair",
+        WinFault::BadColour => "BadColour",
     }
 }

@@ -15,7 +15,7 @@ use Rattle.scr_windows.specs.Changes.{found, marked, on_window, index_of, write}
 use Rattle.scr_windows.specs.Calls.Moving.{derived_moved, move_derived_call, move_window_call, moved_in, window_moved}
 use Rattle.scr_windows.specs.Calls.Reading.{at}
 use Rattle.scr_windows.specs.Calls.Removing.{others, deleted}
-use Rattle.scr_windows.specs.Laws.{DeletingKeepsOthers, MovingChangesNoCell, SubwindowsShareCells, WritingStaysInside}
+use Rattle.scr_windows.specs.Laws.{DeletingKeepsOthers, MovingChangesNoCell, SubwindowsShareCells, WindowsArePlaced, WritingStaysInside}
 use Rattle.scr_windows.proofs.DeskLaws.{desk_ascends, frame_of, length_map, number_of, placed}
 use Rattle.scr_windows.proofs.FrameLaws.{was_found}
 use Rattle.scr_windows.proofs.NumberLaws.{differs, equal, is_not, kept_in_filter, position_of}
@@ -27,6 +27,9 @@ pub found_number : (d : DeskView) (number i : ℕ) → index_of d number ≡ Ok 
 found_number d number i e =
     let there = position-Some (λ (w : WindowView). w.frame.number == number) d.windows i no_window (was_found _ i e) in
     (there.0, equal _ number there.1)
+
+pub placing : WindowsArePlaced
+placing d number i h e = placed d i h (found_number d number i e).0
 
 pub deleting : DeletingKeepsOthers
 deleting d number other k h alone apart e =

@@ -14,5 +14,6 @@ pub mod ReadingLaws
 pub mod RemovingLaws
 pub mod SheetLaws
 pub mod ShiftLaws
+pub mod SizeLaws
 pub mod SyncLaws
 pub mod WrittenLaws

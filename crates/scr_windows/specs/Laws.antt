@@ -2,11 +2,15 @@
 use Rattle.std.specs.Prelude.{ℕ, ◌≡◌, ◌≢◌, ◌+◌, ◌-◌, ◌<◌, Some, Ok, false, length}
 use Rattle.scr_cells.specs.CellViews.{CellView}
 use Rattle.scr_surfaces.specs.SurfaceViews.{is_inside}
-use Rattle.scr_windows.specs.DeskViews.{DeskView, IsDesk, window_at}
+use Rattle.scr_windows.specs.DeskViews.{DeskView, IsDesk, IsThere, window_at}
 use Rattle.scr_windows.specs.Changes.{index_of, write}
 use Rattle.scr_windows.specs.Calls.Moving.{move_window_call, move_derived_call}
 use Rattle.scr_windows.specs.Calls.Reading.{at}
 use Rattle.scr_windows.specs.Calls.Removing.{has_children, deleted}
+
+-- newwin(): a window that is found is a part of its surface, and lies wholly on the screen where it has a place there
+abbrev pub WindowsArePlaced : Type 0
+WindowsArePlaced = (desk : DeskView) (number i : ℕ) → IsDesk desk → index_of desk number ≡ Ok i → IsThere desk i
 
 -- delwin(): every other window is there as before, with its cells
 abbrev pub DeletingKeepsOthers : Type 0

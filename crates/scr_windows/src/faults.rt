@@ -64,6 +64,9 @@ pub enum WinFault {
     /// A number that no colour pair has.
     #[error("bad colour pair")]
     BadPair,
+    /// A number that no colour has.
+    #[error("bad colour")]
+    BadColour,
 }
 
 impl From<AllocError> for WinFault {

@@ -1,7 +1,8 @@
 //! Laws of desks, each the contract of a function that does nothing. A caller cites a law by calling its function.
 //!
-//! They are stated in `specs/Laws.antt`.
-ghost use Rattle.scr_windows.specs.Laws.{DeletingKeepsOthers, MovingChangesNoCell, SubwindowsShareCells, WritingStaysInside};
+//! They are stated in `specs/Laws.antt`, and the last in `specs/Sizes.antt`.
+ghost use Rattle.scr_windows.specs.Laws.{DeletingKeepsOthers, MovingChangesNoCell, SubwindowsShareCells, WindowsArePlaced, WritingStaysInside};
+ghost use Rattle.scr_windows.specs.Sizes.{CallsKeepSize};
 
 use scr_surfaces::surface_laws;
 
@@ -22,7 +23,18 @@ pub fn writing_stays_inside()
     surface_laws();
 }
 
+/// A window that is found has a part of its surface, and lies wholly on the screen where it has a place there. X/Open
+/// Curses Issue 7, newwin().
+pub fn windows_are_placed()
+    ensures { WindowsArePlaced }
+{}
+
 /// Moving a window changes no cell. X/Open Curses Issue 7, mvwin().
 pub fn moving_changes_no_cell()
     ensures { MovingChangesNoCell }
+{}
+
+/// No call changes how many rows and columns the screen has. X/Open Curses Issue 7, LINES and COLS.
+pub fn calls_keep_size()
+    ensures { CallsKeepSize }
 {}

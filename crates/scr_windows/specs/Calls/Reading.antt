@@ -1,5 +1,5 @@
 -- What the calls that read answer. X/Open Curses Issue 7, the pages named.
-use Rattle.std.specs.Prelude.{ℕ, Bool, false, Option, None, Some, Result, Ok, Err, List, map, length, ltb, ◌&&◌, slice_index_or, if◌then◌else◌}
+use Rattle.std.specs.Prelude.{ℕ, Bool, false, Option, None, Some, Result, Ok, Err, List, map, length, ◌+◌, leb, ltb, ◌&&◌, slice_index_or, if◌then◌else◌}
 use Rattle.std.specs.List.{range_with_len, list_any}
 use Rattle.scr_cells.specs.CellViews.{CellView}
 use Rattle.scr_windows.specs.declared.faults.WinFault.{WinFault}
@@ -49,6 +49,14 @@ place_on_screen (Some place) = Ok place
 
 unfoldable pub origin_answer : DeskView → ℕ → Result (ℕ × ℕ) WinFault
 origin_answer desk win = about_window (index_of desk win) (λ i. place_on_screen (window_at desk i).frame.origin)
+
+-- the first row on the screen of n lines of a window from one on, and n: what wredrawln() marks
+abbrev pub rows_on_screen : Option (ℕ × ℕ) → ℕ → ℕ → ℕ → Result (ℕ × ℕ) WinFault
+rows_on_screen None rows first n = Err IsPad
+rows_on_screen (Some place) rows first n = if leb (first + n) rows then Ok (place.0 + first, n) else Err OutOfWindow
+
+unfoldable pub screen_rows_answer : DeskView → ℕ → ℕ → ℕ → Result (ℕ × ℕ) WinFault
+screen_rows_answer desk win first n = about_window (index_of desk win) (λ i. rows_on_screen (window_at desk i).frame.origin (window_at desk i).frame.area.rows first n)
 
 -- is_linetouched(), is_wintouched()
 unfoldable pub line_touched_answer : DeskView → ℕ → ℕ → Result Bool WinFault

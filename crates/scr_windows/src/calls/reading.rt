@@ -2,7 +2,7 @@
 ghost use Rattle.std.specs.Prelude.{ℕ, ◌≡◌, ◌<◌, ◌≤◌, length, IfOk, MatchResult};
 ghost use Rattle.scr_windows.specs.Changes.{index_of};
 ghost use Rattle.scr_windows.specs.DeskViews.{IsDesk, window_at};
-ghost use Rattle.scr_windows.specs.Calls.Reading.{cell_at_answer, cursor_answer, size_answer, origin_answer, line_touched_answer, window_touched_answer, row_answer, row_at, nth_answer, window_answer, contents};
+ghost use Rattle.scr_windows.specs.Calls.Reading.{cell_at_answer, cursor_answer, size_answer, origin_answer, line_touched_answer, window_touched_answer, row_answer, row_at, nth_answer, window_answer, screen_rows_answer, contents};
 
 use crate::desks::Desk;
 use crate::faults::{Win, WinFault};
@@ -102,6 +102,25 @@ impl Desk {
             Some(origin) => Ok(origin),
             None => Err(WinFault::IsPad),
         }
+    }
+
+    /// The first row on the screen of n lines of a window from one on, and n.
+    ///
+    /// Refused: NoWindow; IsPad; OutOfWindow where the window has fewer than `first + n` lines. X/Open Curses Issue 7,
+    /// wredrawln().
+    #[tactic(auto, unfolding(crate::specs::Calls::Reading::screen_rows_answer))]
+    pub fn screen_rows(&self, win: Win, first: u32, n: u32) -> Result<(u32, u32), WinFault>
+        ensures { result ≡ screen_rows_answer self.now win.0 first n }
+    {
+        let index = self.index_of(win)?;
+        let frame = self.window_at(index).frame();
+        let Some((row, _)) = frame.origin else {
+            return Err(WinFault::IsPad);
+        };
+        if first > frame.area.rows || n > frame.area.rows - first {
+            return Err(WinFault::OutOfWindow);
+        }
+        Ok((row + first, n))
     }
 
     /// Whether a line of a window is touched.
