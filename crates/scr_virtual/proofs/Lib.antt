@@ -1,0 +1,5 @@
+pub mod CopyLaws
+pub mod LawLaws
+pub mod RangeLaws
+pub mod ScreenLaws
+pub mod TakingLaws

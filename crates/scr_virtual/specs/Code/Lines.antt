@@ -1,0 +1,45 @@
+-- What the steps of a taking do to a virtual screen: words of private functions.
+use Rattle.std.specs.Prelude.{ℕ, Bool, false, ◌+◌, ◌-◌, ◌≤◌, ◌||◌, List, drop, length, slice_index_or, slice_set, take}
+use Rattle.scr_cells.specs.CellViews.{CellView, blank_cell}
+use Rattle.scr_cells.specs.Grids.{grid_at, grid_row, grid_with_run}
+use Rattle.scr_windows.specs.declared.frames.WindowState.{WindowState}
+use Rattle.scr_windows.specs.Lending.{LentView}
+use Rattle.scr_virtual.specs.declared.parts.Part.{Part}
+use Rattle.scr_virtual.specs.Taking.{part_copied, wish_of}
+use Rattle.scr_virtual.specs.VirtualViews.{VirtualView, range_at, widened}
+
+-- the part lies in the window, and on a screen of so many rows and columns where it is shown; and it has a column
+pub record IsInside (rows columns : ℕ) (lent : LentView) (part : Part) : Type 0 where
+  pub some : 1 ≤ part.columns
+  pub lines : part.row + part.rows ≤ lent.window.frame.area.rows
+  pub columns_of : part.column + part.columns ≤ lent.window.frame.area.columns
+  pub bottom : part.top + part.rows ≤ rows
+  pub right : part.left + part.columns ≤ columns
+
+abbrev pub IsShown : VirtualView → LentView → Part → Type 0
+IsShown virtual lent part = IsInside virtual.picture.rows virtual.picture.columns lent part
+
+-- the cells of a line of the part
+abbrev pub part_line : LentView → Part → ℕ → List CellView
+part_line lent part row = take part.columns (drop part.column (grid_row lent.lines (part.row + row)))
+
+-- the lines that are copied of a window that is lent: all, or those that are touched
+abbrev pub copied_lines : Bool → LentView → ℕ → Bool
+copied_lines all lent line = all || slice_index_or lent.window.touched line false
+
+-- the cell in a row and a column of a window that is lent
+abbrev pub lent_at : LentView → ℕ → ℕ → CellView
+lent_at lent r c = grid_at blank_cell lent.lines r c
+
+-- cells copied to a row from a column on, and its range widened to hold them
+unfoldable pub line_copied : ℕ → ℕ → List CellView → VirtualView → VirtualView
+line_copied row column cells virtual = record virtual {
+  picture = record virtual.picture { lines = grid_with_run virtual.picture.lines row column cells };
+  changed = slice_set virtual.changed row (widened column (column + (length cells - 1)) (range_at virtual row));
+}
+
+-- lines of a part copied, and the cursor wished
+abbrev pub shown : Part → (ℕ → Bool) → (ℕ → ℕ → CellView) → WindowState → VirtualView → VirtualView
+shown part lines cells state virtual =
+    let copied : VirtualView = part_copied part lines cells virtual in
+    record copied { picture = record copied.picture { wish = wish_of part state } }

@@ -1,0 +1,5 @@
+pub mod Code
+pub mod Laws
+pub mod Pairs
+pub mod Taking
+pub mod VirtualViews

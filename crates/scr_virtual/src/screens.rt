@@ -1,0 +1,148 @@
+//! The virtual screen. What is true of every one is in `specs/VirtualViews.antt`.
+ghost use Rattle.std.specs.Prelude.{◌≡◌, ◌<◌, ◌≤◌, ◌&&◌, leb, ltb, IfOk, None, Some, length, replicate};
+ghost use Rattle.scr_virtual.specs.Pairs.{set_pair_call};
+ghost use Rattle.scr_virtual.specs.VirtualViews.{IsVirtual, blank_virtual, marked_rows, range_at, ranges_with, settled};
+
+use scr_cells::{Cell, NoMemory, Picture, Size};
+use scr_windows::WinFault;
+use std::alloc::Global;
+use std::marker::Model;
+
+/// What the terminal is to show after the next update (curs_refresh(3X), 'virtual screen'; X/Open Curses Issue 7,
+/// doupdate()): a picture, whether the whole screen is to be painted anew, and for each row the first and the last
+/// column that may have changed since `settle`.
+///
+/// Rows and columns are counted from 0. A refused call changes nothing; where several refusals hold, the first that the
+/// call names is given. No call but `new` takes memory.
+#[derive(Drop)]
+pub struct Virtual {
+    pub(crate) picture: Picture,
+    pub(crate) repaint: bool,
+    // One for each row.
+    pub(crate) changed: Vec<Option<(u32, u32)>>,
+}
+
+impl Model for Virtual {
+    ghost use Rattle.scr_virtual.specs.VirtualViews.{IsVirtual, VirtualView};
+
+    ghost Value = { VirtualView };
+
+    ghost view = { λ a. record { picture = a.picture; repaint = a.repaint; changed = a.changed.items } };
+
+    ghost invariant = { λ a. IsVirtual (record { picture = a.picture; repaint = a.repaint; changed = a.changed.items }) };
+}
+
+impl Virtual {
+    /// A blank picture without a wish, nothing to paint anew, and no range. Fails only when memory runs out.
+    pub fn new(alloc: Global, size: Size) -> Result<Virtual, NoMemory>
+        ensures { IfOk result (λ screen. screen ≡ blank_virtual size.rows size.columns) }
+    {
+        let picture = Picture::new(alloc, size)?;
+        let mut changed = Vec::with_capacity(alloc, size.rows as usize)?;
+        changed.resize(size.rows as usize, None)?;
+        Ok(Virtual {
+            picture,
+            repaint: false,
+            changed,
+        })
+    }
+
+    /// How many rows and columns there are.
+    pub fn size(&self) -> Size
+        ensures rows { result.rows ≡ self.now.picture.rows }
+        ensures columns { result.columns ≡ self.now.picture.columns }
+        ensures screen { IsVirtual self.now }
+    {
+        self.picture.size()
+    }
+
+    /// The cells that the screen is to show, the colours of their pairs, and where its cursor is wished.
+    pub fn picture(&self) -> &Picture
+        ensures { result.now ≡ self.now.picture }
+    {
+        &self.picture
+    }
+
+    /// Whether the whole screen is to be painted anew. X/Open Curses Issue 7, clearok().
+    pub fn repaint(&self) -> bool
+        ensures { result ≡ self.now.repaint }
+    {
+        self.repaint
+    }
+
+    /// The first and the last column of a row that may have changed since `settle`, both inside; `None` where the row has
+    /// not changed.
+    pub fn changed(&self, row: u32) -> Option<(u32, u32)>
+        requires { row < self.now.picture.rows }
+        ensures { result ≡ range_at self.now row }
+    {
+        self.changed[row as usize]
+    }
+
+    /// Sets the foreground and the background of a colour pair. The picture has them at once, and every row may have
+    /// changed in its whole width.
+    ///
+    /// Refused: BadPair where the pair is not 1 to 63; BadColour where a colour is above 7. X/Open Curses Issue 7,
+    /// init_pair().
+    #[tactic(auto, unfolding(crate::specs::Pairs::set_pair_call))]
+    pub fn set_pair(&mut self, pair: u32, foreground: u32, background: u32) -> Result<(), WinFault>
+        ensures { (self.new, result) ≡ set_pair_call self.old pair foreground background }
+    {
+        if pair == 0 || pair > Cell::MOST_PAIR {
+            return Err(WinFault::BadPair);
+        }
+        if foreground > 7 || background > 7 {
+            return Err(WinFault::BadColour);
+        }
+        self.picture
+            .set_pair(pair, foreground as u8, background as u8);
+        let size = self.picture.size();
+        self.mark(0, size.rows);
+        Ok(())
+    }
+
+    /// What an update leaves that ended well: the screen is not to be painted anew, and no row has a range. The picture
+    /// stays. X/Open Curses Issue 7, doupdate().
+    pub fn settle(&mut self)
+        ensures { self.new ≡ settled self.old }
+    {
+        self.repaint = false;
+        empty(&mut self.changed);
+    }
+
+    /// The ranges of n rows from one on, as many of them as there are, become whole: the terminal may show something else
+    /// there. X/Open Curses Issue 7, wredrawln().
+    pub fn mark(&mut self, row: u32, n: u32)
+        ensures { self.new ≡ marked_rows row n self.old }
+    {
+        let size = self.picture.size();
+        let first = row.min(size.rows);
+        let end = first + n.min(size.rows - first);
+        fill(
+            &mut self.changed,
+            first as usize,
+            end as usize,
+            size.columns - 1,
+        );
+    }
+}
+
+// No range everywhere.
+fn empty(ranges: &mut [Option<(u32, u32)>])
+    ensures { ranges.new ≡ replicate (length ranges.old) None }
+{
+    for row in 0..ranges.len() {
+        ranges[row] = None;
+    }
+}
+
+// The range up to a last column in some rows.
+fn fill(ranges: &mut [Option<(u32, u32)>], first: usize, end: usize, last: u32)
+    requires order { first ≤ end }
+    requires end { end ≤ length ranges.old }
+    ensures { ranges.new ≡ ranges_with (λ r. leb first r && ltb r end) (λ _. Some (0, last)) ranges.old }
+{
+    for row in first..end {
+        ranges[row] = Some((0, last));
+    }
+}
