@@ -1,0 +1,75 @@
+-- A beginning of a plan is defined, and has only what the plan has.
+use Rattle.std.proofs.Common.{◌≡◌, ◌≢◌, ℕ, ◌≤◌, ◌*◌, ◌+◌, true, sym, ◌∙◌, ap, subst, arith, List, ◌++◌, length, take, drop, Option, None, Some, refl, ◌^◌}
+use Rattle.std.specs.List.{All}
+use Rattle.std.specs.Option.{option_and_then}
+use Rattle.std.proofs.lemmas.List.{take-append-drop, take_all}
+use Rattle.std.specs.Io.KnownBytes.{Keeps}
+use Rattle.scr_cells.specs.PictureViews.{PictureView, IsPicture}
+use Rattle.scr_term.specs.declared.operations.operation.Op.{Op}
+use Rattle.scr_term.specs.Operations.Laws.{BlankLaws, RunLaws}
+use Rattle.scr_term.specs.Operations.Profiles.{ProfileView, IsProfile, abilities}
+use Rattle.scr_term.specs.Operations.States.{TerminalState, IsState, blank_state}
+use Rattle.scr_term.specs.Operations.Steps.{runs}
+use Rattle.scr_term.specs.Operations.Texts.{all_bytes, has}
+use Rattle.scr_plan.specs.Scratch.{RunsToShow}
+use Rattle.curses.specs.Cuts.{IsCut}
+use Rattle.curses.specs.Updates.{IsDefined, IsSent, LeadToShow}
+use Rattle.curses.specs.Writers.{WriterView}
+use Rattle.curses.proofs.CutLaws.{cut_kept}
+
+-- a beginning of a run that is defined
+pub beginning : RunLaws → (profile : ProfileView) → IsProfile profile → (old new : TerminalState) → IsState (abilities profile) old → (ops : List Op) (k : ℕ) → runs profile old ops ≡ Some new
+    → IsDefined profile old (take k ops)
+beginning laws profile is old new state ops k run =
+    from (runs profile old (take k ops)) refl (sym (laws.after profile old (take k ops) (drop k ops)) ∙ ap (runs profile old) (take-append-drop k ops) ∙ run)
+  where
+    from : (next : Option TerminalState) → runs profile old (take k ops) ≡ next → option_and_then (λ s. runs profile s (drop k ops)) (runs profile old (take k ops)) ≡ Some new
+        → IsDefined profile old (take k ops)
+    from None here whole = absurd (never (sym (ap (option_and_then (λ s. runs profile s (drop k ops))) here) ∙ whole))
+      where
+        never : None ≡ Some new → ⊥
+        never e = (cc)
+    from (Some s) here whole = record { new = s; run = here; state = laws.kept profile is old s state (take k ops) here }
+
+-- each beginning of operations that lead to a picture
+pub beginnings : RunLaws → (profile : ProfileView) → IsProfile profile → (picture : PictureView) (ops : List Op) (k : ℕ) → LeadToShow profile picture ops
+    → (state : TerminalState) → IsState (abilities profile) state → IsDefined profile state (take k ops)
+beginnings laws profile is picture ops k leads state here =
+    let shown = leads state here in
+    beginning laws profile is state shown.new here ops k shown.run
+
+-- a plan that leads to a picture has only operations that the profile has
+pub had : RunLaws → BlankLaws → (profile : ProfileView) → IsProfile profile → (picture : PictureView) (ops : List Op) → LeadToShow profile picture ops → All (λ op. has profile op ≡ true) ops
+had laws blanks profile is picture ops leads =
+    let blank : TerminalState = blank_state profile.rows profile.columns in
+    let shown = leads blank (blanks.state profile is) in
+    laws.had profile blank shown.new ops shown.run
+
+-- ---- what was sent of a plan
+
+-- as much of a plan as was begun
+pub sent_part : RunLaws → (profile : ProfileView) → IsProfile profile → (picture : PictureView) (plan ops begun : List Op) (k : ℕ) (owed rest : List ℕ) (old mid new : WriterView) (count : ℕ)
+    → LeadToShow profile picture plan → ops ≡ plan → begun ≡ take k ops → IsCut owed (all_bytes profile (take k ops)) old.taken mid.taken count rest → Keeps mid.taken new.taken
+    → IsSent profile owed old new begun count rest
+sent_part laws profile is picture plan ops begun k owed rest old mid new count leads same taken cut keeps =
+    let part : begun ≡ take k plan = taken ∙ ap (take k) same in
+    record {
+      cut = cut_kept owed (all_bytes profile begun) rest old.taken mid.taken new.taken count (subst (λ t. IsCut owed (all_bytes profile t) old.taken mid.taken count rest) (sym taken) cut) keeps;
+      defined = λ state here. subst (IsDefined profile state) (sym part) (beginnings laws profile is picture plan k leads state here);
+    }
+
+-- a plan that was begun whole
+pub shown_whole : (profile : ProfileView) (picture : PictureView) (plan ops begun : List Op) (k : ℕ) → LeadToShow profile picture plan → ops ≡ plan → begun ≡ take k ops → k ≡ length ops → LeadToShow profile picture begun
+shown_whole profile picture plan ops begun k leads same taken whole = subst (LeadToShow profile picture) (sym (taken ∙ ap (λ n. take n ops) whole ∙ take_all (length ops) ops (omega arith) ∙ same)) leads
+
+-- what a writer holds that was not asked
+pub kept_same : (known : Option (List ℕ)) → Keeps known known
+kept_same None = tt
+kept_same (Some bytes) = refl
+
+-- something is not nothing
+pub some_not_none : {X : Type 0} → (f : Option X) (x : X) → f ≡ Some x → f ≢ None
+some_not_none f x is none = never (sym is ∙ none)
+  where
+    never : Some x ≡ None → ⊥
+    never e = (cc)

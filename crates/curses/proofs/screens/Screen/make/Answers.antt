@@ -1,0 +1,31 @@
+use Rattle.std.proofs.Common.{refl, subst, sym}
+use Rattle.curses.specs.Code.Making.{IsMade, drawn_of}
+use Rattle.curses.proofs.MakingLaws.{both_made, is_on_windows, virtual_made, windows_made}
+use Rattle.curses.proofs.screens.Screen.make.Goals as goal
+
+pub returns-in-Noutrefresh : goal.returns-in-Noutrefresh
+returns-in-Noutrefresh g c =
+    subst (λ call. IsMade c.args.self.now c.noutrefresh.new.self call c.done_answer.result (g.W.Counted.told c.args.out.now) (g.W.Counted.told c.args.out.now)) (sym c.in-Noutrefresh.is)
+    (both_made c.args.self.now c.noutrefresh.new.self _ c.noutrefresh.result c.done_answer.result (g.W.Counted.told c.args.out.now) _ refl refl c.noutrefresh.ensures c.done_answer.ensures)
+
+pub returns-in-PadNoutrefresh : goal.returns-in-PadNoutrefresh
+returns-in-PadNoutrefresh g c =
+    subst (λ call. IsMade c.args.self.now c.pad_noutrefresh.new.self call c.done_answer-in-PadNoutrefresh.result (g.W.Counted.told c.args.out.now) (g.W.Counted.told c.args.out.now)) (sym c.in-PadNoutrefresh.is)
+    (both_made c.args.self.now c.pad_noutrefresh.new.self _ c.pad_noutrefresh.result c.done_answer-in-PadNoutrefresh.result (g.W.Counted.told c.args.out.now) _ refl refl c.pad_noutrefresh.ensures c.done_answer-in-PadNoutrefresh.ensures)
+
+pub returns-in-SetPair : goal.returns-in-SetPair
+returns-in-SetPair g c =
+    subst (λ call. IsMade c.args.self.now c.set_pair.new.self call c.done_answer-in-SetPair.result (g.W.Counted.told c.args.out.now) (g.W.Counted.told c.args.out.now)) (sym c.in-SetPair.is)
+    (virtual_made c.args.self.now c.set_pair.new.self _ c.set_pair.result c.done_answer-in-SetPair.result (g.W.Counted.told c.args.out.now) _ refl refl c.set_pair.ensures c.done_answer-in-SetPair.ensures)
+
+pub returns-in_default : goal.returns-in_default
+returns-in_default g c =
+    windows_made c.args.self.now c.make_window_call.new.self c.args.call.now c.make_window_call.result (g.W.Counted.told c.args.out.now)
+    (is_on_windows (drawn_of c.args.self.now) c.args.call.now (record {
+      not_redraw_window = c.in_default.not-RedrawWindow;
+      not_redraw_lines = c.in_default.not-RedrawLines;
+      not_set_pair = c.in_default.not-SetPair;
+      not_noutrefresh = c.in_default.not-Noutrefresh;
+      not_pad_noutrefresh = c.in_default.not-PadNoutrefresh;
+      not_doupdate = c.in_default.not-Doupdate;
+    })) c.make_window_call.ensures

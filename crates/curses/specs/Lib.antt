@@ -1,0 +1,13 @@
+-- The definitions that the contracts of this crate cite.
+pub mod Calls
+pub mod Code
+pub mod Cuts
+pub mod Faulty
+pub mod Forwarding
+pub mod Opening
+pub mod Refreshing
+pub mod ScreenStates
+pub mod Sessions
+pub mod Texts
+pub mod Updates
+pub mod Writers

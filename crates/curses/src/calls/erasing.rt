@@ -1,0 +1,48 @@
+//! Calls that erase.
+ghost use Rattle.curses.specs.Forwarding.{OnDesk};
+ghost use Rattle.scr_windows.specs.Calls.Erasing.{clear_to_eol_call, clear_to_bottom_call, erase_call, clear_call};
+
+use crate::screens::Screen;
+use scr_windows::{Win, WinFault, calls_keep_size};
+
+impl Screen {
+    /// Erases a window from the cursor to the end of the line.
+    ///
+    /// Refused: NoWindow. X/Open Curses Issue 7, clrtoeol().
+    pub fn clear_to_eol(&mut self, win: Win) -> Result<(), WinFault>
+        ensures { OnDesk self.old self.new result (clear_to_eol_call self.old.desk win.0) }
+    {
+        calls_keep_size();
+        self.desk.clear_to_eol(win)
+    }
+
+    /// Erases a window from the cursor to the end of the line, and all lines below.
+    ///
+    /// Refused: NoWindow. X/Open Curses Issue 7, clrtobot().
+    pub fn clear_to_bottom(&mut self, win: Win) -> Result<(), WinFault>
+        ensures { OnDesk self.old self.new result (clear_to_bottom_call self.old.desk win.0) }
+    {
+        calls_keep_size();
+        self.desk.clear_to_bottom(win)
+    }
+
+    /// Erases a whole window, and puts its cursor to the first place.
+    ///
+    /// Refused: NoWindow. X/Open Curses Issue 7, erase().
+    pub fn erase(&mut self, win: Win) -> Result<(), WinFault>
+        ensures { OnDesk self.old self.new result (erase_call self.old.desk win.0) }
+    {
+        calls_keep_size();
+        self.desk.erase(win)
+    }
+
+    /// Erases a whole window as `erase` does, and wishes that the next update with it paints the whole screen.
+    ///
+    /// Refused: NoWindow. X/Open Curses Issue 7, clear().
+    pub fn clear(&mut self, win: Win) -> Result<(), WinFault>
+        ensures { OnDesk self.old self.new result (clear_call self.old.desk win.0) }
+    {
+        calls_keep_size();
+        self.desk.clear(win)
+    }
+}

@@ -1,0 +1,18 @@
+//! The call that deletes a window.
+ghost use Rattle.curses.specs.Forwarding.{OnDesk};
+ghost use Rattle.scr_windows.specs.Calls.Removing.{delete_call};
+
+use crate::screens::Screen;
+use scr_windows::{Win, WinFault, calls_keep_size};
+
+impl Screen {
+    /// Deletes a window, and its cells where no other window shares them.
+    ///
+    /// Refused: NoWindow; HasChildren where it has subwindows. X/Open Curses Issue 7, delwin().
+    pub fn delete(&mut self, win: Win) -> Result<(), WinFault>
+        ensures { OnDesk self.old self.new result (delete_call self.old.desk win.0) }
+    {
+        calls_keep_size();
+        self.desk.delete(win)
+    }
+}

@@ -1,0 +1,28 @@
+//! Calls that touch lines of windows that share cells.
+ghost use Rattle.curses.specs.Forwarding.{OnDesk};
+ghost use Rattle.scr_windows.specs.Calls.Syncing.{sync_up_call, sync_down_call};
+
+use crate::screens::Screen;
+use scr_windows::{Win, WinFault, calls_keep_size};
+
+impl Screen {
+    /// Touches the lines of a window's ancestors that share a row with a touched line of it.
+    ///
+    /// Refused: NoWindow. X/Open Curses Issue 7, wsyncup().
+    pub fn sync_up(&mut self, win: Win) -> Result<(), WinFault>
+        ensures { OnDesk self.old self.new result (sync_up_call self.old.desk win.0) }
+    {
+        calls_keep_size();
+        self.desk.sync_up(win)
+    }
+
+    /// Touches the lines of a window that share a row with a touched line of an ancestor.
+    ///
+    /// Refused: NoWindow. X/Open Curses Issue 7, wsyncdown().
+    pub fn sync_down(&mut self, win: Win) -> Result<(), WinFault>
+        ensures { OnDesk self.old self.new result (sync_down_call self.old.desk win.0) }
+    {
+        calls_keep_size();
+        self.desk.sync_down(win)
+    }
+}

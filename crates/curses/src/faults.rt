@@ -1,0 +1,100 @@
+//! Why a screen is not opened; and what an update answers: what it sent, or why it ended early.
+use scr_cells::NoMemory;
+use scr_term::{Ops, ProfileFault};
+use std::alloc::{AllocError, AllocFailed};
+use std::io::ErrorKind;
+use thiserror::Error;
+
+/// Why a screen is not opened, or its opening or closing text not made.
+#[derive(Clone, Copy, Debug, PartialEq, Eq, Error)]
+pub enum OpenFault {
+    /// The terminal's entry and size make no profile, or a text of it cannot be run. Never with its `NoMemory`.
+    #[error("{0}")]
+    Profile(ProfileFault),
+    /// Memory ran out.
+    #[error("out of memory")]
+    NoMemory,
+}
+
+/// What an update sent that ended well.
+#[derive(Debug, Drop)]
+pub struct Sent {
+    /// The operations that it began, all of them taken whole by the writer.
+    pub begun: Ops,
+    /// How many bytes the writer took, including those that an earlier update owed.
+    pub bytes: u64,
+}
+
+/// Why an update ended early. Windows, virtual screen and wishes stay as they were.
+#[derive(Debug, Drop, Error)]
+pub enum UpdateFault {
+    /// Memory ran out before anything was sent.
+    #[error("out of memory")]
+    NoMemory,
+    /// A write failed or took nothing. What was not taken of the text that it cut is owed, and the next update sends it
+    /// first.
+    #[error("write failed")]
+    Write {
+        /// The operations whose text was tried, the last of them perhaps taken in part; none where the write of owed bytes
+        /// failed.
+        begun: Ops,
+        /// How many bytes the writer took, including those that an earlier update owed.
+        sent: u64,
+        /// What the write answered; `WriteZero` where it took nothing.
+        kind: ErrorKind,
+    },
+    /// All was taken, and the flush failed. Nothing is owed.
+    #[error("flush failed")]
+    Flush {
+        /// The operations that were begun.
+        begun: Ops,
+        /// How many bytes the writer took.
+        sent: u64,
+        /// What the flush answered.
+        kind: ErrorKind,
+    },
+}
+
+impl From<NoMemory> for UpdateFault {
+    ghost use Rattle.std.specs.Prelude.{◌≡◌};
+    ghost use Rattle.curses.specs.declared.faults.UpdateFault.TheVariants as faults;
+
+    ghost from_gives = { λ _ e. e ≡ faults.NoMemory };
+
+    fn from(_e: NoMemory) -> UpdateFault {
+        UpdateFault::NoMemory
+    }
+}
+
+impl From<NoMemory> for OpenFault {
+    ghost use Rattle.std.specs.Prelude.{◌≡◌};
+    ghost use Rattle.curses.specs.declared.faults.OpenFault.TheVariants as faults;
+
+    ghost from_gives = { λ _ e. e ≡ faults.NoMemory };
+
+    fn from(_e: NoMemory) -> OpenFault {
+        OpenFault::NoMemory
+    }
+}
+
+impl From<AllocError> for OpenFault {
+    ghost use Rattle.std.specs.Prelude.{◌≡◌};
+    ghost use Rattle.curses.specs.declared.faults.OpenFault.TheVariants as faults;
+
+    ghost from_gives = { λ _ e. e ≡ faults.NoMemory };
+
+    fn from(_e: AllocError) -> OpenFault {
+        OpenFault::NoMemory
+    }
+}
+
+impl<T: Drop> From<AllocFailed<T>> for OpenFault {
+    ghost use Rattle.std.specs.Prelude.{◌≡◌};
+    ghost use Rattle.curses.specs.declared.faults.OpenFault.TheVariants as faults;
+
+    ghost from_gives = { λ _ e. e ≡ faults.NoMemory };
+
+    fn from(_e: AllocFailed<T>) -> OpenFault {
+        OpenFault::NoMemory
+    }
+}

@@ -1,0 +1,24 @@
+//! A curses screen: windows, a virtual screen, and updates that bring a terminal to it.
+#![tactic(auto)]
+
+mod answers;
+mod calls;
+mod faults;
+mod faulty;
+mod opening;
+mod refreshing;
+mod screens;
+mod sending;
+mod sessions;
+mod texts;
+mod updates;
+mod writers;
+
+pub use answers::Answer;
+pub use calls::Call;
+pub use faults::{OpenFault, Sent, UpdateFault};
+pub use faulty::{Failure, Faulty};
+pub use screens::Screen;
+pub use sessions::{Answers, Report, session};
+pub use texts::{closing_text, opening_text};
+pub use writers::{Counted, Device};

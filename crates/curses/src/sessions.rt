@@ -1,0 +1,109 @@
+//! Sessions: a list of calls on one screen, from its opening on. The definitions are in `specs/Sessions.antt`.
+ghost use Rattle.std.specs.Prelude.{◌≡◌, IfErr, IfOk, OnErr, true};
+ghost use Rattle.curses.specs.Code.Making.{IsMade};
+ghost use Rattle.curses.specs.Opening.{IsUnopened};
+ghost use Rattle.curses.specs.Sessions.{IsReport, ended_well, tells_update};
+
+use crate::answers::{Answer, done_answer};
+use crate::calls::Call;
+use crate::faults::OpenFault;
+use crate::screens::Screen;
+use crate::writers::Counted;
+use scr_cells::Size;
+use scr_term::{bytes_act_as_their_operations, run_laws};
+use std::alloc::Global;
+use std::marker::Model;
+use ti_caps::Entry;
+
+/// Answers, one for each call.
+#[derive(Debug, Drop)]
+pub struct Answers(pub Vec<Answer>);
+
+impl Model for Answers {
+    ghost use Rattle.std.specs.Prelude.{List};
+    ghost use Rattle.curses.specs.declared.answers.Answer.{Answer};
+
+    ghost Value = { List Answer };
+
+    ghost view = { λ a. a.0.items };
+}
+
+/// What came of a session.
+#[derive(Debug, Drop)]
+pub struct Report {
+    /// One answer for each call.
+    pub answers: Answers,
+    /// Whether there was an update, and the last one ended well.
+    pub last_ok: bool,
+}
+
+/// Opens a screen on the terminal of an entry and makes calls one after another, whatever they answer. The room for all
+/// answers is got at opening.
+///
+/// Each answer is that of the call, as `specs/Sessions.antt` defines it. Right after each update that ended well, whatever
+/// writes failed before it and whatever the terminal showed at opening, the terminal shows the virtual screen, with its cursor
+/// where it is wished, and nothing is owed; on the bundled ECMA-48 entry the bytes that were taken lead there. After every call
+/// the bytes taken so far, and then those that are owed, are the texts of all operations begun. curs_refresh(3X).
+///
+/// Refused as `Screen::open` is; nothing is written then.
+pub fn session<W: Counted>(
+    alloc: Global,
+    entry: &Entry,
+    size: Option<Size>,
+    calls: &[Call],
+    out: &mut W,
+) -> Result<Report, OpenFault>
+    ensures ok { IfOk result (IsReport entry.now size calls.now (W.told out.old) (W.told out.new)) }
+    ensures err { IfErr result (IsUnopened entry.now size) }
+    ensures untouched { OnErr result (out.new ≡ out.old) }
+{
+    run_laws();
+    bytes_act_as_their_operations();
+    let mut screen = Screen::open(alloc, entry, size)?;
+    let mut answers = Vec::with_capacity(alloc, calls.len())?;
+    let mut last_ok = false;
+    for call in calls {
+        let answer = screen.make(alloc, call, out);
+        last_ok = is_last_ok(last_ok, &answer);
+        answers.push(answer)?;
+    }
+    Ok(Report {
+        answers: Answers(answers),
+        last_ok,
+    })
+}
+
+impl Screen {
+    // Makes a call.
+    fn make<W: Counted>(&mut self, alloc: Global, call: &Call, out: &mut W) -> Answer
+        ensures { IsMade self.old self.new call.now result (W.told out.old) (W.told out.new) }
+    {
+        match call {
+            Call::Doupdate => match self.doupdate(alloc, out) {
+                Ok(sent) => Answer::Sent(sent),
+                Err(fault) => Answer::Failed(fault),
+            },
+            Call::Noutrefresh(win) => done_answer(self.noutrefresh(*win)),
+            Call::PadNoutrefresh(win, row, column, top, left, bottom, right) => done_answer(
+                self.pad_noutrefresh(*win, *row, *column, *top, *left, *bottom, *right),
+            ),
+            Call::SetPair(pair, foreground, background) => {
+                done_answer(self.set_pair(*pair, *foreground, *background))
+            }
+            Call::RedrawWindow(win) => done_answer(self.redraw_window(*win)),
+            Call::RedrawLines(win, first, n) => done_answer(self.redraw_lines(*win, *first, *n)),
+            _ => self.make_window_call(alloc, call),
+        }
+    }
+}
+
+// Whether the last update so far ended well, with one answer more.
+fn is_last_ok(before: bool, answer: &Answer) -> bool
+    ensures { result ≡ ended_well before answer.now }
+{
+    match answer {
+        Answer::Sent(_) => true,
+        Answer::Failed(_) => false,
+        _ => before,
+    }
+}

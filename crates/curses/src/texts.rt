@@ -1,0 +1,132 @@
+//! What a program sends to a terminal before its first update and behind its last. The definitions are in
+//! `specs/Texts.antt`.
+ghost use Rattle.std.specs.Prelude.{◌≡◌, ◌++◌, ◌≤◌, [], IfErr, IfOk, IfSome, OnOk, false, option_map, true};
+ghost use Rattle.ti_param.specs.Parsed.{parsed};
+ghost use Rattle.ti_param.specs.Tree.{depth};
+ghost use Rattle.scr_term.specs.Operations.Admission.{is_over_bound};
+ghost use Rattle.scr_term.specs.Operations.Texts.{nine, written};
+ghost use Rattle.curses.specs.Code.Texts.{Judges};
+ghost use Rattle.curses.specs.Texts.{AreRefused, AreTexts, IsClosingText, IsNoClosingText, IsNoOpeningText, IsOpeningText, bad_text, long_text, plain_text, text_program};
+
+use crate::faults::OpenFault;
+use scr_cells::NoMemory;
+use scr_term::ProfileFault;
+use std::alloc::Global;
+use ti_caps::{Bytes, Entry, Kind, Slot, slots};
+use ti_param::{
+    ParamFault, Program, RunFault, Vars, padding_is_removed, stack_is_enough, strip_padding,
+    text_is_parsed,
+};
+
+// The greatest stack that a text may need.
+const MOST_DEPTH: usize = 20;
+
+// The most bytes that a text may give.
+const MOST_BYTES: usize = 1_024;
+
+/// The bytes that a program sends before its first update: the text of `smcup`, which enters the mode for cursor addresses,
+/// and then that of `smkx`, which has the keypad transmit (terminfo(5), 'Cursor Motions', 'Keypad and Function Keys').
+/// Each is without padding, and run with all parameters and variables 0; an absent one gives nothing.
+///
+/// Refused: Profile with BadString where the text of `smcup`, or else of `smkx`, is no parameter string, or its stack could
+/// hold more than 20 values; Profile with LongString where that of `smcup`, or else of `smkx`, could give more than 1,024
+/// bytes; NoMemory where memory runs out.
+pub fn opening_text(alloc: Global, entry: &Entry) -> Result<Bytes, OpenFault>
+    ensures ok { IfOk result (IsOpeningText entry.now) }
+    ensures err { IfErr result (IsNoOpeningText entry.now) }
+{
+    two_texts(alloc, entry, slots::SMCUP, slots::SMKX)
+}
+
+/// The bytes that a program sends behind its last update: the text of `rmkx`, and then that of `rmcup`, which end what
+/// the opening text began (terminfo(5), as there). Each is as in `opening_text`.
+///
+/// Refused as `opening_text` is, for `rmkx` before `rmcup`.
+pub fn closing_text(alloc: Global, entry: &Entry) -> Result<Bytes, OpenFault>
+    ensures ok { IfOk result (IsClosingText entry.now) }
+    ensures err { IfErr result (IsNoClosingText entry.now) }
+{
+    two_texts(alloc, entry, slots::RMKX, slots::RMCUP)
+}
+
+// One text and then another.
+fn two_texts(alloc: Global, entry: &Entry, first: Slot, second: Slot) -> Result<Bytes, OpenFault>
+    ensures ok { IfOk result (AreTexts entry.now first second) }
+    ensures err { IfErr result (AreRefused entry.now first second) }
+{
+    let begin = text_program(alloc, entry, first)?;
+    let end = text_program(alloc, entry, second)?;
+    is_short(&begin, first)?;
+    is_short(&end, second)?;
+    let mut bytes = Vec::new(alloc);
+    append(&begin, &mut bytes)?;
+    append(&end, &mut bytes)?;
+    Ok(Bytes(bytes))
+}
+
+// The program of a text, if it is there.
+fn text_program(alloc: Global, entry: &Entry, slot: Slot) -> Result<Option<Program>, OpenFault>
+    ensures program { IfOk result (λ program. program ≡ text_program entry.now slot) }
+    ensures depth { IfOk result (λ program. IfSome program (λ p. depth p ≤ 20)) }
+    ensures judged { Judges result (bad_text entry.now slot) }
+{
+    let Some(text) = plain_text(alloc, entry, slot)? else {
+        return Ok(None);
+    };
+    match parsed_program(alloc, &text)? {
+        Some(program) if program.depth() <= MOST_DEPTH => Ok(Some(program)),
+        _ => Err(OpenFault::Profile(ProfileFault::BadString((Kind::Text, slot)))),
+    }
+}
+
+// The text of a capability without padding, if it is there.
+fn plain_text(alloc: Global, entry: &Entry, slot: Slot) -> Result<Option<Vec<u8>>, NoMemory>
+    ensures { IfOk result (λ text. option_map (λ t. t.items) text ≡ plain_text entry.now slot) }
+{
+    padding_is_removed();
+    let Some(text) = entry.text(slot) else {
+        return Ok(None);
+    };
+    Ok(Some(strip_padding(alloc, text)?))
+}
+
+// The program of a text; `None` where the text is no parameter string.
+fn parsed_program(alloc: Global, text: &[u8]) -> Result<Option<Program>, NoMemory>
+    ensures { IfOk result (λ program. program ≡ parsed text.now) }
+{
+    text_is_parsed();
+    match Program::read(alloc, text) {
+        Ok(program) => Ok(Some(program)),
+        Err(fault) => match fault {
+            ParamFault::NoMemory => Err(NoMemory),
+            _ => Ok(None),
+        },
+    }
+}
+
+// A program cannot give too many bytes; an absent one gives none.
+fn is_short(program: &Option<Program>, slot: Slot) -> Result<(), OpenFault>
+    ensures ok { OnOk result (is_over_bound program.now ≡ false) }
+    ensures err { IfErr result (λ fault. (is_over_bound program.now ≡ true) × (fault ≡ OpenFault.Profile (ProfileFault.LongString (Kind.Text, slot)))) }
+{
+    match program {
+        Some(program) if program.bound() > MOST_BYTES => Err(OpenFault::Profile(
+            ProfileFault::LongString((Kind::Text, slot)),
+        )),
+        _ => Ok(()),
+    }
+}
+
+// Appends what a program gives where all parameters and variables are 0.
+fn append(program: &Option<Program>, bytes: &mut Vec<u8>) -> Result<(), NoMemory>
+    requires { IfSome program.now (λ p. depth p ≤ 20) }
+    ensures { OnOk result (bytes.new.items ≡ bytes.old.items ++ written program.now (nine [])) }
+{
+    stack_is_enough();
+    let Some(program) = program else {
+        return Ok(());
+    };
+    program
+        .run([0; 9], &mut Vars::new(), bytes)
+        .map_err(|_: RunFault| NoMemory)
+}
