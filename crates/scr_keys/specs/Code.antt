@@ -1,0 +1,3 @@
+-- Words of private functions.
+pub mod Maps
+pub mod Rooms

@@ -1,0 +1,61 @@
+-- The keys of an entry: its texts whose names begin with k. terminfo(5), 'Function Keys'.
+use Rattle.std.specs.Prelude.{ℕ, ◌≡◌, suc, zero, ◌==◌, ◌&&◌, Bool, true, false, List, [], ◌∷◌, ◌++◌, length, Option, Some, None, nat_lt, is_some, if◌then◌else◌}
+use Rattle.ti_caps.specs.declared.table.Kind.TheVariants.{Text}
+use Rattle.ti_caps.specs.Description.{Description, text_at}
+use Rattle.ti_caps.specs.Table.{name_at, or_else}
+use Rattle.ti_param.specs.Stripped.{stripped}
+use Rattle.scr_keys.specs.declared.faults.KeyFault.{KeyFault}
+use Rattle.scr_keys.specs.declared.faults.KeyFault.TheVariants.{KeyTooLong, NoMemory, QueueFull}
+use Rattle.scr_keys.specs.Keys.{Keys, key_of}
+
+-- the name is a key's
+abbrev pub begins_with_k : Option (List ℕ) → Bool
+begins_with_k (Some (byte ∷ name)) = byte == 107
+begins_with_k _ = false
+
+abbrev pub is_key : ℕ → Bool
+is_key slot = begins_with_k (name_at Text slot)
+
+abbrev pub without_padding : Option (List ℕ) → List ℕ
+without_padding None = []
+without_padding (Some text) = stripped text
+
+-- what the key at a position sends, without padding; nothing where there is no key
+abbrev pub text_of_key : Description → ℕ → List ℕ
+text_of_key entry slot = if is_key slot then without_padding (text_at entry slot) else []
+
+-- one key more, unless another sends the same
+abbrev pub with_text : Keys → List ℕ → ℕ → Keys
+with_text keys text slot = if is_some (key_of keys text) then keys else keys ++ (text, slot) ∷ []
+
+-- one that sends something
+abbrev pub with_key : Keys → List ℕ → ℕ → Keys
+with_key keys [] slot = keys
+with_key keys (byte ∷ text) slot = with_text keys (byte ∷ text) slot
+
+-- the keys at the first n positions
+abbrev pub keys_below : Description → ℕ → Keys
+keys_below entry zero = []
+keys_below entry (suc n) = with_key (keys_below entry n) (text_of_key entry n) n
+
+unfoldable pub keys_of : Description → Keys
+keys_of entry = keys_below entry 512
+
+-- the first position below n whose text is too long for a key
+abbrev pub too_long_below : Description → ℕ → Option ℕ
+too_long_below entry zero = None
+too_long_below entry (suc n) = or_else (too_long_below entry n) (if nat_lt 64 (length (text_of_key entry n)) then Some n else None)
+
+unfoldable pub too_long : Description → Option ℕ
+too_long entry = too_long_below entry 512
+
+-- the keys of an entry, none of whose texts is too long
+pub record AreKeysOf (entry : Description) (keys : Keys) : Type 0 where
+  pub all : keys ≡ keys_of entry
+  pub few : too_long entry ≡ None
+
+-- a text is too long, or memory ran out
+abbrev pub AreRefused : Description → KeyFault → Type 0
+AreRefused entry NoMemory = Unit {0}
+AreRefused entry QueueFull = ⊥
+AreRefused entry (KeyTooLong slot) = too_long entry ≡ Some slot.0

@@ -1,0 +1,10 @@
+//! Laws of keys, each the contract of a function that does nothing. A caller cites a law by calling its function.
+//!
+//! They are stated in `specs/Laws.antt`.
+ghost use Rattle.scr_keys.specs.Laws.{PiecesDoNotMatter};
+
+/// Over any bytes and idles, the keys that a reader adds one by one are those that the whole input has, in order (X/Open Curses
+/// Issue 7, getch()).
+pub fn pieces_do_not_matter()
+    ensures { PiecesDoNotMatter }
+{}

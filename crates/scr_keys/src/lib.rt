@@ -1,0 +1,15 @@
+//! Keys: from the bytes of a keyboard to what was pressed.
+#![tactic(auto)]
+
+mod faults;
+mod keys;
+mod laws;
+mod maps;
+mod readers;
+mod tables;
+
+pub use faults::KeyFault;
+pub use keys::Key;
+pub use laws::pieces_do_not_matter;
+pub use readers::KeyReader;
+pub use tables::KeyTable;

@@ -1,0 +1,47 @@
+//! Maps from texts to positions.
+ghost use Rattle.std.specs.Prelude.{ℕ, List, ◌≡◌, ◌||◌, OnOk, is_some};
+ghost use Rattle.scr_keys.specs.Code.Maps.{seen};
+ghost use Rattle.scr_keys.specs.Keys.{is_beginning, key_of};
+ghost use Rattle.scr_keys.specs.Tables.{with_text};
+
+use indexmap::IndexMap;
+use out_of_memory::NoMemory;
+use std::alloc::Global;
+
+// The position that a map has for a text.
+pub(crate) fn position_of(map: &IndexMap<Vec<u8>, u16>, text: &[u8]) -> Option<u16>
+    ensures { result ≡ key_of (seen (λ k. k.items) map.now.entries) text.now }
+{
+    map.get(text).copied()
+}
+
+// Gives a position to a text that has none.
+pub(crate) fn put(
+    alloc: Global,
+    map: &mut IndexMap<Vec<u8>, u16>,
+    text: &[u8],
+    slot: u16,
+) -> Result<(), NoMemory>
+    ensures { OnOk result (seen (λ k. k.items) map.new.entries ≡ with_text (seen (λ k. k.items) map.old.entries) text.now slot) }
+{
+    if position_of(map, text).is_some() {
+        return Ok(());
+    }
+    map.insert(Vec::from_slice(alloc, text)?, slot)?;
+    Ok(())
+}
+
+// Gives a position to each beginning of a text that has none.
+pub(crate) fn put_beginnings(
+    alloc: Global,
+    map: &mut IndexMap<Vec<u8>, u16>,
+    text: &[u8],
+    slot: u16,
+) -> Result<(), NoMemory>
+    ensures { OnOk result ((bytes : List ℕ) → is_some (key_of (seen (λ k. k.items) map.new.entries) bytes) ≡ (is_some (key_of (seen (λ k. k.items) map.old.entries) bytes) || is_beginning bytes text.now)) }
+{
+    for len in 0..text.len() {
+        put(alloc, map, &text[..len], slot)?;
+    }
+    Ok(())
+}

@@ -1,0 +1,161 @@
+//! The keys of a terminal, and how they are found.
+ghost use Rattle.std.specs.Prelude.{◌≡◌, ◌+◌, ◌<◌, ◌≤◌, ◌≢◌, [], None, Some, IfErr, IfOk, length};
+ghost use Rattle.scr_keys.specs.Tables.{AreKeysOf, AreRefused, is_key, text_of_key, with_key};
+ghost use Rattle.scr_keys.specs.Keys.{first_of, goes_on, key_of, longest, longest_text};
+
+use crate::faults::KeyFault;
+use crate::keys::Key;
+use crate::maps::{position_of, put, put_beginnings};
+use indexmap::IndexMap;
+use out_of_memory::NoMemory;
+use std::alloc::Global;
+use std::marker::Model;
+use ti_caps::{Entry, Kind, MOST_TEXTS, Slot, name_of};
+use ti_param::{padding_is_removed, padding_is_removed_once, strip_padding};
+
+/// The keys of a terminal, each with the text that it sends.
+#[derive(Drop)]
+pub struct KeyTable {
+    texts: IndexMap<Vec<u8>, u16>,
+    // The beginnings of these texts.
+    beginnings: IndexMap<Vec<u8>, u16>,
+    // How many bytes the longest text has.
+    longest: usize,
+}
+
+impl Model for KeyTable {
+    ghost use Rattle.std.specs.Prelude.{ℕ, List};
+    ghost use Rattle.scr_keys.specs.Code.Maps.{IsTable, seen};
+
+    ghost Value = { List (List ℕ × ℕ) };
+
+    ghost view = { λ t. seen (λ k. k.items) t.texts.entries };
+
+    ghost invariant = { λ t. IsTable (seen (λ k. k.items) t.texts.entries) (seen (λ k. k.items) t.beginnings.entries) t.longest };
+}
+
+impl KeyTable {
+    /// The keys of an entry: the texts whose names begin with `k`, without padding, all other bytes as they are. A text
+    /// that is empty is no key; of two keys that send the same, the one at the lower position counts.
+    ///
+    /// Refused: KeyTooLong with the lowest position whose text has more than 64 bytes; NoMemory where a growth is refused.
+    /// terminfo(5), 'Function Keys'.
+    pub fn of(alloc: Global, entry: &Entry) -> Result<KeyTable, KeyFault>
+        ensures ok { IfOk result (AreKeysOf entry.now) }
+        ensures err { IfErr result (AreRefused entry.now) }
+    {
+        let mut table = KeyTable::empty(alloc);
+        for slot in 0..MOST_TEXTS as u16 {
+            let text = text_of_key(alloc, entry, Slot(slot))?;
+            if text.len() > 64 {
+                return Err(KeyFault::KeyTooLong(Slot(slot)));
+            }
+            table = table.with_key(alloc, &text, slot)?;
+        }
+        Ok(table)
+    }
+
+    // No keys.
+    fn empty(alloc: Global) -> KeyTable
+        ensures { result ≡ [] }
+    {
+        KeyTable {
+            texts: IndexMap::new(alloc),
+            beginnings: IndexMap::new(alloc),
+            longest: 0,
+        }
+    }
+
+    // One key more, unless it sends nothing, or what a key before it sends.
+    fn with_key(self, alloc: Global, text: &[u8], slot: u16) -> Result<KeyTable, NoMemory>
+        requires { length text.now ≤ 64 }
+        ensures { IfOk result (λ table. table ≡ with_key self text.now slot) }
+    {
+        if text.is_empty() || self.key(text).is_some() {
+            return Ok(self);
+        }
+        let KeyTable {
+            mut texts,
+            mut beginnings,
+            longest,
+        } = self;
+        put_beginnings(alloc, &mut beginnings, text, slot)?;
+        put(alloc, &mut texts, text, slot)?;
+        Ok(KeyTable {
+            texts,
+            beginnings,
+            longest: longest.max(text.len()),
+        })
+    }
+
+    /// The key that sends just this text.
+    fn key(&self, text: &[u8]) -> Option<u16>
+        ensures { result ≡ key_of self.now text.now }
+    {
+        position_of(&self.texts, text)
+    }
+
+    /// Whether some key begins with these bytes and has more.
+    pub(crate) fn goes_on(&self, bytes: &[u8]) -> bool
+        ensures { result ≡ goes_on self.now bytes.now }
+    {
+        position_of(&self.beginnings, bytes).is_some()
+    }
+
+    /// How many bytes the longest text of a key has, at most 64.
+    pub(crate) fn longest(&self) -> usize
+        ensures value { result ≡ longest_text self.now }
+        ensures few { result ≤ 64 }
+    {
+        self.longest
+    }
+
+    /// The first key of some bytes, and how many of them it has.
+    pub(crate) fn first_key(&self, bytes: &[u8]) -> (Key, usize)
+        requires { bytes.now ≢ [] }
+        ensures first { result ≡ first_of self.now bytes.now }
+        ensures some { 1 ≤ result.1 }
+        ensures few { result.1 ≤ length bytes.now }
+    {
+        match self.longest_key(bytes) {
+            Some((slot, len)) => (Key::Slot(slot), len),
+            None => (Key::Byte(bytes[0]), 1),
+        }
+    }
+
+    // The key with the longest text that some bytes begin with, and how many bytes it has.
+    fn longest_key(&self, bytes: &[u8]) -> Option<(u16, usize)>
+        ensures { result ≡ longest self.now bytes.now (length bytes.now) }
+    {
+        let mut len = bytes.len().min(self.longest());
+        while len > 0 {
+            if let Some(slot) = self.key(&bytes[..len]) {
+                return Some((slot, len));
+            }
+            len -= 1;
+        }
+        None
+    }
+}
+
+// What the key at a position sends, without padding; nothing where there is no key.
+fn text_of_key(alloc: Global, entry: &Entry, slot: Slot) -> Result<Vec<u8>, NoMemory>
+    ensures { IfOk result (λ text. text.items ≡ text_of_key entry.now slot.0) }
+{
+    padding_is_removed();
+    padding_is_removed_once();
+    match entry.text(slot) {
+        Some(text) if is_key(slot) => strip_padding(alloc, text),
+        _ => Ok(Vec::new(alloc)),
+    }
+}
+
+// Whether a position is a key's: its name begins with `k`.
+fn is_key(slot: Slot) -> bool
+    ensures { result ≡ is_key slot.0 }
+{
+    match name_of(Kind::Text, slot) {
+        Some(name) => name.as_bytes().first() == Some(&b'k'),
+        None => false,
+    }
+}
