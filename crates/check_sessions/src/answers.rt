@@ -1,0 +1,98 @@
+//! Answers of calls on a screen, in words.
+
+use check_scripts::answers::{add_cell, add_flag, add_number, add_place, add_word};
+use check_scripts::troubles::Trouble;
+use curses::{Answer, UpdateFault};
+use scr_windows::{Added, WinFault};
+use std::io::ErrorKind;
+
+/// Adds what a call answered: `Ok` and what it gives, an update the number of its bytes; `Refused` and why; or `NoMemory`.
+pub fn add_answer(answer: &Answer, words: &mut Vec<u8>) -> Result<(), Trouble> {
+    match answer {
+        Answer::Nothing => add_word("Ok", words),
+        Answer::Made(win) => add_number(i64::from(win.0), words),
+        Answer::Added(Added::Done) => add_word("Done", words),
+        Answer::Added(Added::Stayed) => add_word("Stayed", words),
+        Answer::Seen(cell) => add_cell(*cell, words),
+        Answer::Pair(row, column) => add_place(*row, *column, words),
+        Answer::Touched(touched) => add_flag(*touched, words),
+        Answer::Refused(fault) => add_refusal(*fault, words),
+        Answer::Sent(sent) => {
+            add_word("Ok", words)?;
+            add_count(sent.bytes, words)
+        }
+        Answer::Failed(fault) => add_fault(fault, words),
+    }
+}
+
+/// Whether a call wanted memory and got none.
+pub fn ran_out(answer: &Answer) -> bool {
+    matches!(
+        answer,
+        Answer::Refused(WinFault::NoMemory) | Answer::Failed(UpdateFault::NoMemory)
+    )
+}
+
+fn add_refusal(fault: WinFault, words: &mut Vec<u8>) -> Result<(), Trouble> {
+    if fault == WinFault::NoMemory {
+        return add_word("NoMemory", words);
+    }
+    add_word("Refused", words)?;
+    add_word(fault_name(fault), words)
+}
+
+// Adds why an update ended early, how many operations it began, and how many bytes it sent.
+fn add_fault(fault: &UpdateFault, words: &mut Vec<u8>) -> Result<(), Trouble> {
+    match fault {
+        UpdateFault::NoMemory => add_word("NoMemory", words),
+        UpdateFault::Write { begun, sent, kind } => {
+            add_word("Write", words)?;
+            add_ended(*kind, begun.0.len(), *sent, words)
+        }
+        UpdateFault::Flush { begun, sent, kind } => {
+            add_word("Flush", words)?;
+            add_ended(*kind, begun.0.len(), *sent, words)
+        }
+    }
+}
+
+fn add_ended(kind: ErrorKind, begun: usize, sent: u64, words: &mut Vec<u8>) -> Result<(), Trouble> {
+    add_word(kind_name(kind), words)?;
+    add_count(begun as u64, words)?;
+    add_count(sent, words)
+}
+
+/// Adds a count.
+pub fn add_count(count: u64, words: &mut Vec<u8>) -> Result<(), Trouble> {
+    add_number(i64::try_from(count).unwrap_or(-1), words)
+}
+
+fn kind_name(kind: ErrorKind) -> &'static str {
+    match kind {
+        ErrorKind::BrokenPipe => "BrokenPipe",
+        ErrorKind::WriteZero => "WriteZero",
+        ErrorKind::Other => "Other",
+        _ => "another",
+    }
+}
+
+fn fault_name(fault: WinFault) -> &'static str {
+    match fault {
+        WinFault::NoWindow => "NoWindow",
+        WinFault::IsPad => "IsPad",
+        WinFault::NotPad => "NotPad",
+        WinFault::IsSub => "IsSub",
+        WinFault::HasChildren => "HasChildren",
+        WinFault::NotAscii => "NotAscii",
+        WinFault::OutOfWindow => "OutOfWindow",
+        WinFault::OffScreen => "OffScreen",
+        WinFault::NotInParent => "NotInParent",
+        WinFault::BadRegion => "BadRegion",
+        WinFault::NoScroll => "NoScroll",
+        WinFault::TooBig => "TooBig",
+        WinFault::TooMany => "TooMany",
+        WinFault::NoMemory => "NoMemory",
+        WinFault::BadPair => "BadPair",
+        WinFault::BadColour => "BadColour",
+    }
+}

@@ -1,0 +1,54 @@
+//! Generated calls on a screen, with updates whose writer fails now and then.
+
+use crate::generating::{COLUMNS, ROWS, next_call, next_fails};
+use crate::random::Random;
+use crate::recorded::Recorded;
+use check_scripts::answers::{add_number, add_word};
+use check_scripts::troubles::Trouble;
+use check_scripts::words::Words;
+use scr_cells::Size;
+use std::alloc::Global;
+
+/// The line `generated COUNT SEED`: so many calls on a screen, every fifth of them or so an update. After each update that
+/// is Ok the terminal has to show the picture, and one session has to give the same answers and send the same bytes. Adds
+/// `agrees`, or the number of the call after which the terminal shows something else.
+pub fn check_generated(
+    alloc: Global,
+    words: &mut Words<'_>,
+    came: &mut Vec<u8>,
+) -> Result<(), Trouble> {
+    let (count, seed) = (words.number()?, words.number()?);
+    let mut random = Random::new(seed);
+    let size = Size::new(ROWS, COLUMNS).ok_or(Trouble::Bad("no size"))?;
+    let Some(mut opened) = Recorded::open(alloc, size)? else {
+        return add_word("NoMemory", came);
+    };
+    let mut answer = Vec::new(alloc);
+    for number in 0..count {
+        answer.clear();
+        step(alloc, &mut opened, &mut random, &mut answer)?;
+        if answer.ends_with(b" NoMemory") {
+            return add_word("NoMemory", came);
+        }
+        if answer.ends_with(b" else") || answer.ends_with(b" text") {
+            add_number(i64::from(number), came)?;
+            came.extend_from_slice(&answer)?;
+            return Ok(());
+        }
+    }
+    opened.add_session(came)
+}
+
+// Makes the next call.
+fn step(
+    alloc: Global,
+    opened: &mut Recorded,
+    random: &mut Random,
+    answer: &mut Vec<u8>,
+) -> Result<(), Trouble> {
+    if random.below(5) == 0 {
+        return opened.update(next_fails(random), answer);
+    }
+    let call = next_call(alloc, random)?;
+    opened.call(call, answer)
+}

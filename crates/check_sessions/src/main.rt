@@ -1,0 +1,27 @@
+//! Runs a script of calls on screens, each with the answer or the state that is wanted, which it reads from the standard input.
+//! It prints how many lines agree, or the first that does not with what was wanted and what came (status 1).
+//!
+//! What an update sends goes into a writer that fails where a line says so, and what that took is fed to an emulated screen.
+#![tactic(auto)]
+
+mod answers;
+mod call_lines;
+mod cuts;
+mod dumps;
+mod generated;
+mod generating;
+mod making;
+mod random;
+mod recorded;
+mod shown;
+mod shown_lines;
+mod stages;
+mod writers;
+
+use check_scripts::checking::check_input;
+use stages::SessionStage;
+use std::process::ExitCode;
+
+fn main(rt: HostRuntime) -> ExitCode {
+    check_input::<SessionStage>(&rt)
+}

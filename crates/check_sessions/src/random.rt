@@ -1,0 +1,44 @@
+//! Numbers that look random, and are the same in each run.
+
+/// What the next numbers come from.
+#[derive(Drop)]
+pub struct Random {
+    state: u64,
+}
+
+impl Random {
+    /// The numbers that follow a seed.
+    pub fn new(seed: u32) -> Random {
+        Random {
+            state: u64::from(seed),
+        }
+    }
+
+    /// A number below a bound, 0 where the bound is 0.
+    pub fn below(&mut self, bound: u32) -> u32 {
+        self.state = self
+            .state
+            .wrapping_mul(6_364_136_223_846_793_005)
+            .wrapping_add(1_442_695_040_888_963_407);
+        let high = u32::try_from(self.state >> 33).unwrap_or(0);
+        if bound == 0 { 0 } else { high % bound }
+    }
+
+    /// A byte: most often a graphic character, and now and then a blank, a tab or a new line.
+    pub fn byte(&mut self) -> u8 {
+        match self.below(12) {
+            0 => 10,
+            1 => 9,
+            2 | 3 => 32,
+            _ => u8::try_from(self.below(94)).unwrap_or(0).saturating_add(33),
+        }
+    }
+
+    /// A set of attributes, most often none.
+    pub fn attributes(&mut self) -> u8 {
+        match self.below(3) {
+            0 => u8::try_from(self.below(128)).unwrap_or(0),
+            _ => 0,
+        }
+    }
+}

@@ -1,0 +1,107 @@
+//! What the lines of a script work on: one screen with its terminal, from the line that opens it on.
+
+use crate::call_lines::read_call;
+use crate::cuts::check_cuts;
+use crate::dumps::dump_recorded;
+use crate::generated::check_generated;
+use crate::recorded::Recorded;
+use crate::shown_lines::answer_of_shown;
+use crate::writers::Fails;
+use check_scripts::answers::{add_word, read_size};
+use check_scripts::checking::Stage;
+use check_scripts::troubles::Trouble;
+use check_scripts::words::Words;
+use std::alloc::Global;
+
+/// The state of a script.
+#[derive(Drop)]
+pub struct SessionStage {
+    alloc: Global,
+    opened: Option<Recorded>,
+}
+
+impl Stage for SessionStage {
+    fn new(alloc: Global) -> SessionStage {
+        SessionStage {
+            alloc,
+            opened: None,
+        }
+    }
+
+    fn answer(&mut self, words: &mut Words<'_>, came: &mut Vec<u8>) -> Result<(), Trouble> {
+        let word = words.next();
+        match word {
+            b"screen" => open(self.alloc, &mut self.opened, words, came),
+            b"cuts" => check_cuts(self.alloc, words, came),
+            b"generated" => check_generated(self.alloc, words, came),
+            _ => answer_of_opened(self.alloc, ready(&mut self.opened)?, word, words, came),
+        }
+    }
+
+    fn dump(&self, bytes: &mut Vec<u8>) -> Result<(), Trouble> {
+        match &self.opened {
+            Some(opened) => dump_recorded(opened, bytes),
+            None => Ok(()),
+        }
+    }
+
+    fn leaves_all(word: &[u8]) -> bool {
+        matches!(word, b"cuts" | b"generated" | b"session")
+    }
+}
+
+// The line `screen R C`, which opens a screen of so many rows and columns on the bundled entry.
+fn open(
+    alloc: Global,
+    opened: &mut Option<Recorded>,
+    words: &mut Words<'_>,
+    came: &mut Vec<u8>,
+) -> Result<(), Trouble> {
+    let size = read_size(words)?;
+    match Recorded::open(alloc, size)? {
+        Some(made) => {
+            *opened = Some(made);
+            add_word("Ok", came)
+        }
+        None => add_word("NoMemory", came),
+    }
+}
+
+fn ready(opened: &mut Option<Recorded>) -> Result<&mut Recorded, Trouble> {
+    opened.as_mut().ok_or(Trouble::Bad("no screen"))
+}
+
+// Makes the call of a line about a screen.
+fn answer_of_opened(
+    alloc: Global,
+    opened: &mut Recorded,
+    word: &[u8],
+    words: &mut Words<'_>,
+    came: &mut Vec<u8>,
+) -> Result<(), Trouble> {
+    if word == b"session".as_slice() {
+        return opened.add_session(came);
+    }
+    if let Some(fails) = read_update(word, words)? {
+        return opened.update(fails, came);
+    }
+    if let Some(call) = read_call(alloc, word, words)? {
+        return opened.call(call, came);
+    }
+    if answer_of_shown(alloc, opened, word, words, came)? {
+        Ok(())
+    } else {
+        Err(Trouble::Bad("no such call"))
+    }
+}
+
+// How the writer fails in the lines `update`, `update_writing K`, `update_stuck K` and `update_flushing`.
+fn read_update(word: &[u8], words: &mut Words<'_>) -> Result<Option<Fails>, Trouble> {
+    Ok(Some(match word {
+        b"update" => Fails::Never,
+        b"update_writing" => Fails::Behind(words.number()?),
+        b"update_stuck" => Fails::StuckBehind(words.number()?),
+        b"update_flushing" => Fails::Flushed,
+        _ => return Ok(None),
+    }))
+}
