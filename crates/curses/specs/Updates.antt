@@ -56,7 +56,7 @@ pub record IsCutShort (profile : ProfileView) (owed : List ℕ) (old new : Write
   pub puts : new.failed_puts ≡ counted true old.failed_puts
   pub finishes : new.failed_finishes ≡ old.failed_finishes
 
--- one that was sent whole, and whose flush failed
+-- one of which the texts of all operations begun were taken, and whose flush failed
 pub record IsUnfinished (profile : ProfileView) (owed : List ℕ) (old new : WriterView) (begun : List Op) (count : ℕ) (rest : List ℕ) : Type 0 where
   pub sent : IsSent profile owed old new begun count rest
   pub nothing : rest ≡ []
