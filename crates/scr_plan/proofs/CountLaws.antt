@@ -1,5 +1,5 @@
 -- How many operations scratch has.
-use Rattle.std.proofs.Common.{◌≡◌, ℕ, ◌+◌, ◌*◌, ◌≤◌, Bool, true, false, sym, ◌∙◌, ap, subst, arith, bit_and, ◌==◌, zero, suc, List, [], ◌∷◌, ◌++◌, length, Option, Some, None, map, filter, if◌then◌else◌}
+use Rattle.std.proofs.Common.{◌≡◌, ℕ, ◌+◌, ◌*◌, ◌≤◌, Bool, true, false, ◌∙◌, subst, arith, bit_and, ◌==◌, List, [], ◌∷◌, ◌++◌, length, Option, Some, None, map, filter, if◌then◌else◌}
 use Rattle.std.specs.List.{flat_map, range_with_len}
 use Rattle.std.proofs.lemmas.List.{length-append, length-map}
 use Rattle.std.proofs.lemmas.List.FromFn.{length-range_with_len}
@@ -11,7 +11,7 @@ use Rattle.scr_term.specs.declared.operations.operation.Op.{Op}
 use Rattle.scr_term.specs.declared.operations.operation.Op.TheVariants.{Clear, Move, Put, Reset}
 use Rattle.scr_term.specs.declared.operations.capability.Capability.TheVariants.{Sgr0}
 use Rattle.scr_term.specs.Operations.Profiles.{ProfileView, is_there}
-use Rattle.scr_plan.specs.Scratch.{ScratchIsBounded, enter, goes, look_at, paints_place, paints_places, places, places_cursor, renders, resets, row_places, scratch_of, sets_background, sets_foreground}
+use Rattle.scr_plan.specs.Scratch.{ScratchIsBounded, enter, goes, look_at, paints_place, paints_places, places, places_cursor, renders, resets, row_places, sets_background, sets_foreground}
 
 one_or_none : {A : Type 0} → (b : Bool) (x : A) → length (if b then x ∷ [] else []) ≤ 1
 one_or_none true x = omega arith

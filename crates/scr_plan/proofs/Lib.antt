@@ -1,6 +1,10 @@
+pub mod ActLaws
 pub mod CountLaws
+pub mod FollowLaws
 pub mod PlaceLaws
 pub mod PlacesLaws
+pub mod PlainLaws
+pub mod PlanLaws
 pub mod Rows
 pub mod ScratchLaws
 pub mod ScratchTextLaws

@@ -26,7 +26,7 @@ use Rattle.scr_plan.specs.Scratch.{look_at, paints_place, paints_places, places,
 -- ---- every place is painted
 
 -- what a place shows: its look where it is painted, else what it showed
-abbrev shown_after : Bool → LookView → LookView → LookView
+abbrev pub shown_after : Bool → LookView → LookView → LookView
 shown_after here look before = if here then look else before
 
 -- one place of a grid is changed
@@ -40,7 +40,7 @@ place_changed grids rows columns grid is place inside look r c high wide =
     ∙ ap (λ here. shown_after here look (grid_at blank grid r c)) same
 
 -- the looks of a picture, by row and column
-abbrev looks : ProfileView → PictureView → ℕ → ℕ → LookView
+abbrev pub looks : ProfileView → PictureView → ℕ → ℕ → LookView
 looks profile picture r c = look_at profile picture (r, c)
 
 -- these places are painted, and no others
@@ -64,7 +64,7 @@ own_look profile picture place r c here =
     let column : place.1 ≡ c = grind (arith, nat_tests) in
     λ i. look_at profile picture (row i, column i)
 
-each_painted : RunLaws → PlaceIsPainted → GridLaws LookView → (profile : ProfileView) → IsProfile profile → (picture : PictureView) → IsPicture picture
+pub each_painted : RunLaws → PlaceIsPainted → GridLaws LookView → (profile : ProfileView) → IsProfile profile → (picture : PictureView) → IsPicture picture
     → (list : List (ℕ × ℕ)) → AllByRecursion (IsPlace profile.rows profile.columns) list → (old : TerminalState) → IsState (abilities profile) old
     → PaintsEach profile picture old list
 each_painted laws place_law grids profile p picture k [] inside old s = record { new = old; run = refl; state = s; shows = λ r c high wide. refl }
@@ -89,7 +89,7 @@ map_same : {A : Type 0} (f g : ℕ → A) (n a : ℕ) → ((k : ℕ) → k < a +
 map_same f g zero a same = refl
 map_same f g (suc n) a same = λ i. same a (omega arith) i ∷ map_same f g n (a + 1) (λ k below. same k (omega (arith, below))) i
 
-grid_same : (rows columns : ℕ) (f g : ℕ → ℕ → LookView) → ((r c : ℕ) → r < rows → c < columns → f r c ≡ g r c) → grid_of rows columns f ≡ grid_of rows columns g
+pub grid_same : (rows columns : ℕ) (f g : ℕ → ℕ → LookView) → ((r c : ℕ) → r < rows → c < columns → f r c ≡ g r c) → grid_of rows columns f ≡ grid_of rows columns g
 grid_same rows columns f g same =
     map_same (λ r. map (f r) (range_with_len 0 columns)) (λ r. map (g r) (range_with_len 0 columns)) rows 0
     (λ r high. map_same (f r) (g r) columns 0 (λ c wide. same r c (omega (arith, high)) (omega (arith, wide))))
@@ -103,7 +103,7 @@ map_is_grid f rows columns lines is = record {
   wide = λ r h. ap length (get_or-map (map f) lines r []) ∙ length-map (grid_row lines r) f ∙ is.wide r h;
 }
 
-grid_is_painted : GridLaws LookView → (profile : ProfileView) (picture : PictureView) → IsGrid profile.rows profile.columns picture.lines
+pub grid_is_painted : GridLaws LookView → (profile : ProfileView) (picture : PictureView) → IsGrid profile.rows profile.columns picture.lines
     → (grid : List (List LookView)) → IsGrid profile.rows profile.columns grid
     → ((r c : ℕ) → r < profile.rows → c < profile.columns → grid_at blank grid r c ≡ looks profile picture r c)
     → grid ≡ painted (abilities profile) picture
@@ -117,7 +117,7 @@ grid_is_painted grids profile picture lines grid is shows =
 -- ---- from every state
 
 -- at the end the cursor is where it is wished
-cursor_placed : (profile : ProfileView) → HasLaws profile → (wish : Option (ℕ × ℕ)) → IfSome wish (IsPlace profile.rows profile.columns) → (old : TerminalState)
+pub cursor_placed : (profile : ProfileView) → HasLaws profile → (wish : Option (ℕ × ℕ)) → IfSome wish (IsPlace profile.rows profile.columns) → (old : TerminalState)
     → (new : TerminalState) × (runs profile (plain old) (places_cursor wish) ≡ Some new) × (new.grid ≡ old.grid) × IfSome wish (λ place. new.spot ≡ At place.0 place.1)
 cursor_placed profile can None inside old = (plain old, refl, refl, tt)
 cursor_placed profile can (Some place) inside old =

@@ -1,2 +1,4 @@
 pub mod Code
+pub mod Memories
+pub mod Repaints
 pub mod Scratch

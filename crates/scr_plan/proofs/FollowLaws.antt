@@ -1,0 +1,225 @@
+-- What is remembered goes on to agree with the terminal.
+use Rattle.std.proofs.Common.{◌≡◌, ℕ, ◌+◌, ◌<◌, ◌≤◌, ◌⊎◌, inl, inr, ◌==◌, ◌&&◌, ◌||◌, not, leb, ltb, Bool, true, false, refl, sym, ◌∙◌, ap, subst, arith, bit_and, List, [], ◌∷◌, get_or, length, Option, Some, None, replicate, zero, suc, if◌then◌else◌}
+use Rattle.std.specs.List.{list_all, range_with_len}
+use Rattle.std.proofs.lemmas.Bool.Decides.{nat_tests}
+use Rattle.std.proofs.lemmas.List.{length-map, length-replicate}
+use Rattle.std.proofs.lemmas.List.FromFn.{get_or-map-range_with_len, length-range_with_len}
+use Rattle.std.proofs.lemmas.Nat.{and_le_l}
+use Rattle.scr_cells.specs.Grids.{GridLaws, grid_at, grid_row}
+use Rattle.scr_cells.specs.LookViews.{LookView, blank}
+use Rattle.scr_cells.specs.PenViews.{PenView, plain_pen}
+use Rattle.scr_term.specs.declared.operations.operation.Op.{Op}
+use Rattle.scr_term.specs.declared.operations.operation.Op.TheVariants.{Home, Move, Clear, EraseLine, EraseBelow, EraseChars, Reset, Set, Put}
+use Rattle.scr_term.specs.declared.operations.operation.Spot.{Spot}
+use Rattle.scr_term.specs.Operations.Abilities.{Abilities}
+use Rattle.scr_term.specs.Operations.Laws.{StepsKeepStates}
+use Rattle.scr_term.specs.Operations.Profiles.{ProfileView, IsProfile, abilities}
+use Rattle.scr_term.specs.Operations.States.{TerminalState, AreShownColours, IsShownPen, IsState}
+use Rattle.scr_term.specs.Operations.Steps.{act, step}
+use Rattle.scr_term.specs.Operations.Texts.{has}
+use Rattle.scr_plan.proofs.ActLaws.{Acts, acts, grid_by, pen_by, rows_same, spot_by}
+use Rattle.scr_plan.proofs.ScratchLaws.{grid_same}
+use Rattle.scr_plan.specs.Memories.{Agrees, MemoryLaws, MemoryView, changes_cells, clears, disturbed, followed, forgotten, has_one_pen, is_known, is_known_row, places_spot, sets_pen, stepped}
+
+-- ---- truth values
+
+either : {R : Type 0} (a b : Bool) → (a || b) ≡ true → (a ≡ true → R) → (b ≡ true → R) → R
+either true b e first second = first refl
+either false b e first second = second e
+
+both : (a b : Bool) → (a && b) ≡ true → (a ≡ true) × (b ≡ true)
+both true b e = (refl, e)
+both false b e = (cc)
+
+false_is_not : {R : Type 0} (b : Bool) → b ≡ false → b ≡ true → R
+false_is_not true e f = (cc)
+false_is_not false e f = (cc)
+
+-- ---- what is not known
+
+no_row : (n r : ℕ) → get_or (replicate n false) r false ≡ false
+no_row zero r = refl
+no_row (suc n) zero = refl
+no_row (suc n) (suc r) = no_row n r
+
+pub forgets : (abilities : Abilities) (memory : MemoryView) (old new : TerminalState) → Agrees abilities memory old → IsState abilities new → Agrees abilities (forgotten memory) new
+forgets abilities memory old new agrees state = record {
+  is_state = state;
+  may_be = agrees.may_be;
+  high = length-replicate (length memory.known_rows) false ∙ agrees.high;
+  rows = λ r h known. false_is_not _ (no_row (length memory.known_rows) r) known;
+  spot = λ known. false_is_not false refl known;
+  pen = λ known. false_is_not false refl known;
+}
+
+known_outside : (first n r : ℕ) (before : Bool) → (here : Bool) → (leb first r && ltb r (first + n)) ≡ here → (if here then false else before) ≡ true → (before ≡ true) × (r < first ⊎ first + n ≤ r)
+known_outside first n r before true e known = (cc)
+known_outside first n r before false e known = (known, outside (leb first r) (ltb r (first + n)) refl refl e)
+  where
+    outside : (a b : Bool) → leb first r ≡ a → ltb r (first + n) ≡ b → (a && b) ≡ false → r < first ⊎ first + n ≤ r
+    outside true true first_is second_is both = (cc)
+    outside true false first_is second_is both = inr (grind (arith, nat_tests))
+    outside false b first_is second_is both = inl (grind (arith, nat_tests))
+
+pub disturbs : (abilities : Abilities) (memory : MemoryView) (old new : TerminalState) (first n : ℕ) → Agrees abilities memory old → IsState abilities new
+    → ((r : ℕ) → r < first ⊎ first + n ≤ r → grid_row new.grid r ≡ grid_row old.grid r) → Agrees abilities (disturbed first n memory) new
+disturbs abilities memory old new first n agrees state same =
+    let f : ℕ → Bool = λ r. if leb first r && ltb r (first + n) then false else is_known_row memory r in
+    record {
+      is_state = state;
+      may_be = agrees.may_be;
+      high = length-map (range_with_len 0 (length memory.known_rows)) f ∙ length-range_with_len 0 (length memory.known_rows) ∙ agrees.high;
+      rows = λ r h known.
+          let at : 0 + r ≡ r = omega arith in
+          let found : f r ≡ true = sym (get_or-map-range_with_len f 0 (length memory.known_rows) r r false (omega (arith, h, agrees.high)) at) ∙ known in
+          let outside = known_outside first n r (is_known_row memory r) (leb first r && ltb r (first + n)) refl found in
+          same r outside.1 ∙ agrees.rows r h outside.0;
+      spot = λ known. false_is_not false refl known;
+      pen = λ known. false_is_not false refl known;
+    }
+
+-- ---- the kinds of operations
+
+placed_same : (columns : ℕ) (op : Op) (a b : Spot) → places_spot op ≡ true → spot_by columns op a ≡ spot_by columns op b
+placed_same columns Home a b e = refl
+placed_same columns (Move r c) a b e = refl
+placed_same columns Clear a b e = refl
+placed_same columns op a b e = (cc)
+
+pen_same : (op : Op) (a b : PenView) → sets_pen op ≡ true → pen_by op a ≡ pen_by op b
+pen_same Reset a b e = refl
+pen_same (Set attrs) a b e = refl
+pen_same op a b e = (cc)
+
+cleared_same : (profile : ProfileView) (op : Op) (s t : Spot) (p q : PenView) (a b : List (List LookView)) → clears op ≡ true → grid_by profile op s p a ≡ grid_by profile op t q b
+cleared_same profile Clear s t p q a b e = refl
+cleared_same profile op s t p q a b e = (cc)
+
+kept_same : (profile : ProfileView) (op : Op) (s : Spot) (p : PenView) (a : List (List LookView)) → clears op ≡ false → changes_cells op ≡ false → grid_by profile op s p a ≡ a
+kept_same profile Clear s p a e f = (cc)
+kept_same profile EraseLine s p a e f = (cc)
+kept_same profile EraseBelow s p a e f = (cc)
+kept_same profile (EraseChars n) s p a e f = (cc)
+kept_same profile (Put byte) s p a e f = (cc)
+kept_same profile op s p a e f = refl
+
+-- a terminal that shows nothing else has a plain pen
+one_pen : (abilities : Abilities) (pen : PenView) → has_one_pen abilities ≡ true → IsShownPen abilities pen → pen ≡ plain_pen
+one_pen abilities pen e shown =
+    let found = both (abilities.shown == 0) (not abilities.colours) e in
+    let none : abilities.shown ≡ 0 = grind (arith, nat_tests, found.0) in
+    let dull : abilities.colours ≡ false = not_true abilities.colours found.1 in
+    let nothing : bit_and 0 pen.attrs ≡ pen.attrs = ap (λ set. bit_and set pen.attrs) (sym none) ∙ shown.attrs in
+    let attrs : pen.attrs ≡ 0 = omega (arith, nothing, and_le_l 0 pen.attrs) in
+    let colours : AreShownColours false pen.foreground pen.background = subst (λ b. AreShownColours b pen.foreground pen.background) dull shown.colours in
+    λ i. record { attrs = attrs i; foreground = colours.0 i; background = colours.1 i }
+  where
+    not_true : (b : Bool) → not b ≡ true → b ≡ false
+    not_true true e = (cc)
+    not_true false e = refl
+
+-- ---- one operation more
+
+had : (profile : ProfileView) (old new : TerminalState) (op : Op) → step profile old op ≡ Some new → act profile old op ≡ Some new
+had profile old new op e = there (has profile op) e
+  where
+    there : (b : Bool) → (if b then act profile old op else None) ≡ Some new → act profile old op ≡ Some new
+    there true e = e
+    there false e = (cc)
+
+-- both states after an operation, from two that it was defined from
+rows_after : (profile : ProfileView) (memory : MemoryView) (old new next : TerminalState) (op : Op) → Agrees (abilities profile) memory old
+    → Acts profile op old.grid old.spot old.pen new → Acts profile op memory.state.grid memory.state.spot memory.state.pen next
+    → (r : ℕ) → r < profile.rows → (clear change know : Bool) → clears op ≡ clear → changes_cells op ≡ change → (memory.known_spot && memory.known_pen) ≡ know
+    → get_or (if clear then replicate (length memory.known_rows) true else (if change && not know then replicate (length memory.known_rows) false else memory.known_rows)) r false ≡ true
+    → grid_row new.grid r ≡ grid_row next.grid r
+rows_after profile memory old new next op agrees a b r h true change know ce he ke known =
+    ap (λ g. grid_row g r) (a.grid_is ∙ cleared_same profile op old.spot memory.state.spot old.pen memory.state.pen old.grid memory.state.grid ce ∙ sym b.grid_is)
+rows_after profile memory old new next op agrees a b r h false false know ce he ke known =
+    ap (λ g. grid_row g r) (a.grid_is ∙ kept_same profile op old.spot old.pen old.grid ce he)
+    ∙ agrees.rows r h known
+    ∙ ap (λ g. grid_row g r) (sym (b.grid_is ∙ kept_same profile op memory.state.spot memory.state.pen memory.state.grid ce he))
+rows_after profile memory old new next op agrees a b r h false true false ce he ke known = false_is_not _ (no_row (length memory.known_rows) r) known
+rows_after profile memory old new next op agrees a b r h false true true ce he ke known =
+    let parts = both memory.known_spot memory.known_pen ke in
+    let spot : old.spot ≡ memory.state.spot = agrees.spot parts.0 in
+    let pen : old.pen ≡ memory.state.pen = agrees.pen parts.1 in
+    ap (λ g. grid_row g r) (a.grid_is ∙ (λ i. grid_by profile op (spot i) (pen i) old.grid))
+    ∙ rows_same profile op memory.state.spot memory.state.pen old.grid memory.state.grid agrees.is_state.whole agrees.may_be.whole r h (agrees.rows r h known)
+    ∙ ap (λ g. grid_row g r) (sym b.grid_is)
+
+high_after : (op : Op) (memory : MemoryView) (a b : Bool) → length (if a then replicate (length memory.known_rows) true else (if b then replicate (length memory.known_rows) false else memory.known_rows)) ≡ length memory.known_rows
+high_after op memory true b = length-replicate (length memory.known_rows) true
+high_after op memory false true = length-replicate (length memory.known_rows) false
+high_after op memory false false = refl
+
+stepped_agrees : StepsKeepStates → (profile : ProfileView) → IsProfile profile → (memory : MemoryView) (old new : TerminalState) (op : Op)
+    → Agrees (abilities profile) memory old → step profile old op ≡ Some new → (next : Option TerminalState) → step profile memory.state op ≡ next
+    → Agrees (abilities profile) (stepped (abilities profile) op memory next) new
+stepped_agrees keep profile p memory old new op agrees e None n =
+    forgets (abilities profile) memory old new agrees (keep profile p old new agrees.is_state op e)
+stepped_agrees keep profile p memory old new op agrees e (Some next) n =
+    let new_is : IsState (abilities profile) new = keep profile p old new agrees.is_state op e in
+    let next_is : IsState (abilities profile) next = keep profile p memory.state next agrees.may_be op n in
+    let a : Acts profile op old.grid old.spot old.pen new = acts profile op old.grid old.spot old.pen new (had profile old new op e) in
+    let b : Acts profile op memory.state.grid memory.state.spot memory.state.pen next = acts profile op memory.state.grid memory.state.spot memory.state.pen next (had profile memory.state next op n) in
+    record {
+      is_state = new_is;
+      may_be = next_is;
+      high = high_after op memory (clears op) (changes_cells op && not (memory.known_spot && memory.known_pen)) ∙ agrees.high;
+      rows = λ r h known. rows_after profile memory old new next op agrees a b r h (clears op) (changes_cells op) (memory.known_spot && memory.known_pen) refl refl refl known;
+      spot = λ known. a.spot_is ∙ either memory.known_spot (places_spot op) known
+          (λ k. ap (spot_by profile.columns op) (agrees.spot k))
+          (λ k. placed_same profile.columns op old.spot memory.state.spot k) ∙ sym b.spot_is;
+      pen = λ known. either (memory.known_pen || sets_pen op) (has_one_pen (abilities profile)) known
+          (λ some. a.pen_is ∙ either memory.known_pen (sets_pen op) some (λ k. ap (pen_by op) (agrees.pen k)) (λ k. pen_same op old.pen memory.state.pen k) ∙ sym b.pen_is)
+          (λ one. one_pen (abilities profile) new.pen one new_is.pen ∙ sym (one_pen (abilities profile) next.pen one next_is.pen));
+    }
+
+pub follows : StepsKeepStates → (profile : ProfileView) → IsProfile profile → (memory : MemoryView) (old new : TerminalState) (op : Op)
+    → Agrees (abilities profile) memory old → step profile old op ≡ Some new → Agrees (abilities profile) (followed profile op memory) new
+follows keep profile p memory old new op agrees e = stepped_agrees keep profile p memory old new op agrees e (step profile memory.state op) refl
+
+-- ---- all that was known is
+
+all_known : (rows : List Bool) (r : ℕ) → list_all (λ known. known) rows ≡ true → r < length rows → get_or rows r false ≡ true
+all_known [] r e h = absurd (omega (arith, h))
+all_known (known ∷ rows) zero e h = (both known (list_all (λ known. known) rows) e).0
+all_known (known ∷ rows) (suc r) e h = all_known rows r (both known (list_all (λ known. known) rows) e).1 (omega (arith, h))
+
+known_all : (n : ℕ) → list_all (λ known. known) (replicate n true) ≡ true
+known_all zero = refl
+known_all (suc n) = known_all n
+
+known_state : GridLaws LookView → (abilities : Abilities) (memory : MemoryView) (old : TerminalState) → Agrees abilities memory old → is_known memory ≡ true → memory.state ≡ old
+known_state grids abilities memory old agrees e =
+    let most = both (list_all (λ known. known) memory.known_rows && memory.known_spot) memory.known_pen e in
+    let parts = both (list_all (λ known. known) memory.known_rows) memory.known_spot most.0 in
+    let rows : (r : ℕ) → r < abilities.rows → grid_row memory.state.grid r ≡ grid_row old.grid r = λ r h. sym (agrees.rows r h (all_known memory.known_rows r parts.0 (omega (arith, h, agrees.high)))) in
+    let grid : memory.state.grid ≡ old.grid =
+    grids.places blank abilities.rows abilities.columns memory.state.grid agrees.may_be.whole
+    ∙ grid_same abilities.rows abilities.columns (grid_at blank memory.state.grid) (grid_at blank old.grid) (λ r c high wide. ap (λ line. get_or line c blank) (rows r high))
+    ∙ sym (grids.places blank abilities.rows abilities.columns old.grid agrees.is_state.whole) in
+    let spot : old.spot ≡ memory.state.spot = agrees.spot parts.1 in
+    let pen : old.pen ≡ memory.state.pen = agrees.pen most.1 in
+    λ i. record { grid = grid i; spot = sym spot i; pen = sym pen i }
+
+still_known : (op : Op) (memory : MemoryView) (a b c d : Bool) → list_all (λ known. known) memory.known_rows ≡ true → memory.known_spot ≡ true → memory.known_pen ≡ true
+    → (list_all (λ known. known) (if a then replicate (length memory.known_rows) true else (if b && not (memory.known_spot && memory.known_pen) then replicate (length memory.known_rows) false else memory.known_rows))
+    && (memory.known_spot || c) && (memory.known_pen || sets_pen op || d)) ≡ true
+still_known op memory true b c d rows spot pen = rw (spot, pen) (ap (λ x. x && true && true) (known_all (length memory.known_rows)))
+still_known op memory false true c d rows spot pen = rw (spot, pen) (ap (λ x. x && true && true) rows)
+still_known op memory false false c d rows spot pen = rw (spot, pen) (ap (λ x. x && true && true) rows)
+
+pub stays_known : GridLaws LookView → (profile : ProfileView) → IsProfile profile → (memory : MemoryView) (old new : TerminalState) (op : Op)
+    → Agrees (abilities profile) memory old → step profile old op ≡ Some new → is_known memory ≡ true → is_known (followed profile op memory) ≡ true
+stays_known grids profile p memory old new op agrees e known =
+    let same : memory.state ≡ old = known_state grids (abilities profile) memory old agrees known in
+    let there : step profile memory.state op ≡ Some new = ap (λ s. step profile s op) same ∙ e in
+    let most = both (list_all (λ known. known) memory.known_rows && memory.known_spot) memory.known_pen known in
+    let parts = both (list_all (λ known. known) memory.known_rows) memory.known_spot most.0 in
+    ap (λ next. is_known (stepped (abilities profile) op memory next)) there
+    ∙ still_known op memory (clears op) (changes_cells op) (places_spot op) (has_one_pen (abilities profile)) parts.0 parts.1 most.1
+
+pub memory_laws : StepsKeepStates → GridLaws LookView → MemoryLaws
+memory_laws keep grids = record { follows = follows keep; stays_known = stays_known grids; forgets = forgets; disturbs = disturbs }

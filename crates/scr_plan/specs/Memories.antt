@@ -1,0 +1,146 @@
+-- What is remembered of a terminal between updates. curs_refresh(3X), 'physical screen'; X/Open Curses Issue 7, clearok(),
+-- redrawwin().
+use Rattle.std.specs.Prelude.{ℕ, ◌≡◌, ◌+◌, ◌<◌, ◌≤◌, ◌⊎◌, ◌==◌, ◌&&◌, ◌||◌, not, leb, ltb, Bool, true, false, List, [], ◌∷◌, length, map, replicate, slice_index_or, Option, Some, None, if◌then◌else◌}
+use Rattle.std.specs.List.{list_all, range_with_len}
+use Rattle.scr_cells.specs.Grids.{grid_row}
+use Rattle.scr_cells.specs.LookViews.{LookView}
+use Rattle.scr_term.specs.declared.operations.operation.Op.{Op}
+use Rattle.scr_term.specs.declared.operations.operation.Op.TheVariants.{Home, Move, Clear, EraseLine, EraseBelow, EraseChars, Reset, Set, Put}
+use Rattle.scr_term.specs.Operations.Abilities.{Abilities}
+use Rattle.scr_term.specs.Operations.Profiles.{ProfileView, IsProfile, abilities}
+use Rattle.scr_term.specs.Operations.States.{TerminalState, IsState, blank_state}
+use Rattle.scr_term.specs.Operations.Steps.{step}
+
+-- A state that the terminal may be in, and how much of it is known to be so: which rows, the cursor's spot, and the pen.
+pub record MemoryView : Type 0 where
+  pub rows : ℕ
+  pub columns : ℕ
+  pub state : TerminalState
+  pub known_rows : List Bool
+  pub known_spot : Bool
+  pub known_pen : Bool
+
+-- nothing is known
+abbrev pub unknown : ℕ → ℕ → MemoryView
+unknown rows columns = record {
+  rows = rows;
+  columns = columns;
+  state = blank_state rows columns;
+  known_rows = replicate rows false;
+  known_spot = false;
+  known_pen = false;
+}
+
+abbrev pub is_known_row : MemoryView → ℕ → Bool
+is_known_row memory r = slice_index_or memory.known_rows r false
+
+-- the looks of a row, where they are known
+abbrev pub row_looks : MemoryView → ℕ → Option (List LookView)
+row_looks memory r = if is_known_row memory r then Some (grid_row memory.state.grid r) else None
+
+-- every row, the spot and the pen are known
+abbrev pub is_known : MemoryView → Bool
+is_known memory = list_all (λ known. known) memory.known_rows && memory.known_spot && memory.known_pen
+
+-- a state of a terminal is as it is remembered, in all that is known
+pub record Agrees (abilities : Abilities) (memory : MemoryView) (now : TerminalState) : Type 0 where
+  pub is_state : IsState abilities now
+  pub may_be : IsState abilities memory.state
+  pub high : length memory.known_rows ≡ abilities.rows
+  pub rows : (r : ℕ) → r < abilities.rows → is_known_row memory r ≡ true → grid_row now.grid r ≡ grid_row memory.state.grid r
+  pub spot : memory.known_spot ≡ true → now.spot ≡ memory.state.spot
+  pub pen : memory.known_pen ≡ true → now.pen ≡ memory.state.pen
+
+-- ---- what makes it unknown
+
+-- all of it
+abbrev pub forgotten : MemoryView → MemoryView
+forgotten memory = record memory { known_rows = replicate (length memory.known_rows) false; known_spot = false; known_pen = false }
+
+-- n rows from one on, as many of them as there are, the spot and the pen: others wrote there
+abbrev pub disturbed : ℕ → ℕ → MemoryView → MemoryView
+disturbed first n memory = record memory {
+  known_rows = map (λ r. if leb first r && ltb r (first + n) then false else is_known_row memory r) (range_with_len 0 (length memory.known_rows));
+  known_spot = false;
+  known_pen = false;
+}
+
+-- ---- following an operation
+
+-- the cursor is then in the same place wherever it was
+abbrev pub places_spot : Op → Bool
+places_spot Home = true
+places_spot (Move row column) = true
+places_spot Clear = true
+places_spot op = false
+
+-- the pen is then the same whatever it was
+abbrev pub sets_pen : Op → Bool
+sets_pen Reset = true
+sets_pen (Set attrs) = true
+sets_pen op = false
+
+-- cells are changed where the cursor is
+abbrev pub changes_cells : Op → Bool
+changes_cells EraseLine = true
+changes_cells EraseBelow = true
+changes_cells (EraseChars n) = true
+changes_cells (Put byte) = true
+changes_cells op = false
+
+abbrev pub clears : Op → Bool
+clears Clear = true
+clears op = false
+
+-- a terminal that shows no attribute and no colour has one pen
+abbrev pub has_one_pen : Abilities → Bool
+has_one_pen abilities = abilities.shown == 0 && not abilities.colours
+
+-- The rows that are known after an operation: all of a screen that was cleared; none where it is not known where or how cells
+-- were changed.
+abbrev pub rows_followed : Op → MemoryView → List Bool
+rows_followed op memory =
+    if clears op then replicate (length memory.known_rows) true
+    else (if changes_cells op && not (memory.known_spot && memory.known_pen) then replicate (length memory.known_rows) false else memory.known_rows)
+
+-- a state that the terminal may be in, and what is known of it, after an operation that it made
+abbrev pub stepped : Abilities → Op → MemoryView → Option TerminalState → MemoryView
+stepped abilities op memory None = forgotten memory
+stepped abilities op memory (Some next) = record memory {
+  state = next;
+  known_rows = rows_followed op memory;
+  known_spot = memory.known_spot || places_spot op;
+  known_pen = memory.known_pen || sets_pen op || has_one_pen abilities;
+}
+
+abbrev pub followed : ProfileView → Op → MemoryView → MemoryView
+followed profile op memory = stepped (abilities profile) op memory (step profile memory.state op)
+
+-- after operations one after another
+abbrev pub all_followed : ProfileView → List Op → MemoryView → MemoryView
+all_followed profile [] memory = memory
+all_followed profile (op ∷ ops) memory = all_followed profile ops (followed profile op memory)
+
+-- all of a state is known
+abbrev pub remembered : ℕ → ℕ → TerminalState → MemoryView
+remembered rows columns state = record {
+  rows = rows;
+  columns = columns;
+  state = state;
+  known_rows = replicate rows true;
+  known_spot = true;
+  known_pen = true;
+}
+
+-- ---- the laws
+
+-- Where a state agrees with what is remembered and an operation is defined from it, the state after it agrees with what is
+-- remembered then, and where all was known, all is. What is forgotten agrees with every state.
+pub record MemoryLaws : Type 0 where
+  pub follows : (profile : ProfileView) → IsProfile profile → (memory : MemoryView) (old new : TerminalState) (op : Op)
+      → Agrees (abilities profile) memory old → step profile old op ≡ Some new → Agrees (abilities profile) (followed profile op memory) new
+  pub stays_known : (profile : ProfileView) → IsProfile profile → (memory : MemoryView) (old new : TerminalState) (op : Op)
+      → Agrees (abilities profile) memory old → step profile old op ≡ Some new → is_known memory ≡ true → is_known (followed profile op memory) ≡ true
+  pub forgets : (abilities : Abilities) (memory : MemoryView) (old new : TerminalState) → Agrees abilities memory old → IsState abilities new → Agrees abilities (forgotten memory) new
+  pub disturbs : (abilities : Abilities) (memory : MemoryView) (old new : TerminalState) (first n : ℕ) → Agrees abilities memory old → IsState abilities new
+      → ((r : ℕ) → r < first ⊎ first + n ≤ r → grid_row new.grid r ≡ grid_row old.grid r) → Agrees abilities (disturbed first n memory) new

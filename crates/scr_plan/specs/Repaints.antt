@@ -1,0 +1,160 @@
+-- Painting only what differs from what is remembered of the terminal. curs_refresh(3X), doupdate(); X/Open Curses Issue 7, the same.
+use Rattle.std.specs.Prelude.{ℕ, zero, suc, ◌≡◌, ◌≤◌, ◌==◌, ◌&&◌, ◌||◌, not, leb, nat_le, Bool, true, false, List, [], ◌∷◌, ◌++◌, length, filter, Option, Some, None, if◌then◌else◌}
+use Rattle.std.specs.List.{flat_map, list_all, range_with_len}
+use Rattle.scr_cells.specs.Grids.{grid_at}
+use Rattle.scr_cells.specs.LookViews.{LookView, blank}
+use Rattle.scr_cells.specs.PenViews.{is_plain_pen, pen_eq}
+use Rattle.scr_cells.specs.PictureViews.{PictureView, IsPicture}
+use Rattle.scr_virtual.specs.VirtualViews.{VirtualView}
+use Rattle.scr_term.specs.declared.operations.operation.Op.{Op}
+use Rattle.scr_term.specs.declared.operations.operation.Op.TheVariants.{EraseLine, Move, Put, Reset}
+use Rattle.scr_term.specs.declared.operations.operation.Spot.{Spot}
+use Rattle.scr_term.specs.declared.operations.operation.Spot.TheVariants.{At, Margin}
+use Rattle.scr_term.specs.Operations.Profiles.{ProfileView, IsProfile, abilities}
+use Rattle.scr_term.specs.Operations.States.{TerminalState, IsState}
+use Rattle.scr_term.specs.Operations.Steps.{step}
+use Rattle.scr_term.specs.Operations.Texts.{all_bytes, bytes_of, has}
+use Rattle.scr_plan.specs.Memories.{Agrees, MemoryView, is_known, is_known_row}
+use Rattle.scr_plan.specs.Scratch.{Fits, RunsToShow, goes, look_at, paints_place, places, places_cursor, renders, resets, scratch_of}
+
+-- ---- what differs
+
+abbrev pub look_eq : LookView → LookView → Bool
+look_eq a b = a.byte == b.byte && pen_eq a.pen b.pen
+
+-- what the terminal may show in a place
+abbrev pub look_in : MemoryView → ℕ × ℕ → LookView
+look_in memory place = grid_at blank memory.state.grid place.0 place.1
+
+-- a place differs, unless it is known to show what is seen of the picture
+abbrev pub differs : ProfileView → PictureView → MemoryView → ℕ × ℕ → Bool
+differs profile picture memory place = not (is_known_row memory place.0 && look_eq (look_in memory place) (look_at profile picture place))
+
+abbrev pub differing : ProfileView → PictureView → MemoryView → List (ℕ × ℕ)
+differing profile picture memory = filter (differs profile picture memory) (places picture.rows picture.columns)
+
+-- a cursor is in a place
+abbrev pub is_in_place : Spot → ℕ × ℕ → Bool
+is_in_place (At r c) place = r == place.0 && c == place.1
+is_in_place (Margin r) place = false
+
+-- the cursor is known to be where it is wished, or no place is wished
+abbrev pub is_placed : MemoryView → Option (ℕ × ℕ) → Bool
+is_placed memory None = true
+is_placed memory (Some place) = memory.known_spot && is_in_place memory.state.spot place
+
+abbrev pub is_none_left : List (ℕ × ℕ) → Bool
+is_none_left [] = true
+is_none_left (place ∷ more) = false
+
+-- ---- the plain repaint
+
+-- places painted one after another, between attributes turned off, and the cursor at the end
+abbrev pub paints : ProfileView → PictureView → List (ℕ × ℕ) → List Op
+paints profile picture list =
+    resets profile ++ flat_map (paints_place profile picture) list ++ resets profile ++ places_cursor picture.wish
+
+-- nothing where nothing differs and the cursor is as wished; else the places that differ
+abbrev pub plain_of : ProfileView → MemoryView → PictureView → List Op
+plain_of profile memory picture =
+    if is_none_left (differing profile picture memory) && is_placed memory picture.wish then [] else paints profile picture (differing profile picture memory)
+
+-- what an update sends: only what differs where all is known, unless the whole screen is to be painted anew
+abbrev pub plan_of : ProfileView → MemoryView → VirtualView → List Op
+plan_of profile memory virtual =
+    if is_known memory && not virtual.repaint then plain_of profile memory virtual.picture else scratch_of profile virtual.picture
+
+-- ---- the joined repaint: what a plan has to be no longer than
+
+-- the left neighbour of a place differs too and is seen with the same pen
+abbrev pub joins_left : ProfileView → PictureView → MemoryView → ℕ → ℕ → Bool
+joins_left profile picture memory r zero = false
+joins_left profile picture memory r (suc c) =
+    differs profile picture memory (r, c) && pen_eq (look_at profile picture (r, c)).pen (look_at profile picture (r, suc c)).pen
+
+-- all looks of a row from a column on are blanks
+abbrev pub is_blank_from : ProfileView → PictureView → ℕ → ℕ → Bool
+is_blank_from profile picture r from =
+    list_all (λ c. not (leb from c) || look_eq (look_at profile picture (r, c)) blank) (range_with_len 0 picture.columns)
+
+-- how many places of a row differ from a column on
+abbrev pub differing_from : ProfileView → PictureView → MemoryView → ℕ → ℕ → ℕ
+differing_from profile picture memory r from = length (filter (λ c. leb from c && differs profile picture memory (r, c)) (range_with_len 0 picture.columns))
+
+-- the first of these columns from which on a row is seen blank and where it differs
+abbrev pub blank_column : ProfileView → PictureView → MemoryView → ℕ → List ℕ → Option ℕ
+blank_column profile picture memory r [] = None
+blank_column profile picture memory r (c ∷ more) =
+    if differs profile picture memory (r, c) && is_blank_from profile picture r c then Some c else blank_column profile picture memory r more
+
+-- the rest of the line is erased from there, where that takes no more bytes than there are places that differ
+abbrev pub erased_if_worth : ProfileView → PictureView → MemoryView → ℕ → Option ℕ → Option ℕ
+erased_if_worth profile picture memory r None = None
+erased_if_worth profile picture memory r (Some c) =
+    if has profile EraseLine && nat_le (length (bytes_of profile EraseLine)) (differing_from profile picture memory r c) then Some c else None
+
+abbrev pub erased_column : ProfileView → PictureView → MemoryView → ℕ → Option ℕ
+erased_column profile picture memory r = erased_if_worth profile picture memory r (blank_column profile picture memory r (range_with_len 0 picture.columns))
+
+-- what leads to a place and to its pen; nothing behind a neighbour
+abbrev pub begins_place : ProfileView → PictureView → MemoryView → ℕ → ℕ → List Op
+begins_place profile picture memory r c =
+    if joins_left profile picture memory r c then [] else goes profile (r, c) ++ renders (look_at profile picture (r, c))
+
+-- a place that differs, in a row that is erased from some column on or nowhere
+abbrev pub joined_place : ProfileView → PictureView → MemoryView → Option ℕ → ℕ → ℕ → List Op
+joined_place profile picture memory None r c = begins_place profile picture memory r c ++ Put (look_at profile picture (r, c)).byte ∷ []
+joined_place profile picture memory (Some erased) r c =
+    if c == erased then begins_place profile picture memory r c ++ EraseLine ∷ []
+    else (if leb erased c then [] else begins_place profile picture memory r c ++ Put (look_at profile picture (r, c)).byte ∷ [])
+
+abbrev pub joined_places : ProfileView → PictureView → MemoryView → List Op
+joined_places profile picture memory =
+    flat_map (λ place. joined_place profile picture memory (erased_column profile picture memory place.0) place.0 place.1) (differing profile picture memory)
+
+-- a step that changes nothing: attributes turned off where none is on and the colours are the default ones, a motion to where the
+-- cursor is
+abbrev pub is_idle : TerminalState → Op → Bool
+is_idle state Reset = is_plain_pen state.pen
+is_idle state (Move r c) = is_in_place state.spot (r, c)
+is_idle state op = false
+
+-- an operation and those behind it, where it leads to a state or to none
+abbrev pub kept_unless_idle : TerminalState → Op → List Op → Option TerminalState → (TerminalState → List Op) → List Op
+kept_unless_idle state op ops None rest = op ∷ ops
+kept_unless_idle state op ops (Some next) rest = if is_idle state op then rest next else op ∷ rest next
+
+-- operations from a state on without the steps that change nothing there
+abbrev pub without_idle : ProfileView → TerminalState → List Op → List Op
+without_idle profile state [] = []
+without_idle profile state (op ∷ ops) = kept_unless_idle state op ops (step profile state op) (λ next. without_idle profile next ops)
+
+-- the plain repaint with neighbours joined, ends of lines erased, and without steps that change nothing, for a memory that knows all
+abbrev pub joined_of : ProfileView → MemoryView → PictureView → List Op
+joined_of profile memory picture =
+    if is_none_left (differing profile picture memory) && is_placed memory picture.wish then []
+    else without_idle profile memory.state (resets profile ++ joined_places profile picture memory ++ resets profile ++ places_cursor picture.wish)
+
+-- ---- the laws
+
+-- From every state that agrees with what is remembered, the plain repaint is defined and shows the picture.
+abbrev pub PlainShows : Type 0
+PlainShows =
+    (profile : ProfileView) → IsProfile profile
+    → (picture : PictureView) → IsPicture picture → Fits profile picture
+    → (memory : MemoryView) (old : TerminalState) → Agrees (abilities profile) memory old
+    → RunsToShow profile old (plain_of profile memory picture) picture
+
+-- The same of a plan; and where the screen is to be painted anew, from every state.
+pub record PlanShows : Type 0 where
+  pub agreeing : (profile : ProfileView) → IsProfile profile → (virtual : VirtualView) → IsPicture virtual.picture → Fits profile virtual.picture
+      → (memory : MemoryView) (old : TerminalState) → Agrees (abilities profile) memory old → RunsToShow profile old (plan_of profile memory virtual) virtual.picture
+  pub anew : (profile : ProfileView) → IsProfile profile → (virtual : VirtualView) → IsPicture virtual.picture → Fits profile virtual.picture
+      → virtual.repaint ≡ true → (memory : MemoryView) (old : TerminalState) → IsState (abilities profile) old → RunsToShow profile old (plan_of profile memory virtual) virtual.picture
+
+-- The bytes of a plan are no more than those of scratch; where all is known and the screen is not to be painted anew, they are
+-- those of the plain repaint, and none where no place differs and the cursor is as wished.
+pub record PlanIsCheap : Type 0 where
+  pub scratch : (profile : ProfileView) (memory : MemoryView) (virtual : VirtualView) → length (all_bytes profile (plan_of profile memory virtual)) ≤ length (all_bytes profile (scratch_of profile virtual.picture))
+  pub plain : (profile : ProfileView) (memory : MemoryView) (virtual : VirtualView) → is_known memory ≡ true → virtual.repaint ≡ false → plan_of profile memory virtual ≡ plain_of profile memory virtual.picture
+  pub none : (profile : ProfileView) (memory : MemoryView) (picture : PictureView) → is_none_left (differing profile picture memory) ≡ true → is_placed memory picture.wish ≡ true → plain_of profile memory picture ≡ []

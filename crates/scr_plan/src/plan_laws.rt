@@ -1,0 +1,44 @@
+//! Laws of painting what differs: functions that do nothing, whose contracts are the laws.
+ghost use Rattle.scr_plan.specs.Memories.{MemoryLaws};
+ghost use Rattle.scr_plan.specs.Repaints.{PlainShows, PlanIsCheap, PlanShows};
+
+use crate::scratch_laws::{place_is_painted, scratch_shows};
+use scr_cells::{Look, grid_laws};
+use scr_term::{profiles_have, run_laws, steps_keep_states};
+
+/// Where a state agrees with what is remembered of the terminal and an operation is defined from it, the state after it agrees with
+/// what is remembered then, and where all was known, all is; a mark makes what others wrote unknown.
+pub fn memory_laws()
+    ensures { MemoryLaws }
+{
+    steps_keep_states();
+    grid_laws::<Look>();
+}
+
+/// From every state that agrees with what is remembered of the terminal, the plain repaint is defined and shows the picture
+/// (curs_refresh(3X)).
+pub fn plain_shows()
+    ensures { PlainShows }
+{
+    place_is_painted();
+    run_laws();
+    profiles_have();
+    grid_laws::<Look>();
+}
+
+/// From every state that agrees with what is remembered, a plan is defined and shows the picture; where the screen is to be
+/// painted anew, from every state of the profile (curs_refresh(3X)).
+pub fn plan_shows()
+    ensures { PlanShows }
+{
+    plain_shows();
+    scratch_shows();
+}
+
+/// A plan has no more bytes than scratch; where all is known and the screen is not to be painted anew, it is the plain repaint,
+/// which is nothing where no place differs and the cursor is as wished.
+pub fn plan_is_cheap()
+    ensures { PlanIsCheap }
+{
+    run_laws();
+}
