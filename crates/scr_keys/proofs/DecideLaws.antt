@@ -1,9 +1,8 @@
 -- Keys one after another.
-use Rattle.std.proofs.Common.{◌≡◌, ◌≢◌, ◌∙◌, ℕ, ◌+◌, ◌-◌, ◌<◌, ◌≤◌, max, Bool, true, false, ◌&&◌, ◌||◌, refl, ap, sym, subst, arith, zero, suc, length, take, drop, List, [], ◌∷◌, ◌++◌, append_assoc, nat_lt, if◌then◌else◌}
-use Rattle.std.specs.List.{list_any}
+use Rattle.std.proofs.Common.{◌≡◌, ◌∙◌, ℕ, ◌+◌, ◌-◌, ◌<◌, ◌≤◌, max, Bool, true, false, ◌&&◌, ◌||◌, refl, ap, sym, subst, arith, zero, suc, length, take, drop, List, [], ◌∷◌, ◌++◌, append_assoc, nat_lt, if◌then◌else◌}
 use Rattle.std.specs.Str.{bytes_eq}
 use Rattle.std.proofs.lemmas.Bool.Decides.{nat_tests}
-use Rattle.std.proofs.lemmas.List.{length-append, length-drop, take_all, take-append-le, drop-drop}
+use Rattle.std.proofs.lemmas.List.{length-append, length-drop, take_all, drop-drop}
 use Rattle.scr_keys.specs.declared.keys.Key.{Key}
 use Rattle.scr_keys.specs.Keys.{Keys, first_of, goes_on, is_beginning, keys_behind, left_behind, longest_text}
 

@@ -1,12 +1,10 @@
 -- Keys that are decided byte by byte are those of the whole.
-use Rattle.std.proofs.Common.{◌≡◌, ◌≢◌, ◌∙◌, ℕ, ◌+◌, ◌-◌, ◌<◌, ◌≤◌, Bool, true, false, ◌&&◌, ◌||◌, refl, ap, sym, subst, arith, zero, suc, length, take, List, [], ◌∷◌, ◌++◌, append_assoc, Option, Some, None, option_map, nat_lt, if◌then◌else◌}
-use Rattle.std.specs.List.{list_any}
+use Rattle.std.proofs.Common.{◌≡◌, ◌∙◌, ℕ, ◌+◌, ◌-◌, ◌<◌, ◌≤◌, Bool, true, false, ◌&&◌, ◌||◌, refl, ap, sym, arith, zero, suc, length, take, List, [], ◌∷◌, ◌++◌, append_assoc, Option, Some, None, option_map, nat_lt, if◌then◌else◌}
 use Rattle.std.specs.Str.{bytes_eq}
 use Rattle.std.proofs.lemmas.Bool.Decides.{nat_tests}
-use Rattle.std.proofs.lemmas.List.{append-nil, length-append, length-take-le, take-append-le, take_all}
+use Rattle.std.proofs.lemmas.List.{append-nil, length-append, take-append-le, take_all}
 use Rattle.std.proofs.lemmas.Slice.Eq.{bytes_eq-Decides}
 use Rattle.ti_caps.specs.Table.{or_else}
-use Rattle.scr_keys.specs.declared.keys.Key.{Key}
 use Rattle.scr_keys.specs.Keys.{Keys, decided, first_key, goes_on, is_beginning, key_of, key_or_byte, keys_behind, keys_in, left_behind, longest, undecided}
 use Rattle.scr_keys.specs.Laws.{Came, Event, Idled, PiecesDoNotMatter, keys_added, keys_from}
 use Rattle.scr_keys.proofs.KeyLaws.{longest_inside}

@@ -1,14 +1,12 @@
 -- Maps from texts, as lists of keys.
-use Rattle.std.proofs.Common.{◌≡◌, ◌∙◌, ℕ, ◌+◌, ◌<◌, ◌≤◌, Bool, true, false, ◌&&◌, ◌||◌, cond, refl, ap, sym, subst, arith, length, take, map, List, [], ◌∷◌, ◌++◌, Option, Some, None, is_some, nat_lt, if◌then◌else◌}
-use Rattle.std.specs.List.{list_any}
+use Rattle.std.proofs.Common.{◌≡◌, ◌∙◌, ℕ, ◌+◌, ◌<◌, Bool, true, false, ◌&&◌, ◌||◌, cond, refl, ap, sym, arith, length, take, List, [], ◌∷◌, ◌++◌, Option, Some, None, Result, Ok, Err, OnOk, is_some, nat_lt, if◌then◌else◌}
 use Rattle.std.specs.Map.{lookup}
 use Rattle.std.specs.Str.{bytes_eq}
 use Rattle.std.proofs.lemmas.Bool.Decides.{nat_tests}
 use Rattle.std.proofs.lemmas.List.{length-take-le, map-append}
 use Rattle.std.proofs.lemmas.Slice.Eq.{bytes_eq-Decides}
-use Rattle.scr_keys.specs.Code.Maps.{seen}
+use Rattle.scr_keys.specs.Code.Maps.{seen, with_text}
 use Rattle.scr_keys.specs.Keys.{Keys, is_beginning, key_of}
-use Rattle.scr_keys.specs.Tables.{with_text}
 
 -- what a map has for a text
 pub lookup_seen : {K : Type 0} → (bytes : K → List ℕ) (es : List (K × ℕ)) (text : List ℕ) → lookup (λ k. bytes_eq text (bytes k)) es ≡ key_of (seen bytes es) text
@@ -32,11 +30,17 @@ pub kept : (keys : Keys) (text : List ℕ) (slot : ℕ) (some : Bool) → some �
 kept keys text slot some is test = ap (λ b. if b then keys else keys ++ (text, slot) ∷ []) (sym test ∙ is)
 
 -- one that is not there goes last
-pub put_last : {K : Type 0} → (bytes : K → List ℕ) (old new : List (K × ℕ)) (k : K) (text : List ℕ) (slot : ℕ) (some : Bool) → some ≡ is_some (key_of (seen bytes old) text) → some ≡ false → bytes k ≡ text
-    → new ≡ old ++ (k, slot) ∷ [] → seen bytes new ≡ with_text (seen bytes old) text slot
-put_last bytes old new k text slot some is test same all =
+pub put_last : (keys new : Keys) (text : List ℕ) (slot : ℕ) (some : Bool) → some ≡ is_some (key_of keys text) → some ≡ false → new ≡ keys ++ (text, slot) ∷ [] → new ≡ with_text keys text slot
+put_last keys new text slot some is test all = all ∙ ap (λ b. if b then keys else keys ++ (text, slot) ∷ []) (sym test ∙ is)
+
+-- what holds where a call was made, and what follows from that
+pub on_made : {E A B : Type 0} → (came : Result (Unit {0}) E) → (A → B) → OnOk came A → OnOk came B
+on_made (Ok done) follows is = follows is
+on_made (Err fault) follows is = is
+
+pub add_last : {K : Type 0} → (bytes : K → List ℕ) (old new : List (K × ℕ)) (k : K) (text : List ℕ) (slot : ℕ) → bytes k ≡ text → new ≡ old ++ (k, slot) ∷ [] → seen bytes new ≡ seen bytes old ++ (text, slot) ∷ []
+add_last bytes old new k text slot same all =
     ap (seen bytes) all ∙ map-append (λ e. (bytes e.0, e.1)) old ((k, slot) ∷ []) ∙ ap (λ t. seen bytes old ++ (t, slot) ∷ []) same
-    ∙ ap (λ b. if b then seen bytes old else seen bytes old ++ (text, slot) ∷ []) (sym test ∙ is)
 
 -- ---- what is found after a text was put
 

@@ -1,12 +1,10 @@
 -- The keys of an entry, one after another.
-use Rattle.std.proofs.Common.{◌≡◌, ◌∙◌, ℕ, ◌+◌, ◌-◌, ◌<◌, ◌≤◌, max, Bool, true, false, ◌||◌, refl, ap, sym, subst, arith, zero, suc, length, List, [], ◌∷◌, ◌++◌, Option, Some, None, is_some, nat_lt, if◌then◌else◌}
-use Rattle.std.specs.List.{list_any}
-use Rattle.std.proofs.lemmas.Bool.Decides.{nat_tests}
+use Rattle.std.proofs.Common.{◌≡◌, ◌∙◌, ℕ, ◌+◌, ◌-◌, ◌<◌, ◌≤◌, max, Bool, true, false, ◌||◌, refl, ap, sym, arith, zero, suc, length, List, [], ◌∷◌, ◌++◌, Some, None, is_some, nat_lt, if◌then◌else◌}
 use Rattle.ti_caps.specs.Description.{Description}
 use Rattle.ti_caps.specs.Table.{or_else}
 use Rattle.scr_keys.specs.Code.Maps.{IsTable}
 use Rattle.scr_keys.specs.Keys.{Keys, goes_on, is_beginning, key_of, longest_text}
-use Rattle.scr_keys.specs.Tables.{keys_below, keys_of, text_of_key, too_long, too_long_below, with_key, with_text}
+use Rattle.scr_keys.specs.Tables.{keys_below, keys_of, text_of_key, too_long, too_long_below, with_key}
 
 -- ---- one key more
 
@@ -27,30 +25,25 @@ longest_more : (keys : Keys) (text : List ℕ) (slot : ℕ) → longest_text (ke
 longest_more [] text slot = omega arith
 longest_more (k ∷ keys) text slot = omega (arith, longest_more keys text slot)
 
-pub table_more : (keys new old_beginnings beginnings : Keys) (most slot : ℕ) (text : List ℕ) (there : Bool) → IsTable keys old_beginnings most → length text ≤ 64 → there ≡ is_some (key_of keys text) → there ≡ false
-    → new ≡ with_text keys text slot → ((bytes : List ℕ) → is_some (key_of beginnings bytes) ≡ (is_some (key_of old_beginnings bytes) || is_beginning bytes text)) → (longest : ℕ) → longest ≡ max most (length text)
+pub table_more : (keys new old_beginnings beginnings : Keys) (most slot : ℕ) (text : List ℕ) → IsTable keys old_beginnings most → length text ≤ 64 → new ≡ keys ++ (text, slot) ∷ []
+    → ((bytes : List ℕ) → is_some (key_of beginnings bytes) ≡ (is_some (key_of old_beginnings bytes) || is_beginning bytes text)) → (longest : ℕ) → longest ≡ max most (length text)
     → IsTable new beginnings longest
-table_more keys new old_beginnings beginnings most slot text there is few here none put begins longest all = record {
+table_more keys new old_beginnings beginnings most slot text is few now begins longest all = record {
   by_beginning = λ bytes. begins bytes ∙ ap (λ b. b || is_beginning bytes text) (is.by_beginning bytes) ∙ sym (goes_on_more keys text slot bytes) ∙ ap (λ k. goes_on k bytes) (sym now);
   longest = all ∙ ap (λ n. max n (length text)) is.longest ∙ sym (longest_more keys text slot) ∙ ap longest_text (sym now);
   few = omega (arith, all, is.few, few);
 }
-  where
-    now : new ≡ keys ++ (text, slot) ∷ []
-    now = put ∙ ap (λ b. if b then keys else keys ++ (text, slot) ∷ []) (sym here ∙ none)
 
 -- ---- all positions
 
 -- a text that is too long is found at the lowest position
-pub first_long : (entry : Description) (n : ℕ) → too_long_below entry n ≡ None → 64 < length (text_of_key entry n) → too_long_below entry (n + 1) ≡ Some n
-first_long entry n none long =
-    let test : nat_lt 64 (length (text_of_key entry n)) ≡ true = grind (arith, nat_tests) in
+pub first_long : (entry : Description) (n : ℕ) → too_long_below entry n ≡ None → nat_lt 64 (length (text_of_key entry n)) ≡ true → too_long_below entry (n + 1) ≡ Some n
+first_long entry n none test =
     let e : n + 1 ≡ suc n = omega arith in
     ap (too_long_below entry) e ∙ ap (λ o. or_else o (if nat_lt 64 (length (text_of_key entry n)) then Some n else None)) none ∙ ap (λ b. if b then Some n else None) test
 
-pub none_long : (entry : Description) (n : ℕ) → too_long_below entry n ≡ None → length (text_of_key entry n) ≤ 64 → too_long_below entry (n + 1) ≡ None
-none_long entry n none few =
-    let test : nat_lt 64 (length (text_of_key entry n)) ≡ false = grind (arith, nat_tests) in
+pub none_long : (entry : Description) (n : ℕ) → too_long_below entry n ≡ None → nat_lt 64 (length (text_of_key entry n)) ≡ false → too_long_below entry (n + 1) ≡ None
+none_long entry n none test =
     let e : n + 1 ≡ suc n = omega arith in
     ap (too_long_below entry) e ∙ ap (λ o. or_else o (if nat_lt 64 (length (text_of_key entry n)) then Some n else None)) none ∙ ap (λ b. if b then Some n else None) test
 
@@ -61,7 +54,7 @@ long_stays entry n (suc k) m long =
     let e : n + suc k ≡ suc (n + k) = omega arith in
     ap (too_long_below entry) e ∙ ap (λ o. or_else o (if nat_lt 64 (length (text_of_key entry (n + k))) then Some (n + k) else None)) (long_stays entry n k m long)
 
-pub long_in_all : (entry : Description) (n : ℕ) → n < 512 → too_long_below entry n ≡ None → 64 < length (text_of_key entry n) → too_long entry ≡ Some n
+pub long_in_all : (entry : Description) (n : ℕ) → n < 512 → too_long_below entry n ≡ None → nat_lt 64 (length (text_of_key entry n)) ≡ true → too_long entry ≡ Some n
 unfolding too_long
 long_in_all entry n inside none long =
     let e : 512 ≡ n + 1 + (511 - n) = omega (arith, inside) in

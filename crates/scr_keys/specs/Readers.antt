@@ -1,5 +1,5 @@
 -- A reader of keys: the keys that wait to be taken, and the bytes that are not decided. X/Open Curses Issue 7, getch().
-use Rattle.std.specs.Prelude.{ℕ, ◌≡◌, ◌+◌, ◌≤◌, List, [], ◌∷◌, ◌++◌, length, Option, Some, None, Result, Ok, Err, nat_le, if◌then◌else◌}
+use Rattle.std.specs.Prelude.{ℕ, ◌+◌, List, [], ◌∷◌, ◌++◌, length, Option, Some, None, Result, Ok, Err, nat_le, if◌then◌else◌}
 use Rattle.scr_keys.specs.declared.keys.Key.{Key}
 use Rattle.scr_keys.specs.declared.faults.KeyFault.{KeyFault}
 use Rattle.scr_keys.specs.declared.faults.KeyFault.TheVariants.{QueueFull}

@@ -1,5 +1,5 @@
 -- The keys of an entry: its texts whose names begin with k. terminfo(5), 'Function Keys'.
-use Rattle.std.specs.Prelude.{ℕ, ◌≡◌, suc, zero, ◌==◌, ◌&&◌, Bool, true, false, List, [], ◌∷◌, ◌++◌, length, Option, Some, None, nat_lt, is_some, if◌then◌else◌}
+use Rattle.std.specs.Prelude.{ℕ, ◌≡◌, suc, zero, ◌==◌, ◌&&◌, not, Bool, false, List, [], ◌∷◌, ◌++◌, length, Option, Some, None, nat_lt, is_some, if◌then◌else◌}
 use Rattle.ti_caps.specs.declared.table.Kind.TheVariants.{Text}
 use Rattle.ti_caps.specs.Description.{Description, text_at}
 use Rattle.ti_caps.specs.Table.{name_at, or_else}
@@ -24,14 +24,13 @@ without_padding (Some text) = stripped text
 abbrev pub text_of_key : Description → ℕ → List ℕ
 text_of_key entry slot = if is_key slot then without_padding (text_at entry slot) else []
 
--- one key more, unless another sends the same
-abbrev pub with_text : Keys → List ℕ → ℕ → Keys
-with_text keys text slot = if is_some (key_of keys text) then keys else keys ++ (text, slot) ∷ []
+-- a text makes a new key: it is not empty, and no other key sends the same
+abbrev pub is_new : Keys → List ℕ → Bool
+is_new keys text = not (length text == 0) && not (is_some (key_of keys text))
 
--- one that sends something
+-- one key more, if its text makes one
 abbrev pub with_key : Keys → List ℕ → ℕ → Keys
-with_key keys [] slot = keys
-with_key keys (byte ∷ text) slot = with_text keys (byte ∷ text) slot
+with_key keys text slot = if is_new keys text then keys ++ (text, slot) ∷ [] else keys
 
 -- the keys at the first n positions
 abbrev pub keys_below : Description → ℕ → Keys

@@ -1,8 +1,7 @@
 //! Maps from texts to positions.
-ghost use Rattle.std.specs.Prelude.{ℕ, List, ◌≡◌, ◌||◌, OnOk, is_some};
-ghost use Rattle.scr_keys.specs.Code.Maps.{seen};
+ghost use Rattle.std.specs.Prelude.{ℕ, List, [], ◌∷◌, ◌++◌, ◌≡◌, ◌||◌, None, OnOk, is_some};
+ghost use Rattle.scr_keys.specs.Code.Maps.{seen, with_text};
 ghost use Rattle.scr_keys.specs.Keys.{is_beginning, key_of};
-ghost use Rattle.scr_keys.specs.Tables.{with_text};
 
 use indexmap::IndexMap;
 use out_of_memory::NoMemory;
@@ -16,6 +15,20 @@ pub(crate) fn position_of(map: &IndexMap<Vec<u8>, u16>, text: &[u8]) -> Option<u
 }
 
 // Gives a position to a text that has none.
+pub(crate) fn add(
+    alloc: Global,
+    map: &mut IndexMap<Vec<u8>, u16>,
+    text: &[u8],
+    slot: u16,
+) -> Result<(), NoMemory>
+    requires { key_of (seen (λ k. k.items) map.old.entries) text.now ≡ None }
+    ensures { OnOk result (seen (λ k. k.items) map.new.entries ≡ seen (λ k. k.items) map.old.entries ++ (text.now, slot) ∷ []) }
+{
+    map.insert(Vec::from_slice(alloc, text)?, slot)?;
+    Ok(())
+}
+
+// Gives a position to a text, unless it has one.
 pub(crate) fn put(
     alloc: Global,
     map: &mut IndexMap<Vec<u8>, u16>,
@@ -27,8 +40,7 @@ pub(crate) fn put(
     if position_of(map, text).is_some() {
         return Ok(());
     }
-    map.insert(Vec::from_slice(alloc, text)?, slot)?;
-    Ok(())
+    add(alloc, map, text, slot)
 }
 
 // Gives a position to each beginning of a text that has none.

@@ -1,11 +1,11 @@
 //! The keys of a terminal, and how they are found.
-ghost use Rattle.std.specs.Prelude.{◌≡◌, ◌+◌, ◌<◌, ◌≤◌, ◌≢◌, [], None, Some, IfErr, IfOk, length};
-ghost use Rattle.scr_keys.specs.Tables.{AreKeysOf, AreRefused, is_key, text_of_key, with_key};
+ghost use Rattle.std.specs.Prelude.{◌≡◌, ◌+◌, ◌<◌, ◌≤◌, ◌≢◌, ◌==◌, [], ◌∷◌, ◌++◌, None, IfErr, IfOk, IfSome, length, nat_lt};
+ghost use Rattle.scr_keys.specs.Tables.{AreKeysOf, AreRefused, is_key, is_new, text_of_key, with_key};
 ghost use Rattle.scr_keys.specs.Keys.{first_of, goes_on, key_of, longest, longest_text};
 
 use crate::faults::KeyFault;
 use crate::keys::Key;
-use crate::maps::{position_of, put, put_beginnings};
+use crate::maps::{add, position_of, put_beginnings};
 use indexmap::IndexMap;
 use out_of_memory::NoMemory;
 use std::alloc::Global;
@@ -47,7 +47,7 @@ impl KeyTable {
         let mut table = KeyTable::empty(alloc);
         for slot in 0..MOST_TEXTS as u16 {
             let text = text_of_key(alloc, entry, Slot(slot))?;
-            if text.len() > 64 {
+            if is_too_long(&text) {
                 return Err(KeyFault::KeyTooLong(Slot(slot)));
             }
             table = table.with_key(alloc, &text, slot)?;
@@ -71,7 +71,7 @@ impl KeyTable {
         requires { length text.now ≤ 64 }
         ensures { IfOk result (λ table. table ≡ with_key self text.now slot) }
     {
-        if text.is_empty() || self.key(text).is_some() {
+        if !self.is_new(text) {
             return Ok(self);
         }
         let KeyTable {
@@ -80,7 +80,7 @@ impl KeyTable {
             longest,
         } = self;
         put_beginnings(alloc, &mut beginnings, text, slot)?;
-        put(alloc, &mut texts, text, slot)?;
+        add(alloc, &mut texts, text, slot)?;
         Ok(KeyTable {
             texts,
             beginnings,
@@ -88,7 +88,14 @@ impl KeyTable {
         })
     }
 
-    /// The key that sends just this text.
+    // Whether a text makes a new key: it is not empty, and no other key sends the same.
+    fn is_new(&self, text: &[u8]) -> bool
+        ensures { result ≡ is_new self.now text.now }
+    {
+        !text.is_empty() && self.key(text).is_none()
+    }
+
+    // The key that sends just this text.
     fn key(&self, text: &[u8]) -> Option<u16>
         ensures { result ≡ key_of self.now text.now }
     {
@@ -125,7 +132,9 @@ impl KeyTable {
 
     // The key with the longest text that some bytes begin with, and how many bytes it has.
     fn longest_key(&self, bytes: &[u8]) -> Option<(u16, usize)>
-        ensures { result ≡ longest self.now bytes.now (length bytes.now) }
+        ensures longest { result ≡ longest self.now bytes.now (length bytes.now) }
+        ensures some { IfSome result (λ key. 1 ≤ key.1) }
+        ensures few { IfSome result (λ key. key.1 ≤ length bytes.now) }
     {
         let mut len = bytes.len().min(self.longest());
         while len > 0 {
@@ -136,6 +145,13 @@ impl KeyTable {
         }
         None
     }
+}
+
+// Whether a text is too long for a key.
+fn is_too_long(text: &[u8]) -> bool
+    ensures { result ≡ nat_lt 64 (length text.now) }
+{
+    text.len() > 64
 }
 
 // What the key at a position sends, without padding; nothing where there is no key.

@@ -1,7 +1,7 @@
-use Rattle.std.proofs.Common.{◌≡◌, ◌∙◌, ◌||◌, ◌<◌, ◌+◌, ap, sym, arith, length, take, is_some}
+use Rattle.std.proofs.Common.{◌≡◌, ◌∙◌, ◌||◌, ◌<◌, ap, arith, length, take, is_some}
 use Rattle.std.specs.Str.{bytes_eq}
 use Rattle.scr_keys.specs.Code.Maps.{seen}
-use Rattle.scr_keys.specs.Keys.{is_beginning, key_of}
+use Rattle.scr_keys.specs.Keys.{key_of}
 use Rattle.scr_keys.proofs.MapLaws.{begins_all, begins_below, begins_more, begins_none, found_with, or_assoc}
 use Rattle.scr_keys.proofs.maps.put_beginnings.Goals as goal
 

@@ -1,4 +1,4 @@
-use Rattle.std.proofs.Common.{◌≡◌, ◌∙◌, ◌<◌, ◌+◌, ◌-◌, ◌≤◌, ◌&&◌, false, true, ap, sym, arith, ◌∷◌, [], length, take, drop}
+use Rattle.std.proofs.Common.{◌≡◌, ◌∙◌, ◌≤◌, ◌&&◌, false, true, ap, sym, arith, ◌∷◌, [], length, take, drop}
 use Rattle.std.proofs.lemmas.List.{length-append, length-drop, take-append-le}
 use Rattle.scr_keys.specs.Keys.{first_of, goes_on}
 use Rattle.scr_keys.proofs.DecideLaws.{decide_full, decide_left, decide_more, ends, whole_rest}
