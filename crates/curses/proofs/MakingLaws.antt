@@ -1,7 +1,6 @@
 -- What a call of a session does to the windows and the virtual screen.
-use Rattle.std.proofs.Common.{◌≡◌, ℕ, Bool, true, false, not, refl, sym, ◌∙◌, ap, subst, List, [], Result, Ok, Err, Option, Some, inl, inr, if◌then◌else◌}
-use Rattle.scr_term.specs.Operations.Profiles.{ProfileView, abilities}
-use Rattle.scr_term.specs.Operations.States.{TerminalState, IsState}
+use Rattle.std.proofs.Common.{◌≡◌, ℕ, Bool, true, false, not, refl, sym, ◌∙◌, ap, subst, List, [], Result, Ok, Err, inl, inr, if◌then◌else◌}
+use Rattle.scr_term.specs.Operations.Profiles.{ProfileView}
 use Rattle.scr_cells.specs.CellViews.{CellView}
 use Rattle.scr_windows.specs.declared.faults.Win.{Win}
 use Rattle.scr_windows.specs.declared.faults.Added.{Added as AddedView}
@@ -9,27 +8,27 @@ use Rattle.scr_windows.specs.declared.faults.WinFault.{WinFault}
 use Rattle.scr_windows.specs.declared.faults.WinFault.TheVariants as win_faults
 use Rattle.scr_windows.specs.DeskViews.{DeskView}
 use Rattle.scr_virtual.specs.VirtualViews.{VirtualView}
+use Rattle.scr_keys.specs.Readers.{ReaderView}
 use Rattle.curses.specs.declared.answers.Answer.{Answer}
 use Rattle.curses.specs.declared.answers.Answer.TheVariants.{Nothing, Refused, Sent, Made, Added, Seen, Pair, Touched, Failed}
 use Rattle.curses.specs.declared.calls.values.Call.{Call}
 use Rattle.curses.specs.declared.calls.values.Call.TheVariants.{NewWindow, NewPad, Derive, Sub, SubPad, Copy, Overlay, Overwrite, Delete, MoveWindow, MoveDerived, TouchWindow, Untouch, TouchLines, SyncUp, SyncDown, AddByte, AddText, InsertByte, LineAcross, LineDown, Border, ClearToEol, ClearToBottom, Erase, Clear, DeleteByte, InsertDeleteLines, Scroll, ChangeBackground, MoveCursor, SetRegion, ScrollOk, ClearOk, LeaveOk, AttrOn, AttrOff, AttrSet, ColorSet, SetBackground, CellAt, Cursor, Size, Origin, LineTouched, WindowTouched, RedrawWindow, RedrawLines, SetPair, Noutrefresh, PadNoutrefresh, Doupdate}
 use Rattle.curses.specs.Calls.{OnDeskOrRefused, answered, is_refusal, window_call}
 use Rattle.curses.specs.Cuts.{IsCut}
-use Rattle.curses.specs.Code.Making.{IsMade, drawn_of}
-use Rattle.curses.specs.Forwarding.{OnDesk}
+use Rattle.curses.specs.Making.{IsMade, drawn_of}
 use Rattle.curses.specs.Refreshing.{OnBoth, OnVirtual}
 use Rattle.curses.specs.ScreenStates.{ScreenState, IsScreen}
 use Rattle.curses.specs.Sessions.{Drawn, RightAnswer, begun_of, both_told, count_of, is_cut, is_unfinished, is_update, left_by, ran_out, screen_call, tells_sent, tells_update, virtual_told, windows_told}
-use Rattle.curses.specs.Updates.{IsDefined, IsSent}
+use Rattle.curses.specs.Updates.{IsSent}
 use Rattle.curses.specs.Writers.{WriterView, counted}
 use Rattle.curses.proofs.CutLaws.{cut_none}
 
 -- ---- sizes
 
 -- a virtual screen of the same size in place of the old one
-pub same_size : (desk : DeskView) (old new : VirtualView) (profile : ProfileView) (owed : List ℕ) → IsScreen (record { desk = desk; virtual = old; profile = profile; owed = owed })
-    → new.picture.rows ≡ old.picture.rows → new.picture.columns ≡ old.picture.columns → IsScreen (record { desk = desk; virtual = new; profile = profile; owed = owed })
-same_size desk old new profile owed is rows columns = record { desk_rows = is.desk_rows; desk_columns = is.desk_columns; picture_rows = rows ∙ is.picture_rows; picture_columns = columns ∙ is.picture_columns }
+pub same_size : (desk : DeskView) (old new : VirtualView) (profile : ProfileView) (owed : List ℕ) (keys : ReaderView) → IsScreen (record { desk = desk; virtual = old; profile = profile; owed = owed; keys = keys })
+    → new.picture.rows ≡ old.picture.rows → new.picture.columns ≡ old.picture.columns → IsScreen (record { desk = desk; virtual = new; profile = profile; owed = owed; keys = keys })
+same_size desk old new profile owed keys is rows columns = record { desk_rows = is.desk_rows; desk_columns = is.desk_columns; picture_rows = rows ∙ is.picture_rows; picture_columns = columns ∙ is.picture_columns }
 
 -- ---- calls that send nothing
 
@@ -83,10 +82,11 @@ pub record Quiet (answer : Answer) : Type 0 where
   pub unfinished : is_unfinished answer ≡ false
 
 -- a call that is no update was made as its definition says
-made_so : (old new : ScreenState) (call : Call) (answer : Answer) (w : WriterView) → is_update call ≡ false → Quiet answer → new.profile ≡ old.profile → new.owed ≡ old.owed
+made_so : (old new : ScreenState) (call : Call) (answer : Answer) (w : WriterView) → is_update call ≡ false → Quiet answer → new.profile ≡ old.profile → new.keys ≡ old.keys → new.owed ≡ old.owed
     → drawn_of new ≡ (screen_call (drawn_of old) call).0 → answer ≡ (screen_call (drawn_of old) call).1 → IsMade old new call answer w w
-made_so old new call answer w update quiet profile owed drawn own = record {
+made_so old new call answer w update quiet profile keys owed drawn own = record {
   profile = profile;
+  keys = keys;
   drawn = drawn ∙ sym (ap (λ b. if b then drawn_of old else (screen_call (drawn_of old) call).0) (own_answer (screen_call (drawn_of old) call).1 answer own))
       ∙ sym (ap (λ b. left_by b (drawn_of old) (screen_call (drawn_of old) call) answer) update);
   right = subst (λ b. RightAnswer b call (screen_call (drawn_of old) call).1 answer) (sym update) (inl own);
@@ -109,7 +109,7 @@ pub both_made : (old new : ScreenState) (call : Call) (came : Result (Unit {0}) 
     → is_update call ≡ false → screen_call (drawn_of old) call ≡ both_told own → OnBoth old new came own → answer ≡ answered (λ _. Nothing) came → IsMade old new call answer w w
 both_made old new call came answer w own update called made told =
     subst (λ a. IsMade old new call a w w) (sym told)
-    (made_so old new call (answered (λ _. Nothing) came) w update (quiet_done came) (ap (λ s. s.profile) made.0) (ap (λ s. s.owed) made.0)
+    (made_so old new call (answered (λ _. Nothing) came) w update (quiet_done came) (ap (λ s. s.profile) made.0) (ap (λ s. s.keys) made.0) (ap (λ s. s.owed) made.0)
     (ap drawn_of made.0 ∙ sym (ap (λ c. c.0) called)) (ap (answered (λ _. Nothing)) made.1 ∙ sym (ap (λ c. c.1) called)))
 
 -- a call that changes the virtual screen alone
@@ -117,7 +117,7 @@ pub virtual_made : (old new : ScreenState) (call : Call) (came : Result (Unit {0
     → is_update call ≡ false → screen_call (drawn_of old) call ≡ virtual_told old.desk own → OnVirtual old new came own → answer ≡ answered (λ _. Nothing) came → IsMade old new call answer w w
 virtual_made old new call came answer w own update called made told =
     subst (λ a. IsMade old new call a w w) (sym told)
-    (made_so old new call (answered (λ _. Nothing) came) w update (quiet_done came) (ap (λ s. s.profile) made.0) (ap (λ s. s.owed) made.0)
+    (made_so old new call (answered (λ _. Nothing) came) w update (quiet_done came) (ap (λ s. s.profile) made.0) (ap (λ s. s.keys) made.0) (ap (λ s. s.owed) made.0)
     (ap drawn_of made.0 ∙ sym (ap (λ c. c.0) called)) (ap (answered (λ _. Nothing)) made.1 ∙ sym (ap (λ c. c.1) called)))
 
 -- ---- calls on windows
@@ -214,7 +214,7 @@ is_on_windows drawn Doupdate other = absurd (other.not_doupdate refl)
 -- a call on windows
 pub windows_made : (old new : ScreenState) (call : Call) (answer : Answer) (w : WriterView) → IsOnWindows (drawn_of old) call → OnDeskOrRefused old new answer call → IsMade old new call answer w w
 windows_made old new call answer w is (inl made) =
-    made_so old new call answer w is.updates (subst Quiet (sym made.1) is.quiet) (ap (λ s. s.profile) made.0) (ap (λ s. s.owed) made.0)
+    made_so old new call answer w is.updates (subst Quiet (sym made.1) is.quiet) (ap (λ s. s.profile) made.0) (ap (λ s. s.keys) made.0) (ap (λ s. s.owed) made.0)
     (ap drawn_of made.0 ∙ sym (ap (λ c. c.0) is.called)) (made.1 ∙ sym (ap (λ c. c.1) is.called))
 windows_made old new call answer w is (inr refused) =
     let own : Answer = (screen_call (drawn_of old) call).1 in
@@ -222,6 +222,7 @@ windows_made old new call answer w is (inr refused) =
     let out : ran_out own (Refused win_faults.NoMemory) ≡ true = ap not suits in
     subst (λ a. IsMade old new call a w w) (sym refused.1) (record {
       profile = ap (λ s. s.profile) refused.0;
+      keys = ap (λ s. s.keys) refused.0;
       drawn = ap drawn_of refused.0 ∙ sym (ap (λ b. if b then drawn_of old else (screen_call (drawn_of old) call).0) out)
           ∙ sym (ap (λ b. left_by b (drawn_of old) (screen_call (drawn_of old) call) (Refused win_faults.NoMemory)) is.updates);
       right = subst (λ b. RightAnswer b call own (Refused win_faults.NoMemory)) (sym is.updates) (inr (refl, suits, refused.3));

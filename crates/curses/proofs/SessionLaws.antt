@@ -18,7 +18,8 @@ use Rattle.curses.specs.declared.answers.Answer.{Answer}
 use Rattle.curses.specs.declared.answers.Answer.TheVariants.{Nothing}
 use Rattle.curses.specs.declared.calls.values.Call.{Call}
 use Rattle.curses.specs.declared.calls.values.Call.TheVariants.{Doupdate}
-use Rattle.curses.specs.Code.Making.{Current, EndsWell, IsMade, SoFar, drawn_of}
+use Rattle.curses.specs.Code.Progress.{Current, SoFar}
+use Rattle.curses.specs.Making.{EndsWell, IsMade, drawn_of}
 use Rattle.curses.specs.ScreenStates.{ScreenState}
 use Rattle.curses.specs.Sessions.{Drawn, IsAnswer, IsSession, IsShowing, Moment, after_call, after_calls, begun_in, begun_of, count_in, count_of, counted_in, drawn_at, ended_well, first_drawn, is_cut, is_unfinished, last_ok_behind, tells_sent}
 use Rattle.curses.specs.Updates.{IsDefined, IsSent, LeadToShow}

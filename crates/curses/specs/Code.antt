@@ -1,3 +1,3 @@
 -- Words of private functions.
-pub mod Making
+pub mod Progress
 pub mod Texts

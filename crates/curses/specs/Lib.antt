@@ -4,6 +4,8 @@ pub mod Code
 pub mod Cuts
 pub mod Faulty
 pub mod Forwarding
+pub mod Keyboard
+pub mod Making
 pub mod Opening
 pub mod Refreshing
 pub mod ScreenStates

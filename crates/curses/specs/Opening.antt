@@ -1,30 +1,40 @@
--- Opening a screen on a terminal, and when that is refused. X/Open Curses Issue 7, newterm().
-use Rattle.std.specs.Prelude.{◌≡◌, ◌≢◌, ◌⊎◌, [], Option, Some}
+-- Opening a screen on a terminal, and when that is refused. X/Open Curses Issue 7, newterm(), keypad().
+use Rattle.std.specs.Prelude.{◌≡◌, ◌≢◌, [], Option, Some, None}
 use Rattle.scr_cells.specs.declared.sizes.Size.{Size}
 use Rattle.ti_caps.specs.Description.{Description}
+use Rattle.ti_caps.specs.declared.table.Slot.{Slot}
 use Rattle.scr_term.specs.declared.operations.profile_faults.ProfileFault.{ProfileFault}
 use Rattle.scr_term.specs.declared.operations.profile_faults.ProfileFault.TheVariants as profile_faults
 use Rattle.scr_term.specs.Operations.Admission.{IsAdmitted, refusal}
 use Rattle.scr_windows.specs.DeskViews.{first_desk}
 use Rattle.scr_virtual.specs.VirtualViews.{blank_virtual}
+use Rattle.scr_keys.specs.Tables.{AreKeysOf, too_long}
 use Rattle.curses.specs.declared.faults.OpenFault.{OpenFault}
-use Rattle.curses.specs.declared.faults.OpenFault.TheVariants.{NoMemory, Profile}
+use Rattle.curses.specs.declared.faults.OpenFault.TheVariants.{KeyTooLong, NoMemory, Profile}
 use Rattle.curses.specs.ScreenStates.{ScreenState}
 
--- a screen on the terminal that an entry describes: one window over the whole screen, blank, a blank virtual screen, and nothing
--- owed
+-- a screen on the terminal that an entry describes: one window over the whole screen, blank, a blank virtual screen, nothing owed,
+-- and the keys of the entry, none of which was pressed
 pub record IsOpened (entry : Description) (size : Option Size) (screen : ScreenState) : Type 0 where
   pub profile : IsAdmitted entry size screen.profile
   pub desk : screen.desk ≡ first_desk screen.profile.rows screen.profile.columns
   pub virtual : screen.virtual ≡ blank_virtual screen.profile.rows screen.profile.columns
   pub owed : screen.owed ≡ []
+  pub keys : AreKeysOf entry screen.keys.keys
+  pub queue : screen.keys.queue ≡ []
+  pub waiting : screen.keys.waiting ≡ []
 
 -- an entry and a size make no profile, for this first reason
 pub record IsUnsuited (entry : Description) (size : Option Size) (fault : ProfileFault) : Type 0 where
   pub refused : refusal entry size ≡ Some fault
   pub suits : fault ≢ profile_faults.NoMemory
 
+-- they make one, and this is the lowest position of a key whose text is too long
+abbrev pub HasLongKey : Description → Option Size → Slot → Type 0
+HasLongKey entry size slot = (refusal entry size ≡ None) × (too_long entry ≡ Some slot.0)
+
 -- no screen is opened for such a reason, or because memory ran out
 abbrev pub IsUnopened : Description → Option Size → OpenFault → Type 0
 IsUnopened entry size NoMemory = Unit {0}
 IsUnopened entry size (Profile fault) = IsUnsuited entry size fault
+IsUnopened entry size (KeyTooLong slot) = HasLongKey entry size slot

@@ -14,7 +14,7 @@ use Rattle.scr_term.specs.declared.operations.profile_faults.ProfileFault.TheVar
 use Rattle.scr_term.specs.Operations.Admission.{first_some, is_over_bound, is_unreadable}
 use Rattle.scr_term.specs.Operations.Texts.{nine, written}
 use Rattle.curses.specs.declared.faults.OpenFault.{OpenFault}
-use Rattle.curses.specs.declared.faults.OpenFault.TheVariants.{NoMemory, Profile}
+use Rattle.curses.specs.declared.faults.OpenFault.TheVariants.{KeyTooLong, NoMemory, Profile}
 
 -- the text of a capability without its padding, and the program that it is, if it is one
 abbrev pub plain_text : Description → Slot → Option (List ℕ)
@@ -49,6 +49,7 @@ pub record AreTexts (entry : Description) (first second : Slot) (bytes : List �
 abbrev pub AreRefused : Description → Slot → Slot → OpenFault → Type 0
 AreRefused entry first second NoMemory = Unit {0}
 AreRefused entry first second (Profile fault) = texts_refusal entry first second ≡ Some fault
+AreRefused entry first second (KeyTooLong slot) = ⊥
 
 -- the text that begins a program's use of the screen: `smcup`, and then `smkx`
 abbrev pub IsOpeningText : Description → List ℕ → Type 0

@@ -4,6 +4,7 @@ use scr_term::{Ops, ProfileFault};
 use std::alloc::{AllocError, AllocFailed};
 use std::io::ErrorKind;
 use thiserror::Error;
+use ti_caps::Slot;
 
 /// Why a screen is not opened, or its opening or closing text not made.
 #[derive(Clone, Copy, Debug, PartialEq, Eq, Error)]
@@ -11,6 +12,9 @@ pub enum OpenFault {
     /// The terminal's entry and size make no profile, or a text of it cannot be run. Never with its `NoMemory`.
     #[error("{0}")]
     Profile(ProfileFault),
+    /// The text of the key at this position has more than 64 bytes without its padding.
+    #[error("a key's text is too long")]
+    KeyTooLong(Slot),
     /// Memory ran out.
     #[error("out of memory")]
     NoMemory,

@@ -1,10 +1,11 @@
-//! A curses screen: windows, a virtual screen, and updates that bring a terminal to it.
+//! A curses screen: windows, a virtual screen, updates that bring a terminal to it, and the keys of its keyboard.
 #![tactic(auto)]
 
 mod answers;
 mod calls;
 mod faults;
 mod faulty;
+mod keys;
 mod opening;
 mod refreshing;
 mod screens;

@@ -1,14 +1,15 @@
-//! The screen: its windows, what is to be shown, and the terminal. What is true of every screen is in
+//! The screen: its windows, what is to be shown, the terminal and its keys. What is true of every screen is in
 //! `specs/ScreenStates.antt`.
 //!
 //! The calls on its windows are in the files of their kinds in `calls/`.
+use scr_keys::KeyReader;
 use scr_term::Profile;
 use scr_virtual::Virtual;
 use scr_windows::Desk;
 use std::marker::Model;
 
-/// A screen of curses: windows, the virtual screen onto which they are taken, and the terminal that updates bring to it
-/// (X/Open Curses Issue 7, 'Screens, Windows and Terminals'; curs_refresh(3X)).
+/// A screen of curses: windows, the virtual screen onto which they are taken, the terminal that updates bring to it,
+/// and the keys of its keyboard (X/Open Curses Issue 7, 'Screens, Windows and Terminals'; curs_refresh(3X)).
 ///
 /// Rows and columns are counted from 0. A refused call changes nothing.
 #[derive(Drop)]
@@ -18,6 +19,7 @@ pub struct Screen {
     pub(crate) profile: Profile,
     // What an update began to send and has still to send, with room for the text of each operation.
     pub(crate) owed: Vec<u8>,
+    pub(crate) keys: KeyReader,
 }
 
 impl Model for Screen {
@@ -25,13 +27,14 @@ impl Model for Screen {
     ghost use Rattle.scr_virtual.specs.contracts.screens.Virtual as the_virtual;
     ghost use Rattle.scr_term.specs.contracts.operations.profiles.Profile as the_profile;
     ghost use Rattle.scr_windows.specs.contracts.desks.Desk as the_desk;
+    ghost use Rattle.scr_keys.specs.contracts.readers.KeyReader as the_reader;
     ghost use Rattle.curses.specs.ScreenStates.{ScreenState, HasRoom, IsScreen, screen_code};
 
     ghost Value = { ScreenState };
 
-    ghost coded = { screen_code the_desk.the_row.coded the_virtual.the_row.coded the_profile.the_row.coded };
+    ghost coded = { screen_code the_desk.the_row.coded the_virtual.the_row.coded the_profile.the_row.coded the_reader.the_row.coded };
 
-    ghost view = { λ a. record { desk = a.desk; virtual = a.wanted; profile = a.profile; owed = a.owed.items } };
+    ghost view = { λ a. record { desk = a.desk; virtual = a.wanted; profile = a.profile; owed = a.owed.items; keys = a.keys } };
 
-    ghost invariant = { λ a. IsScreen (record { desk = a.desk; virtual = a.wanted; profile = a.profile; owed = a.owed.items }) × HasRoom a.profile (vec_capacity a.owed) };
+    ghost invariant = { λ a. IsScreen (record { desk = a.desk; virtual = a.wanted; profile = a.profile; owed = a.owed.items; keys = a.keys }) × HasRoom a.profile (vec_capacity a.owed) };
 }

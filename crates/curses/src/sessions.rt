@@ -1,6 +1,6 @@
 //! Sessions: a list of calls on one screen, from its opening on. The definitions are in `specs/Sessions.antt`.
 ghost use Rattle.std.specs.Prelude.{◌≡◌, IfErr, IfOk, OnErr, true};
-ghost use Rattle.curses.specs.Code.Making.{IsMade};
+ghost use Rattle.curses.specs.Making.{IsMade};
 ghost use Rattle.curses.specs.Opening.{IsUnopened};
 ghost use Rattle.curses.specs.Sessions.{IsReport, ended_well, tells_update};
 
@@ -74,8 +74,9 @@ pub fn session<W: Counted>(
 }
 
 impl Screen {
-    // Makes a call.
-    fn make<W: Counted>(&mut self, alloc: Global, call: &Call, out: &mut W) -> Answer
+    /// Makes a call that is given as a value, by the method of its name, and answers what it answers. `specs/Making.antt` says what
+    /// that does to the screen and to the writer, which only an update writes to.
+    pub fn make<W: Counted>(&mut self, alloc: Global, call: &Call, out: &mut W) -> Answer
         ensures { IsMade self.old self.new call.now result (W.told out.old) (W.told out.new) }
     {
         match call {

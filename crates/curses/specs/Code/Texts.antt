@@ -2,12 +2,13 @@
 use Rattle.std.specs.Prelude.{◌≡◌, Option, Some, None, Result, Ok, Err}
 use Rattle.scr_term.specs.declared.operations.profile_faults.ProfileFault.{ProfileFault}
 use Rattle.curses.specs.declared.faults.OpenFault.{OpenFault}
-use Rattle.curses.specs.declared.faults.OpenFault.TheVariants.{NoMemory, Profile}
+use Rattle.curses.specs.declared.faults.OpenFault.TheVariants.{KeyTooLong, NoMemory, Profile}
 
 -- a fault is this one, or memory ran out
 abbrev pub IsFault : Option ProfileFault → OpenFault → Type 0
 IsFault refusal NoMemory = Unit {0}
 IsFault refusal (Profile fault) = refusal ≡ Some fault
+IsFault refusal (KeyTooLong slot) = ⊥
 
 -- a step goes on where nothing is against it; else it ends with the fault that there is, or because memory ran out
 abbrev pub Judges : {A : Type 0} → Result A OpenFault → Option ProfileFault → Type 0

@@ -1,6 +1,6 @@
 use Rattle.std.proofs.Common.{◌≡◌, ◌<◌, ◌∙◌, ◌∷◌, ◌++◌, [], ap, get_or, false, subst, sym, arith, length}
 use Rattle.std.proofs.lemmas.List.{length-append}
-use Rattle.curses.specs.Code.Making.{SoFar}
+use Rattle.curses.specs.Code.Progress.{SoFar}
 use Rattle.curses.specs.Sessions.{ended_well, last_ok_behind}
 use Rattle.curses.specs.declared.calls.values.Call.TheVariants.{Doupdate}
 use Rattle.curses.proofs.SessionLaws.{item_is, last_more, one_more, session_of}

@@ -1,7 +1,7 @@
 use Rattle.std.proofs.Common.{◌≡◌, ◌≤◌, false, length, vec_capacity}
 use Rattle.scr_term.specs.Operations.Admission.{IsAdmitted}
 use Rattle.scr_term.specs.Operations.Profiles.{ProfileView}
-use Rattle.curses.specs.Code.Making.{SoFar}
+use Rattle.curses.specs.Code.Progress.{SoFar}
 use Rattle.curses.specs.Sessions.{last_ok_behind}
 use Rattle.curses.proofs.sessions.session.Given as goal
 

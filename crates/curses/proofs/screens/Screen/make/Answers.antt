@@ -1,5 +1,5 @@
 use Rattle.std.proofs.Common.{refl, subst, sym}
-use Rattle.curses.specs.Code.Making.{IsMade, drawn_of}
+use Rattle.curses.specs.Making.{IsMade, drawn_of}
 use Rattle.curses.proofs.MakingLaws.{both_made, is_on_windows, virtual_made, windows_made}
 use Rattle.curses.proofs.screens.Screen.make.Goals as goal
 
