@@ -1,7 +1,6 @@
-pub mod CutLaws
-pub mod NumberLaws
-pub mod CommandLaws
-pub mod OptionLaws
-pub mod ShowLaws
-pub mod RunLaws
+pub mod CallLaws
+pub mod MakingLaws
+pub mod StageLaws
+pub mod OutputLaws
 pub mod WriteLaws
+pub mod RunLaws

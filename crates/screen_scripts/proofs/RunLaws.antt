@@ -1,254 +1,287 @@
--- How a script's story goes on from line to line.
-use Rattle.std.proofs.Common.{◌≡◌, ◌≢◌, ℕ, ◌<◌, ◌==◌, ◌&&◌, nat_lt, nat_le, Bool, true, false, cond, refl, sym, ◌∙◌, ap, subst, arith, List, [], ◌∷◌, ◌++◌, append_assoc, length, Option, Some, None, IfSome, IsSome, unwrap_or, codes}
-use Rattle.std.specs.List.{slice_split, list_all}
+-- How a script's story goes on from line to line, and what is written of it.
+use Rattle.std.proofs.Common.{◌≡◌, ◌==◌, arith, length, ℕ, Bool, true, false, refl, sym, ◌∙◌, ap, subst, List, [], ◌∷◌, ◌++◌, append_assoc, Option, Some, None, Result, Ok, Err, OnOk, option_and_then}
 use Rattle.std.specs.Io.KnownBytes.{Appends, Keeps}
+use Rattle.std.specs.Option.{ForSome}
+use Rattle.std.proofs.lemmas.Bool.Decides.{nat_tests}
 use Rattle.std.proofs.lemmas.List.{append-nil}
-use Rattle.std.proofs.lemmas.List.Splits.{length-slice_split}
-use Rattle.std.proofs.lemmas.List.Concat.{flat_map-append}
-use Rattle.scr_cells.specs.CellViews.{is_character}
-use Rattle.scr_cells.specs.PictureViews.{PictureView}
-use Rattle.scr_term.specs.Operations.Abilities.{full_abilities}
-use Rattle.scr_term.specs.Ecma.Screens.{ScreenView}
-use Rattle.screen_scripts.specs.Lines.{lines_of, parts_behind, without_empty_end}
-use Rattle.screen_scripts.specs.Stories.{Outcome, Story, line_outcome, story_from, story_on, story_of, next_number, Refused, Shown, added, continued, opened, outcome_of}
-use Rattle.screen_scripts.specs.Canvases.{with_byte, with_text, moved, blank_canvas}
-use Rattle.screen_scripts.specs.Printing.{abilities_for, written_event, output_of, refused_event, refusals_of}
-use Rattle.screen_scripts.specs.declared.stage.Effect.{Effect}
-use Rattle.screen_scripts.specs.StageViews.{ActsOn, events_of}
-use Rattle.screen_scripts.specs.Commands.{CommandView, SizeCommand, AddCommand, ShowCommand, command_of}
-use Rattle.screen_scripts.specs.Showing.{IsReady, IsTerminalFor, Writes, AddsRefusals}
-use Rattle.scr_term.specs.Operations.States.{IsState}
-use Rattle.screen_scripts.proofs.OptionLaws.{chosen, same_some, then_some}
+use Rattle.scr_term.specs.Operations.Ecma48.{ecma48_profile}
+use Rattle.scr_term.specs.Operations.Profiles.{ProfileView}
+use Rattle.screen_commands.specs.Commands.{command_of}
+use Rattle.screen_commands.specs.Lines.{lines_of}
+use Rattle.screen_commands.specs.declared.commands.Command.{Command}
+use Rattle.curses.specs.ScreenStates.{ScreenState}
+use Rattle.screen_scripts.specs.declared.effects.Effects.{Effects}
+use Rattle.screen_scripts.specs.declared.stages.Stage.{Stage as Playing}
+use Rattle.screen_scripts.specs.Stories.{Event, Outcome, Stage, Story, continued, line_outcome, next_number, opened, outcome_of, size_in, size_on, story_from, story_of, story_on}
+use Rattle.screen_scripts.specs.Printing.{Begins, GrewByBeginning, IsOutput, Writes, profile_of, refusals_of}
+use Rattle.screen_scripts.specs.Showing.{AddsRefusals, CommandWrites, IsReadyStage, IsTerminalFor, LineWrites, Obeys, ObeysSome, Opens, events_in, profile_behind, shown_if, stage_of, stages_of}
+use Rattle.screen_scripts.proofs.OutputLaws.{output_join, output_none, refusals_join, shown_refuses_none}
+use Rattle.screen_scripts.proofs.WriteLaws.{appends_kept, appends_more, appends_none}
 
--- ---- lines
+none_is_none : {A : Type 0} (x : A) → None ≡ Some x → ⊥
+none_is_none x e = (cc)
 
-parts_more : (line : List ℕ) (parts : List (List ℕ)) → 0 < length parts → without_empty_end (line ∷ parts) ≡ line ∷ without_empty_end parts
-parts_more line [] h = absurd (omega arith)
-parts_more [] (part ∷ parts) h = refl
-parts_more (b ∷ line) (part ∷ parts) h = refl
+some_same : {A : Type 0} (x y : A) → Some x ≡ Some y → x ≡ y
+some_same x y e = (cc)
 
-last_line : (line : List ℕ) → line ≢ [] → without_empty_end (line ∷ []) ≡ line ∷ []
-last_line [] h = absurd (h refl)
-last_line (b ∷ line) h = refl
+-- ---- one line
 
--- the first line, and the lines of what follows its end
-pub first_line : (rest line : List ℕ) (after : Option (List ℕ)) → 0 < length rest
-    → slice_split (λ b. b == 10) rest ≡ line ∷ parts_behind 10 after → (after ≡ None → line ≡ rest)
-    → lines_of rest ≡ line ∷ lines_of (unwrap_or after [])
-first_line rest line None some split whole =
-    let here : line ≢ [] = λ e. absurd (omega (arith, ap length (sym e ∙ whole refl))) in
-    ap without_empty_end split ∙ last_line line here
-first_line rest line (Some after) some split whole =
-    ap without_empty_end split ∙ parts_more line (slice_split (λ b. b == 10) after) (omega (arith, length-slice_split (λ b. b == 10) after))
+-- what a line does is what its command does
+outcome_at : (stage : Option Stage) (line : List ℕ) (command : Command) → command_of line ≡ Some command → line_outcome stage line ≡ outcome_of stage command
+outcome_at stage line command e = ap (option_and_then (outcome_of stage)) e
 
-pub first_of_more : (rest line after : List ℕ) → 0 < length rest → slice_split (λ b. b == 10) rest ≡ line ∷ parts_behind 10 (Some after) → lines_of rest ≡ line ∷ lines_of after
-first_of_more rest line after some split = first_line rest line (Some after) some split (λ e. absurd (nothing e))
-  where
-    nothing : Some after ≡ None → ⊥
-    nothing e = (cc)
+pub no_command : (stage : Option Stage) (line : List ℕ) → command_of line ≡ None → line_outcome stage line ≡ None
+no_command stage line e = ap (option_and_then (outcome_of stage)) e
+
+pub bad_opening : (line : List ℕ) (command : Command) → command_of line ≡ Some command → opened command ≡ None → line_outcome None line ≡ None
+bad_opening line command e bad = outcome_at None line command e ∙ bad
+
+pub bad_command : (stage : Stage) (line : List ℕ) (command : Command) → command_of line ≡ Some command → continued stage command ≡ None → line_outcome (Some stage) line ≡ None
+bad_command stage line command e bad = outcome_at (Some stage) line command e ∙ bad
+
+pub opening_writes : (raw : Bool) (line text : List ℕ) (command : Command) (stage : Playing) → command_of line ≡ Some command → Opens command stage → text ≡ []
+    → LineWrites raw None line text (Some stage)
+opening_writes raw line text command stage e is none = record {
+  outcome = record { stage = stage_of stage.screen; events = [] };
+  is = outcome_at None line command e ∙ is.is;
+  stage = stage;
+  left = refl;
+  same = refl;
+  ready = is.ready;
+  profile = is.profile ∙ ap (λ c. ecma48_profile (size_in c).0 (size_in c).1) (sym e);
+  written = subst (λ t. IsOutput raw stage.screen.profile [] t) (sym none) (output_none raw stage.screen.profile);
+}
+
+pub command_writes : (raw : Bool) (old new : Playing) (line text : List ℕ) (command : Command) → command_of line ≡ Some command → CommandWrites raw old command text new
+    → LineWrites raw (Some old) line text (Some new)
+command_writes raw old new line text command e is = record {
+  outcome = is.outcome;
+  is = outcome_at (Some (stage_of old.screen)) line command e ∙ is.is;
+  stage = new;
+  left = refl;
+  same = is.left;
+  ready = is.ready;
+  profile = is.profile;
+  written = is.written;
+}
+
+-- ---- the refusals of one line
+
+obeyed : (old new : ScreenState) (effects : Effects) (outcome : Option Outcome) → ObeysSome old new effects outcome → (o : Outcome) × (outcome ≡ Some o) × Obeys old new effects o
+obeyed old new effects None h = absurd h
+obeyed old new effects (Some o) h = (o, refl, h)
+
+pub opening_adds : (line text : List ℕ) (command : Command) (stage : Playing) → command_of line ≡ Some command → Opens command stage → AddsRefusals None line text text (Some stage)
+opening_adds line text command stage e is = record {
+  outcome = record { stage = stage_of stage.screen; events = [] };
+  is = outcome_at None line command e ∙ is.is;
+  stage = stage;
+  left = refl;
+  same = refl;
+  ready = is.ready;
+  added = sym (append-nil text);
+}
+
+pub obeying_adds : (line before after : List ℕ) (command : Command) (old : Playing) (screen : ScreenState) (effects : Effects) → command_of line ≡ Some command → IsReadyStage old
+    → ObeysSome old.screen screen effects (continued (stage_of old.screen) command) → after ≡ before ++ refusals_of (events_in effects.notes.items)
+    → AddsRefusals (Some old) line before after (Some (record { screen = screen; terminal = old.terminal }))
+obeying_adds line before after command old screen effects e ready obeys is =
+    let o = obeyed old.screen screen effects (continued (stage_of old.screen) command) obeys in
+    record {
+      outcome = o.0;
+      is = outcome_at (Some (stage_of old.screen)) line command e ∙ o.1;
+      stage = record { screen = screen; terminal = old.terminal };
+      left = refl;
+      same = ap (λ x. x.stage) o.2.is;
+      ready = record { screen = o.2.ready; terminal = subst (λ p. IsTerminalFor p old.terminal) (sym o.2.profile) ready.terminal };
+      added = is ∙ ap (λ t. before ++ t) (sym (append-nil (refusals_of (events_in effects.notes.items))))
+          ∙ ap (λ t. before ++ (refusals_of (events_in effects.notes.items) ++ t)) (sym (shown_refuses_none effects.update screen.virtual.picture))
+          ∙ ap (λ t. before ++ t) (sym (refusals_join (events_in effects.notes.items) (shown_if effects.update screen.virtual.picture)))
+          ∙ ap (λ x. before ++ refusals_of x.events) (sym o.2.is);
+    }
 
 -- ---- stories
 
-pub story_step : (n : ℕ) (canvas : Option PictureView) (line : List ℕ) (lines : List (List ℕ)) (outcome : Outcome) → line_outcome canvas line ≡ Some outcome
-    → story_on n canvas (line ∷ lines) ≡ story_from n (Some outcome) (λ o. story_on (next_number n) (Some o.canvas) lines)
-story_step n canvas line lines outcome e = ap (λ o. story_from n o (λ o. story_on (next_number n) (Some o.canvas) lines)) e
+story_step : (n : ℕ) (stage : Option Stage) (rest line after : List ℕ) (outcome : Outcome) (new : Option Playing) (playing : Playing) → lines_of rest ≡ line ∷ lines_of after
+    → line_outcome stage line ≡ Some outcome → new ≡ Some playing → outcome.stage ≡ stage_of playing.screen
+    → story_on n stage (lines_of rest) ≡ story_from n (Some outcome) (λ o. story_on (next_number n) (stages_of new) (lines_of after))
+story_step n stage rest line after outcome new playing e is left same =
+    ap (story_on n stage) e
+    ∙ ap (λ o. story_from n o (λ o. story_on (next_number n) (Some o.stage) (lines_of after))) is
+    ∙ ap (λ s. story_from n (Some outcome) (λ o. story_on (next_number n) s (lines_of after))) (ap {A = Stage} {B = Option Stage} (λ s. Some s) same ∙ ap stages_of (sym left))
 
-pub story_ends : (n : ℕ) (canvas : Option PictureView) (line : List ℕ) (lines : List (List ℕ)) → line_outcome canvas line ≡ None
-    → story_on n canvas (line ∷ lines) ≡ record { events = []; bad_line = Some n }
-story_ends n canvas line lines e = ap (λ o. story_from n o (λ o. story_on (next_number n) (Some o.canvas) lines)) e
-
--- ---- known bytes
-
-pub appends_more : (old between new : Option (List ℕ)) (x y : List ℕ) → Appends old between x → Appends between new y → Appends old new (x ++ y)
-appends_more None between new x y h k = tt
-appends_more (Some a) None new x y h k = absurd h
-appends_more (Some a) (Some b) None x y h k = absurd k
-appends_more (Some a) (Some b) (Some c) x y h k = k ∙ ap (λ t. t ++ y) h ∙ append_assoc a x y
-
-pub appends_none : (old : Option (List ℕ)) → Appends old old []
-appends_none None = tt
-appends_none (Some a) = sym (append-nil a)
-
-pub appends_kept : (old between new : Option (List ℕ)) (x : List ℕ) → Appends old between x → Keeps between new → Appends old new x
-appends_kept None between new x h k = tt
-appends_kept (Some a) None new x h k = absurd h
-appends_kept (Some a) (Some b) None x h k = absurd k
-appends_kept (Some a) (Some b) (Some c) x h k = k ∙ h
-
--- ---- the canvas and the screen
-
--- a canvas of the same size that has a cursor
-record Follows (old new : PictureView) : Type 0 where
-  rows : new.rows ≡ old.rows
-  columns : new.columns ≡ old.columns
-  cursor : IsSome new.wish
-
-text_follows : (canvas : PictureView) (text : List ℕ) → IsSome canvas.wish → Follows canvas (with_text canvas text)
-text_follows canvas [] h = record { rows = refl; columns = refl; cursor = h }
-text_follows canvas (byte ∷ text) h =
-    let rest = text_follows (with_byte canvas byte) text refl in
-    record { rows = rest.rows; columns = rest.columns; cursor = rest.cursor }
-
-added_follows : (canvas : PictureView) (row column : ℕ) (text : List ℕ) → IsSome canvas.wish → (inside printed : Bool)
-    → Follows canvas (cond inside (cond printed (with_text (moved canvas row column) text) (moved canvas row column)) canvas)
-added_follows canvas row column text h true true =
-    let rest = text_follows (moved canvas row column) text refl in
-    record { rows = rest.rows; columns = rest.columns; cursor = rest.cursor }
-added_follows canvas row column text h true false = record { rows = refl; columns = refl; cursor = refl }
-added_follows canvas row column text h false printed = record { rows = refl; columns = refl; cursor = h }
-
-canvas_of_cond : (inside printed : Bool) (a b c : Outcome) → (cond inside (cond printed a b) c).canvas ≡ cond inside (cond printed a.canvas b.canvas) c.canvas
-canvas_of_cond true true a b c = refl
-canvas_of_cond true false a b c = refl
-canvas_of_cond false printed a b c = refl
-
-added_is : (canvas : PictureView) (row column : ℕ) (text : List ℕ) → IsSome canvas.wish → Follows canvas (added canvas row column text).canvas
-added_is canvas row column text h =
-    let inside : Bool = nat_lt row canvas.rows && nat_lt column canvas.columns in
-    let printed : Bool = list_all is_character text in
-    subst (λ s. Follows canvas s) (sym (canvas_of_cond inside printed
-    (record { canvas = with_text (moved canvas row column) text; events = [] })
-    (record { canvas = moved canvas row column; events = Refused (codes "NotAscii") ∷ [] })
-    (record { canvas = canvas; events = Refused (codes "OutOfWindow") ∷ [] })))
-    (added_follows canvas row column text h inside printed)
-
-continued_follows : (canvas : PictureView) (command : CommandView) (outcome : Outcome) → continued canvas command ≡ Some outcome → IsSome canvas.wish → Follows canvas outcome.canvas
-continued_follows canvas (SizeCommand rows columns) outcome h some = absurd (no_outcome h)
-  where
-    no_outcome : None ≡ Some outcome → ⊥
-    no_outcome e = (cc)
-continued_follows canvas (AddCommand row column text) outcome h some =
-    subst (λ o. Follows canvas o.canvas) (same_some (added canvas row column text) outcome h) (added_is canvas row column text some)
-continued_follows canvas ShowCommand outcome h some =
-    let shown : Outcome = record { canvas = canvas; events = Shown canvas ∷ [] } in
-    subst (λ o. Follows canvas o.canvas) (same_some shown outcome h) (record { rows = refl; columns = refl; cursor = some })
-
-opened_has_cursor : (command : CommandView) (outcome : Outcome) → opened command ≡ Some outcome → IsSome outcome.canvas.wish
-opened_has_cursor (SizeCommand rows columns) outcome h =
-    let blank : Outcome = record { canvas = blank_canvas rows columns; events = [] } in
-    let made = chosen (nat_le 1 rows && nat_le rows 500 && nat_le 1 columns && nat_le columns 500) (Some blank) outcome h in
-    subst (λ o. IsSome o.canvas.wish) (same_some blank outcome made.1) refl
-opened_has_cursor (AddCommand row column text) outcome h = absurd (no_outcome h)
-  where
-    no_outcome : None ≡ Some outcome → ⊥
-    no_outcome e = (cc)
-opened_has_cursor ShowCommand outcome h = absurd (no_outcome h)
-  where
-    no_outcome : None ≡ Some outcome → ⊥
-    no_outcome e = (cc)
-
-terminal_follows : (old new : PictureView) (screen : ScreenView) → Follows old new → IsTerminalFor old screen → IsTerminalFor new screen
-terminal_follows old new screen f t = record {
-  rows = t.rows ∙ sym f.rows;
-  columns = t.columns ∙ sym f.columns;
-  valid = t.valid;
-  state = t.state;
-  is_state = subst (λ a. IsState a t.state) same t.is_state;
-  negative = t.negative;
-  nothing_waits = t.nothing_waits;
-  defined = t.defined;
-}
-  where
-    same : abilities_for old ≡ abilities_for new
-    same = λ i. full_abilities (sym f.rows i) (sym f.columns i)
-
-ready_behind : (old new : PictureView) (screen : Option ScreenView) → Follows old new → IfSome screen (λ s. IsTerminalFor old s) → IsReady (Some new) screen
-ready_behind old new None f t = record { cursor = f.cursor; terminal = tt; closed = λ e. refl }
-ready_behind old new (Some screen) f t = record { cursor = f.cursor; terminal = terminal_follows old new screen f t; closed = λ e. absurd (nothing e) }
-  where
-    nothing : Some new ≡ None → ⊥
-    nothing e = (cc)
-
-ready_from : (old : Option PictureView) (line : List ℕ) (outcome : Outcome) (screen : Option ScreenView) → line_outcome old line ≡ Some outcome → IsReady old screen → IsReady (Some outcome.canvas) screen
-ready_from None line outcome screen h ready =
-    let command = then_some (command_of line) (outcome_of None) outcome h in
-    subst (λ s. IsReady (Some outcome.canvas) s) (sym (ready.closed refl))
-    (record { cursor = opened_has_cursor command.0 outcome command.2; terminal = tt; closed = λ e. refl })
-ready_from (Some old) line outcome screen h ready =
-    let command = then_some (command_of line) (outcome_of (Some old)) outcome h in
-    ready_behind old outcome.canvas screen (continued_follows old command.0 outcome command.2 ready.cursor) ready.terminal
-
-pub ready_on : (old new : Option PictureView) (line : List ℕ) (effect : Effect) (screen : Option ScreenView) → ActsOn old line effect new → IsReady old screen → IsReady new screen
-ready_on old new line effect screen acts ready =
-    subst (λ s. IsReady s screen) (sym acts.left)
-    (ready_from old line (record { canvas = acts.canvas; events = events_of effect acts.canvas }) screen acts.outcome ready)
+story_ends : (n : ℕ) (stage : Option Stage) (rest line after : List ℕ) → lines_of rest ≡ line ∷ lines_of after → line_outcome stage line ≡ None
+    → story_on n stage (lines_of rest) ≡ record { events = []; bad_line = Some n }
+story_ends n stage rest line after e bad =
+    ap (story_on n stage) e ∙ ap (λ o. story_from n o (λ o. story_on (next_number n) (Some o.stage) (lines_of after))) bad
 
 -- ---- a run, line by line
 
--- what is written so far and what the rest writes is what the script writes
-pub record SoFar (raw : Bool) (script : List ℕ) (old now : Option (List ℕ)) (number : ℕ) (canvas : Option PictureView) (screen : Option ScreenView) (rest : List ℕ) : Type 0 where
-  pub ready : IsReady canvas screen
+-- the profile is that of the script's size
+profile_after : (script rest line after : List ℕ) (old : Option Playing) → (old ≡ None → rest ≡ script) → ForSome old (λ s. s.screen.profile ≡ profile_of script)
+    → lines_of rest ≡ line ∷ lines_of after → profile_behind old line ≡ profile_of script
+profile_after script rest line after None first is e = ap (λ lines. ecma48_profile (size_on lines).0 (size_on lines).1) (sym e ∙ ap lines_of (first refl))
+profile_after script rest line after (Some stage) first is e = is stage refl
+
+-- what is written so far is an output of what happened so far, and that and what the rest tells are the script's story
+pub record SoFar (raw : Bool) (script : List ℕ) (old now : Option (List ℕ)) (number : ℕ) (stage : Option Playing) (rest : List ℕ) : Type 0 where
+  pub ready : ForSome stage IsReadyStage
+  pub profile : ForSome stage (λ s. s.screen.profile ≡ profile_of script)
+  pub first : stage ≡ None → rest ≡ script
+  pub before : List Event
   pub text : List ℕ
+  pub output : IsOutput raw (profile_of script) before text
   pub written : Appends old now text
-  pub events : text ++ output_of raw (story_on number canvas (lines_of rest)).events ≡ output_of raw (story_of script).events
-  pub bad_line : (story_on number canvas (lines_of rest)).bad_line ≡ (story_of script).bad_line
+  pub events : before ++ (story_on number (stages_of stage) (lines_of rest)).events ≡ (story_of script).events
+  pub bad_line : (story_on number (stages_of stage) (lines_of rest)).bad_line ≡ (story_of script).bad_line
 
-so_far_events : (raw : Bool) (number : ℕ) (canvas : Option PictureView) (rest line after : List ℕ) (outcome : Outcome) (new : Option PictureView)
-    → lines_of rest ≡ line ∷ lines_of after → line_outcome canvas line ≡ Some outcome → new ≡ Some outcome.canvas
-    → story_on number canvas (lines_of rest) ≡ story_from number (Some outcome) (λ o. story_on (next_number number) new (lines_of after))
-so_far_events raw number canvas rest line after outcome new e f left =
-    ap (story_on number canvas) e ∙ story_step number canvas line (lines_of after) outcome f
-    ∙ ap (λ s. story_from number (Some outcome) (λ o. story_on (next_number number) s (lines_of after))) (sym left)
+pub so_far_first : (raw : Bool) (script : List ℕ) (now : Option (List ℕ)) → SoFar raw script now now 1 None script
+so_far_first raw script now = record {
+  ready = λ s e. absurd (none_is_none s e);
+  profile = λ s e. absurd (none_is_none s e);
+  first = λ e. refl;
+  before = [];
+  text = [];
+  output = output_none raw (profile_of script);
+  written = appends_none now;
+  events = refl;
+  bad_line = refl;
+}
 
--- what is written so far, what one line more writes, and what follows it, are what the script writes
-pub so_far_text : (raw : Bool) (script : List ℕ) (old now : Option (List ℕ)) (number : ℕ) (canvas new : Option PictureView) (screen : Option ScreenView) (rest line after text : List ℕ)
-    → (so : SoFar raw script old now number canvas screen rest) → lines_of rest ≡ line ∷ lines_of after
-    → Writes raw canvas line text new
-    → so.text ++ (text ++ output_of raw (story_on (next_number number) new (lines_of after)).events) ≡ output_of raw (story_of script).events
-so_far_text raw script old now number canvas new screen rest line after text so e writes =
-    let left : Story = story_on (next_number number) new (lines_of after) in
-    let story : story_on number canvas (lines_of rest) ≡ record { events = writes.outcome.events ++ left.events; bad_line = left.bad_line } =
-    so_far_events raw number canvas rest line after writes.outcome new e writes.is writes.left in
-    ap (λ t. so.text ++ (t ++ output_of raw left.events)) writes.written
-    ∙ ap (λ t. so.text ++ t) (sym (flat_map-append (written_event raw) writes.outcome.events left.events))
-    ∙ ap (λ s. so.text ++ output_of raw s.events) (sym story)
+-- an output of one line more
+output_more : (raw : Bool) (script : List ℕ) (old now : Option (List ℕ)) (number : ℕ) (stage new : Option Playing) (rest line after text : List ℕ)
+    → (so : SoFar raw script old now number stage rest) → lines_of rest ≡ line ∷ lines_of after → (writes : LineWrites raw stage line text new)
+    → IsOutput raw (profile_of script) (so.before ++ writes.outcome.events) (so.text ++ text)
+output_more raw script old now number stage new rest line after text so e writes =
+    output_join raw (profile_of script) so.before writes.outcome.events so.text text so.output
+    (subst (λ p. IsOutput raw p writes.outcome.events text) (writes.profile ∙ profile_after script rest line after stage so.first so.profile e) writes.written)
+
+-- the story with one line more
+story_more : (raw : Bool) (script : List ℕ) (old now : Option (List ℕ)) (number : ℕ) (stage new : Option Playing) (rest line after text : List ℕ)
+    → (so : SoFar raw script old now number stage rest) → lines_of rest ≡ line ∷ lines_of after → (writes : LineWrites raw stage line text new)
+    → (so.before ++ writes.outcome.events) ++ (story_on (next_number number) (stages_of new) (lines_of after)).events ≡ (story_of script).events
+story_more raw script old now number stage new rest line after text so e writes =
+    append_assoc so.before writes.outcome.events (story_on (next_number number) (stages_of new) (lines_of after)).events
+    ∙ ap (λ s. so.before ++ s.events) (sym (story_step number (stages_of stage) rest line after writes.outcome new writes.stage e writes.is writes.left writes.same))
     ∙ so.events
 
--- one line more
-pub so_far_more : (raw : Bool) (script : List ℕ) (old now next : Option (List ℕ)) (number : ℕ) (canvas new : Option PictureView) (screen after_screen : Option ScreenView) (rest line after text : List ℕ)
-    → SoFar raw script old now number canvas screen rest → lines_of rest ≡ line ∷ lines_of after
-    → Writes raw canvas line text new → IsReady new after_screen → Appends now next text
-    → SoFar raw script old next (next_number number) new after_screen after
-so_far_more raw script old now next number canvas new screen after_screen rest line after text so e writes ready appends =
-    let left : Story = story_on (next_number number) new (lines_of after) in
-    let story : story_on number canvas (lines_of rest) ≡ record { events = writes.outcome.events ++ left.events; bad_line = left.bad_line } =
-    so_far_events raw number canvas rest line after writes.outcome new e writes.is writes.left in
+left_is : (playing s : Playing) (new : Option Playing) → new ≡ Some playing → new ≡ Some s → playing ≡ s
+left_is playing s new left e = some_same playing s (sym left ∙ e)
+
+pub so_far_more : (raw : Bool) (script : List ℕ) (old now next : Option (List ℕ)) (number : ℕ) (stage new : Option Playing) (rest line after text : List ℕ)
+    → SoFar raw script old now number stage rest → lines_of rest ≡ line ∷ lines_of after → LineWrites raw stage line text new → Appends now next text
+    → SoFar raw script old next (next_number number) new after
+so_far_more raw script old now next number stage new rest line after text so e writes appends = record {
+  ready = λ s is. subst IsReadyStage (left_is writes.stage s new writes.left is) writes.ready;
+  profile = λ s is. subst (λ p. p.screen.profile ≡ profile_of script) (left_is writes.stage s new writes.left is) (writes.profile ∙ profile_after script rest line after stage so.first so.profile e);
+  first = λ none. absurd (none_is_none writes.stage (sym none ∙ writes.left));
+  before = so.before ++ writes.outcome.events;
+  text = so.text ++ text;
+  output = output_more raw script old now number stage new rest line after text so e writes;
+  written = appends_more old now next so.text text so.written appends;
+  events = story_more raw script old now number stage new rest line after text so e writes;
+  bad_line = sym (ap (λ s. s.bad_line) (story_step number (stages_of stage) rest line after writes.outcome new writes.stage e writes.is writes.left writes.same)) ∙ so.bad_line;
+}
+
+-- ---- its ends
+
+-- all that happened so far is written
+pub so_far_begins : (raw : Bool) (script : List ℕ) (old now new : Option (List ℕ)) (number : ℕ) (stage : Option Playing) (rest : List ℕ) → SoFar raw script old now number stage rest → Keeps now new
+    → Begins raw script old new
+so_far_begins raw script old now new number stage rest so kept = record {
+  first = so.before;
+  later = (story_on number (stages_of stage) (lines_of rest)).events;
+  story = sym so.events;
+  text = so.text;
+  output = so.output;
+  grew = record { beginning = so.text; rest = []; whole = sym (append-nil so.text); written = appends_kept old now new so.text so.written kept };
+}
+
+pub so_far_kept : (now : Option (List ℕ)) → Keeps now now
+so_far_kept None = tt
+so_far_kept (Some bytes) = refl
+
+-- a beginning of one line more is written
+pub so_far_begun : (raw : Bool) (script : List ℕ) (old now next : Option (List ℕ)) (number : ℕ) (stage new : Option Playing) (rest line after text : List ℕ)
+    → SoFar raw script old now number stage rest → lines_of rest ≡ line ∷ lines_of after → LineWrites raw stage line text new → GrewByBeginning now next text → Begins raw script old next
+so_far_begun raw script old now next number stage new rest line after text so e writes grew = record {
+  first = so.before ++ writes.outcome.events;
+  later = (story_on (next_number number) (stages_of new) (lines_of after)).events;
+  story = sym (story_more raw script old now number stage new rest line after text so e writes);
+  text = so.text ++ text;
+  output = output_more raw script old now number stage new rest line after text so e writes;
+  grew = record {
+    beginning = so.text ++ grew.beginning;
+    rest = grew.rest;
+    whole = ap (λ t. so.text ++ t) grew.whole ∙ sym (append_assoc so.text grew.beginning grew.rest);
+    written = appends_more old now next so.text grew.beginning so.written grew.written;
+  };
+}
+
+-- where nothing is left, all is written
+writes_all : (raw : Bool) (script : List ℕ) (old now new : Option (List ℕ)) (number : ℕ) (stage : Option Playing) (rest : List ℕ) → (so : SoFar raw script old now number stage rest) → Keeps now new
+    → (story_on number (stages_of stage) (lines_of rest)).events ≡ [] → Writes raw script (story_of script).events old new
+writes_all raw script old now new number stage rest so kept none =
+    subst (λ events. Writes raw script events old new) (sym (append-nil so.before) ∙ ap (λ t. so.before ++ t) (sym none) ∙ so.events)
+    (record { text = so.text; output = so.output; written = appends_kept old now new so.text so.written kept })
+
+pub so_far_whole : (raw : Bool) (script : List ℕ) (old now new : Option (List ℕ)) (number : ℕ) (stage : Option Playing) (rest : List ℕ) → SoFar raw script old now number stage rest → rest ≡ []
+    → Keeps now new → ((story_of script).bad_line ≡ None) × Writes raw script (story_of script).events old new
+so_far_whole raw script old now new number stage rest so ended kept =
+    let story : story_on number (stages_of stage) (lines_of rest) ≡ record { events = []; bad_line = None } = ap (λ r. story_on number (stages_of stage) (lines_of r)) ended in
+    (sym so.bad_line ∙ ap (λ s. s.bad_line) story, writes_all raw script old now new number stage rest so kept (ap (λ s. s.events) story))
+
+zero_of : (n : ℕ) → (n == 0) ≡ true → n ≡ 0
+zero_of n h = grind (arith, nat_tests)
+
+without_length : (rest : List ℕ) → length rest ≡ 0 → rest ≡ []
+without_length [] h = refl
+without_length (b ∷ rest) h = absurd (omega (arith, h))
+
+pub nothing_left : (rest : List ℕ) → (length rest == 0) ≡ true → rest ≡ []
+nothing_left rest h = without_length rest (zero_of (length rest) h)
+
+pub when_ok : {A E P : Type 0} → (result : Result A E) → P → OnOk result P
+when_ok (Ok done) p = p
+when_ok (Err error) p = tt
+
+pub so_far_ends : (raw : Bool) (script : List ℕ) (old now new : Option (List ℕ)) (number : ℕ) (stage : Option Playing) (rest line after : List ℕ) → SoFar raw script old now number stage rest
+    → lines_of rest ≡ line ∷ lines_of after → line_outcome (stages_of stage) line ≡ None → Keeps now new
+    → ((story_of script).bad_line ≡ Some number) × Writes raw script (story_of script).events old new
+so_far_ends raw script old now new number stage rest line after so e bad kept =
+    let story = story_ends number (stages_of stage) rest line after e bad in
+    (sym so.bad_line ∙ ap (λ s. s.bad_line) story, writes_all raw script old now new number stage rest so kept (ap (λ s. s.events) story))
+
+-- ---- refusals
+
+-- the refusals so far and those of what is left are those of the script, whatever number the line has
+pub record RefusedSoFar (script : List ℕ) (number : ℕ) (stage : Option Playing) (rest text : List ℕ) : Type 0 where
+  pub ready : ForSome stage IsReadyStage
+  pub refused : text ++ refusals_of (story_on number (stages_of stage) (lines_of rest)).events ≡ refusals_of (story_of script).events
+
+pub refused_first : (script text : List ℕ) → text ≡ [] → RefusedSoFar script 1 None script text
+refused_first script text none = record {
+  ready = λ s e. absurd (none_is_none s e);
+  refused = ap (λ t. t ++ refusals_of (story_of script).events) none;
+}
+
+pub refused_more : (script : List ℕ) (number : ℕ) (stage new : Option Playing) (rest line after before text : List ℕ) → RefusedSoFar script number stage rest before
+    → lines_of rest ≡ line ∷ lines_of after → AddsRefusals stage line before text new → RefusedSoFar script (next_number number) new after text
+refused_more script number stage new rest line after before text so e adds =
+    let left : Story = story_on (next_number number) (stages_of new) (lines_of after) in
     record {
-      ready = ready;
-      text = so.text ++ text;
-      written = appends_more old now next so.text text so.written appends;
-      events =
-          append_assoc so.text text (output_of raw left.events)
-          ∙ so_far_text raw script old now number canvas new screen rest line after text so e writes;
-      bad_line = sym (ap (λ s. s.bad_line) story) ∙ so.bad_line;
+      ready = λ s is. subst IsReadyStage (left_is adds.stage s new adds.left is) adds.ready;
+      refused = ap (λ t. t ++ refusals_of left.events) adds.added ∙ append_assoc before (refusals_of adds.outcome.events) (refusals_of left.events)
+          ∙ ap (λ t. before ++ t) (sym (refusals_join adds.outcome.events left.events))
+          ∙ ap (λ s. before ++ refusals_of s.events) (sym (story_step number (stages_of stage) rest line after adds.outcome new adds.stage e adds.is adds.left adds.same))
+          ∙ so.refused;
     }
 
--- a bad line: nothing more is written
-pub so_far_ends : (raw : Bool) (script : List ℕ) (old now : Option (List ℕ)) (number : ℕ) (canvas : Option PictureView) (screen : Option ScreenView) (rest line after : List ℕ)
-    → (so : SoFar raw script old now number canvas screen rest) → lines_of rest ≡ line ∷ lines_of after → line_outcome canvas line ≡ None
-    → (so.text ≡ output_of raw (story_of script).events) × ((story_of script).bad_line ≡ Some number)
-so_far_ends raw script old now number canvas screen rest line after so e bad =
-    let story : story_on number canvas (lines_of rest) ≡ record { events = []; bad_line = Some number } = ap (story_on number canvas) e ∙ story_ends number canvas line (lines_of after) bad in
-    (sym (append-nil so.text) ∙ ap (λ s. so.text ++ output_of raw s.events) (sym story) ∙ so.events, sym so.bad_line ∙ ap (λ s. s.bad_line) story)
+pub refused_all : (script : List ℕ) (number : ℕ) (stage : Option Playing) (rest text : List ℕ) → RefusedSoFar script number stage rest text → rest ≡ [] → text ≡ refusals_of (story_of script).events
+refused_all script number stage rest text so ended =
+    sym (append-nil text) ∙ ap (λ r. text ++ refusals_of (story_on number (stages_of stage) (lines_of r)).events) (sym ended) ∙ so.refused
 
--- one line more of refusals
-pub refusals_more : (script : List ℕ) (number : ℕ) (canvas new : Option PictureView) (rest line after before text : List ℕ)
-    → before ++ refusals_of (story_on number canvas (lines_of rest)).events ≡ refusals_of (story_of script).events → lines_of rest ≡ line ∷ lines_of after
-    → AddsRefusals canvas line before text new
-    → text ++ refusals_of (story_on (next_number number) new (lines_of after)).events ≡ refusals_of (story_of script).events
-refusals_more script number canvas new rest line after before text so e adds =
-    let left : Story = story_on (next_number number) new (lines_of after) in
-    let story : story_on number canvas (lines_of rest) ≡ record { events = adds.outcome.events ++ left.events; bad_line = left.bad_line } =
-    so_far_events true number canvas rest line after adds.outcome new e adds.is adds.left in
-    ap (λ t. t ++ refusals_of left.events) adds.added
-    ∙ append_assoc before (refusals_of adds.outcome.events) (refusals_of left.events)
-    ∙ ap (λ t. before ++ t) (sym (flat_map-append refused_event adds.outcome.events left.events))
-    ∙ ap (λ s. before ++ refusals_of s.events) (sym story)
-    ∙ so
-
-pub refusals_end : (script : List ℕ) (number : ℕ) (canvas : Option PictureView) (rest line after before : List ℕ)
-    → before ++ refusals_of (story_on number canvas (lines_of rest)).events ≡ refusals_of (story_of script).events → lines_of rest ≡ line ∷ lines_of after
-    → line_outcome canvas line ≡ None → before ≡ refusals_of (story_of script).events
-refusals_end script number canvas rest line after before so e bad =
-    let story : story_on number canvas (lines_of rest) ≡ record { events = []; bad_line = Some number } = ap (story_on number canvas) e ∙ story_ends number canvas line (lines_of after) bad in
-    sym (append-nil before) ∙ ap (λ s. before ++ refusals_of s.events) (sym story) ∙ so
+pub refused_end : (script : List ℕ) (number : ℕ) (stage : Option Playing) (rest line after text : List ℕ) → RefusedSoFar script number stage rest text
+    → lines_of rest ≡ line ∷ lines_of after → line_outcome (stages_of stage) line ≡ None → text ≡ refusals_of (story_of script).events
+refused_end script number stage rest line after text so e bad =
+    sym (append-nil text) ∙ ap (λ s. text ++ refusals_of s.events) (sym (story_ends number (stages_of stage) rest line after e bad)) ∙ so.refused

@@ -1,20 +1,26 @@
 -- The lines that the demonstration prints, and the bytes that it sends in their place.
-use Rattle.std.specs.Prelude.{ℕ, ◌+◌, ◌/◌, ◌%◌, ◌==◌, ◌&&◌, nat_lt, Bool, List, [], ◌∷◌, ◌++◌, map, codes, Option, Some, None, if◌then◌else◌}
+use Rattle.std.specs.Prelude.{ℕ, ◌≡◌, ◌+◌, ◌/◌, ◌%◌, ◌==◌, ◌&&◌, nat_lt, Bool, true, false, List, [], ◌∷◌, ◌++◌, map, codes, Option, Some, None, IfSome, if◌then◌else◌}
 use Rattle.std.specs.List.{flat_map, list_all}
 use Rattle.std.specs.Option.{is_none}
 use Rattle.std.specs.Fmt.{decimal}
+use Rattle.std.specs.Io.KnownBytes.{Appends}
 use Rattle.scr_cells.specs.LookViews.{LookView, negative_grid}
 use Rattle.scr_cells.specs.PictureViews.{PictureView}
+use Rattle.scr_term.specs.declared.operations.operation.Op.{Op}
 use Rattle.scr_term.specs.declared.operations.operation.Spot.{Spot}
 use Rattle.scr_term.specs.declared.operations.operation.Spot.TheVariants.{At, Margin}
 use Rattle.scr_term.specs.Operations.Abilities.{Abilities, full_abilities}
 use Rattle.scr_term.specs.Operations.Ecma48.{ecma48_profile}
-use Rattle.scr_term.specs.Operations.Profiles.{ProfileView}
+use Rattle.scr_term.specs.Operations.Profiles.{ProfileView, abilities}
 use Rattle.scr_term.specs.Operations.Painted.{painted}
+use Rattle.scr_term.specs.Operations.States.{TerminalState, IsState}
 use Rattle.scr_term.specs.Operations.Texts.{all_bytes}
-use Rattle.scr_plan.specs.Scratch.{scratch_of}
-use Rattle.screen_scripts.specs.Canvases.{cursor_of}
-use Rattle.screen_scripts.specs.Stories.{Event, Refused, Shown}
+use Rattle.scr_plan.specs.Scratch.{RunsToShow}
+use Rattle.scr_keys.specs.declared.keys.Key.{Key}
+use Rattle.scr_keys.specs.declared.keys.Key.TheVariants.{Slot, Byte}
+use Rattle.ti_caps.specs.Table.{name_at}
+use Rattle.ti_caps.specs.declared.table.Kind.TheVariants.{Text}
+use Rattle.screen_scripts.specs.Stories.{Event, Refused, Shown, Pressed, size_of, story_of}
 
 -- a hexadecimal digit, in lower case
 abbrev pub hexadecimal_digit : ℕ → ℕ
@@ -64,36 +70,102 @@ screen_lines grid spot = flat_map row_lines grid ++ cursor_line spot
 abbrev pub refusal_line : List ℕ → List ℕ
 refusal_line name = codes "refused " ++ name ++ 10 ∷ []
 
--- the profile that a picture is shown on: the bundled entry on a screen of the picture's size
-abbrev pub profile_for : PictureView → ProfileView
-profile_for picture = ecma48_profile picture.rows picture.columns
+-- a key: its name in the table of capabilities, or the number of a byte that is no key's
+abbrev pub name_or_none : Option (List ℕ) → List ℕ
+name_or_none None = []
+name_or_none (Some name) = name
 
--- what its terminal shows: every attribute, and colours
+abbrev pub key_name : Key → List ℕ
+key_name (Slot slot) = name_or_none (name_at Text slot)
+key_name (Byte byte) = decimal byte
+
+abbrev pub key_line : Key → List ℕ
+key_line key = codes "key " ++ key_name key ++ 10 ∷ []
+
+-- ---- what is printed
+
+-- what the terminal of the bundled entry shows: every attribute, and colours
 abbrev pub abilities_for : PictureView → Abilities
 abilities_for picture = full_abilities picture.rows picture.columns
 
--- what is printed of an event: the negative of the painted picture with the cursor where it is wished, or the refusal
-abbrev pub printed_event : Event → List ℕ
-printed_event (Refused name) = refusal_line name
-printed_event (Shown picture) =
-    screen_lines (negative_grid (painted (abilities_for picture) picture)) (At (cursor_of picture).0 (cursor_of picture).1)
+-- the lines of a screen that shows the negative of the painted picture, with the cursor where it is wished, if anywhere
+pub record IsScreenOf (picture : PictureView) (text : List ℕ) : Type 0 where
+  pub spot : Spot
+  pub wished : IfSome picture.wish (λ wish. spot ≡ At wish.0 wish.1)
+  pub lines : text ≡ screen_lines (negative_grid (painted (abilities_for picture) picture)) spot
 
--- what is sent of an event: the bytes that paint the picture from scratch
-abbrev pub sent_event : Event → List ℕ
-sent_event (Refused name) = []
-sent_event (Shown picture) = all_bytes (profile_for picture) (scratch_of (profile_for picture) picture)
+-- the lines of an event
+abbrev pub IsPrinted : Event → List ℕ → Type 0
+IsPrinted (Refused name) text = text ≡ refusal_line name
+IsPrinted (Shown picture) text = IsScreenOf picture text
+IsPrinted (Pressed key) text = text ≡ key_line key
+
+-- those of events, one after another
+abbrev pub ArePrinted : List Event → List ℕ → Type 0
+ArePrinted [] text = text ≡ []
+ArePrinted (event ∷ events) text = (lines more : List ℕ) × (text ≡ lines ++ more) × IsPrinted event lines × ArePrinted events more
 
 -- the refusals alone
 abbrev pub refused_event : Event → List ℕ
 refused_event (Refused name) = refusal_line name
-refused_event (Shown picture) = []
-
--- what a run writes: what it prints, or raw, what it sends
-abbrev pub written_event : Bool → Event → List ℕ
-written_event raw event = if raw then sent_event event else printed_event event
-
-abbrev pub output_of : Bool → List Event → List ℕ
-output_of raw events = flat_map (written_event raw) events
+refused_event event = []
 
 abbrev pub refusals_of : List Event → List ℕ
 refusals_of events = flat_map refused_event events
+
+-- ---- what is sent
+
+-- the pictures that are shown
+abbrev pub shown_by : Event → List PictureView
+shown_by (Shown picture) = picture ∷ []
+shown_by event = []
+
+abbrev pub pictures_of : List Event → List PictureView
+pictures_of events = flat_map shown_by events
+
+-- From a state the operations of updates, one update for each picture, are all defined one after another, and each update leads
+-- to a state that shows its picture.
+abbrev pub RunToShow : ProfileView → TerminalState → List (List Op) → List PictureView → Type 0
+RunToShow profile state [] [] = Unit {0}
+RunToShow profile state [] (picture ∷ pictures) = ⊥
+RunToShow profile state (ops ∷ updates) [] = ⊥
+RunToShow profile state (ops ∷ updates) (picture ∷ pictures) = (first : RunsToShow profile state ops picture) × RunToShow profile first.new updates pictures
+
+-- the bytes of an update for each picture, which show them whatever state the terminal was in at first
+pub record AreSent (profile : ProfileView) (pictures : List PictureView) (text : List ℕ) : Type 0 where
+  pub updates : List (List Op)
+  pub bytes : text ≡ flat_map (all_bytes profile) updates
+  pub show : (state : TerminalState) → IsState (abilities profile) state → RunToShow profile state updates pictures
+
+-- ---- what a run writes
+
+-- what it prints of events, or raw, what it sends
+abbrev pub IsOutput : Bool → ProfileView → List Event → List ℕ → Type 0
+IsOutput true profile events text = AreSent profile (pictures_of events) text
+IsOutput false profile events text = ArePrinted events text
+
+-- the profile of the bundled entry on a screen of the script's size
+abbrev pub profile_of : List ℕ → ProfileView
+profile_of script = ecma48_profile (size_of script).0 (size_of script).1
+
+-- a writer that held `old` holds an output of these events besides
+pub record Writes (raw : Bool) (script : List ℕ) (events : List Event) (old new : Option (List ℕ)) : Type 0 where
+  pub text : List ℕ
+  pub output : IsOutput raw (profile_of script) events text
+  pub written : Appends old new text
+
+-- what a writer holds grew by a beginning of this text
+pub record GrewByBeginning (old new : Option (List ℕ)) (text : List ℕ) : Type 0 where
+  pub beginning : List ℕ
+  pub rest : List ℕ
+  pub whole : text ≡ beginning ++ rest
+  pub written : Appends old new beginning
+
+-- it grew by a beginning of an output of the story's first events
+pub record Begins (raw : Bool) (script : List ℕ) (old new : Option (List ℕ)) : Type 0 where
+  pub first : List Event
+  pub later : List Event
+  pub story : (story_of script).events ≡ first ++ later
+  pub text : List ℕ
+  pub output : IsOutput raw (profile_of script) first text
+  pub grew : GrewByBeginning old new text

@@ -1,46 +1,188 @@
--- What the run keeps true between two lines: the emulated screen shows the negative of a state of the bundled terminal.
-use Rattle.std.specs.Prelude.{ℕ, ◌≡◌, ◌++◌, Bool, false, List, [], Option, Some, None, IsSome, IfSome}
-use Rattle.std.specs.Io.KnownBytes.{Appends}
+-- What the run keeps true between two lines, and what a line does: words of private functions.
+use Rattle.std.specs.Prelude.{ℕ, ◌≡◌, ◌≢◌, ◌++◌, Bool, false, List, [], ◌∷◌, map, Option, Some, None, IfSome}
+use Rattle.std.specs.List.{flat_map}
 use Rattle.scr_cells.specs.PictureViews.{PictureView}
+use Rattle.scr_term.specs.declared.operations.operation.Op.{Op}
+use Rattle.scr_term.specs.Operations.Admission.{IsEcma48}
+use Rattle.scr_term.specs.Operations.Ecma48.{ecma48_profile}
+use Rattle.scr_term.specs.Operations.Profiles.{ProfileView, abilities}
 use Rattle.scr_term.specs.Operations.States.{TerminalState, IsState, negative_state}
+use Rattle.scr_term.specs.Operations.Texts.{all_bytes}
 use Rattle.scr_term.specs.Ecma.Screens.{ScreenView, IsScreen}
-use Rattle.screen_scripts.specs.Stories.{Outcome, line_outcome}
-use Rattle.screen_scripts.specs.Printing.{abilities_for, output_of, refusals_of}
+use Rattle.scr_windows.specs.declared.faults.WinFault.{WinFault}
+use Rattle.scr_windows.specs.declared.faults.WinFault.TheVariants as faults
+use Rattle.curses.specs.declared.answers.Answer.{Answer}
+use Rattle.curses.specs.declared.answers.Answer.TheVariants as answers
+use Rattle.curses.specs.declared.faults.UpdateFault.{UpdateFault}
+use Rattle.curses.specs.declared.calls.values.Call.{Call}
+use Rattle.curses.specs.Making.{drawn_of}
+use Rattle.curses.specs.ScreenStates.{ScreenState}
+use Rattle.curses.specs.Updates.{LeadToShow}
+use Rattle.screen_commands.specs.Commands.{command_of}
+use Rattle.screen_commands.specs.declared.commands.Command.{Command}
+use Rattle.screen_scripts.specs.declared.effects.Effects.{Effects}
+use Rattle.screen_scripts.specs.declared.effects.Note.{Note}
+use Rattle.screen_scripts.specs.declared.effects.Note.TheVariants as notes
+use Rattle.screen_scripts.specs.declared.stages.Stage.{Stage as Playing}
+use Rattle.screen_scripts.specs.Stories.{Event, Pressed, Refused, Shown, Stage, Outcome, continued, fault_name, first_stage, key_fault_name, line_outcome, made, opened, refusal_of, size_in, updated}
+use Rattle.screen_scripts.specs.Printing.{IsOutput, IsScreenOf, key_line, refusal_line, refusals_of}
 
--- a screen of the picture's size that shows the negative of some state of the terminal, with nothing waiting
-pub record IsTerminalFor (picture : PictureView) (screen : ScreenView) : Type 0 where
-  pub rows : screen.rows ≡ picture.rows
-  pub columns : screen.columns ≡ picture.columns
+-- ---- what the run keeps true
+
+-- the stage that a screen is
+abbrev pub stage_of : ScreenState → Stage
+stage_of screen = record { drawn = drawn_of screen; keys = screen.keys }
+
+-- a screen on the terminal of the bundled entry, which owes nothing
+pub record IsReady (screen : ScreenState) : Type 0 where
+  pub entry : IsEcma48 screen.profile
+  pub nothing : screen.owed ≡ []
+
+-- an emulated screen of the terminal's size that shows the negative of some state of the terminal, with nothing waiting
+pub record IsTerminalFor (profile : ProfileView) (screen : ScreenView) : Type 0 where
+  pub rows : screen.rows ≡ profile.rows
+  pub columns : screen.columns ≡ profile.columns
   pub valid : IsScreen screen
   pub state : TerminalState
-  pub is_state : IsState (abilities_for picture) state
+  pub is_state : IsState (abilities profile) state
   pub negative : screen.state ≡ negative_state state
   pub nothing_waits : screen.waiting ≡ []
   pub defined : screen.undefined ≡ false
 
--- the canvas has a cursor, and the screen, where there is one, is a terminal for it
-pub record IsReady (canvas : Option PictureView) (screen : Option ScreenView) : Type 0 where
-  pub cursor : IfSome canvas (λ picture. IsSome picture.wish)
-  pub terminal : IfSome canvas (λ picture. IfSome screen (λ s. IsTerminalFor picture s))
-  pub closed : canvas ≡ None → screen ≡ None
+-- ---- what a line does
+
+-- the event of a note
+abbrev pub event_of : Note → Event
+event_of (notes.Refused fault) = Refused (fault_name fault)
+event_of (notes.NotTaken fault) = Refused (key_fault_name fault)
+event_of (notes.Pressed key) = Pressed key
+
+abbrev pub events_in : List Note → List Event
+events_in all = map event_of all
+
+-- where a call is refused, that is an event
+abbrev pub event_if : Option WinFault → List Event
+event_if None = []
+event_if (Some fault) = Refused (fault_name fault) ∷ []
+
+-- the event of an update, where there was one
+abbrev pub shown_if : {A : Type 0} → Option A → PictureView → List Event
+shown_if None picture = []
+shown_if (Some update) picture = Shown picture ∷ []
+
+-- the events of a line that left this picture: its notes, and its update
+abbrev pub events_of : Effects → PictureView → List Event
+events_of effects picture = events_in effects.notes.items ++ shown_if effects.update picture
+
+-- the bytes of operations that lead from every state of the terminal to one that shows a picture
+pub record IsUpdateOf (profile : ProfileView) (picture : PictureView) (bytes : List ℕ) : Type 0 where
+  pub ops : List Op
+  pub bytes_are : bytes ≡ all_bytes profile ops
+  pub lead : LeadToShow profile picture ops
+
+-- a call that is no update was made: it was refused so, if it was
+pub record IsQuiet (old new : ScreenState) (call : Call) (fault : Option WinFault) : Type 0 where
+  pub stage : (made (stage_of old) call).stage ≡ stage_of new
+  pub events : (made (stage_of old) call).events ≡ event_if fault
+  pub profile : new.profile ≡ old.profile
+  pub ready : IsReady new
+
+-- an update was made, and sent these bytes
+pub record Updates (old new : ScreenState) (bytes : List ℕ) : Type 0 where
+  pub stage : (updated (stage_of old)).stage ≡ stage_of new
+  pub picture : new.virtual.picture ≡ old.virtual.picture
+  pub update : IsUpdateOf new.profile new.virtual.picture bytes
+  pub profile : new.profile ≡ old.profile
+  pub ready : IsReady new
+
+-- a command was obeyed: its outcome is the screen after it and these effects
+pub record Obeys (old new : ScreenState) (effects : Effects) (outcome : Outcome) : Type 0 where
+  pub is : outcome ≡ record { stage = stage_of new; events = events_of effects new.virtual.picture }
+  pub update : IfSome effects.update (λ bytes. IsUpdateOf new.profile new.virtual.picture bytes.items)
+  pub profile : new.profile ≡ old.profile
+  pub ready : IsReady new
+
+abbrev pub ObeysSome : ScreenState → ScreenState → Effects → Option Outcome → Type 0
+ObeysSome old new effects None = ⊥
+ObeysSome old new effects (Some outcome) = Obeys old new effects outcome
+
+-- an answer is the refusal of a call, or none; it is neither want of memory nor an update that ended early
+pub record IsRefusalOf (answer : Answer) (fault : Option WinFault) : Type 0 where
+  pub events : refusal_of answer ≡ event_if fault
+  pub memory : answer ≢ answers.Refused faults.NoMemory
+  pub early : (fault : UpdateFault) → answer ≢ answers.Failed fault
+
+-- ---- stages
+
+-- a screen that is ready, and a terminal for it
+pub record IsReadyStage (stage : Playing) : Type 0 where
+  pub screen : IsReady stage.screen
+  pub terminal : IsTerminalFor stage.screen.profile stage.terminal
+
+-- a stage of so many rows and columns, on which nothing was done yet
+pub record IsFirst (rows columns : ℕ) (stage : Playing) : Type 0 where
+  pub is : stage_of stage.screen ≡ first_stage rows columns
+  pub profile : stage.screen.profile ≡ ecma48_profile rows columns
+
+-- a command opened the stage
+pub record Opens (command : Command) (stage : Playing) : Type 0 where
+  pub is : opened command ≡ Some (record { stage = stage_of stage.screen; events = [] })
+  pub profile : stage.screen.profile ≡ ecma48_profile (size_in (Some command)).0 (size_in (Some command)).1
+  pub ready : IsReadyStage stage
+
+-- the stage, where one is open
+abbrev pub stages_of : Option Playing → Option Stage
+stages_of None = None
+stages_of (Some stage) = Some (stage_of stage.screen)
+
+-- ---- what is written
+
+-- the line of a note
+abbrev pub note_line : Note → List ℕ
+note_line (notes.Refused fault) = refusal_line (fault_name fault)
+note_line (notes.NotTaken fault) = refusal_line (key_fault_name fault)
+note_line (notes.Pressed key) = key_line key
+
+abbrev pub notes_lines : List Note → List ℕ
+notes_lines all = flat_map note_line all
+
+-- the lines of a picture's screen were added
+pub record AddsScreen (picture : PictureView) (before after : List ℕ) : Type 0 where
+  pub lines : List ℕ
+  pub is : IsScreenOf picture lines
+  pub added : after ≡ before ++ lines
+
+-- what a command did on an open stage, and what is written of it
+pub record CommandWrites (raw : Bool) (old : Playing) (command : Command) (text : List ℕ) (new : Playing) : Type 0 where
+  pub outcome : Outcome
+  pub is : continued (stage_of old.screen) command ≡ Some outcome
+  pub left : outcome.stage ≡ stage_of new.screen
+  pub ready : IsReadyStage new
+  pub profile : new.screen.profile ≡ old.screen.profile
+  pub written : IsOutput raw new.screen.profile outcome.events text
+
+-- the profile behind a line: that of the size that it gives, if it opened the stage
+abbrev pub profile_behind : Option Playing → List ℕ → ProfileView
+profile_behind None line = ecma48_profile (size_in (command_of line)).0 (size_in (command_of line)).1
+profile_behind (Some stage) line = stage.screen.profile
 
 -- what a line did, and what is written of it
-pub record Writes (raw : Bool) (old : Option PictureView) (line : List ℕ) (text : List ℕ) (new : Option PictureView) : Type 0 where
+pub record LineWrites (raw : Bool) (old : Option Playing) (line text : List ℕ) (new : Option Playing) : Type 0 where
   pub outcome : Outcome
-  pub is : line_outcome old line ≡ Some outcome
-  pub left : new ≡ Some outcome.canvas
-  pub written : text ≡ output_of raw outcome.events
+  pub is : line_outcome (stages_of old) line ≡ Some outcome
+  pub stage : Playing
+  pub left : new ≡ Some stage
+  pub same : outcome.stage ≡ stage_of stage.screen
+  pub ready : IsReadyStage stage
+  pub profile : stage.screen.profile ≡ profile_behind old line
+  pub written : IsOutput raw stage.screen.profile outcome.events text
 
 -- what a line did, and what it adds to the refusals
-pub record AddsRefusals (old : Option PictureView) (line before after : List ℕ) (new : Option PictureView) : Type 0 where
+pub record AddsRefusals (old : Option Playing) (line before after : List ℕ) (new : Option Playing) : Type 0 where
   pub outcome : Outcome
-  pub is : line_outcome old line ≡ Some outcome
-  pub left : new ≡ Some outcome.canvas
+  pub is : line_outcome (stages_of old) line ≡ Some outcome
+  pub stage : Playing
+  pub left : new ≡ Some stage
+  pub same : outcome.stage ≡ stage_of stage.screen
+  pub ready : IsReadyStage stage
   pub added : after ≡ before ++ refusals_of outcome.events
-
--- what a writer holds grew by a beginning of this text
-pub record GrewByBeginning (old new : Option (List ℕ)) (text : List ℕ) : Type 0 where
-  pub beginning : List ℕ
-  pub rest : List ℕ
-  pub whole : text ≡ beginning ++ rest
-  pub written : Appends old new beginning

@@ -1,54 +1,178 @@
--- What a script means: what it is refused and what it shows, in order, up to the first bad line.
-use Rattle.std.specs.Prelude.{ℕ, ◌+◌, ◌-◌, ◌^◌, ◌&&◌, nat_lt, nat_le, List, [], ◌∷◌, ◌++◌, Option, Some, None, option_and_then, min, codes, if◌then◌else◌}
-use Rattle.std.specs.List.{list_all}
-use Rattle.scr_cells.specs.CellViews.{is_character}
+-- What a script means: what is refused, what is shown and which keys are pressed, in order, up to the first bad line.
+use Rattle.std.specs.Prelude.{ℕ, ◌≡◌, ◌+◌, ◌-◌, ◌^◌, ◌==◌, ◌&&◌, nat_le, List, [], ◌∷◌, ◌++◌, length, map, Option, Some, None, option_and_then, Result, Ok, Err, min, codes, if◌then◌else◌}
+use Rattle.std.specs.List.{range_with_len}
 use Rattle.scr_cells.specs.PictureViews.{PictureView}
-use Rattle.screen_scripts.specs.Lines.{lines_of}
-use Rattle.screen_scripts.specs.Commands.{CommandView, SizeCommand, AddCommand, ShowCommand, command_of}
-use Rattle.screen_scripts.specs.Canvases.{blank_canvas, moved, with_text}
+use Rattle.scr_keys.specs.Keys.{Keys}
+use Rattle.scr_keys.specs.Readers.{ReaderView, byte_read, idle_read}
+use Rattle.scr_keys.specs.Tables.{keys_of}
+use Rattle.scr_keys.specs.declared.faults.KeyFault.{KeyFault}
+use Rattle.scr_keys.specs.declared.faults.KeyFault.TheVariants as key_faults
+use Rattle.scr_keys.specs.declared.keys.Key.{Key}
+use Rattle.scr_virtual.specs.VirtualViews.{settled}
+use Rattle.scr_windows.specs.declared.faults.Win.{Win}
+use Rattle.scr_windows.specs.declared.faults.WinFault.{WinFault}
+use Rattle.scr_windows.specs.declared.faults.WinFault.TheVariants as faults
+use Rattle.ti_caps.specs.Bundled.{bundled_names, bundled_texts, listed}
+use Rattle.ti_caps.specs.Description.{Description, bare}
+use Rattle.curses.specs.declared.answers.Answer.{Answer}
+use Rattle.curses.specs.declared.answers.Answer.TheVariants as answers
+use Rattle.curses.specs.declared.calls.values.Call.{Call}
+use Rattle.curses.specs.declared.calls.values.Call.TheVariants.{AddText, MoveCursor, Noutrefresh}
+use Rattle.curses.specs.Sessions.{Drawn, first_drawn, is_update, screen_call}
+use Rattle.screen_commands.specs.Commands.{command_of}
+use Rattle.screen_commands.specs.Lines.{lines_of}
+use Rattle.screen_commands.specs.declared.commands.Command.{Command}
+use Rattle.screen_commands.specs.declared.commands.Command.TheVariants as commands
 
--- a refused call, by its fault's name; an update that shows a picture
+-- ---- events
+
+-- a refused call, by its fault's name; an update that shows a picture; a key that was pressed
 pub data Event : Type 0 where
   Refused : (name : List ℕ) → Event
   Shown : (picture : PictureView) → Event
+  Pressed : (key : Key) → Event
 
--- the canvas after a line, and what came of it
+-- what the commands of a script act on: windows and the virtual screen, and the reader of keys
+pub record Stage : Type 0 where
+  pub drawn : Drawn
+  pub keys : ReaderView
+
+-- what a command leaves, and what came of it
 pub record Outcome : Type 0 where
-  pub canvas : PictureView
+  pub stage : Stage
   pub events : List Event
 
--- the first line gives the size, 1 to 500 each
-abbrev pub opened : CommandView → Option Outcome
-opened (SizeCommand rows columns) =
-    if nat_le 1 rows && nat_le rows 500 && nat_le 1 columns && nat_le columns 500
-    then Some (record { canvas = blank_canvas rows columns; events = [] })
-    else None
-opened _ = None
+abbrev pub fault_name : WinFault → List ℕ
+fault_name faults.NoWindow = codes "NoWindow"
+fault_name faults.IsPad = codes "IsPad"
+fault_name faults.NotPad = codes "NotPad"
+fault_name faults.IsSub = codes "IsSub"
+fault_name faults.HasChildren = codes "HasChildren"
+fault_name faults.NotAscii = codes "NotAscii"
+fault_name faults.OutOfWindow = codes "OutOfWindow"
+fault_name faults.OffScreen = codes "OffScreen"
+fault_name faults.NotInParent = codes "NotInParent"
+fault_name faults.BadRegion = codes "BadRegion"
+fault_name faults.NoScroll = codes "NoScroll"
+fault_name faults.TooBig = codes "TooBig"
+fault_name faults.TooMany = codes "TooMany"
+fault_name faults.NoMemory = codes "NoMemory"
+fault_name faults.BadPair = codes "BadPair"
+fault_name faults.BadColour = codes "BadColour"
 
--- A place outside is refused, and nothing changes. Else the cursor moves there; a text with other than
--- printed characters is then refused, and any other is added.
-abbrev pub added : PictureView → ℕ → ℕ → List ℕ → Outcome
-added canvas row column text =
-    if nat_lt row canvas.rows && nat_lt column canvas.columns
-    then (if list_all is_character text
-    then record { canvas = with_text (moved canvas row column) text; events = [] }
-    else record { canvas = moved canvas row column; events = Refused (codes "NotAscii") ∷ [] })
-    else record { canvas = canvas; events = Refused (codes "OutOfWindow") ∷ [] }
+abbrev pub key_fault_name : KeyFault → List ℕ
+key_fault_name (key_faults.KeyTooLong slot) = codes "KeyTooLong"
+key_fault_name key_faults.QueueFull = codes "QueueFull"
+key_fault_name key_faults.NoMemory = codes "NoMemory"
+
+-- ---- calls
+
+-- an answer is an event where it is a refusal
+abbrev pub refusal_of : Answer → List Event
+refusal_of (answers.Refused fault) = Refused (fault_name fault) ∷ []
+refusal_of answer = []
+
+-- windows and virtual screen after a call that is no update, and its answer
+abbrev pub called : Stage → Drawn × Answer → Outcome
+called stage call = record { stage = record stage { drawn = call.0 }; events = refusal_of call.1 }
+
+-- an update shows the picture of the virtual screen, which is then settled
+abbrev pub updated : Stage → Outcome
+updated stage = record {
+  stage = record stage { drawn = record stage.drawn { virtual = settled stage.drawn.virtual } };
+  events = Shown stage.drawn.virtual.picture ∷ [];
+}
+
+unfoldable pub made : Stage → Call → Outcome
+made stage call = if is_update call then updated stage else called stage (screen_call stage.drawn call)
+
+-- ---- commands
+
+-- what follows comes of what an outcome left
+abbrev pub followed : Outcome → (Stage → Outcome) → Outcome
+followed outcome next = record { stage = (next outcome.stage).stage; events = outcome.events ++ (next outcome.stage).events }
+
+-- what follows comes only where nothing was refused
+abbrev pub unless_refused : Outcome → (Stage → Outcome) → Outcome
+unless_refused outcome next = if length outcome.events == 0 then next outcome.stage else outcome
+
+-- the window that is there from the beginning, over the whole screen
+abbrev pub first_window : Win
+first_window = record { 0 = 0 }
+
+-- a text at a place of the first window
+abbrev pub added : Stage → ℕ → ℕ → List ℕ → Outcome
+added stage row column text = unless_refused (made stage (MoveCursor first_window row column)) (λ moved. made moved (AddText first_window text))
+
+-- the first window is taken onto the virtual screen, and this is shown
+abbrev pub shown : Stage → Outcome
+shown stage = followed (made stage (Noutrefresh first_window)) updated
+
+-- ---- keys
+
+-- where the reader refuses what came, that is an event
+abbrev pub key_refusal : Result (Unit {0}) KeyFault → List Event
+key_refusal (Ok done) = []
+key_refusal (Err fault) = Refused (key_fault_name fault) ∷ []
+
+abbrev pub came : Stage → ReaderView × Result (Unit {0}) KeyFault → Outcome
+came stage read = record { stage = record stage { keys = read.0 }; events = key_refusal read.1 }
+
+-- bytes come one after another, whatever is refused
+abbrev pub bytes_came : Stage → List ℕ → Outcome
+bytes_came stage [] = record { stage = stage; events = [] }
+bytes_came stage (byte ∷ bytes) = followed (came stage (byte_read stage.keys byte)) (λ next. bytes_came next bytes)
+
+-- all keys that wait are taken
+abbrev pub keys_taken : Stage → Outcome
+keys_taken stage = record { stage = record stage { keys = record stage.keys { queue = [] } }; events = map Pressed stage.keys.queue }
+
+-- bytes come from the keyboard, and then all keys are taken; none comes for a while, and all keys are taken
+abbrev pub pressed : Stage → List ℕ → Outcome
+pressed stage bytes = followed (bytes_came stage bytes) keys_taken
+
+abbrev pub idled : Stage → Outcome
+idled stage = followed (came stage (idle_read stage.keys)) keys_taken
+
+-- ---- lines
+
+-- the keys of the bundled entry, whose texts are these
+abbrev pub bundled_description : Description
+bundled_description = record (bare bundled_names) { texts = map (listed bundled_texts) (range_with_len 0 512) }
+
+unfoldable pub bundled_keys : Keys
+bundled_keys = keys_of bundled_description
+
+-- A size of 1 to 500 rows and columns opens the stage: one blank window over the whole screen, and no key was pressed. Any other first
+-- command is bad.
+abbrev pub first_stage : ℕ → ℕ → Stage
+first_stage rows columns = record { drawn = first_drawn rows columns; keys = record { keys = bundled_keys; queue = []; waiting = [] } }
+
+abbrev pub opened : Command → Option Outcome
+opened (commands.Size rows columns) =
+    if nat_le 1 rows && nat_le rows 500 && nat_le 1 columns && nat_le columns 500
+    then Some (record { stage = first_stage rows columns; events = [] })
+    else None
+opened command = None
 
 -- there is one size
-abbrev pub continued : PictureView → CommandView → Option Outcome
-continued canvas (SizeCommand rows columns) = None
-continued canvas (AddCommand row column text) = Some (added canvas row column text)
-continued canvas ShowCommand = Some (record { canvas = canvas; events = Shown canvas ∷ [] })
+abbrev pub continued : Stage → Command → Option Outcome
+continued stage (commands.Size rows columns) = None
+continued stage (commands.Add row column text) = Some (added stage row column text)
+continued stage commands.Show = Some (shown stage)
+continued stage (commands.Make call) = Some (made stage call)
+continued stage (commands.Key bytes) = Some (pressed stage bytes)
+continued stage commands.Idle = Some (idled stage)
 
--- the first command opens the canvas, every other goes on with it
-abbrev pub outcome_of : Option PictureView → CommandView → Option Outcome
+abbrev pub outcome_of : Option Stage → Command → Option Outcome
 outcome_of None command = opened command
-outcome_of (Some canvas) command = continued canvas command
+outcome_of (Some stage) command = continued stage command
 
 -- what a line does, or none where it is bad
-abbrev pub line_outcome : Option PictureView → List ℕ → Option Outcome
-line_outcome canvas line = option_and_then (outcome_of canvas) (command_of line)
+abbrev pub line_outcome : Option Stage → List ℕ → Option Outcome
+line_outcome stage line = option_and_then (outcome_of stage) (command_of line)
+
+-- ---- stories
 
 -- what happened, and the number of the first bad line, if any; numbers stay at the last one of 32 bits
 pub record Story : Type 0 where
@@ -64,10 +188,22 @@ story_from n None rest = record { events = []; bad_line = Some n }
 story_from n (Some outcome) rest = record { events = outcome.events ++ (rest outcome).events; bad_line = (rest outcome).bad_line }
 
 -- the lines from the one with this number on
-abbrev pub story_on : ℕ → Option PictureView → List (List ℕ) → Story
-story_on n canvas [] = record { events = []; bad_line = None }
-story_on n canvas (line ∷ lines) =
-    story_from n (line_outcome canvas line) (λ outcome. story_on (next_number n) (Some outcome.canvas) lines)
+abbrev pub story_on : ℕ → Option Stage → List (List ℕ) → Story
+story_on n stage [] = record { events = []; bad_line = None }
+story_on n stage (line ∷ lines) =
+    story_from n (line_outcome stage line) (λ outcome. story_on (next_number n) (Some outcome.stage) lines)
 
 abbrev pub story_of : List ℕ → Story
 story_of script = story_on 1 None (lines_of script)
+
+-- Rows and columns of the screen, which the first line gives. Where it does not, nothing is shown, and whatever stands here will do.
+abbrev pub size_in : Option Command → ℕ × ℕ
+size_in (Some (commands.Size rows columns)) = (rows, columns)
+size_in command = (1, 1)
+
+abbrev pub size_on : List (List ℕ) → ℕ × ℕ
+size_on [] = (1, 1)
+size_on (line ∷ lines) = size_in (command_of line)
+
+abbrev pub size_of : List ℕ → ℕ × ℕ
+size_of script = size_on (lines_of script)

@@ -1,13 +1,15 @@
-//! Scripts that draw on a screen: what each line says, what it does, and what is written of it.
+//! Scripts that draw on a screen: what each line does, and what is written of it.
 #![tactic(auto)]
 
-mod canvases;
-mod commands;
-mod cuts;
+mod effects;
+mod faults;
+mod making;
+mod obeying;
+mod pressing;
 mod printing;
 mod running;
 mod showing;
-mod stage;
+mod stages;
 
 pub use printing::print_screen;
 pub use running::{DemoFault, refusals, run};

@@ -3,10 +3,14 @@ ghost use Rattle.std.specs.Prelude.{◌≡◌, ◌==◌, ◌++◌, ◌<◌, IfSo
 ghost use Rattle.std.specs.Fmt.{decimal};
 ghost use Rattle.std.specs.List.{list_all};
 ghost use Rattle.scr_cells.specs.PenViews.{IsColour};
-ghost use Rattle.screen_scripts.specs.Printing.{attribute_line, character_line, colour_line, cursor_line, has_default_colours, refusal_line, row_lines, screen_lines, colour_digit as colour_digit_of, hexadecimal_digit as hexadecimal_digit_of};
+ghost use Rattle.ti_caps.specs.Table.{name_at};
+ghost use Rattle.ti_caps.specs.declared.table.Kind.TheVariants as KindView;
+ghost use Rattle.screen_scripts.specs.Printing.{attribute_line, character_line, colour_line, cursor_line, has_default_colours, key_line, name_or_none, refusal_line, row_lines, screen_lines, colour_digit as colour_digit_of, hexadecimal_digit as hexadecimal_digit_of};
 
 use scr_cells::{Look, NoMemory};
+use scr_keys::Key;
 use scr_term::{EcmaScreen, Spot};
+use ti_caps::{Kind, Slot, name_of};
 
 /// Adds the lines of a screen: each row with the lines of its attributes and its colours, if it has any, and the cursor. Fails
 /// only when memory runs out; what was added until then stays.
@@ -26,6 +30,29 @@ pub fn print_refusal(name: &str, text: &mut Vec<u8>) -> Result<(), NoMemory>
     text.extend_from_slice(b"refused ")?;
     text.extend_from_slice(name.as_bytes())?;
     text.push(b'\n')?;
+    Ok(())
+}
+
+/// Adds the line of a key.
+pub fn print_key(key: Key, text: &mut Vec<u8>) -> Result<(), NoMemory>
+    ensures { OnOk result (text.new.items ≡ text.old.items ++ key_line key) }
+{
+    text.extend_from_slice(b"key ")?;
+    match key {
+        Key::Slot(slot) => print_capability(slot, text)?,
+        Key::Byte(byte) => print_number(u32::from(byte), text)?,
+    }
+    text.push(b'\n')?;
+    Ok(())
+}
+
+// Adds the name of a text, where it has one.
+fn print_capability(slot: u16, text: &mut Vec<u8>) -> Result<(), NoMemory>
+    ensures { OnOk result (text.new.items ≡ text.old.items ++ name_or_none (name_at KindView.Text slot)) }
+{
+    if let Some(name) = name_of(Kind::Text, Slot(slot)) {
+        text.extend_from_slice(name.as_bytes())?;
+    }
     Ok(())
 }
 

@@ -1,17 +1,16 @@
 //! A script from its text to what is written of it.
-ghost use Rattle.std.specs.Prelude.{◌≡◌, ℕ, None, Some, IfOk, IfSome, OnOk, IsErrOf};
+ghost use Rattle.std.specs.Prelude.{◌≡◌, ℕ, None, Some, IfOk, OnOk, IsErrOf};
+ghost use Rattle.std.specs.Option.{ForSome};
 ghost use Rattle.std.specs.Io.KnownBytes.{Appends, Keeps};
-ghost use Rattle.screen_scripts.specs.Stories.{line_outcome, story_of};
-ghost use Rattle.screen_scripts.specs.StageViews.{events_of};
-ghost use Rattle.screen_scripts.specs.Printing.{output_of, refusals_of};
-ghost use Rattle.screen_scripts.specs.Showing.{IsReady, Writes, AddsRefusals, GrewByBeginning};
+ghost use Rattle.screen_scripts.specs.Stories.{continued, line_outcome, story_of};
+ghost use Rattle.screen_scripts.specs.Printing.{Begins, GrewByBeginning, Writes, refusals_of};
+ghost use Rattle.screen_scripts.specs.Showing.{AddsRefusals, CommandWrites, IsReadyStage, LineWrites, stage_of, stages_of};
 
-use crate::cuts::cut_line;
-use crate::printing::print_refusal;
-use crate::showing::show;
-use crate::stage::{Effect, LineFault, act_on};
-use scr_cells::{NoMemory, Picture};
-use scr_term::EcmaScreen;
+use crate::obeying::obey;
+use crate::showing::{effects_text, print_refusals};
+use crate::stages::{Stage, open_stage};
+use scr_cells::NoMemory;
+use screen_commands::{Command, LineFault, cut_line, read_command};
 use std::alloc::Global;
 use std::io::{ErrorKind, Write};
 use thiserror::Error;
@@ -40,19 +39,18 @@ pub enum DemoFault {
 /// Whatever it answers, what was written is a beginning of the script's output.
 pub fn run<W: Write>(alloc: Global, script: &[u8], raw: bool, out: &mut W) -> Result<(), DemoFault>
     ensures whole { OnOk result ((story_of script.now).bad_line ≡ None) }
-    ensures written { OnOk result (Appends (W.contents out.old) (W.contents out.new) (output_of raw (story_of script.now).events)) }
+    ensures written { OnOk result (Writes raw script.now (story_of script.now).events (W.contents out.old) (W.contents out.new)) }
     ensures bad { (n : ℕ) → IsErrOf result (DemoFault.BadCommand n) → (story_of script.now).bad_line ≡ Some n }
     ensures before_bad { (n : ℕ) → IsErrOf result (DemoFault.BadCommand n)
-        → Appends (W.contents out.old) (W.contents out.new) (output_of raw (story_of script.now).events) }
-    ensures beginning { GrewByBeginning (W.contents out.old) (W.contents out.new) (output_of raw (story_of script.now).events) }
+        → Writes raw script.now (story_of script.now).events (W.contents out.old) (W.contents out.new) }
+    ensures beginning { Begins raw script.now (W.contents out.old) (W.contents out.new) }
 {
-    let mut canvas = None;
-    let mut terminal = None;
+    let mut stage = None;
     let mut rest = script;
     let mut number: u32 = 1;
     while !rest.is_empty() {
         let (line, after) = cut_line(rest);
-        match line_text(alloc, raw, line, &mut canvas, &mut terminal) {
+        match line_text(alloc, raw, line, &mut stage) {
             Ok(text) => write_text(&text, out)?,
             Err(LineFault::Bad) => {
                 flush(out)?;
@@ -72,11 +70,11 @@ pub fn refusals(alloc: Global, script: &[u8]) -> Result<Vec<u8>, NoMemory>
     ensures { IfOk result (λ text. text.items ≡ refusals_of (story_of script.now).events) }
 {
     let mut text = Vec::new(alloc);
-    let mut canvas = None;
+    let mut stage = None;
     let mut rest = script;
     while !rest.is_empty() {
         let (line, after) = cut_line(rest);
-        match add_refusal(alloc, line, &mut canvas, &mut text) {
+        match add_refusal(alloc, line, &mut stage, &mut text) {
             Ok(()) => rest = after,
             Err(LineFault::Bad) => break,
             Err(LineFault::NoMemory) => return Err(NoMemory),
@@ -118,54 +116,55 @@ fn line_text(
     alloc: Global,
     raw: bool,
     line: &[u8],
-    canvas: &mut Option<Picture>,
-    terminal: &mut Option<EcmaScreen>,
+    stage: &mut Option<Stage>,
 ) -> Result<Vec<u8>, LineFault>
-    requires { IsReady canvas.old terminal.old }
-    ensures text { IfOk result (λ text. Writes raw canvas.old line.now text.items canvas.new) }
-    ensures ready { OnOk result (IsReady canvas.new terminal.new) }
-    ensures bad { IsErrOf result LineFault.Bad → line_outcome canvas.old line.now ≡ None }
+    requires { ForSome stage.old IsReadyStage }
+    ensures text { IfOk result (λ text. LineWrites raw stage.old line.now text.items stage.new) }
+    ensures bad { IsErrOf result LineFault.Bad → line_outcome (stages_of stage.old) line.now ≡ None }
 {
-    let effect = act_on(alloc, canvas, line)?;
-    let text = effect_text(alloc, raw, effect, canvas, terminal)?;
-    Ok(text)
-}
-
-// What is written of what came of a line that left this canvas.
-fn effect_text(
-    alloc: Global,
-    raw: bool,
-    effect: Effect,
-    canvas: &Option<Picture>,
-    terminal: &mut Option<EcmaScreen>,
-) -> Result<Vec<u8>, NoMemory>
-    requires { IsReady canvas.now terminal.old }
-    ensures text { IfOk result (λ text. IfSome canvas.now (λ s. text.items ≡ output_of raw (events_of effect s))) }
-    ensures ready { OnOk result (IsReady canvas.now terminal.new) }
-{
-    match (effect, canvas) {
-        (Effect::Refused(refusal), _) if !raw => {
-            let mut text = Vec::new(alloc);
-            print_refusal(refusal.name(), &mut text)?;
-            Ok(text)
+    let command = read_command(alloc, line)?;
+    match stage {
+        None => {
+            *stage = Some(open_stage(alloc, command)?);
+            Ok(Vec::new(alloc))
         }
-        (Effect::Shown, Some(canvas)) => show(alloc, raw, canvas, terminal),
-        _ => Ok(Vec::new(alloc)),
+        Some(stage) => command_text(alloc, raw, command, stage),
     }
 }
 
-// Does what a line says, and adds the line of its refusal, if any.
+// Does what a command says on an open stage, and gives what is written of it.
+fn command_text(
+    alloc: Global,
+    raw: bool,
+    command: Command,
+    stage: &mut Stage,
+) -> Result<Vec<u8>, LineFault>
+    requires { IsReadyStage stage.old }
+    ensures text { IfOk result (λ text. CommandWrites raw stage.old command text.items stage.new) }
+    ensures bad { IsErrOf result LineFault.Bad → continued (stage_of stage.old.screen) command ≡ None }
+{
+    let effects = obey(alloc, &mut stage.screen, command)?;
+    Ok(effects_text(alloc, raw, effects, stage)?)
+}
+
+// Does what a line says, and adds the lines of its refusals.
 fn add_refusal(
     alloc: Global,
     line: &[u8],
-    canvas: &mut Option<Picture>,
+    stage: &mut Option<Stage>,
     text: &mut Vec<u8>,
 ) -> Result<(), LineFault>
-    ensures ok { OnOk result (AddsRefusals canvas.old line.now text.old.items text.new.items canvas.new) }
-    ensures bad { IsErrOf result LineFault.Bad → (line_outcome canvas.old line.now ≡ None) × (text.new.items ≡ text.old.items) }
+    requires { ForSome stage.old IsReadyStage }
+    ensures ok { OnOk result (AddsRefusals stage.old line.now text.old.items text.new.items stage.new) }
+    ensures bad { IsErrOf result LineFault.Bad → (line_outcome (stages_of stage.old) line.now ≡ None) × (text.new.items ≡ text.old.items) }
 {
-    if let Effect::Refused(refusal) = act_on(alloc, canvas, line)? {
-        print_refusal(refusal.name(), text)?;
+    let command = read_command(alloc, line)?;
+    match stage {
+        None => *stage = Some(open_stage(alloc, command)?),
+        Some(stage) => {
+            let effects = obey(alloc, &mut stage.screen, command)?;
+            print_refusals(&effects.notes, text)?;
+        }
     }
     Ok(())
 }

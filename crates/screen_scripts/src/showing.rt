@@ -1,106 +1,99 @@
-//! Showing a canvas: the bytes that paint it, and what a terminal then shows.
-ghost use Rattle.std.specs.Prelude.{◌≡◌, IsSome, IfSome, IfOk, OnOk};
-ghost use Rattle.std.specs.Option.{ForSome};
-ghost use Rattle.scr_term.specs.Operations.Admission.{IsEcma48};
+//! What is written of a line's effects.
+ghost use Rattle.std.specs.Prelude.{◌≡◌, ◌++◌, IfOk, IfSome, OnOk};
 ghost use Rattle.scr_term.specs.Operations.Painted.{ShowsNegative};
-ghost use Rattle.scr_term.specs.Operations.Texts.{all_bytes};
-ghost use Rattle.scr_plan.specs.Scratch.{Fits, scratch_of};
-ghost use Rattle.screen_scripts.specs.Stories.{Shown};
-ghost use Rattle.screen_scripts.specs.Printing.{abilities_for, printed_event, profile_for, sent_event, written_event};
-ghost use Rattle.screen_scripts.specs.Showing.{IsTerminalFor};
+ghost use Rattle.screen_scripts.specs.Printing.{IsOutput, abilities_for, refusals_of};
+ghost use Rattle.screen_scripts.specs.Showing.{AddsScreen, IsReadyStage, IsUpdateOf, events_in, events_of, note_line, notes_lines};
 
-use crate::printing::print_screen;
-use scr_cells::{NoMemory, Picture};
-use scr_plan::{scratch_bytes, scratch_bytes_show};
-use scr_term::{EcmaScreen, Profile, blank_laws, ecma48_laws, screens_follow_texts};
+use crate::effects::{Effects, Note};
+use crate::faults::{fault_name, key_fault_name};
+use crate::printing::{print_key, print_refusal, print_screen};
+use crate::stages::Stage;
+use scr_cells::NoMemory;
+use scr_term::{bytes_act_as_their_operations, ecma48_laws, run_laws, screens_follow_texts};
 use std::alloc::Global;
 
-/// What is written of a canvas that is shown: raw, the bytes that paint it, else the lines that the
-/// terminal then shows. There is a terminal after the first lines.
-pub fn show(
+/// What is written of the effects of a line that left this stage: its lines, or raw, the bytes of its update. Fails only
+/// when memory runs out.
+pub fn effects_text(
     alloc: Global,
     raw: bool,
-    canvas: &Picture,
-    terminal: &mut Option<EcmaScreen>,
+    effects: Effects,
+    stage: &mut Stage,
 ) -> Result<Vec<u8>, NoMemory>
-    requires cursor { IsSome canvas.now.wish }
-    requires terminal { ForSome terminal.old (λ screen. IsTerminalFor canvas.now screen) }
-    ensures text { IfOk result (λ text. text.items ≡ written_event raw (Shown canvas.now)) }
-    ensures ready { OnOk result (IfSome terminal.new (λ screen. IsTerminalFor canvas.now screen)) }
+    requires ready { IsReadyStage stage.old }
+    requires update { IfSome effects.update (λ bytes. IsUpdateOf stage.old.screen.profile stage.old.screen.virtual.picture bytes.items) }
+    ensures text { IfOk result (λ text. IsOutput raw stage.old.screen.profile (events_of effects stage.old.screen.virtual.picture) text.items) }
+    ensures screen { OnOk result (stage.new.screen ≡ stage.old.screen) }
+    ensures ready { OnOk result (IsReadyStage stage.new) }
 {
+    let Effects { notes, update } = effects;
     if raw {
-        return update_bytes(alloc, canvas);
+        return Ok(update.unwrap_or(Vec::new(alloc)));
     }
-    if let Some(screen) = terminal {
-        return shown_lines(alloc, canvas, screen);
-    }
-    let mut screen = blank_terminal(alloc, canvas)?;
-    let text = shown_lines(alloc, canvas, &mut screen)?;
-    *terminal = Some(screen);
-    Ok(text)
-}
-
-// A blank terminal of a canvas's size.
-fn blank_terminal(alloc: Global, canvas: &Picture) -> Result<EcmaScreen, NoMemory>
-    ensures { IfOk result (λ screen. IsTerminalFor canvas.now screen) }
-{
-    blank_laws();
-    let screen = EcmaScreen::new(alloc, canvas.size())?;
-    let _size = screen.size();
-    Ok(screen)
-}
-
-// The lines that a terminal shows after the bytes that paint a canvas.
-fn shown_lines(
-    alloc: Global,
-    canvas: &Picture,
-    screen: &mut EcmaScreen,
-) -> Result<Vec<u8>, NoMemory>
-    requires cursor { IsSome canvas.now.wish }
-    requires terminal { IsTerminalFor canvas.now screen.old }
-    ensures text { IfOk result (λ text. text.items ≡ printed_event (Shown canvas.now)) }
-    ensures ready { OnOk result (IsTerminalFor canvas.now screen.new) }
-{
-    let profile = bundled_profile(alloc, canvas)?;
-    let bytes = scratch_bytes(alloc, &profile, canvas)?;
-    paint(&profile, canvas, &bytes, screen);
     let mut text = Vec::new(alloc);
-    print_screen(screen, &mut text)?;
+    print_notes(&notes, &mut text)?;
+    if let Some(bytes) = update {
+        show(&bytes, stage, &mut text)?;
+    }
     Ok(text)
 }
 
-// Feeds a terminal the bytes that paint a canvas.
-fn paint(profile: &Profile, canvas: &Picture, bytes: &[u8], screen: &mut EcmaScreen)
-    requires profile { IsEcma48 profile.now }
-    requires fits { Fits profile.now canvas.now }
-    requires terminal { IsTerminalFor canvas.now screen.old }
-    requires bytes { bytes.now ≡ all_bytes profile.now (scratch_of profile.now canvas.now) }
-    ensures painted { ShowsNegative (abilities_for canvas.now) screen.new.state canvas.now }
-    ensures ready { IsTerminalFor canvas.now screen.new }
+/// Adds the lines of a line's notes. Fails only when memory runs out; what was added until then stays.
+pub fn print_notes(notes: &[Note], text: &mut Vec<u8>) -> Result<(), NoMemory>
+    ensures { OnOk result (text.new.items ≡ text.old.items ++ notes_lines notes.now) }
 {
-    let _profile = profile.size();
-    let _canvas = canvas.size();
-    scratch_bytes_show();
+    for note in notes {
+        print_note(*note, text)?;
+    }
+    Ok(())
+}
+
+// Adds the line of a note.
+fn print_note(note: Note, text: &mut Vec<u8>) -> Result<(), NoMemory>
+    ensures { OnOk result (text.new.items ≡ text.old.items ++ note_line note) }
+{
+    match note {
+        Note::Refused(fault) => print_refusal(fault_name(fault), text),
+        Note::NotTaken(fault) => print_refusal(key_fault_name(fault), text),
+        Note::Pressed(key) => print_key(key, text),
+    }
+}
+
+/// Adds the lines of the refusals among a line's notes. Fails only when memory runs out; what was added until then stays.
+pub fn print_refusals(notes: &[Note], text: &mut Vec<u8>) -> Result<(), NoMemory>
+    ensures { OnOk result (text.new.items ≡ text.old.items ++ refusals_of (events_in notes.now)) }
+{
+    for note in notes {
+        if !matches!(note, Note::Pressed(_)) {
+            print_note(*note, text)?;
+        }
+    }
+    Ok(())
+}
+
+// Feeds a terminal the bytes of an update, and adds the lines that it shows then.
+fn show(bytes: &[u8], stage: &mut Stage, text: &mut Vec<u8>) -> Result<(), NoMemory>
+    requires ready { IsReadyStage stage.old }
+    requires update { IsUpdateOf stage.old.screen.profile stage.old.screen.virtual.picture bytes.now }
+    ensures text { OnOk result (AddsScreen stage.old.screen.virtual.picture text.old.items text.new.items) }
+    ensures screen { stage.new.screen ≡ stage.old.screen }
+    ensures ready { IsReadyStage stage.new }
+{
+    feed(bytes, stage);
+    print_screen(&stage.terminal, text)
+}
+
+// Feeds a terminal the bytes of an update.
+fn feed(bytes: &[u8], stage: &mut Stage)
+    requires ready { IsReadyStage stage.old }
+    requires update { IsUpdateOf stage.old.screen.profile stage.old.screen.virtual.picture bytes.now }
+    ensures shows { ShowsNegative (abilities_for stage.old.screen.virtual.picture) stage.new.terminal.state stage.old.screen.virtual.picture }
+    ensures screen { stage.new.screen ≡ stage.old.screen }
+    ensures ready { IsReadyStage stage.new }
+{
     ecma48_laws();
+    bytes_act_as_their_operations();
     screens_follow_texts();
     // The bytes are all defined, by these laws.
-    let _ = screen.feed(bytes);
-}
-
-// The bytes that paint a canvas from scratch.
-fn update_bytes(alloc: Global, canvas: &Picture) -> Result<Vec<u8>, NoMemory>
-    ensures { IfOk result (λ bytes. bytes.items ≡ sent_event (Shown canvas.now)) }
-{
-    let profile = bundled_profile(alloc, canvas)?;
-    scratch_bytes(alloc, &profile, canvas)
-}
-
-// The profile of the bundled entry on a screen of a canvas's size. Fails only when memory runs out.
-fn bundled_profile(alloc: Global, canvas: &Picture) -> Result<Profile, NoMemory>
-    ensures entry { IfOk result IsEcma48 }
-    ensures profile { IfOk result (λ profile. profile ≡ profile_for canvas.now) }
-    ensures fits { IfOk result (λ profile. Fits profile canvas.now) }
-{
-    ecma48_laws();
-    Profile::ecma48(alloc, canvas.size()).map_err(|_| NoMemory)
+    let _ = stage.terminal.feed(bytes);
 }

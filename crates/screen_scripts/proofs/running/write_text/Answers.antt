@@ -1,5 +1,5 @@
 use Rattle.std.proofs.Common.{◌+◌, arith}
-use Rattle.screen_scripts.proofs.RunLaws.{appends_kept}
+use Rattle.screen_scripts.proofs.WriteLaws.{appends_kept}
 use Rattle.screen_scripts.proofs.WriteLaws.{taken_more, rest_length, taken_is_beginning}
 use Rattle.screen_scripts.proofs.running.write_text.Goals as goal
 

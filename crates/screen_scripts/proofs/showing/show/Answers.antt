@@ -1,4 +1,6 @@
+use Rattle.screen_scripts.proofs.OutputLaws.{adds_screen}
 use Rattle.screen_scripts.proofs.showing.show.Goals as goal
 
-pub shown_lines-requires-clause-terminal : goal.shown_lines-requires-clause-terminal
-shown_lines-requires-clause-terminal c = c.requires.terminal c.in-Some.screen c.in-Some.is
+pub returns-clause-text : goal.returns-clause-text
+returns-clause-text c =
+    adds_screen c.print_screen.result c.args.stage.now.screen.virtual.picture c.feed.new.stage.terminal.state c.args.text.now.items c.print_screen.new.text.items c.feed.ensures.shows c.print_screen.ensures

@@ -1,0 +1,4 @@
+pub mod CutLaws
+pub mod FieldLaws
+pub mod LineLaws
+pub mod NumberLaws

@@ -1,0 +1,18 @@
+-- The lines of a script.
+use Rattle.std.specs.Prelude.{ℕ, ◌==◌, List, [], ◌∷◌, Option, Some, None}
+use Rattle.std.specs.List.{slice_split}
+
+-- what stands behind the last line's end is a line of its own, unless it is nothing
+abbrev pub without_empty_end : List (List ℕ) → List (List ℕ)
+without_empty_end [] = []
+without_empty_end ([] ∷ []) = []
+without_empty_end (part ∷ parts) = part ∷ without_empty_end parts
+
+-- a line ends at LF or at the end of the script
+abbrev pub lines_of : List ℕ → List (List ℕ)
+lines_of script = without_empty_end (slice_split (λ b. b == 10) script)
+
+-- the parts of a text that follow such a byte, where there is one
+abbrev pub parts_behind : ℕ → Option (List ℕ) → List (List ℕ)
+parts_behind byte None = []
+parts_behind byte (Some rest) = slice_split (λ b. b == byte) rest

@@ -1,0 +1,26 @@
+//! Why a line says nothing.
+ghost use Rattle.std.specs.Prelude.{◌≡◌};
+
+use scr_cells::NoMemory;
+use thiserror::Error;
+
+/// Why a line gave no command.
+#[derive(Clone, Copy, Debug, PartialEq, Eq, Error)]
+pub enum LineFault {
+    /// It is no command.
+    #[error("bad command")]
+    Bad,
+    /// Memory ran out.
+    #[error("out of memory")]
+    NoMemory,
+}
+
+impl From<NoMemory> for LineFault {
+    ghost use Rattle.screen_commands.specs.declared.faults.LineFault.TheVariants.{NoMemory as Out};
+
+    ghost from_gives = { λ _ fault. fault ≡ Out };
+
+    fn from(_: NoMemory) -> LineFault {
+        LineFault::NoMemory
+    }
+}

@@ -1,0 +1,115 @@
+-- The stage that a script opens.
+use Rattle.std.proofs.Common.{◌≡◌, ℕ, zero, suc, ◌+◌, ◌<◌, ◌≤◌, ◌&&◌, nat_le, Bool, true, false, refl, sym, ◌∙◌, ap, subst, arith, List, [], ◌∷◌, Option, Some, None, if◌then◌else◌}
+use Rattle.std.proofs.lemmas.Bool.Decides.{nat_tests}
+use Rattle.std.proofs.lemmas.List.FromFn.{get_or-map-range_with_len}
+use Rattle.scr_cells.specs.PictureViews.{IsSize}
+use Rattle.scr_cells.specs.declared.sizes.Size.{Size}
+use Rattle.ti_caps.specs.Bundled.{IsBundled, bundled_texts, listed}
+use Rattle.ti_caps.specs.Description.{Description, text_at}
+use Rattle.scr_keys.specs.Tables.{is_key, keys_below, keys_of, text_of_key, with_key, without_padding}
+use Rattle.scr_term.specs.Operations.Admission.{IsAdmitted, IsEcma48, admitted}
+use Rattle.scr_term.specs.Operations.Ecma48.{Ecma48Laws, ecma48_profile}
+use Rattle.scr_term.specs.Operations.Laws.{BlankLaws}
+use Rattle.scr_term.specs.Operations.Profiles.{ProfileView, abilities}
+use Rattle.scr_term.specs.Operations.States.{IsState, blank_state, negative_state}
+use Rattle.scr_term.specs.Ecma.Screens.{ScreenView, IsScreen, blank_screen}
+use Rattle.scr_windows.specs.DeskViews.{first_desk}
+use Rattle.scr_virtual.specs.VirtualViews.{blank_virtual}
+use Rattle.curses.specs.Opening.{IsOpened}
+use Rattle.curses.specs.ScreenStates.{ScreenState}
+use Rattle.screen_commands.specs.declared.commands.Command.TheVariants.{Size as SizeCommand}
+use Rattle.screen_scripts.specs.declared.stages.Stage.{Stage as Playing}
+use Rattle.screen_scripts.specs.Stories.{Outcome, Stage, bundled_description, bundled_keys, first_stage, opened}
+use Rattle.screen_scripts.specs.Showing.{IsFirst, IsReady, IsReadyStage, IsTerminalFor, Opens, stage_of}
+
+-- ---- the keys of the bundled entry
+
+texts_are : (slot : ℕ) → slot < 512 → text_at bundled_description slot ≡ listed bundled_texts slot
+texts_are slot few = get_or-map-range_with_len (listed bundled_texts) 0 512 slot slot None few (omega arith)
+
+same_below : (a b : Description) (n : ℕ) → ((slot : ℕ) → slot < n → text_at a slot ≡ text_at b slot) → keys_below a n ≡ keys_below b n
+same_below a b zero same = refl
+same_below a b (suc n) same =
+    ap (λ keys. with_key keys (text_of_key a n) n) (same_below a b n (λ slot few. same slot (omega (arith, few))))
+    ∙ ap (λ text. with_key (keys_below b n) (if is_key n then without_padding text else []) n) (same n (omega arith))
+
+keys_are : (entry : Description) → IsBundled entry → keys_of entry ≡ bundled_keys
+unfolding keys_of bundled_keys
+keys_are entry is = same_below entry bundled_description 512 (λ slot few. is.texts slot ∙ sym (texts_are slot few))
+
+-- ---- its profile
+
+rows_are : (entry : Description) (size : Size) (profile : ProfileView) → IsAdmitted entry (Some size) profile → profile.rows ≡ size.rows
+unfolding admitted
+rows_are entry size profile is = ap {A = ProfileView} (λ p. p.rows) is.made
+
+columns_are : (entry : Description) (size : Size) (profile : ProfileView) → IsAdmitted entry (Some size) profile → profile.columns ≡ size.columns
+unfolding admitted
+columns_are entry size profile is = ap {A = ProfileView} (λ p. p.columns) is.made
+
+ecma48_is : (entry : Description) (size : Size) → IsBundled entry → (profile : ProfileView) → IsAdmitted entry (Some size) profile → IsEcma48 profile
+ecma48_is entry size bundled profile is =
+    let rows = sym (rows_are entry size profile is) in
+    let columns = sym (columns_are entry size profile is) in
+    record {
+      size = subst (λ n. IsSize n profile.columns) rows (subst (IsSize size.rows) columns size.in_range);
+      entry = entry;
+      bundled = bundled;
+      made = is.made ∙ ap (λ n. admitted entry n size.columns) rows ∙ ap (admitted entry profile.rows) columns;
+    }
+
+-- ---- a blank stage
+
+blank_terminal : Ecma48Laws → BlankLaws → (rows columns : ℕ) (profile : ProfileView) (terminal : ScreenView) → IsEcma48 profile → profile.rows ≡ rows → profile.columns ≡ columns
+    → terminal ≡ blank_screen rows columns → IsScreen terminal → IsTerminalFor profile terminal
+blank_terminal laws blanks rows columns profile terminal ecma r c is valid = record {
+  rows = ap (λ t. t.rows) is ∙ sym r;
+  columns = ap (λ t. t.columns) is ∙ sym c;
+  valid = valid;
+  state = blank_state profile.rows profile.columns;
+  is_state = blanks.state profile (laws.is_profile profile ecma);
+  negative = ap (λ t. t.state) is ∙ (λ i. blank_state (sym r i) (sym c i)) ∙ sym (blanks.negative profile.rows profile.columns);
+  nothing_waits = ap (λ t. t.waiting) is;
+  defined = ap (λ t. t.undefined) is;
+}
+
+pub blank_ready : Ecma48Laws → BlankLaws → (entry : Description) (size : Size) → IsBundled entry → (screen : ScreenState) → IsOpened entry (Some size) screen
+    → (terminal : ScreenView) → terminal ≡ blank_screen size.rows size.columns → IsScreen terminal → IsReadyStage (record { screen = screen; terminal = terminal })
+blank_ready laws blanks entry size bundled screen is terminal blank valid =
+    let ecma = ecma48_is entry size bundled screen.profile is.profile in
+    record {
+      screen = record { entry = ecma; nothing = is.owed };
+      terminal = blank_terminal laws blanks size.rows size.columns screen.profile terminal ecma (rows_are entry size screen.profile is.profile) (columns_are entry size screen.profile is.profile) blank valid;
+    }
+
+pub blank_first : Ecma48Laws → (entry : Description) (size : Size) → IsBundled entry → (screen : ScreenState) → IsOpened entry (Some size) screen
+    → (terminal : ScreenView) → IsFirst size.rows size.columns (record { screen = screen; terminal = terminal })
+blank_first laws entry size bundled screen is terminal =
+    let rows = rows_are entry size screen.profile is.profile in
+    let columns = columns_are entry size screen.profile is.profile in
+    record {
+      is = λ i. record {
+        drawn = record {
+          desk = (is.desk ∙ (λ j. first_desk (rows j) (columns j))) i;
+          virtual = (is.virtual ∙ (λ j. blank_virtual (rows j) (columns j))) i;
+        };
+        keys = record { keys = (is.keys.all ∙ keys_are entry bundled) i; queue = is.queue i; waiting = is.waiting i };
+      };
+      profile = laws.made screen.profile (ecma48_is entry size bundled screen.profile is.profile) ∙ (λ i. ecma48_profile (rows i) (columns i));
+    }
+
+-- ---- the first command
+
+size_test : (rows columns : ℕ) → IsSize rows columns → (nat_le 1 rows && nat_le rows 500 && nat_le 1 columns && nat_le columns 500) ≡ true
+size_test rows columns size = by_parts size.some_rows size.few_rows size.some_columns size.few_columns
+  where
+    by_parts : 1 ≤ rows → rows ≤ 500 → 1 ≤ columns → columns ≤ 500 → (nat_le 1 rows && nat_le rows 500 && nat_le 1 columns && nat_le columns 500) ≡ true
+    by_parts a b c d = grind (arith, nat_tests)
+
+pub opens : (rows columns : ℕ) (stage : Playing) → IsSize rows columns → IsReadyStage stage → IsFirst rows columns stage → Opens (SizeCommand rows columns) stage
+opens rows columns stage size ready first = record {
+  is = ap {A = Bool} {B = Option Outcome} (λ b. if b then Some (record { stage = first_stage rows columns; events = [] }) else None) (size_test rows columns size)
+      ∙ ap {A = Stage} {B = Option Outcome} (λ s. Some (record { stage = s; events = [] })) (sym first.is);
+  profile = first.profile;
+  ready = ready;
+}

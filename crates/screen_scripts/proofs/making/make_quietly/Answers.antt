@@ -1,0 +1,5 @@
+use Rattle.screen_scripts.proofs.MakingLaws.{quietly_if}
+use Rattle.screen_scripts.proofs.making.make_quietly.Goals as goal
+
+pub returns : goal.returns
+returns c = quietly_if c.args.screen.now c.make-answer.new.self c.args.call.now c.make-answer.result c.refusal.result _ _ c.requires.update c.requires.ready c.make-answer.ensures c.refusal.ensures

@@ -1,0 +1,50 @@
+//! The stage of a script: its screen, and a terminal.
+ghost use Rattle.std.specs.Prelude.{◌≡◌, None, IfOk, IsErrOf};
+ghost use Rattle.screen_scripts.specs.Stories.{opened};
+ghost use Rattle.screen_scripts.specs.Showing.{IsFirst, IsReadyStage, Opens};
+
+use curses::Screen;
+use scr_cells::{NoMemory, Size};
+use scr_term::{EcmaScreen, blank_laws, ecma48_laws};
+use screen_commands::{Command, LineFault};
+use std::alloc::Global;
+use ti_caps::bundled;
+
+/// A screen on the terminal of the bundled entry, and a terminal that is fed what updates send.
+#[derive(Drop)]
+pub struct Stage {
+    /// The screen.
+    pub screen: Screen,
+    /// The terminal.
+    pub terminal: EcmaScreen,
+}
+
+/// The stage that a script's first command opens. Refused: Bad where it is no size of 1 to 500 rows and columns; NoMemory.
+pub fn open_stage(alloc: Global, command: Command) -> Result<Stage, LineFault>
+    ensures ok { IfOk result (λ stage. Opens command stage) }
+    ensures bad { IsErrOf result LineFault.Bad → opened command ≡ None }
+{
+    let Command::Size(rows, columns) = command else {
+        return Err(LineFault::Bad);
+    };
+    let size = Size::new(rows, columns).ok_or(LineFault::Bad)?;
+    Ok(blank_stage(alloc, size)?)
+}
+
+// A blank stage.
+fn blank_stage(alloc: Global, size: Size) -> Result<Stage, NoMemory>
+    ensures ready { IfOk result IsReadyStage }
+    ensures first { IfOk result (λ stage. IsFirst size.rows size.columns stage) }
+{
+    blank_laws();
+    ecma48_laws();
+    let Ok(entry) = bundled(alloc) else {
+        return Err(NoMemory);
+    };
+    let Ok(screen) = Screen::open(alloc, &entry, Some(size)) else {
+        return Err(NoMemory);
+    };
+    let terminal = EcmaScreen::new(alloc, size)?;
+    let _size = terminal.size();
+    Ok(Stage { screen, terminal })
+}
