@@ -16,13 +16,17 @@ use ti_caps::bundled;
 
 const FIRST: Win = Win(0);
 
-// A screen with two windows over all of it, the first full of one plain character and the second of another.
-fn opened(alloc: Global, size: Size) -> Result<(Screen, Win)> {
-    let mut screen = Screen::open(alloc, &bundled(alloc)?, Some(size))?;
+// A screen on the bundled entry.
+fn opened(alloc: Global, size: Size) -> Result<Screen> {
+    Ok(Screen::open(alloc, &bundled(alloc)?, Some(size))?)
+}
+
+// Fills the first window, which is over all of the screen, with a plain character, and a second one over it with another.
+fn draw(alloc: Global, screen: &mut Screen) -> Result<Win> {
     let second = screen.new_window(alloc, 0, 0, 0, 0)?;
-    fill(&mut screen, FIRST, b'x')?;
-    fill(&mut screen, second, b'y')?;
-    Ok((screen, second))
+    fill(screen, FIRST, b'x')?;
+    fill(screen, second, b'y')?;
+    Ok(second)
 }
 
 // Fills a window with a plain character.
@@ -79,17 +83,23 @@ fn scratch(alloc: Global, screen: &mut Screen, count: u32) -> Result<u64> {
     Ok(bytes)
 }
 
-fn measure(alloc: Global, action: &str, size: Size, lines: u32, count: u32) -> Result<u64> {
-    let (mut screen, second) = opened(alloc, size)?;
+// Does one part of a refresh again and again.
+fn repeat(alloc: Global, screen: &mut Screen, action: &str, lines: u32, count: u32) -> Result<u64> {
+    let second = draw(alloc, screen)?;
     let (one, two) = ([FIRST, FIRST], [FIRST, second]);
     match action {
-        "touch" => touch(&mut screen, two, lines, count),
-        "take" => take(&mut screen, one, lines, count),
-        "take_new" => take(&mut screen, two, lines, count),
-        "update" => update(alloc, &mut screen, count),
-        "scratch" => scratch(alloc, &mut screen, count),
+        "touch" => touch(screen, two, lines, count),
+        "take" => take(screen, one, lines, count),
+        "take_new" => take(screen, two, lines, count),
+        "update" => update(alloc, screen, count),
+        "scratch" => scratch(alloc, screen, count),
         _ => bail!("no such action"),
     }
+}
+
+fn measure(alloc: Global, action: &str, size: Size, lines: u32, count: u32) -> Result<u64> {
+    let mut screen = opened(alloc, size)?;
+    repeat(alloc, &mut screen, action, lines, count)
 }
 
 fn main(rt: HostRuntime) -> Result<()> {

@@ -5,6 +5,7 @@
 pub mod answers;
 pub mod checking;
 pub mod dumps;
+pub mod random;
 pub mod texts;
 pub mod troubles;
 pub mod words;

@@ -39,13 +39,18 @@ enum Verdict {
 /// The line `cuts BEHIND`: two rows of five with `hi`, and an update into a writer that fails behind 0, 1 .. bytes, up to so
 /// many, by an error and by taking nothing, each on a new screen. The fault has to tell what was begun and sent; the next
 /// update is Ok, and sends what was owed and then the whole; the terminal shows `hi`. Adds `agrees`, or the first that differs.
-pub fn check_cuts(alloc: Global, words: &mut Words<'_>, came: &mut Vec<u8>) -> Result<(), Trouble> {
+pub fn check_cuts(
+    alloc: Global,
+    tried: &mut Option<Recorded>,
+    words: &mut Words<'_>,
+    came: &mut Vec<u8>,
+) -> Result<(), Trouble> {
     let count = words.number()?;
-    let Some(whole) = whole_update(alloc)? else {
+    let Some(whole) = whole_update(alloc, tried)? else {
         return add_word("NoMemory", came);
     };
     for behind in 0..count {
-        let verdict = check_both(alloc, &whole, behind, came)?;
+        let verdict = check_both(alloc, tried, &whole, behind, came)?;
         match verdict {
             Verdict::Agrees => {}
             Verdict::Differs => return add_number(i64::from(behind), came),
@@ -58,12 +63,13 @@ pub fn check_cuts(alloc: Global, words: &mut Words<'_>, came: &mut Vec<u8>) -> R
 // Cuts behind so many bytes by an error, and by taking nothing.
 fn check_both(
     alloc: Global,
+    tried: &mut Option<Recorded>,
     whole: &Whole,
     behind: u32,
     came: &mut Vec<u8>,
 ) -> Result<Verdict, Trouble> {
-    match check_cut(alloc, whole, behind, false, came)? {
-        Verdict::Agrees => check_cut(alloc, whole, behind, true, came),
+    match check_cut(alloc, tried, whole, behind, false, came)? {
+        Verdict::Agrees => check_cut(alloc, tried, whole, behind, true, came),
         verdict => Ok(verdict),
     }
 }
@@ -71,6 +77,7 @@ fn check_both(
 // Cuts once. Adds the answers where they differ from what is wanted.
 fn check_cut(
     alloc: Global,
+    tried: &mut Option<Recorded>,
     whole: &Whole,
     behind: u32,
     stuck: bool,
@@ -82,11 +89,11 @@ fn check_cut(
     } else {
         (Fails::Behind(behind), "BrokenPipe")
     };
-    let Some(mut opened) = open_example(alloc)? else {
+    let Some(opened) = open_example(alloc, tried)? else {
         return Ok(Verdict::NoMemory);
     };
     let mut answers = Vec::new(alloc);
-    if !update_twice(&mut opened, fails, &mut answers)? {
+    if !update_twice(opened, fails, &mut answers)? {
         return Ok(Verdict::NoMemory);
     }
     let mut wanted = Vec::new(alloc);
@@ -154,10 +161,16 @@ fn is_sent(sent: &[u8], whole: &Whole, end: usize) -> bool {
     }
 }
 
-// Two rows of five with `hi`, to be shown by the next update.
-fn open_example(alloc: Global) -> Result<Option<Recorded>, Trouble> {
+// Two rows of five with `hi`, to be shown by the next update; `None` where the library was refused memory.
+fn open_example(
+    alloc: Global,
+    tried: &mut Option<Recorded>,
+) -> Result<Option<&mut Recorded>, Trouble> {
     let size = Size::new(2, 5).ok_or(Trouble::Bad("no size"))?;
-    let Some(mut opened) = Recorded::open(alloc, size)? else {
+    if !Recorded::open_into(alloc, size, tried)? {
+        return Ok(None);
+    }
+    let Some(opened) = tried else {
         return Ok(None);
     };
     let mut text = Vec::new(alloc);
@@ -169,8 +182,8 @@ fn open_example(alloc: Global) -> Result<Option<Recorded>, Trouble> {
 }
 
 // What the uncut update sends; `None` where the library was refused memory.
-fn whole_update(alloc: Global) -> Result<Option<Whole>, Trouble> {
-    let Some(opened) = open_example(alloc)? else {
+fn whole_update(alloc: Global, tried: &mut Option<Recorded>) -> Result<Option<Whole>, Trouble> {
+    let Some(opened) = open_example(alloc, tried)? else {
         return Ok(None);
     };
     let Ok(entry) = bundled(alloc) else {
@@ -180,7 +193,7 @@ fn whole_update(alloc: Global) -> Result<Option<Whole>, Trouble> {
     let Ok(profile) = Profile::admit(alloc, &entry, Some(size)) else {
         return Ok(None);
     };
-    let Some(ops) = plan(alloc, &profile, &opened)? else {
+    let Some(ops) = plan(alloc, &profile, opened)? else {
         return Ok(None);
     };
     render_all(alloc, &profile, &ops)

@@ -1,9 +1,9 @@
 //! Generated calls on a screen, with updates whose writer fails now and then.
 
 use crate::generating::{COLUMNS, ROWS, next_call, next_fails};
-use crate::random::Random;
 use crate::recorded::Recorded;
 use check_scripts::answers::{add_number, add_word};
+use check_scripts::random::Random;
 use check_scripts::troubles::Trouble;
 use check_scripts::words::Words;
 use scr_cells::Size;
@@ -14,19 +14,33 @@ use std::alloc::Global;
 /// `agrees`, or the number of the call after which the terminal shows something else.
 pub fn check_generated(
     alloc: Global,
+    tried: &mut Option<Recorded>,
     words: &mut Words<'_>,
     came: &mut Vec<u8>,
 ) -> Result<(), Trouble> {
     let (count, seed) = (words.number()?, words.number()?);
-    let mut random = Random::new(seed);
     let size = Size::new(ROWS, COLUMNS).ok_or(Trouble::Bad("no size"))?;
-    let Some(mut opened) = Recorded::open(alloc, size)? else {
+    if !Recorded::open_into(alloc, size, tried)? {
         return add_word("NoMemory", came);
-    };
+    }
+    match tried {
+        Some(opened) => make_all(alloc, opened, count, Random::new(seed), came),
+        None => Ok(()),
+    }
+}
+
+// Makes so many calls, and all of them again by one session.
+fn make_all(
+    alloc: Global,
+    opened: &mut Recorded,
+    count: u32,
+    mut random: Random,
+    came: &mut Vec<u8>,
+) -> Result<(), Trouble> {
     let mut answer = Vec::new(alloc);
     for number in 0..count {
         answer.clear();
-        step(alloc, &mut opened, &mut random, &mut answer)?;
+        step(alloc, opened, &mut random, &mut answer)?;
         if answer.ends_with(b" NoMemory") {
             return add_word("NoMemory", came);
         }

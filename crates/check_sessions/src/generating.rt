@@ -1,7 +1,7 @@
 //! Calls that are made up, mostly of windows that are there.
 
-use crate::random::Random;
 use crate::writers::Fails;
+use check_scripts::random::Random;
 use check_scripts::troubles::Trouble;
 use curses::Call;
 use scr_cells::Attrs;

@@ -10,8 +10,6 @@ mod cuts;
 mod dumps;
 mod generated;
 mod generating;
-mod making;
-mod random;
 mod recorded;
 mod shown;
 mod shown_lines;

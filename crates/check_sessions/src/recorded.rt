@@ -1,7 +1,6 @@
 //! A screen whose calls and answers are kept, and the emulated screen that is fed what its updates send.
 
 use crate::answers::{add_answer, ran_out};
-use crate::making::make_call;
 use crate::shown::shows;
 use crate::writers::{Fails, Planned};
 use check_scripts::answers::add_word;
@@ -36,26 +35,33 @@ pub struct Recorded {
 }
 
 impl Recorded {
-    /// A screen on the bundled entry; `None` where the library was refused memory.
-    pub fn open(alloc: Global, size: Size) -> Result<Option<Recorded>, Trouble> {
-        let Some(screen) = open_screen(alloc, size)? else {
-            return Ok(None);
-        };
+    /// Opens a screen on the bundled entry in place of another, and tells whether there was memory for it. A function that owns a screen
+    /// takes long to prove, so the others borrow one.
+    pub fn open_into(
+        alloc: Global,
+        size: Size,
+        opened: &mut Option<Recorded>,
+    ) -> Result<bool, Trouble> {
         let Ok(emulated) = EcmaScreen::new(alloc, size) else {
-            return Ok(None);
+            return Ok(false);
         };
-        Ok(Some(Recorded {
+        let writer = Planned::new(alloc, ROOM)?;
+        let Some(screen) = open_screen(alloc, size)? else {
+            return Ok(false);
+        };
+        *opened = Some(Recorded {
             alloc,
             size,
             screen,
             emulated,
-            device: Device::new(Planned::new(alloc, ROOM)?),
+            device: Device::new(writer),
             calls: Vec::new(alloc),
             answers: Vec::new(alloc),
             sent: Vec::new(alloc),
             last_ok: false,
             answer: Vec::new(alloc),
-        }))
+        });
+        Ok(true)
     }
 
     /// Makes a call other than an update, and adds what it answers.
@@ -103,7 +109,7 @@ impl Recorded {
 
     // Makes the call, keeps it with its answer unless memory ran out, and adds the answer.
     fn make(&mut self, call: Call, came: &mut Vec<u8>) -> Result<Answer, Trouble> {
-        let answer = make_call(self.alloc, &mut self.screen, &call, &mut self.device);
+        let answer = self.screen.make(self.alloc, &call, &mut self.device);
         self.answer.clear();
         add_answer(&answer, &mut self.answer)?;
         came.extend_from_slice(&self.answer)?;
@@ -130,7 +136,7 @@ impl Recorded {
         match session(self.alloc, &entry, Some(self.size), &self.calls, device) {
             Ok(report) => Ok(Some(report)),
             Err(OpenFault::NoMemory) => Ok(None),
-            Err(OpenFault::Profile(_)) => Err(Trouble::Bad("no profile")),
+            Err(_) => Err(Trouble::Bad("no profile")),
         }
     }
 
@@ -150,6 +156,6 @@ fn open_screen(alloc: Global, size: Size) -> Result<Option<Screen>, Trouble> {
     match Screen::open(alloc, &entry, Some(size)) {
         Ok(screen) => Ok(Some(screen)),
         Err(OpenFault::NoMemory) => Ok(None),
-        Err(OpenFault::Profile(_)) => Err(Trouble::Bad("no profile")),
+        Err(_) => Err(Trouble::Bad("no profile")),
     }
 }

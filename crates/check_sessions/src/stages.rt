@@ -18,6 +18,8 @@ use std::alloc::Global;
 pub struct SessionStage {
     alloc: Global,
     opened: Option<Recorded>,
+    // The screen of the lines that try many calls at once.
+    tried: Option<Recorded>,
 }
 
 impl Stage for SessionStage {
@@ -25,6 +27,7 @@ impl Stage for SessionStage {
         SessionStage {
             alloc,
             opened: None,
+            tried: None,
         }
     }
 
@@ -32,8 +35,8 @@ impl Stage for SessionStage {
         let word = words.next();
         match word {
             b"screen" => open(self.alloc, &mut self.opened, words, came),
-            b"cuts" => check_cuts(self.alloc, words, came),
-            b"generated" => check_generated(self.alloc, words, came),
+            b"cuts" => check_cuts(self.alloc, &mut self.tried, words, came),
+            b"generated" => check_generated(self.alloc, &mut self.tried, words, came),
             _ => answer_of_opened(self.alloc, ready(&mut self.opened)?, word, words, came),
         }
     }
@@ -58,12 +61,10 @@ fn open(
     came: &mut Vec<u8>,
 ) -> Result<(), Trouble> {
     let size = read_size(words)?;
-    match Recorded::open(alloc, size)? {
-        Some(made) => {
-            *opened = Some(made);
-            add_word("Ok", came)
-        }
-        None => add_word("NoMemory", came),
+    if Recorded::open_into(alloc, size, opened)? {
+        add_word("Ok", came)
+    } else {
+        add_word("NoMemory", came)
     }
 }
 

@@ -1,0 +1,79 @@
+//! Entries whose texts a script sets.
+
+use check_scripts::answers::add_word;
+use check_scripts::texts::read_text;
+use check_scripts::troubles::Trouble;
+use check_scripts::words::Words;
+use std::alloc::Global;
+use ti_caps::{CapFault, Entry, Kind, MOST_TEXTS, Slot, bundled, find_name, name_of};
+
+/// The line `entry`, an entry without texts, or `bundled`.
+pub fn make_entry(
+    alloc: Global,
+    entry: &mut Option<Entry>,
+    word: &[u8],
+    came: &mut Vec<u8>,
+) -> Result<(), Trouble> {
+    let made = if word == b"bundled".as_slice() {
+        bundled(alloc)
+    } else {
+        Entry::new(alloc, b"keys")
+    };
+    match made {
+        Ok(made) => {
+            *entry = Some(made);
+            add_word("Ok", came)
+        }
+        Err(fault) => add_fault(fault, came),
+    }
+}
+
+/// The line `text NAME TEXT`, which sets a text by its name; without TEXT it is absent then.
+pub fn set_text(
+    alloc: Global,
+    entry: &mut Entry,
+    words: &mut Words<'_>,
+    came: &mut Vec<u8>,
+) -> Result<(), Trouble> {
+    let Some((Kind::Text, slot)) = find_name(words.next()) else {
+        return Err(Trouble::Bad("no such text"));
+    };
+    let mut text = Vec::new(alloc);
+    let set = match words.peek() {
+        b"" | b"=" => entry.set_text(slot, None),
+        _ => {
+            read_text(words.next(), &mut text)?;
+            entry.set_text(slot, Some(&text))
+        }
+    };
+    match set {
+        Ok(()) => add_word("Ok", came),
+        Err(fault) => add_fault(fault, came),
+    }
+}
+
+/// The text of a key of an entry, as it stands there.
+pub fn key_text(entry: &Entry, slot: Slot) -> Option<&[u8]> {
+    match name_of(Kind::Text, slot) {
+        Some(name) if name.starts_with("k") => entry.text(slot),
+        _ => None,
+    }
+}
+
+/// Adds all texts of an entry, each behind its position.
+pub fn dump_entry(entry: &Entry, bytes: &mut Vec<u8>) -> Result<(), Trouble> {
+    for slot in 0..MOST_TEXTS as u16 {
+        if let Some(text) = entry.text(Slot(slot)) {
+            bytes.extend_from_slice(&slot.to_be_bytes())?;
+            bytes.extend_from_slice(text)?;
+        }
+    }
+    Ok(())
+}
+
+fn add_fault(fault: CapFault, came: &mut Vec<u8>) -> Result<(), Trouble> {
+    match fault {
+        CapFault::NoMemory => add_word("NoMemory", came),
+        _ => Err(Trouble::Bad("no entry")),
+    }
+}

@@ -1,0 +1,119 @@
+//! What the lines of a script work on: an entry, and a keyboard of its keys.
+
+use crate::answers::{add_came, add_key};
+use crate::entries::{dump_entry, make_entry, set_text};
+use crate::generated::check_generated;
+use crate::keyboards::{Keyboard, open_into};
+use crate::streams::{check_cuts, take_all};
+use check_scripts::answers::add_word;
+use check_scripts::checking::Stage;
+use check_scripts::texts::read_text;
+use check_scripts::troubles::Trouble;
+use check_scripts::words::Words;
+use scr_keys::KeyFault;
+use std::alloc::Global;
+use ti_caps::Entry;
+
+/// The state of a script.
+#[derive(Drop)]
+pub struct KeyStage {
+    alloc: Global,
+    entry: Option<Entry>,
+    keyboard: Option<Keyboard>,
+}
+
+impl Stage for KeyStage {
+    fn new(alloc: Global) -> KeyStage {
+        KeyStage {
+            alloc,
+            entry: None,
+            keyboard: None,
+        }
+    }
+
+    fn answer(&mut self, words: &mut Words<'_>, came: &mut Vec<u8>) -> Result<(), Trouble> {
+        let word = words.next();
+        match word {
+            b"entry" | b"bundled" => make_entry(self.alloc, &mut self.entry, word, came),
+            b"text" | b"reader" | b"screen" | b"cuts" | b"generated" => {
+                let entry = self.entry.as_mut().ok_or(Trouble::Bad("no entry"))?;
+                answer_of_entry(self.alloc, entry, &mut self.keyboard, word, words, came)
+            }
+            _ => {
+                let no_keyboard = Trouble::Bad("no keyboard");
+                let keyboard = self.keyboard.as_mut().ok_or(no_keyboard)?;
+                answer_of_keyboard(self.alloc, keyboard, word, words, came)
+            }
+        }
+    }
+
+    fn dump(&self, bytes: &mut Vec<u8>) -> Result<(), Trouble> {
+        match &self.entry {
+            Some(entry) => dump_entry(entry, bytes),
+            None => Ok(()),
+        }
+    }
+
+    fn leaves_all(word: &[u8]) -> bool {
+        matches!(word, b"cuts" | b"generated")
+    }
+}
+
+// The lines `text NAME TEXT`, `cuts ..` and `generated ..`, and `reader` and `screen`, which open a keyboard.
+fn answer_of_entry(
+    alloc: Global,
+    entry: &mut Entry,
+    keyboard: &mut Option<Keyboard>,
+    word: &[u8],
+    words: &mut Words<'_>,
+    came: &mut Vec<u8>,
+) -> Result<(), Trouble> {
+    match word {
+        b"text" => set_text(alloc, entry, words, came),
+        b"cuts" => check_cuts(alloc, entry, keyboard, words, came),
+        b"generated" => check_generated(alloc, entry, keyboard, words, came),
+        _ if open_into(alloc, entry, word, keyboard, came)? => add_word("Ok", came),
+        _ => Ok(()),
+    }
+}
+
+// The lines `byte BYTE`, `bytes TEXT`, `idle`, and `keys`, which takes all keys that wait, or has `none`.
+fn answer_of_keyboard(
+    alloc: Global,
+    keyboard: &mut Keyboard,
+    word: &[u8],
+    words: &mut Words<'_>,
+    came: &mut Vec<u8>,
+) -> Result<(), Trouble> {
+    match word {
+        b"byte" => add_came(keyboard.byte(words.byte()?), came),
+        b"bytes" => {
+            let mut text = Vec::new(alloc);
+            read_text(words.next(), &mut text)?;
+            add_came(give(keyboard, &text), came)
+        }
+        b"idle" => add_came(keyboard.idle(), came),
+        b"keys" => add_keys(alloc, keyboard, came),
+        _ => Err(Trouble::Bad("no such line")),
+    }
+}
+
+// Gives bytes to a keyboard, up to the first that is refused.
+fn give(keyboard: &mut Keyboard, bytes: &[u8]) -> Result<(), KeyFault> {
+    for byte in bytes {
+        keyboard.byte(*byte)?;
+    }
+    Ok(())
+}
+
+fn add_keys(alloc: Global, keyboard: &mut Keyboard, came: &mut Vec<u8>) -> Result<(), Trouble> {
+    let mut keys = Vec::new(alloc);
+    take_all(keyboard, &mut keys)?;
+    if keys.is_empty() {
+        return add_word("none", came);
+    }
+    for key in &keys {
+        add_key(*key, came)?;
+    }
+    Ok(())
+}
