@@ -1,3 +1,5 @@
 pub mod BuiltLaws
+pub mod DifferenceLaws
 pub mod GridLaws
 pub mod PlaceLaws
+pub mod ShowingLaws

@@ -1,7 +1,9 @@
 pub mod Attributes
 pub mod CellViews
 pub mod Code
+pub mod Differences
 pub mod Grids
 pub mod LookViews
 pub mod PenViews
 pub mod PictureViews
+pub mod Showing

@@ -6,6 +6,7 @@ ghost use Rattle.std.specs.Cmp.Rules.{comparing};
 ghost use Rattle.scr_cells.specs.CellViews.{IsCell, IsCharacter, IsPair, blank_cell, is_character};
 
 use crate::Attrs;
+use crate::differences::Packed;
 use std::marker::Model;
 
 /// What a window holds in one place: a byte 32 to 126, a set of attributes and the number of a colour pair (X/Open
@@ -108,5 +109,17 @@ impl PartialEq for Cell {
 
     fn eq(&self, other: &Cell) -> bool {
         self.packed == other.packed
+    }
+}
+
+impl Packed for Cell {
+    ghost use Rattle.std.specs.Prelude.{◌+◌, ◌*◌, ◌/◌, ◌%◌};
+
+    ghost code = { λ cell. cell.pair * 65536 + cell.attrs * 256 + cell.byte };
+
+    ghost coded = { λ n. record { byte = n % 256; attrs = n / 256 % 256; pair = n / 65536 } };
+
+    fn packed(self) -> u32 {
+        self.packed
     }
 }

@@ -6,19 +6,25 @@
 
 mod attributes;
 mod cells;
+mod differences;
 mod grids;
 mod laws;
 mod looks;
 mod pens;
 mod pictures;
+mod showing;
 mod sizes;
 
 pub use attributes::Attrs;
 pub use cells::{Cell, is_character};
+pub use differences::{
+    first_difference, first_look_difference, last_difference, last_look_difference,
+};
 pub use grids::Grid;
 pub use laws::{attribute_laws, grid_laws};
 pub use looks::Look;
 pub use out_of_memory::NoMemory;
 pub use pens::Pen;
 pub use pictures::Picture;
+pub use showing::shown_before;
 pub use sizes::Size;

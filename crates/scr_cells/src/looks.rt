@@ -7,6 +7,7 @@ ghost use Rattle.scr_cells.specs.CellViews.{IsCharacter};
 ghost use Rattle.scr_cells.specs.LookViews.{IsLook, blank};
 ghost use Rattle.scr_cells.specs.PenViews.{IsColour, pen_eq};
 
+use crate::differences::Packed;
 use crate::{Attrs, Pen, is_character};
 use std::marker::Model;
 
@@ -119,5 +120,18 @@ impl PartialEq for Look {
 
     fn eq(&self, other: &Look) -> bool {
         self.packed == other.packed
+    }
+}
+
+impl Packed for Look {
+    ghost use Rattle.std.specs.Prelude.{◌+◌, ◌*◌, ◌%◌, ◌/◌};
+    ghost use Rattle.scr_cells.specs.Code.PackedPens.{coded_pen, pen_code};
+
+    ghost code = { λ look. pen_code look.pen * 256 + look.byte };
+
+    ghost coded = { λ n. record { byte = n % 256; pen = coded_pen (n / 256) } };
+
+    fn packed(self) -> u32 {
+        self.packed
     }
 }

@@ -1,0 +1,23 @@
+-- Looks and cells that are one number: words of private functions.
+use Rattle.std.specs.Prelude.{ℕ, ◌≡◌, ◌<◌, ◌/◌, ◌%◌, bit_and, List, slice_index_or}
+use Rattle.scr_cells.specs.CellViews.{CellView, blank_cell}
+use Rattle.scr_cells.specs.LookViews.{LookView, blank}
+use Rattle.scr_cells.specs.Code.PackedPens.{coded_pen}
+
+-- the look and the cell of a number
+abbrev pub look_of : ℕ → LookView
+look_of n = record { byte = n % 256; pen = coded_pen (n / 256) }
+
+abbrev pub cell_of : ℕ → CellView
+cell_of n = record { byte = n % 256; attrs = n / 256 % 256; pair = n / 65536 }
+
+-- a number below the limit has no pair, and only attributes that are shown
+abbrev pub IsLimit : ℕ → ℕ → Type 0
+IsLimit shown limit = (n : ℕ) → n < limit → (n < 65536) × (bit_and shown (n / 256 % 256) ≡ n / 256 % 256)
+
+-- look and cell of a place are of one number below a limit
+pub record IsNumberAt (limit : ℕ) (looks : List LookView) (cells : List CellView) (place : ℕ) : Type 0 where
+  pub number : ℕ
+  pub below : number < limit
+  pub look : slice_index_or looks place blank ≡ look_of number
+  pub cell : slice_index_or cells place blank_cell ≡ cell_of number

@@ -1,0 +1,9 @@
+-- Places that show what is seen of their cells.
+use Rattle.std.specs.Prelude.{ℕ, Bool, ◌≡◌, List, slice_index_or}
+use Rattle.scr_cells.specs.CellViews.{CellView, blank_cell}
+use Rattle.scr_cells.specs.LookViews.{LookView, blank, seen}
+
+-- a place of a row shows what is seen of its cell where these attributes are shown, with or without colours, whatever the colours of the
+-- pairs are
+abbrev pub IsSeenAt : ℕ → List LookView → List CellView → ℕ → Type 0
+IsSeenAt shown looks cells place = (colours : Bool) (pairs : List (ℕ × ℕ)) → slice_index_or looks place blank ≡ seen shown colours pairs (slice_index_or cells place blank_cell)

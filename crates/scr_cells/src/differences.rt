@@ -1,0 +1,138 @@
+//! Where two rows of cells, or of looks, differ: what an update has to write lies between the first and the last difference.
+//!
+//! Both types are one `u32`, so that eight places are compared at a time. The lanes are a filter: where they find a difference
+//! among eight, or fewer than eight are left, the places are compared one by one.
+ghost use Rattle.std.specs.Prelude.{ℕ, ◌≡◌, ◌≢◌, ◌+◌, ◌<◌, ◌≤◌, length, true};
+ghost use Rattle.scr_cells.specs.Code.Lanes.{HasEight};
+ghost use Rattle.scr_cells.specs.Differences.{IsFirstDifference, IsLastDifference, IsSameAt};
+
+use crate::{Cell, Look};
+use std::simd::prelude::*;
+
+/// The least place at which two rows of cells differ in byte, attributes or colour pair; `None` where they are the same.
+/// The rows have one length.
+pub fn first_difference(a: &[Cell], b: &[Cell]) -> Option<usize>
+    requires { length a.now ≡ length b.now }
+    ensures { IsFirstDifference a.now b.now result }
+{
+    first_place(a, b)
+}
+
+/// The greatest place at which two rows of cells differ in byte, attributes or colour pair; `None` where they are the same.
+/// The rows have one length.
+pub fn last_difference(a: &[Cell], b: &[Cell]) -> Option<usize>
+    requires { length a.now ≡ length b.now }
+    ensures { IsLastDifference a.now b.now result }
+{
+    last_place(a, b)
+}
+
+/// The least place at which two rows of looks differ in byte, attributes or colours; `None` where they are the same. The
+/// rows have one length.
+pub fn first_look_difference(a: &[Look], b: &[Look]) -> Option<usize>
+    requires { length a.now ≡ length b.now }
+    ensures { IsFirstDifference a.now b.now result }
+{
+    first_place(a, b)
+}
+
+/// The greatest place at which two rows of looks differ in byte, attributes or colours; `None` where they are the same. The
+/// rows have one length.
+pub fn last_look_difference(a: &[Look], b: &[Look]) -> Option<usize>
+    requires { length a.now ≡ length b.now }
+    ensures { IsLastDifference a.now b.now result }
+{
+    last_place(a, b)
+}
+
+/// An element that is one number.
+pub(crate) trait Packed: Copy {
+    ghost code: { Self → ℕ };
+
+    ghost coded: { ℕ → Self };
+
+    /// The number, by which the element is told from all others.
+    fn packed(self) -> u32
+        ensures value { result ≡ code self }
+        ensures back { coded result ≡ self };
+}
+
+fn first_place<T: Packed>(a: &[T], b: &[T]) -> Option<usize>
+    requires { length a.now ≡ length b.now }
+    ensures { IsFirstDifference a.now b.now result }
+{
+    for place in same_before(a, b)..a.len() {
+        if a[place].packed() != b[place].packed() {
+            return Some(place);
+        }
+    }
+    None
+}
+
+fn last_place<T: Packed>(a: &[T], b: &[T]) -> Option<usize>
+    requires { length a.now ≡ length b.now }
+    ensures { IsLastDifference a.now b.now result }
+{
+    let mut end = same_behind(a, b);
+    while end > 0 {
+        end -= 1;
+        if a[end].packed() != b[end].packed() {
+            return Some(end);
+        }
+    }
+    None
+}
+
+// A place before which the rows are the same.
+fn same_before<T: Packed>(a: &[T], b: &[T]) -> usize
+    requires { length a.now ≡ length b.now }
+    ensures inside { result ≤ length a.now }
+    ensures same { (i : ℕ) → i < result → IsSameAt a.now b.now i }
+{
+    let mut at = 0;
+    while a.len() - at >= 8 && same_eight(a, b, at) {
+        at += 8;
+    }
+    at
+}
+
+// A place from which on the rows are the same.
+fn same_behind<T: Packed>(a: &[T], b: &[T]) -> usize
+    requires { length a.now ≡ length b.now }
+    ensures inside { result ≤ length a.now }
+    ensures same { (i : ℕ) → result ≤ i → i < length a.now → IsSameAt a.now b.now i }
+{
+    let mut end = a.len();
+    while end >= 8 && same_eight(a, b, end - 8) {
+        end -= 8;
+    }
+    end
+}
+
+// Whether the rows are the same in the eight places from one on.
+fn same_eight<T: Packed>(a: &[T], b: &[T], at: usize) -> bool
+    requires a { at + 8 ≤ length a.now }
+    requires b { at + 8 ≤ length b.now }
+    ensures { result ≡ true → (i : ℕ) → at ≤ i → i < at + 8 → IsSameAt a.now b.now i }
+{
+    eight(a, at).simd_ne(eight(b, at)).to_bitmask() == 0
+}
+
+// The numbers of the eight elements from a place on.
+#[inline(always)]
+pub(crate) fn eight<T: Packed>(row: &[T], at: usize) -> u32x8
+    requires { at + 8 ≤ length row.now }
+    ensures { HasEight T.coded row.now at result }
+{
+    let row = &row[at..at + 8];
+    u32x8::from_array([
+        row[0].packed(),
+        row[1].packed(),
+        row[2].packed(),
+        row[3].packed(),
+        row[4].packed(),
+        row[5].packed(),
+        row[6].packed(),
+        row[7].packed(),
+    ])
+}
