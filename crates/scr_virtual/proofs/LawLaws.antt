@@ -15,10 +15,10 @@ use Rattle.scr_windows.specs.Calls.Touching.{take_lines_call}
 use Rattle.scr_windows.specs.Changes.{index_of, marked, on_window, with_window}
 use Rattle.scr_windows.specs.DeskViews.{DeskView, WindowView, window_at}
 use Rattle.scr_virtual.specs.declared.parts.Part.{Part}
-use Rattle.scr_virtual.specs.Laws.{HoldsChanges, IsOutside, OutsideStays, RangesHoldChanges, SameSizes, SizesStay, UntouchedChangesNothing, cell_at, in_range}
+use Rattle.scr_virtual.specs.Laws.{HoldsChanges, IsOutside, OutsideStays, RangesHoldChanges, SameSizes, SizesStay, UntouchedChangesNothing, cell_at}
 use Rattle.scr_virtual.specs.Pairs.{set_pair_call, with_pair}
 use Rattle.scr_virtual.specs.Taking.{is_copied, on_ok, pad_part, part_at, part_call, part_copied, part_taken, take_pad_call, take_window_call, taken, touched_line, window_part}
-use Rattle.scr_virtual.specs.VirtualViews.{IsRange, IsVirtual, VirtualView, marked_rows, range_at, ranges_with, settled, widened}
+use Rattle.scr_virtual.specs.VirtualViews.{IsRange, IsVirtual, VirtualView, in_range, marked_rows, range_at, ranges_with, settled, widened}
 use Rattle.scr_virtual.proofs.CopyLaws.{grid_same}
 use Rattle.scr_virtual.proofs.RangeLaws.{Range, range_of}
 

@@ -1,5 +1,6 @@
 pub mod CopyLaws
 pub mod LawLaws
 pub mod RangeLaws
+pub mod RowLaws
 pub mod ScreenLaws
 pub mod TakingLaws

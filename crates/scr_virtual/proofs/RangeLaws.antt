@@ -1,7 +1,7 @@
 -- Ranges of rows that may have changed.
-use Rattle.std.proofs.Common.{◌≡◌, ◌≢◌, ◌⊎◌, inl, inr, ℕ, Bool, true, false, ◌+◌, ◌-◌, ◌<◌, ◌≤◌, ◌&&◌, sym, ◌∙◌, ap, refl, arith, subst, List, [], ◌∷◌, ◌++◌, length, set, get_or, cond, ltb, leb, drop, replicate, Option, None, Some}
+use Rattle.std.proofs.Common.{◌≡◌, ◌≢◌, ◌⊎◌, inl, inr, ℕ, Bool, true, false, ◌+◌, ◌<◌, ◌≤◌, ◌&&◌, sym, ◌∙◌, ap, refl, arith, subst, List, length, set, get_or, cond, ltb, leb, replicate, Option, None, Some}
 use Rattle.std.specs.Prelude.{All, IfSome}
-use Rattle.std.proofs.lemmas.List.{same_lists, get_or_default, get_or-set_same, get_or-set_other, length-set, append_assoc, drop_more, length-replicate, replicate_more, set-append_right}
+use Rattle.std.proofs.lemmas.List.{same_lists, get_or_default, get_or-replicate, get_or-set_same, get_or-set_other, length-set, length-replicate}
 use Rattle.std.proofs.lemmas.List.FromFn.{get_or-map-range_with_len, length-map-range_with_len}
 use Rattle.std.proofs.lemmas.Bool.Decides.{nat_tests}
 use Rattle.scr_virtual.specs.VirtualViews.{IsRange, ranges_with, widened}
@@ -67,14 +67,41 @@ fill_more first row value changed order row_in =
     other : (first row r : ℕ) → r ≢ row → (leb first r && ltb r (row + 1)) ≡ (leb first r && ltb r row)
     other first row r n = grind (arith, nat_tests)
 
--- one more range is emptied
-pub one_emptied : (old : List Range) (n : ℕ) → n < length old → set (replicate n None ++ drop n old) n None ≡ replicate (n + 1) None ++ drop (n + 1) old
-one_emptied old n h =
-    let z : n - n ≡ 0 = omega arith in
+-- where the others have none, emptying the ranges of some rows leaves none
+pub emptied : (first end : ℕ) (changed : List Range) → ((r : ℕ) → (r < first) ⊎ (end ≤ r) → get_or changed r None ≡ None)
+    → ranges_with (λ r. leb first r && ltb r end) (λ _. None) changed ≡ replicate (length changed) None
+emptied first end changed others =
     let none : Range = None in
-    set-append_right (replicate n none) (drop n old) n n none (length-replicate n none) (omega arith)
-    ∙ (λ i. replicate n none ++ set (drop_more old n none h i) (z i) none)
-    ∙ sym (append_assoc (replicate n none) (none ∷ []) (drop (n + 1) old)) ∙ ap (λ xs. xs ++ drop (n + 1) old) (replicate_more n none)
+    same_lists (ranges_with (λ r. leb first r && ltb r end) (λ _. none) changed) (replicate (length changed) none) (as_many (λ r. leb first r && ltb r end) (λ _. none) changed ∙ sym (length-replicate (length changed) none)) (λ r d h.
+    let row_in : r < length changed = omega (arith, as_many (λ r. leb first r && ltb r end) (λ _. none) changed) in
+    range_of (λ r. leb first r && ltb r end) (λ _. none) changed r d row_in
+    ∙ either first end r (get_or changed r None) (others r)
+    ∙ sym (get_or-replicate (length changed) r none d row_in))
+  where
+    before_or_not : (a b : ℕ) → (a < b) ⊎ (b ≤ a)
+    before_or_not a b = grind arith
+
+    both : (first end r : ℕ) → first ≤ r → r < end → (leb first r && ltb r end) ≡ true
+    both first end r f b = grind (arith, nat_tests)
+
+    in_or_out : (first end r : ℕ) → ((leb first r && ltb r end) ≡ true) ⊎ ((r < first) ⊎ (end ≤ r))
+    in_or_out first end r = elim (before_or_not r first) [
+      | inl b ↦ inr (inl b)
+      | inr f ↦ elim (before_or_not r end) [
+        | inl b ↦ inl (both first end r f b)
+        | inr e ↦ inr (inr e)
+      ]
+    ]
+
+    still : (t : Bool) (range : Range) → range ≡ None → cond t None range ≡ None
+    still true range e = refl
+    still false range e = e
+
+    either : (first end r : ℕ) (range : Range) → ((r < first) ⊎ (end ≤ r) → range ≡ None) → cond (leb first r && ltb r end) None range ≡ None
+    either first end r range h = elim (in_or_out first end r) [
+      | inl e ↦ ap (λ t. cond t None range) e
+      | inr out ↦ still (leb first r && ltb r end) range (h out)
+    ]
 
 -- a range of columns that is widened is one
 pub widened_is_range : (columns first last : ℕ) (range : Range) → first ≤ last → last < columns → IfSome range (IsRange columns) → IfSome (widened first last range) (IsRange columns)

@@ -1,2 +1,3 @@
 -- Words of private functions.
 pub mod Lines
+pub mod Rows

@@ -1,18 +1,13 @@
 -- Laws of virtual screens: what a reader may hold against the definitions of the calls.
-use Rattle.std.specs.Prelude.{ℕ, Bool, true, false, ◌≡◌, ◌+◌, ◌-◌, ◌<◌, ◌≤◌, ◌⊎◌, ◌&&◌, leb, Option, Some, None, Ok, slice_index_or}
+use Rattle.std.specs.Prelude.{ℕ, Bool, true, false, ◌≡◌, ◌+◌, ◌-◌, ◌<◌, ◌≤◌, ◌⊎◌, Some, None, Ok, slice_index_or}
 use Rattle.scr_cells.specs.CellViews.{CellView, blank_cell}
 use Rattle.scr_cells.specs.Grids.{grid_at}
 use Rattle.scr_cells.specs.LookViews.{LookView, seen}
 use Rattle.scr_windows.specs.DeskViews.{DeskView, window_at}
 use Rattle.scr_windows.specs.Changes.{index_of}
-use Rattle.scr_virtual.specs.VirtualViews.{IsVirtual, VirtualView, marked_rows, range_at, settled}
+use Rattle.scr_virtual.specs.VirtualViews.{IsVirtual, VirtualView, in_range, marked_rows, range_at, settled}
 use Rattle.scr_virtual.specs.Pairs.{set_pair_call}
 use Rattle.scr_virtual.specs.Taking.{take_pad_call, take_window_call}
-
--- a column is in a range
-abbrev pub in_range : Option (ℕ × ℕ) → ℕ → Bool
-in_range None c = false
-in_range (Some range) c = leb range.0 c && leb c range.1
 
 -- the cell of the picture in a row and a column, and what is seen of it on a terminal that shows these attributes, and colours or
 -- none

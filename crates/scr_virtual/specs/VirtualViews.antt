@@ -1,6 +1,6 @@
 -- The virtual screen: what windows are taken onto before the terminal is written. curs_refresh(3X), 'virtual screen'; X/Open
 -- Curses Issue 7, doupdate().
-use Rattle.std.specs.Prelude.{ℕ, Bool, false, ◌≡◌, ◌+◌, ◌-◌, ◌<◌, ◌≤◌, ◌&&◌, leb, ltb, min, max, if◌then◌else◌, List, All, length, map, replicate, slice_index_or, Option, None, Some, IfSome}
+use Rattle.std.specs.Prelude.{ℕ, Bool, false, ◌≡◌, ◌+◌, ◌-◌, ◌<◌, ◌≤◌, ◌⊎◌, ◌&&◌, leb, ltb, min, max, if◌then◌else◌, List, All, length, map, replicate, slice_index_or, Option, None, Some, IfSome}
 use Rattle.std.specs.List.{range_with_len}
 use Rattle.scr_cells.specs.PictureViews.{IsPicture, PictureView, blank_picture}
 
@@ -28,6 +28,15 @@ blank_virtual rows columns = record { picture = blank_picture rows columns; repa
 -- the range of a row
 abbrev pub range_at : VirtualView → ℕ → Option (ℕ × ℕ)
 range_at virtual r = slice_index_or virtual.changed r None
+
+-- a column is in a range; or a row, where the range is of rows
+abbrev pub in_range : Option (ℕ × ℕ) → ℕ → Bool
+in_range None c = false
+in_range (Some range) c = leb range.0 c && leb c range.1
+
+-- no row has a range but those from a first up to an end
+abbrev pub NoneOutside : VirtualView → ℕ → ℕ → Type 0
+NoneOutside virtual first end = (r : ℕ) → (r < first) ⊎ (end ≤ r) → range_at virtual r ≡ None
 
 -- the screen is not to be painted anew, and nothing has changed
 abbrev pub settled : VirtualView → VirtualView

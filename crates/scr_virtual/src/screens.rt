@@ -1,8 +1,9 @@
 //! The virtual screen. What is true of every one is in `specs/VirtualViews.antt`.
-ghost use Rattle.std.specs.Prelude.{◌≡◌, ◌<◌, ◌≤◌, ◌&&◌, leb, ltb, IfOk, None, Some, length, replicate};
+ghost use Rattle.std.specs.Prelude.{◌≡◌, ◌<◌, ◌≤◌, ◌&&◌, leb, ltb, IfOk, IfSome, length};
 ghost use Rattle.scr_virtual.specs.Pairs.{set_pair_call};
-ghost use Rattle.scr_virtual.specs.VirtualViews.{IsVirtual, blank_virtual, marked_rows, range_at, ranges_with, settled};
+ghost use Rattle.scr_virtual.specs.VirtualViews.{IsRange, IsVirtual, NoneOutside, blank_virtual, marked_rows, range_at, ranges_with, settled};
 
+use crate::ranges::with_rows;
 use scr_cells::{Cell, NoMemory, Picture, Size};
 use scr_windows::WinFault;
 use std::alloc::Global;
@@ -20,16 +21,19 @@ pub struct Virtual {
     pub(crate) repaint: bool,
     // One for each row.
     pub(crate) changed: Vec<Option<(u32, u32)>>,
+    // The first and the last row that may have a range. What reads or empties the ranges looks at no other row.
+    pub(crate) rows: Option<(u32, u32)>,
 }
 
 impl Model for Virtual {
+    ghost use Rattle.scr_virtual.specs.Code.Rows.{HoldRanges};
     ghost use Rattle.scr_virtual.specs.VirtualViews.{IsVirtual, VirtualView};
 
     ghost Value = { VirtualView };
 
     ghost view = { λ a. record { picture = a.picture; repaint = a.repaint; changed = a.changed.items } };
 
-    ghost invariant = { λ a. IsVirtual (record { picture = a.picture; repaint = a.repaint; changed = a.changed.items }) };
+    ghost invariant = { λ a. IsVirtual (record { picture = a.picture; repaint = a.repaint; changed = a.changed.items }) × HoldRanges a.rows a.changed.items };
 }
 
 impl Virtual {
@@ -44,6 +48,7 @@ impl Virtual {
             picture,
             repaint: false,
             changed,
+            rows: None,
         })
     }
 
@@ -74,9 +79,23 @@ impl Virtual {
     /// not changed.
     pub fn changed(&self, row: u32) -> Option<(u32, u32)>
         requires { row < self.now.picture.rows }
-        ensures { result ≡ range_at self.now row }
+        ensures value { result ≡ range_at self.now row }
+        ensures inside { IfSome result (IsRange self.now.picture.columns) }
     {
         self.changed[row as usize]
+    }
+
+    /// The first row and the end (exclusive) of the rows that may have a range: outside them no row has changed since
+    /// `settle`. An update looks at these rows alone, and costs nothing where nothing changed.
+    pub fn changed_rows(&self) -> (u32, u32)
+        ensures order { result.0 ≤ result.1 }
+        ensures end { result.1 ≤ self.now.picture.rows }
+        ensures others { NoneOutside self.now result.0 result.1 }
+    {
+        match self.rows {
+            Some((first, last)) => (first, last + 1),
+            None => (0, 0),
+        }
     }
 
     /// Sets the foreground and the background of a colour pair. The picture has them at once, and every row may have
@@ -106,8 +125,10 @@ impl Virtual {
     pub fn settle(&mut self)
         ensures { self.new ≡ settled self.old }
     {
+        let (first, end) = self.changed_rows();
+        fill(&mut self.changed, first as usize, end as usize, None);
+        self.rows = None;
         self.repaint = false;
-        empty(&mut self.changed);
     }
 
     /// The ranges of n rows from one on, as many of them as there are, become whole: the terminal may show something else
@@ -122,27 +143,19 @@ impl Virtual {
             &mut self.changed,
             first as usize,
             end as usize,
-            size.columns - 1,
+            Some((0, size.columns - 1)),
         );
+        self.rows = with_rows(first, end, self.rows);
     }
 }
 
-// No range everywhere.
-fn empty(ranges: &mut [Option<(u32, u32)>])
-    ensures { ranges.new ≡ replicate (length ranges.old) None }
-{
-    for row in 0..ranges.len() {
-        ranges[row] = None;
-    }
-}
-
-// The range up to a last column in some rows.
-fn fill(ranges: &mut [Option<(u32, u32)>], first: usize, end: usize, last: u32)
+// One range, or none, in rows `first..end`.
+fn fill(ranges: &mut [Option<(u32, u32)>], first: usize, end: usize, range: Option<(u32, u32)>)
     requires order { first ≤ end }
     requires end { end ≤ length ranges.old }
-    ensures { ranges.new ≡ ranges_with (λ r. leb first r && ltb r end) (λ _. Some (0, last)) ranges.old }
+    ensures { ranges.new ≡ ranges_with (λ r. leb first r && ltb r end) (λ _. range) ranges.old }
 {
     for row in first..end {
-        ranges[row] = Some((0, last));
+        ranges[row] = range;
     }
 }

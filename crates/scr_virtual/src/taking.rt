@@ -137,6 +137,7 @@ impl Virtual {
         let last = column + (cells.len() as u32 - 1);
         let range = &mut self.changed[row as usize];
         *range = widened(column, last, *range);
+        self.rows = widened(row, row, self.rows);
     }
 
     // Takes the lines of a part of a window on a desk, and its wish to paint anew.
