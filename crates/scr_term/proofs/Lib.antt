@@ -25,3 +25,4 @@ mod EcmaLedLaws
 pub mod RenderingLaws
 pub mod AdmissionLaws
 pub mod BundledSuitsLaws
+pub mod BundledLaws

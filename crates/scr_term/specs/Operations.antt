@@ -10,3 +10,4 @@ pub mod Pieces
 pub mod Texts
 pub mod Painted
 pub mod Laws
+pub mod Bundled

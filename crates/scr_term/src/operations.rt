@@ -13,8 +13,8 @@ mod steps;
 
 pub use capability::Capability;
 pub use laws::{
-    blank_laws, bytes_act_as_their_operation, bytes_act_as_their_operations, ecma48_laws,
-    profiles_have, run_laws, steps_keep_states,
+    blank_laws, bundled_is_ecma48, bytes_act_as_their_operation, bytes_act_as_their_operations,
+    ecma48_laws, profiles_have, run_laws, steps_keep_states,
 };
 pub use operation::{Op, Ops, Spot};
 pub use profile_faults::ProfileFault;

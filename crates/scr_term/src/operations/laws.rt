@@ -1,5 +1,6 @@
 //! Laws about operations, their steps and their bytes, for the crates above: functions that do nothing, whose contracts are
 //! the laws.
+ghost use Rattle.scr_term.specs.Operations.Bundled.{BundledIsEcma48};
 ghost use Rattle.scr_term.specs.Operations.Ecma48.{Ecma48Laws};
 ghost use Rattle.scr_term.specs.Operations.Laws.{BlankLaws, BytesActAsTheirOperation, BytesActAsTheirOperations, ProfilesHave, RunLaws, StepsKeepStates};
 
@@ -35,6 +36,11 @@ pub fn bytes_act_as_their_operations()
 /// The profile of the bundled ECMA-48 entry is determined by its size, and it shows every attribute and colours.
 pub fn ecma48_laws()
     ensures { Ecma48Laws }
+{}
+
+/// What the bundled entry makes on a screen of any size is a profile whose bytes are spoken of: `IsEcma48`.
+pub fn bundled_is_ecma48()
+    ensures { BundledIsEcma48 }
 {}
 
 /// Runs of operations join, also where the first is undefined, and so do their bytes. A run leads from a state of a profile to a state of that profile, and has
