@@ -27,7 +27,7 @@ either : {R : Type 0} (a b : Bool) → (a || b) ≡ true → (a ≡ true → R) 
 either true b e first second = first refl
 either false b e first second = second e
 
-both : (a b : Bool) → (a && b) ≡ true → (a ≡ true) × (b ≡ true)
+pub both : (a b : Bool) → (a && b) ≡ true → (a ≡ true) × (b ≡ true)
 both true b e = (refl, e)
 both false b e = (cc)
 
@@ -187,11 +187,11 @@ all_known [] r e h = absurd (omega (arith, h))
 all_known (known ∷ rows) zero e h = (both known (list_all (λ known. known) rows) e).0
 all_known (known ∷ rows) (suc r) e h = all_known rows r (both known (list_all (λ known. known) rows) e).1 (omega (arith, h))
 
-known_all : (n : ℕ) → list_all (λ known. known) (replicate n true) ≡ true
+pub known_all : (n : ℕ) → list_all (λ known. known) (replicate n true) ≡ true
 known_all zero = refl
 known_all (suc n) = known_all n
 
-known_state : GridLaws LookView → (abilities : Abilities) (memory : MemoryView) (old : TerminalState) → Agrees abilities memory old → is_known memory ≡ true → memory.state ≡ old
+pub known_state : GridLaws LookView → (abilities : Abilities) (memory : MemoryView) (old : TerminalState) → Agrees abilities memory old → is_known memory ≡ true → memory.state ≡ old
 known_state grids abilities memory old agrees e =
     let most = both (list_all (λ known. known) memory.known_rows && memory.known_spot) memory.known_pen e in
     let parts = both (list_all (λ known. known) memory.known_rows) memory.known_spot most.0 in

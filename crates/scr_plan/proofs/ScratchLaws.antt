@@ -94,10 +94,10 @@ grid_same rows columns f g same =
     map_same (λ r. map (f r) (range_with_len 0 columns)) (λ r. map (g r) (range_with_len 0 columns)) rows 0
     (λ r high. map_same (f r) (g r) columns 0 (λ c wide. same r c (omega (arith, high)) (omega (arith, wide))))
 
-map_grid_at : (f : CellView → LookView) (lines : List (List CellView)) (r c : ℕ) → grid_at (f blank_cell) (map (map f) lines) r c ≡ f (grid_at blank_cell lines r c)
+pub map_grid_at : (f : CellView → LookView) (lines : List (List CellView)) (r c : ℕ) → grid_at (f blank_cell) (map (map f) lines) r c ≡ f (grid_at blank_cell lines r c)
 map_grid_at f lines r c = ap (λ line. get_or line c (f blank_cell)) (get_or-map (map f) lines r []) ∙ get_or-map f (grid_row lines r) c blank_cell
 
-map_is_grid : (f : CellView → LookView) (rows columns : ℕ) (lines : List (List CellView)) → IsGrid rows columns lines → IsGrid rows columns (map (map f) lines)
+pub map_is_grid : (f : CellView → LookView) (rows columns : ℕ) (lines : List (List CellView)) → IsGrid rows columns lines → IsGrid rows columns (map (map f) lines)
 map_is_grid f rows columns lines is = record {
   high = length-map lines (map f) ∙ is.high;
   wide = λ r h. ap length (get_or-map (map f) lines r []) ∙ length-map (grid_row lines r) f ∙ is.wide r h;

@@ -1,2 +1,3 @@
 -- The words of private functions: nothing that has to be read to know what the library does.
 pub mod Painters
+pub mod Remembering

@@ -4,9 +4,11 @@ use Rattle.std.specs.Prelude.{ℕ, ◌≡◌, ◌+◌, ◌<◌, ◌≤◌, ◌�
 use Rattle.std.specs.List.{list_all, range_with_len}
 use Rattle.scr_cells.specs.Grids.{grid_row}
 use Rattle.scr_cells.specs.LookViews.{LookView}
+use Rattle.scr_cells.specs.PictureViews.{IsSize}
 use Rattle.scr_term.specs.declared.operations.operation.Op.{Op}
 use Rattle.scr_term.specs.declared.operations.operation.Op.TheVariants.{Home, Move, Clear, EraseLine, EraseBelow, EraseChars, Reset, Set, Put}
-use Rattle.scr_term.specs.Operations.Abilities.{Abilities}
+use Rattle.scr_term.specs.declared.operations.operation.Spot.{Spot}
+use Rattle.scr_term.specs.Operations.Abilities.{Abilities, full_abilities}
 use Rattle.scr_term.specs.Operations.Profiles.{ProfileView, IsProfile, abilities}
 use Rattle.scr_term.specs.Operations.States.{TerminalState, IsState, blank_state}
 use Rattle.scr_term.specs.Operations.Steps.{step}
@@ -19,6 +21,12 @@ pub record MemoryView : Type 0 where
   pub known_rows : List Bool
   pub known_spot : Bool
   pub known_pen : Bool
+
+-- of a size that a screen may have, with a state of a terminal of that size, and for each row whether it is known
+pub record IsMemory (memory : MemoryView) : Type 0 where
+  pub size : IsSize memory.rows memory.columns
+  pub state : IsState (full_abilities memory.rows memory.columns) memory.state
+  pub whole : length memory.known_rows ≡ memory.rows
 
 -- nothing is known
 abbrev pub unknown : ℕ → ℕ → MemoryView
@@ -37,6 +45,10 @@ is_known_row memory r = slice_index_or memory.known_rows r false
 -- the looks of a row, where they are known
 abbrev pub row_looks : MemoryView → ℕ → Option (List LookView)
 row_looks memory r = if is_known_row memory r then Some (grid_row memory.state.grid r) else None
+
+-- where the cursor is, where that is known
+abbrev pub spot_if_known : MemoryView → Option Spot
+spot_if_known memory = if memory.known_spot then Some memory.state.spot else None
 
 -- every row, the spot and the pen are known
 abbrev pub is_known : MemoryView → Bool

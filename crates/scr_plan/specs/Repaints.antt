@@ -1,11 +1,11 @@
 -- Painting only what differs from what is remembered of the terminal. curs_refresh(3X), doupdate(); X/Open Curses Issue 7, the same.
-use Rattle.std.specs.Prelude.{ℕ, zero, suc, ◌≡◌, ◌≤◌, ◌==◌, ◌&&◌, ◌||◌, not, leb, nat_le, Bool, true, false, List, [], ◌∷◌, ◌++◌, length, filter, Option, Some, None, if◌then◌else◌}
+use Rattle.std.specs.Prelude.{ℕ, zero, suc, ◌≡◌, ◌<◌, ◌≤◌, ◌==◌, ◌&&◌, ◌||◌, not, leb, nat_le, Bool, true, false, List, [], ◌∷◌, ◌++◌, length, filter, Option, Some, None, if◌then◌else◌}
 use Rattle.std.specs.List.{flat_map, list_all, range_with_len}
 use Rattle.scr_cells.specs.Grids.{grid_at}
 use Rattle.scr_cells.specs.LookViews.{LookView, blank}
 use Rattle.scr_cells.specs.PenViews.{is_plain_pen, pen_eq}
 use Rattle.scr_cells.specs.PictureViews.{PictureView, IsPicture}
-use Rattle.scr_virtual.specs.VirtualViews.{VirtualView}
+use Rattle.scr_virtual.specs.VirtualViews.{VirtualView, in_range, range_at}
 use Rattle.scr_term.specs.declared.operations.operation.Op.{Op}
 use Rattle.scr_term.specs.declared.operations.operation.Op.TheVariants.{EraseLine, Move, Put, Reset}
 use Rattle.scr_term.specs.declared.operations.operation.Spot.{Spot}
@@ -32,6 +32,18 @@ differs profile picture memory place = not (is_known_row memory place.0 && look_
 
 abbrev pub differing : ProfileView → PictureView → MemoryView → List (ℕ × ℕ)
 differing profile picture memory = filter (differs profile picture memory) (places picture.rows picture.columns)
+
+-- a memory of a screen of the picture's size
+pub record IsSizeOf (picture : PictureView) (memory : MemoryView) : Type 0 where
+  pub rows : memory.rows ≡ picture.rows
+  pub columns : memory.columns ≡ picture.columns
+  pub known_rows : length memory.known_rows ≡ picture.rows
+
+-- every row that is known shows the picture, but for the columns that may have changed
+abbrev pub IsUpToDate : ProfileView → MemoryView → VirtualView → Type 0
+IsUpToDate profile memory virtual =
+    (r c : ℕ) → r < virtual.picture.rows → c < virtual.picture.columns → is_known_row memory r ≡ true → in_range (range_at virtual r) c ≡ false
+    → look_in memory (r, c) ≡ look_at profile virtual.picture (r, c)
 
 -- a cursor is in a place
 abbrev pub is_in_place : Spot → ℕ × ℕ → Bool

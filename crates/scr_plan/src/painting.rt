@@ -1,13 +1,15 @@
 //! The operations that paint a whole picture, row by row and place by place.
-ghost use Rattle.std.specs.Prelude.{◌≡◌, ◌<◌, ◌++◌, ◌==◌, IfOk, OnOk, Option, map, filter, bit_and, if◌then◌else◌};
+ghost use Rattle.std.specs.Prelude.{ℕ, false, ◌≡◌, ◌<◌, ◌≤◌, ◌++◌, ◌==◌, ◌&&◌, [], IfOk, OnOk, Option, map, filter, bit_and, if◌then◌else◌};
 ghost use Rattle.std.specs.List.{flat_map};
 ghost use Rattle.scr_cells.specs.Attributes.{attributes_of};
 ghost use Rattle.scr_cells.specs.PenViews.{pair_colours};
 ghost use Rattle.scr_term.specs.declared.operations.operation.Op.TheVariants.{Enter};
+ghost use Rattle.scr_plan.specs.Repaints.{IsSizeOf, look_eq};
 ghost use Rattle.scr_plan.specs.Scratch.{scratch_of, row_places, enter, sets_background, sets_foreground, Fits};
-ghost use Rattle.scr_plan.specs.Code.Painters.{painter_goes, painter_of, painter_paints, painter_paints_place, painter_resets};
+ghost use Rattle.scr_plan.specs.Code.Painters.{painter_differs, painter_goes, painter_of, painter_paints, painter_paints_place, painter_resets, painter_sees};
 
-use scr_cells::{Attrs, Cell, NoMemory, Picture};
+use crate::memories::Memory;
+use scr_cells::{Attrs, Cell, Look, NoMemory, Pen, Picture, shown_before};
 use scr_term::{Op, Ops, Profile};
 use std::alloc::Global;
 
@@ -38,7 +40,7 @@ pub fn scratch(alloc: Global, profile: &Profile, picture: &Picture) -> Result<Op
 
 // What painting asks of a profile, fetched once.
 #[derive(Clone, Copy)]
-struct Painter {
+pub(crate) struct Painter {
     shown: Attrs,
     colours: bool,
     can_reset: bool,
@@ -47,7 +49,7 @@ struct Painter {
 
 impl Painter {
     // What the profile says.
-    fn of(profile: &Profile) -> Painter
+    pub(crate) fn of(profile: &Profile) -> Painter
         ensures { result ≡ painter_of profile.now }
     {
         Painter {
@@ -72,7 +74,7 @@ impl Painter {
     }
 
     // Adds the operations for a cell of a picture in a place.
-    fn paint_cell(
+    pub(crate) fn paint_cell(
         self,
         picture: &Picture,
         row: u32,
@@ -91,7 +93,7 @@ impl Painter {
     }
 
     // The colours that are seen of a cell.
-    fn colours_of(self, picture: &Picture, cell: Cell) -> (Option<u8>, Option<u8>)
+    pub(crate) fn colours_of(self, picture: &Picture, cell: Cell) -> (Option<u8>, Option<u8>)
         ensures foreground { result.0 ≡ if self.colours then (pair_colours picture.now.pairs cell.pair).0 else Option.None }
         ensures background { result.1 ≡ if self.colours then (pair_colours picture.now.pairs cell.pair).1 else Option.None }
     {
@@ -102,6 +104,76 @@ impl Painter {
         match picture.pair(pair) {
             Some((foreground, background)) => (Some(foreground), Some(background)),
             None => (None, None),
+        }
+    }
+
+    // A column of a part of a row before which nothing differs from what is remembered, found eight places at a time.
+    pub(crate) fn first_unlike(
+        self,
+        picture: &Picture,
+        memory: &Memory,
+        row: u32,
+        from: u32,
+        end: u32,
+    ) -> u32
+        requires size { IsSizeOf picture.now memory.now }
+        requires row { row < picture.now.rows }
+        requires from { from ≤ end }
+        requires end { end ≤ picture.now.columns }
+        ensures from { from ≤ result }
+        ensures end { result ≤ end }
+        ensures same { (c : ℕ) → from ≤ c → c < result → painter_differs self picture.now memory.now (row, c) ≡ false }
+    {
+        if !memory.is_known_row(row) {
+            return from;
+        }
+        let looks = &memory.looks(row)[from as usize..end as usize];
+        let cells = &picture.row(row)[from as usize..end as usize];
+        from + shown_before(looks, cells, self.shown) as u32
+    }
+
+    // Adds the operations for a cell of a picture in a place, unless what the place shows is known and is what is seen of the cell.
+    pub(crate) fn paint_unless_shown(
+        self,
+        picture: &Picture,
+        row: u32,
+        column: u32,
+        cell: Cell,
+        known: bool,
+        look: Look,
+        ops: &mut Vec<Op>,
+    ) -> Result<(), NoMemory>
+        ensures { OnOk result (ops.new.items
+            ≡ ops.old.items ++ (if known && look_eq look (painter_sees self picture.now.pairs cell) then [] else painter_paints self picture.now.pairs (row, column) cell)) }
+    {
+        if known && self.is_seen(picture, look, cell) {
+            return Ok(());
+        }
+        self.paint_cell(picture, row, column, cell, ops)
+    }
+
+    // Whether a look is what is seen of a cell. Pens are compared whole, since most places that are looked at are as they are to be.
+    #[inline(always)]
+    pub(crate) fn is_seen(self, picture: &Picture, look: Look, cell: Cell) -> bool
+        ensures { result ≡ look_eq look (painter_sees self picture.now.pairs cell) }
+    {
+        look.byte() == cell.byte() && look.pen() == self.pen_of(picture, cell)
+    }
+
+    // What a cell is seen with.
+    #[inline(always)]
+    fn pen_of(self, picture: &Picture, cell: Cell) -> Pen
+        ensures { result ≡ (painter_sees self picture.now.pairs cell).pen }
+    {
+        let pen = Pen::plain().with_attrs(Attrs(self.shown.0 & cell.attrs().0));
+        if !self.colours || cell.pair() == 0 {
+            return pen;
+        }
+        match picture.pair(cell.pair()) {
+            Some((foreground, background)) => pen
+                .with_foreground(Some(foreground))
+                .with_background(Some(background)),
+            None => pen,
         }
     }
 
@@ -119,7 +191,7 @@ impl Painter {
     }
 
     // Adds what turns attributes off and makes colours the default ones.
-    fn reset(self, ops: &mut Vec<Op>) -> Result<(), NoMemory>
+    pub(crate) fn reset(self, ops: &mut Vec<Op>) -> Result<(), NoMemory>
         ensures { OnOk result (ops.new.items ≡ ops.old.items ++ painter_resets self) }
     {
         if self.can_reset {

@@ -1,8 +1,10 @@
 //! Laws of painting what differs: functions that do nothing, whose contracts are the laws.
 ghost use Rattle.scr_plan.specs.Memories.{MemoryLaws};
+ghost use Rattle.scr_plan.specs.Plans.{PlansAreMade, UpToDateLaws};
 ghost use Rattle.scr_plan.specs.Repaints.{PlainShows, PlanIsCheap, PlanShows};
 
-use crate::scratch_laws::{place_is_painted, scratch_shows};
+use crate::remembering_laws::{memory_runs, plans_are_remembered};
+use crate::scratch_laws::{place_is_painted, scratch_is_bounded, scratch_shows};
 use scr_cells::{Look, grid_laws};
 use scr_term::{profiles_have, run_laws, steps_keep_states};
 
@@ -41,4 +43,23 @@ pub fn plan_is_cheap()
     ensures { PlanIsCheap }
 {
     run_laws();
+}
+
+/// What is planned is all that an update wants of its operations: from every state that agrees with what is remembered they show the
+/// picture, all is known after them, and they are few and cheap (curs_refresh(3X), doupdate()).
+pub fn plans_are_made()
+    ensures { PlansAreMade }
+{
+    plan_shows();
+    plan_is_cheap();
+    plans_are_remembered();
+    scratch_is_bounded();
+}
+
+/// A known row shows the picture, but for the columns that may have changed: this stays true from call to call, and an update that
+/// ends well makes it true of every column.
+pub fn up_to_date_laws()
+    ensures { UpToDateLaws }
+{
+    memory_runs();
 }

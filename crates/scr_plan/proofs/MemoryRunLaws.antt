@@ -1,0 +1,198 @@
+-- Operations one after another, as they are remembered; and what is remembered after a plan.
+use Rattle.std.proofs.Common.{◌≡◌, ◌==◌, ◌&&◌, ◌||◌, not, Bool, true, false, refl, sym, ◌∙◌, ap, subst, List, [], ◌∷◌, ◌++◌, length, Option, Some, None, option_and_then, replicate, if◌then◌else◌}
+use Rattle.std.specs.List.{list_all}
+use Rattle.std.proofs.lemmas.List.{length-replicate}
+use Rattle.scr_cells.specs.Grids.{GridLaws}
+use Rattle.scr_cells.specs.LookViews.{LookView}
+use Rattle.scr_cells.specs.PictureViews.{PictureView, IsPicture}
+use Rattle.scr_virtual.specs.VirtualViews.{VirtualView}
+use Rattle.scr_term.specs.declared.operations.capability.Capability.TheVariants.{Sgr0}
+use Rattle.scr_term.specs.declared.operations.operation.Op.{Op}
+use Rattle.scr_term.specs.declared.operations.operation.Op.TheVariants.{Clear, Reset}
+use Rattle.scr_term.specs.Operations.Abilities.{Abilities}
+use Rattle.scr_term.specs.Operations.Laws.{BlankLaws, HasLaws, ProfilesHave, RunLaws}
+use Rattle.scr_term.specs.Operations.Painted.{Shows}
+use Rattle.scr_term.specs.Operations.Profiles.{ProfileView, IsProfile, abilities, is_there}
+use Rattle.scr_term.specs.Operations.States.{TerminalState, IsState, blank_state}
+use Rattle.scr_term.specs.Operations.Steps.{runs, step}
+use Rattle.scr_plan.proofs.FollowLaws.{both, known_all, known_state}
+use Rattle.scr_plan.proofs.MemoryViewLaws.{same_size}
+use Rattle.scr_plan.proofs.RememberedRowLaws.{all_true}
+use Rattle.scr_plan.specs.Memories.{Agrees, MemoryLaws, MemoryView, all_followed, followed, has_one_pen, is_known, remembered, stepped, unknown}
+use Rattle.scr_plan.specs.MemoryRuns.{KnownMemories, MayBe, MemoryRuns, PlansAreRemembered}
+use Rattle.scr_plan.specs.Repaints.{PlanShows, plain_of, plan_of}
+use Rattle.scr_plan.specs.Scratch.{Fits, RunsToShow, ScratchShows, paints_places, places_cursor, resets, scratch_of}
+
+-- ---- runs
+
+-- a step that leads to a state, and one that goes on from there
+goes_on : {A : Type 0} (first : Option A) (f : A → Option A) (new : A) → option_and_then f first ≡ Some new → (next : A) × (first ≡ Some next) × (f next ≡ Some new)
+goes_on None f new e = (cc)
+goes_on (Some next) f new e = (next, refl, e)
+
+same_some : {A : Type 0} (a b : A) → Some a ≡ Some b → a ≡ b
+same_some a b e = (cc)
+
+runs_follow : MemoryLaws → (profile : ProfileView) → IsProfile profile → (memory : MemoryView) (old new : TerminalState) (ops : List Op)
+    → Agrees (abilities profile) memory old → runs profile old ops ≡ Some new → Agrees (abilities profile) (all_followed profile ops memory) new
+runs_follow laws profile p memory old new [] agrees e = subst (Agrees (abilities profile) memory) (same_some old new e) agrees
+runs_follow laws profile p memory old new (op ∷ ops) agrees e =
+    let parts = goes_on (step profile old op) (λ next. runs profile next ops) new e in
+    runs_follow laws profile p (followed profile op memory) parts.0 new ops (laws.follows profile p memory old parts.0 op agrees parts.1) parts.2
+
+runs_stay_known : MemoryLaws → (profile : ProfileView) → IsProfile profile → (memory : MemoryView) (old new : TerminalState) (ops : List Op)
+    → Agrees (abilities profile) memory old → runs profile old ops ≡ Some new → is_known memory ≡ true → is_known (all_followed profile ops memory) ≡ true
+runs_stay_known laws profile p memory old new [] agrees e known = known
+runs_stay_known laws profile p memory old new (op ∷ ops) agrees e known =
+    let parts = goes_on (step profile old op) (λ next. runs profile next ops) new e in
+    runs_stay_known laws profile p (followed profile op memory) parts.0 new ops (laws.follows profile p memory old parts.0 op agrees parts.1) parts.2
+    (laws.stays_known profile p memory old parts.0 op agrees parts.1 known)
+
+runs_state : (profile : ProfileView) (memory : MemoryView) (new : TerminalState) (ops : List Op) → runs profile memory.state ops ≡ Some new → (all_followed profile ops memory).state ≡ new
+runs_state profile memory new [] e = same_some memory.state new e
+runs_state profile memory new (op ∷ ops) e =
+    let parts = goes_on (step profile memory.state op) (λ next. runs profile next ops) new e in
+    let there : (followed profile op memory).state ≡ parts.0 = ap (λ next. (stepped (abilities profile) op memory next).state) parts.1 in
+    runs_state profile (followed profile op memory) new ops (ap (λ state. runs profile state ops) there ∙ parts.2)
+
+all_joined : (profile : ProfileView) (memory : MemoryView) (ops more : List Op) → all_followed profile (ops ++ more) memory ≡ all_followed profile more (all_followed profile ops memory)
+all_joined profile memory [] more = refl
+all_joined profile memory (op ∷ ops) more = all_joined profile (followed profile op memory) ops more
+
+all_rows : (profile : ProfileView) (memory : MemoryView) (ops : List Op) → (all_followed profile ops memory).rows ≡ memory.rows
+all_rows profile memory [] = refl
+all_rows profile memory (op ∷ ops) = all_rows profile (followed profile op memory) ops ∙ (same_size (abilities profile) op memory (step profile memory.state op)).0
+
+all_columns : (profile : ProfileView) (memory : MemoryView) (ops : List Op) → (all_followed profile ops memory).columns ≡ memory.columns
+all_columns profile memory [] = refl
+all_columns profile memory (op ∷ ops) = all_columns profile (followed profile op memory) ops ∙ (same_size (abilities profile) op memory (step profile memory.state op)).1
+
+-- the remembered state agrees with what is remembered
+agrees_itself : (abilities : Abilities) (memory : MemoryView) → MayBe abilities memory → Agrees abilities memory memory.state
+agrees_itself abilities memory may = record {
+  is_state = may.state;
+  may_be = may.state;
+  high = may.high;
+  rows = λ r h known. refl;
+  spot = λ known. refl;
+  pen = λ known. refl;
+}
+
+-- a blank memory of which nothing is known agrees with every state
+unknown_agrees : BlankLaws → MemoryLaws → (profile : ProfileView) → IsProfile profile → (now : TerminalState) → IsState (abilities profile) now → Agrees (abilities profile) (unknown profile.rows profile.columns) now
+unknown_agrees blanks laws profile p now state =
+    let memory : MemoryView = remembered profile.rows profile.columns (blank_state profile.rows profile.columns) in
+    let may : MayBe (abilities profile) memory = record { state = blanks.state profile p; high = length-replicate profile.rows true } in
+    subst (λ n. Agrees (abilities profile) (record (unknown profile.rows profile.columns) { known_rows = replicate n false }) now) (length-replicate profile.rows true)
+    (laws.forgets (abilities profile) memory memory.state now (agrees_itself (abilities profile) memory may) state)
+
+pub memory_runs : BlankLaws → MemoryLaws → MemoryRuns
+memory_runs blanks laws = record {
+  follows = runs_follow laws;
+  stays_known = runs_stay_known laws;
+  state = runs_state;
+  joined = all_joined;
+  rows = all_rows;
+  columns = all_columns;
+  at_first = unknown_agrees blanks laws;
+}
+
+-- ---- a plan
+
+-- a run that goes on was defined before
+run_before : RunLaws → (profile : ProfileView) (old new : TerminalState) (ops more : List Op) → runs profile old (ops ++ more) ≡ Some new
+    → (next : TerminalState) × (runs profile old ops ≡ Some next) × (runs profile next more ≡ Some new)
+run_before laws profile old new ops more e = goes_on (runs profile old ops) (λ next. runs profile next more) new (sym (laws.after profile old ops more) ∙ e)
+
+-- what is all known after operations is after more of them
+known_more : RunLaws → MemoryLaws → (profile : ProfileView) → IsProfile profile → (memory : MemoryView) → MayBe (abilities profile) memory → (new : TerminalState) (ops more : List Op)
+    → runs profile memory.state (ops ++ more) ≡ Some new → is_known (all_followed profile ops memory) ≡ true → is_known (all_followed profile (ops ++ more) memory) ≡ true
+known_more laws one profile p memory may new ops more e known =
+    let parts = run_before laws profile memory.state new ops more e in
+    let agrees : Agrees (abilities profile) (all_followed profile ops memory) parts.0 =
+    runs_follow one profile p memory memory.state parts.0 ops (agrees_itself (abilities profile) memory may) parts.1 in
+    ap is_known (all_joined profile memory ops more) ∙ runs_stay_known one profile p (all_followed profile ops memory) parts.0 new more agrees parts.2 known
+
+or_true : (b : Bool) → (b || true) ≡ true
+or_true true = refl
+or_true false = refl
+
+-- the screen is cleared where the pen is known, or can be no other
+known_cleared : (abilities : Abilities) (memory : MemoryView) (next : TerminalState) → (memory.known_pen || false || has_one_pen abilities) ≡ true → is_known (stepped abilities Clear memory (Some next)) ≡ true
+known_cleared abilities memory next pen =
+    (λ i. known_all (length memory.known_rows) i && or_true memory.known_spot i && pen i)
+
+-- after no attribute and default colours, and a blank screen
+known_begun : (profile : ProfileView) → HasLaws profile → (memory : MemoryView) (new : TerminalState) → (b : Bool) → is_there profile Sgr0 ≡ b
+    → runs profile memory.state ((if b then Reset ∷ [] else []) ++ Clear ∷ []) ≡ Some new → is_known (all_followed profile ((if b then Reset ∷ [] else []) ++ Clear ∷ []) memory) ≡ true
+known_begun profile can memory new true there e =
+    let first = goes_on (step profile memory.state Reset) (λ next. runs profile next (Clear ∷ [])) new e in
+    let second = goes_on (step profile first.0 Clear) (λ next. runs profile next []) new first.2 in
+    let reset : MemoryView = stepped (abilities profile) Reset memory (Some first.0) in
+    ap (λ next. is_known (followed profile Clear (stepped (abilities profile) Reset memory next))) first.1
+    ∙ ap (λ next. is_known (stepped (abilities profile) Clear reset next)) second.1
+    ∙ known_cleared (abilities profile) reset second.0 (pen_reset memory.known_pen (has_one_pen (abilities profile)))
+  where
+    pen_reset : (a b : Bool) → ((a || true || b) || false || b) ≡ true
+    pen_reset true b = refl
+    pen_reset false b = refl
+known_begun profile can memory new false there e =
+    let first = goes_on (step profile memory.state Clear) (λ next. runs profile next []) new e in
+    let one : has_one_pen (abilities profile) ≡ true = (λ i. can.plain_set there i == 0 && not (can.plain_colours there i)) in
+    ap (λ next. is_known (stepped (abilities profile) Clear memory next)) first.1
+    ∙ known_cleared (abilities profile) memory first.0 (ap (λ b. memory.known_pen || false || b) one ∙ or_true (memory.known_pen || false))
+
+scratch_known : RunLaws → ProfilesHave → MemoryLaws → ScratchShows → (profile : ProfileView) → IsProfile profile → (picture : PictureView) → IsPicture picture → Fits profile picture
+    → (memory : MemoryView) → MayBe (abilities profile) memory → is_known (all_followed profile (scratch_of profile picture) memory) ≡ true
+scratch_known laws have one shows profile p picture k fits memory may =
+    let run : RunsToShow profile memory.state (scratch_of profile picture) picture = shows profile p picture k fits memory.state may.state in
+    let begins : List Op = resets profile ++ Clear ∷ [] in
+    let all : List Op = paints_places profile picture in
+    let cursor : List Op = places_cursor picture.wish in
+    let third = run_before laws profile memory.state run.new (begins ++ all ++ resets profile) cursor run.run in
+    let second = run_before laws profile memory.state third.0 (begins ++ all) (resets profile) third.1 in
+    let first = run_before laws profile memory.state second.0 begins all second.1 in
+    known_more laws one profile p memory may run.new (begins ++ all ++ resets profile) cursor run.run
+    (known_more laws one profile p memory may third.0 (begins ++ all) (resets profile) third.1
+    (known_more laws one profile p memory may second.0 begins all second.1
+    (known_begun profile (have profile p) memory first.0 (is_there profile Sgr0) refl first.1)))
+
+known_by : RunLaws → ProfilesHave → MemoryLaws → ScratchShows → (profile : ProfileView) → IsProfile profile → (virtual : VirtualView) → IsPicture virtual.picture → Fits profile virtual.picture
+    → (memory : MemoryView) → MayBe (abilities profile) memory → (a b : Bool) → is_known memory ≡ a → virtual.repaint ≡ b
+    → (new : TerminalState) → runs profile memory.state (if a && not b then plain_of profile memory virtual.picture else scratch_of profile virtual.picture) ≡ Some new
+    → is_known (all_followed profile (if a && not b then plain_of profile memory virtual.picture else scratch_of profile virtual.picture) memory) ≡ true
+known_by laws have one scratch profile p virtual k fits memory may true false known calm new run =
+    runs_stay_known one profile p memory memory.state new (plain_of profile memory virtual.picture) (agrees_itself (abilities profile) memory may) run known
+known_by laws have one scratch profile p virtual k fits memory may true true known calm new run = scratch_known laws have one scratch profile p virtual.picture k fits memory may
+known_by laws have one scratch profile p virtual k fits memory may false b known calm new run = scratch_known laws have one scratch profile p virtual.picture k fits memory may
+
+pub plans_are_remembered : RunLaws → ProfilesHave → MemoryLaws → ScratchShows → PlanShows → PlansAreRemembered
+plans_are_remembered laws have one scratch plan = record {
+  scratch_known = scratch_known laws have one scratch;
+  known = λ profile p virtual k fits memory may.
+      let run : RunsToShow profile memory.state (plan_of profile memory virtual) virtual.picture = plan.agreeing profile p virtual k fits memory memory.state (agrees_itself (abilities profile) memory may) in
+      known_by laws have one scratch profile p virtual k fits memory may (is_known memory) virtual.repaint refl refl run.new run.run;
+  shows = λ profile p virtual k fits memory may.
+      let run : RunsToShow profile memory.state (plan_of profile memory virtual) virtual.picture = plan.agreeing profile p virtual k fits memory memory.state (agrees_itself (abilities profile) memory may) in
+      subst (λ state. Shows (abilities profile) state virtual.picture) (sym (runs_state profile memory run.new (plan_of profile memory virtual) run.run)) run.shows;
+}
+
+-- ---- what is all known
+
+known_is : GridLaws LookView → (abilities : Abilities) (memory : MemoryView) (now : TerminalState) → Agrees abilities memory now → is_known memory ≡ true
+    → memory ≡ record (remembered abilities.rows abilities.columns now) { rows = memory.rows; columns = memory.columns }
+known_is grids abilities memory now agrees known =
+    let most = both (list_all (λ known. known) memory.known_rows && memory.known_spot) memory.known_pen known in
+    let parts = both (list_all (λ known. known) memory.known_rows) memory.known_spot most.0 in
+    let state : memory.state ≡ now = known_state grids abilities memory now agrees known in
+    let rows : memory.known_rows ≡ replicate abilities.rows true = all_true memory.known_rows parts.0 ∙ ap (λ n. replicate n true) agrees.high in
+    λ i. record { rows = memory.rows; columns = memory.columns; state = state i; known_rows = rows i; known_spot = parts.1 i; known_pen = most.1 i }
+
+pub known_memories : GridLaws LookView → KnownMemories
+known_memories grids = record {
+  state = known_state grids;
+  all = λ abilities memory now agrees known rows columns.
+      known_is grids abilities memory now agrees known ∙ (λ i. record (remembered abilities.rows abilities.columns now) { rows = rows i; columns = columns i });
+  plain = λ profile memory now picture agrees known. ap (λ m. plain_of profile m picture) (known_is grids (abilities profile) memory now agrees known);
+  plan = λ profile memory now virtual agrees known. ap (λ m. plan_of profile m virtual) (known_is grids (abilities profile) memory now agrees known);
+}

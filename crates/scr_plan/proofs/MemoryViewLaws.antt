@@ -1,0 +1,69 @@
+-- Steps on what is remembered, and what is true of it after them.
+use Rattle.std.proofs.Common.{◌≡◌, ℕ, ◌+◌, Bool, true, false, sym, ◌∙◌, ap, refl, arith, List, ◌∷◌, length, Option, Some, None, replicate, ◌<◌, ◌&&◌, leb, ltb}
+use Rattle.std.specs.List.{list_all}
+use Rattle.std.specs.Option.{is_some}
+use Rattle.std.proofs.lemmas.List.{length-replicate}
+use Rattle.scr_term.specs.declared.operations.operation.Op.{Op}
+use Rattle.scr_term.specs.Operations.Abilities.{Abilities}
+use Rattle.scr_term.specs.Operations.Profiles.{ProfileView, abilities}
+use Rattle.scr_term.specs.Operations.States.{TerminalState}
+use Rattle.scr_term.specs.Operations.Steps.{step}
+use Rattle.scr_plan.specs.Memories.{MemoryView, all_followed, disturbed, followed, stepped}
+use Rattle.scr_plan.specs.Code.Remembering.{IsKept, gone_to, without_run}
+use Rattle.scr_plan.proofs.RememberedRowLaws.{all_are, all_true, without_alike}
+
+-- every row is set
+pub set_is_kept : (memory : MemoryView) (all known : Bool) (new : List Bool) → IsKept memory all → new ≡ replicate (length memory.known_rows) known → IsKept (record memory { known_rows = new }) known
+set_is_kept memory all known new kept new_is = record {
+  is = record {
+    size = kept.is.size;
+    state = kept.is.state;
+    whole = ap length new_is ∙ length-replicate (length memory.known_rows) known ∙ kept.is.whole;
+  };
+  every = sym (ap (list_all (λ k. k)) new_is ∙ all_are (length memory.known_rows) known (omega (arith, kept.is.size.some_rows, kept.is.whole)));
+}
+
+-- where all rows are known, to know them all changes nothing
+pub all_kept : (memory view : MemoryView) (all : Bool) → memory ≡ view → IsKept memory all → all ≡ true → view ≡ record view { known_rows = replicate (length view.known_rows) true }
+all_kept memory view all is kept e =
+    let known : list_all (λ k. k) view.known_rows ≡ true = ap (λ (m : MemoryView). list_all (λ k. k) m.known_rows) (sym is) ∙ sym kept.every ∙ e in
+    ap (λ rows. record view { known_rows = rows }) (all_true view.known_rows known)
+
+-- the state goes on, and then what is known of it
+pub learnt : (abilities : Abilities) (op : Op) (old memory : MemoryView) (next : Option TerminalState) → is_some next ≡ true → memory ≡ gone_to old next
+    → stepped abilities op memory (Some memory.state) ≡ stepped abilities op old next
+learnt abilities op old memory None there is = (cc)
+learnt abilities op old memory (Some next) there is = ap (λ m. stepped abilities op m (Some m.state)) is
+
+-- rows that there are are disturbed
+pub disturbed_is : (memory view : MemoryView) (first n from end rows : ℕ) (new : List Bool) → memory ≡ view → length memory.known_rows ≡ rows
+    → ((r : ℕ) → r < rows → (leb from r && ltb r end) ≡ (leb first r && ltb r (first + n))) → new ≡ without_run from end memory.known_rows
+    → record memory { known_rows = new; known_spot = false; known_pen = false } ≡ disturbed first n view
+disturbed_is memory view first n from end rows new is whole alike new_is =
+    let there : new ≡ without_run first (first + n) memory.known_rows =
+    new_is ∙ without_alike first (first + n) from end memory.known_rows (λ r h. alike r (omega (arith, h, whole))) in
+    ap (λ known. record memory { known_rows = known; known_spot = false; known_pen = false }) there ∙ ap (disturbed first n) is
+
+-- ---- operations one after another
+
+-- some operations were followed, and the rest is left
+pub record IsFollowed (profile : ProfileView) (ops rest : List Op) (old now : MemoryView) : Type 0 where
+  pub rows : now.rows ≡ old.rows
+  pub columns : now.columns ≡ old.columns
+  pub left : all_followed profile rest now ≡ all_followed profile ops old
+
+-- the size stays
+pub same_size : (abilities : Abilities) (op : Op) (memory : MemoryView) (next : Option TerminalState)
+    → ((stepped abilities op memory next).rows ≡ memory.rows) × ((stepped abilities op memory next).columns ≡ memory.columns)
+same_size abilities op memory None = (refl, refl)
+same_size abilities op memory (Some next) = (refl, refl)
+
+pub followed_more : (profile : ProfileView) (ops rest more : List Op) (op : Op) (old memory now : MemoryView) → IsFollowed profile ops rest old memory → rest ≡ op ∷ more → now ≡ followed profile op memory
+    → IsFollowed profile ops more old now
+followed_more profile ops rest more op old memory now before rest_is now_is =
+    let sizes = same_size (abilities profile) op memory (step profile memory.state op) in
+    record {
+      rows = ap (λ (m : MemoryView). m.rows) now_is ∙ sizes.0 ∙ before.rows;
+      columns = ap (λ (m : MemoryView). m.columns) now_is ∙ sizes.1 ∙ before.columns;
+      left = ap (all_followed profile more) now_is ∙ ap (λ (r : List Op). all_followed profile r memory) (sym rest_is) ∙ before.left;
+    }

@@ -1,0 +1,5 @@
+use Rattle.scr_plan.proofs.UpToDateLaws as laws
+use Rattle.scr_plan.proofs.plan_laws.up_to_date_laws.Goals as goal
+
+pub returns : goal.returns
+returns c = laws.up_to_date c.memory_runs.ensures

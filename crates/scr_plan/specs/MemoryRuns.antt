@@ -1,0 +1,53 @@
+-- What is remembered after operations one after another, and after the plan of an update. curs_refresh(3X), doupdate().
+use Rattle.std.specs.Prelude.{◌≡◌, ◌++◌, true, List, length, Some}
+use Rattle.scr_cells.specs.PictureViews.{PictureView, IsPicture}
+use Rattle.scr_virtual.specs.VirtualViews.{VirtualView}
+use Rattle.scr_term.specs.declared.operations.operation.Op.{Op}
+use Rattle.scr_term.specs.Operations.Abilities.{Abilities}
+use Rattle.scr_term.specs.Operations.Painted.{Shows}
+use Rattle.scr_term.specs.Operations.Profiles.{ProfileView, IsProfile, abilities}
+use Rattle.scr_term.specs.Operations.States.{TerminalState, IsState}
+use Rattle.scr_term.specs.Operations.Steps.{runs}
+use Rattle.scr_plan.specs.Memories.{Agrees, MemoryView, all_followed, is_known, remembered, unknown}
+use Rattle.scr_plan.specs.Repaints.{plain_of, plan_of}
+use Rattle.scr_plan.specs.Scratch.{Fits, scratch_of}
+
+-- Where a state agrees with what is remembered and operations are defined from it, the state after them agrees with what is
+-- remembered then, and where all was known, all is. Where they are defined from the remembered state, the state after them is
+-- remembered. To follow operations and then others is to follow them all, and the size stays. Where nothing is known, every
+-- state agrees.
+pub record MemoryRuns : Type 0 where
+  pub follows : (profile : ProfileView) → IsProfile profile → (memory : MemoryView) (old new : TerminalState) (ops : List Op)
+      → Agrees (abilities profile) memory old → runs profile old ops ≡ Some new → Agrees (abilities profile) (all_followed profile ops memory) new
+  pub stays_known : (profile : ProfileView) → IsProfile profile → (memory : MemoryView) (old new : TerminalState) (ops : List Op)
+      → Agrees (abilities profile) memory old → runs profile old ops ≡ Some new → is_known memory ≡ true → is_known (all_followed profile ops memory) ≡ true
+  pub state : (profile : ProfileView) (memory : MemoryView) (new : TerminalState) (ops : List Op)
+      → runs profile memory.state ops ≡ Some new → (all_followed profile ops memory).state ≡ new
+  pub joined : (profile : ProfileView) (memory : MemoryView) (ops more : List Op) → all_followed profile (ops ++ more) memory ≡ all_followed profile more (all_followed profile ops memory)
+  pub rows : (profile : ProfileView) (memory : MemoryView) (ops : List Op) → (all_followed profile ops memory).rows ≡ memory.rows
+  pub columns : (profile : ProfileView) (memory : MemoryView) (ops : List Op) → (all_followed profile ops memory).columns ≡ memory.columns
+  pub at_first : (profile : ProfileView) → IsProfile profile → (now : TerminalState) → IsState (abilities profile) now → Agrees (abilities profile) (unknown profile.rows profile.columns) now
+
+-- what is remembered may be so on a terminal that can show this
+pub record MayBe (abilities : Abilities) (memory : MemoryView) : Type 0 where
+  pub state : IsState abilities memory.state
+  pub high : length memory.known_rows ≡ abilities.rows
+
+-- After scratch, and after a plan, all is known, whatever was known before, and the remembered state shows the picture.
+pub record PlansAreRemembered : Type 0 where
+  pub scratch_known : (profile : ProfileView) → IsProfile profile → (picture : PictureView) → IsPicture picture → Fits profile picture
+      → (memory : MemoryView) → MayBe (abilities profile) memory → is_known (all_followed profile (scratch_of profile picture) memory) ≡ true
+  pub known : (profile : ProfileView) → IsProfile profile → (virtual : VirtualView) → IsPicture virtual.picture → Fits profile virtual.picture
+      → (memory : MemoryView) → MayBe (abilities profile) memory → is_known (all_followed profile (plan_of profile memory virtual) memory) ≡ true
+  pub shows : (profile : ProfileView) → IsProfile profile → (virtual : VirtualView) → IsPicture virtual.picture → Fits profile virtual.picture
+      → (memory : MemoryView) → MayBe (abilities profile) memory → Shows (abilities profile) (all_followed profile (plan_of profile memory virtual) memory).state virtual.picture
+
+-- Where all is known, a state that agrees is the remembered one, and the plain repaint and the plan are those from this state.
+pub record KnownMemories : Type 0 where
+  pub state : (abilities : Abilities) (memory : MemoryView) (now : TerminalState) → Agrees abilities memory now → is_known memory ≡ true → memory.state ≡ now
+  pub all : (abilities : Abilities) (memory : MemoryView) (now : TerminalState) → Agrees abilities memory now → is_known memory ≡ true
+      → memory.rows ≡ abilities.rows → memory.columns ≡ abilities.columns → memory ≡ remembered abilities.rows abilities.columns now
+  pub plain : (profile : ProfileView) (memory : MemoryView) (now : TerminalState) (picture : PictureView) → Agrees (abilities profile) memory now → is_known memory ≡ true
+      → plain_of profile memory picture ≡ plain_of profile (remembered profile.rows profile.columns now) picture
+  pub plan : (profile : ProfileView) (memory : MemoryView) (now : TerminalState) (virtual : VirtualView) → Agrees (abilities profile) memory now → is_known memory ≡ true
+      → plan_of profile memory virtual ≡ plan_of profile (remembered profile.rows profile.columns now) virtual

@@ -1,0 +1,42 @@
+-- What the operations of an update have to be, however they are planned. curs_refresh(3X), doupdate(); X/Open Curses Issue 7, the same.
+use Rattle.std.specs.Prelude.{ℕ, ◌≡◌, ◌≤◌, ◌+◌, ◌*◌, true, false, List, length}
+use Rattle.scr_cells.specs.PictureViews.{IsPicture}
+use Rattle.scr_virtual.specs.Laws.{HoldsChanges}
+use Rattle.scr_virtual.specs.VirtualViews.{VirtualView, settled}
+use Rattle.scr_term.specs.declared.operations.operation.Op.{Op}
+use Rattle.scr_term.specs.Operations.Profiles.{ProfileView, IsProfile, abilities}
+use Rattle.scr_term.specs.Operations.States.{TerminalState}
+use Rattle.scr_term.specs.Operations.Texts.{all_bytes}
+use Rattle.scr_plan.specs.Memories.{Agrees, MemoryView, all_followed, disturbed, forgotten, is_known, unknown}
+use Rattle.scr_plan.specs.MemoryRuns.{MayBe}
+use Rattle.scr_plan.specs.Repaints.{IsUpToDate, plain_of, plan_of}
+use Rattle.scr_plan.specs.Scratch.{Fits, RunsToShow, scratch_of}
+
+-- From every state that agrees with what is remembered the operations are defined and show the picture, and all is known after them.
+-- They are at most so many for a place; their bytes are no more than those of scratch, and where all was known and the screen is not
+-- to be painted anew, no more than those of the plain repaint.
+pub record IsPlan (profile : ProfileView) (memory : MemoryView) (virtual : VirtualView) (ops : List Op) : Type 0 where
+  pub shows : (old : TerminalState) → Agrees (abilities profile) memory old → RunsToShow profile old ops virtual.picture
+  pub known : is_known (all_followed profile ops memory) ≡ true
+  pub few : length ops ≤ virtual.picture.rows * virtual.picture.columns * 12 + 4
+  pub scratch : length (all_bytes profile ops) ≤ length (all_bytes profile (scratch_of profile virtual.picture))
+  pub plain : is_known memory ≡ true → virtual.repaint ≡ false → length (all_bytes profile ops) ≤ length (all_bytes profile (plain_of profile memory virtual.picture))
+
+-- What is planned is a plan, where what is remembered is a state of the profile.
+abbrev pub PlansAreMade : Type 0
+PlansAreMade =
+    (profile : ProfileView) → IsProfile profile → (virtual : VirtualView) → IsPicture virtual.picture → Fits profile virtual.picture
+    → (memory : MemoryView) → MayBe (abilities profile) memory → IsPlan profile memory virtual (plan_of profile memory virtual)
+
+-- What keeps a known row as the picture is, but for the columns that may have changed: all that happens to the virtual screen and to
+-- what is remembered between updates, and an update that ends well, which makes it so in every column.
+pub record UpToDateLaws : Type 0 where
+  pub at_first : (profile : ProfileView) (rows columns : ℕ) (virtual : VirtualView) → IsUpToDate profile (unknown rows columns) virtual
+  pub forgets : (profile : ProfileView) (memory : MemoryView) (virtual : VirtualView) → IsUpToDate profile (forgotten memory) virtual
+  pub disturbs : (profile : ProfileView) (memory : MemoryView) (virtual : VirtualView) (first n : ℕ) → IsUpToDate profile memory virtual → IsUpToDate profile (disturbed first n memory) virtual
+  pub holds : (profile : ProfileView) (memory : MemoryView) (old new : VirtualView) → HoldsChanges old new → new.picture.rows ≡ old.picture.rows → new.picture.columns ≡ old.picture.columns
+      → IsUpToDate profile memory old → IsUpToDate profile memory new
+  pub follows : (profile : ProfileView) (memory : MemoryView) (virtual : VirtualView) (ops : List Op) → Agrees (abilities profile) memory memory.state → IsPicture virtual.picture
+      → IsPlan profile memory virtual ops → IsUpToDate profile (all_followed profile ops memory) (settled virtual)
+  pub agrees : (profile : ProfileView) → IsProfile profile → (memory : MemoryView) (virtual : VirtualView) (ops : List Op) → Agrees (abilities profile) memory memory.state
+      → IsPlan profile memory virtual ops → Agrees (abilities profile) (all_followed profile ops memory) (all_followed profile ops memory).state

@@ -1,0 +1,308 @@
+//! What is remembered of a terminal between updates. What is true of it is in `specs/Memories.antt`.
+ghost use Rattle.std.specs.Prelude.{ℕ, ◌≡◌, ◌+◌, ◌≤◌, ◌<◌, ◌&&◌, leb, ltb, false, true, Some, IfOk, IfSome, length, option_map, replicate};
+ghost use Rattle.std.specs.List.{list_all};
+ghost use Rattle.std.specs.Option.{is_some};
+ghost use Rattle.scr_term.specs.Operations.Profiles.{abilities};
+ghost use Rattle.scr_term.specs.Operations.States.{IsSpot};
+ghost use Rattle.scr_term.specs.Operations.Steps.{step};
+ghost use Rattle.scr_plan.specs.Memories.{IsMemory, all_followed, changes_cells, clears, disturbed, followed, forgotten, has_one_pen, is_known, is_known_row, places_spot, row_looks, rows_followed, sets_pen, spot_if_known, stepped, unknown};
+ghost use Rattle.scr_plan.specs.Repaints.{is_placed};
+ghost use Rattle.scr_cells.specs.Grids.{grid_row};
+ghost use Rattle.scr_plan.specs.Code.Remembering.{gone_to, without_run};
+
+use scr_cells::{Look, NoMemory, Size};
+use scr_term::{Op, Profile, Spot, Terminal};
+use std::alloc::Global;
+use std::marker::Model;
+
+/// What is remembered of a terminal between updates (curs_refresh(3X), 'physical screen'): a state that it may be in, and
+/// how much of it is known: which rows, the cursor's place, and the attributes and colours it writes with.
+///
+/// Only `unknown` takes memory. Where all is known, an operation is followed in the time that its cells take.
+#[derive(Drop)]
+pub struct Memory {
+    terminal: Terminal,
+    // For each row, whether what it shows is known.
+    rows: Vec<bool>,
+    // Whether every row is known.
+    all_rows: bool,
+    spot: bool,
+    pen: bool,
+}
+
+impl Model for Memory {
+    ghost use Rattle.scr_plan.specs.Memories.{MemoryView};
+    ghost use Rattle.scr_plan.specs.Code.Remembering.{IsKept};
+
+    ghost Value = { MemoryView };
+
+    ghost view = { λ a. record { rows = a.terminal.rows; columns = a.terminal.columns; state = a.terminal.state; known_rows = a.rows.items; known_spot = a.spot; known_pen = a.pen } };
+
+    ghost invariant = { λ a. IsKept (record { rows = a.terminal.rows; columns = a.terminal.columns; state = a.terminal.state; known_rows = a.rows.items; known_spot = a.spot; known_pen = a.pen }) a.all_rows };
+}
+
+impl Memory {
+    /// Nothing is known of a terminal of this size. Fails only when memory runs out.
+    pub fn unknown(alloc: Global, size: Size) -> Result<Memory, NoMemory>
+        ensures { IfOk result (λ memory. memory ≡ unknown size.rows size.columns) }
+    {
+        let terminal = Terminal::new(alloc, size)?;
+        let _size = terminal.size();
+        let mut rows = Vec::with_capacity(alloc, size.rows as usize)?;
+        rows.resize(size.rows as usize, false)?;
+        Ok(Memory {
+            terminal,
+            rows,
+            all_rows: false,
+            spot: false,
+            pen: false,
+        })
+    }
+
+    /// How many rows and columns the terminal has.
+    pub fn size(&self) -> Size
+        ensures rows { result.rows ≡ self.now.rows }
+        ensures columns { result.columns ≡ self.now.columns }
+        ensures memory { IsMemory self.now }
+    {
+        self.terminal.size()
+    }
+
+    /// Whether all is known: every row, the cursor's place, and what is written with.
+    pub fn known(&self) -> bool
+        ensures { result ≡ is_known self.now }
+    {
+        self.all_rows && self.spot && self.pen
+    }
+
+    /// What a row shows, counted from 0 at the top; `None` where that is not known.
+    pub fn row(&self, row: u32) -> Option<&[Look]>
+        requires { row < self.now.rows }
+        ensures looks { option_map (λ looks. looks.now) result ≡ row_looks self.now row }
+        ensures width { IfSome result (λ looks. length looks.now ≡ self.now.columns) }
+    {
+        if self.rows[row as usize] {
+            Some(self.terminal.row(row))
+        } else {
+            None
+        }
+    }
+
+    // Whether a row is known.
+    pub(crate) fn is_known_row(&self, row: u32) -> bool
+        requires { row < length self.now.known_rows }
+        ensures { result ≡ is_known_row self.now row }
+    {
+        self.rows[row as usize]
+    }
+
+    // What the remembered state shows in a row, known or not.
+    pub(crate) fn looks(&self, row: u32) -> &[Look]
+        requires { row < self.now.rows }
+        ensures cells { result.now ≡ grid_row self.now.state.grid row }
+        ensures width { length result.now ≡ self.now.columns }
+    {
+        self.terminal.row(row)
+    }
+
+    // Whether the cursor is known to be where it is wished, or no place is wished.
+    pub(crate) fn is_placed(&self, wish: Option<(u32, u32)>) -> bool
+        ensures { result ≡ is_placed self.now wish }
+    {
+        match wish {
+            Some((row, column)) => self.spot && self.terminal.spot() == Spot::At(row, column),
+            None => true,
+        }
+    }
+
+    /// Where the cursor is; `None` where that is not known.
+    pub fn spot(&self) -> Option<Spot>
+        ensures value { result ≡ spot_if_known self.now }
+        ensures inside { IfSome result (IsSpot self.now.rows self.now.columns) }
+    {
+        if self.spot {
+            Some(self.terminal.spot())
+        } else {
+            None
+        }
+    }
+
+    /// Nothing is known any more, as after a write that failed.
+    pub fn forget(&mut self)
+        ensures { self.new ≡ forgotten self.old }
+    {
+        self.set_rows(false);
+        self.forget_spot_and_pen();
+    }
+
+    /// Others wrote into n rows from one on, as many of them as there are: these are not known any more, nor are the
+    /// cursor's place and what is written with. X/Open Curses Issue 7, redrawwin().
+    pub fn disturb(&mut self, first: u32, n: u32)
+        ensures { self.new ≡ disturbed first n self.old }
+    {
+        let size = self.terminal.size();
+        let (from, end) = rows_there(first, n, size.rows);
+        forget_run(&mut self.rows, from as usize, end as usize);
+        self.all_rows = are_all(&self.rows);
+        self.forget_spot_and_pen();
+    }
+
+    /// The terminal was sent an operation. Where it is defined from the remembered state, that state goes on, and what the
+    /// operation makes the same from every state is known; elsewhere nothing is known any more.
+    ///
+    /// The profile has the terminal's size.
+    pub fn follow(&mut self, profile: &Profile, op: Op)
+        requires rows { profile.now.rows ≡ self.old.rows }
+        requires columns { profile.now.columns ≡ self.old.columns }
+        ensures { self.new ≡ followed profile.now op self.old }
+    {
+        if self.step(profile, op) {
+            self.learn(profile, op);
+        } else {
+            self.forget();
+        }
+    }
+
+    /// The terminal was sent operations, one after another. The profile has the terminal's size.
+    pub fn follow_all(&mut self, profile: &Profile, ops: &[Op])
+        requires rows { profile.now.rows ≡ self.old.rows }
+        requires columns { profile.now.columns ≡ self.old.columns }
+        ensures { self.new ≡ all_followed profile.now ops.now self.old }
+    {
+        for op in ops {
+            self.follow(profile, *op);
+        }
+    }
+
+    // The remembered state goes on by an operation; where it is undefined there, this answers false and changes nothing.
+    fn step(&mut self, profile: &Profile, op: Op) -> bool
+        requires rows { profile.now.rows ≡ self.old.rows }
+        requires columns { profile.now.columns ≡ self.old.columns }
+        ensures answer { result ≡ is_some (step profile.now self.old.state op) }
+        ensures state { self.new ≡ gone_to self.old (step profile.now self.old.state op) }
+    {
+        let is_defined = self.terminal.step(profile, op).is_ok();
+        let _size = self.terminal.size();
+        is_defined
+    }
+
+    // Where the cursor is, and what is written with, is not known.
+    fn forget_spot_and_pen(&mut self)
+        ensures { self.new ≡ record self.old { known_spot = false; known_pen = false } }
+    {
+        self.spot = false;
+        self.pen = false;
+    }
+
+    // What is known after an operation that was defined, and that led to the remembered state.
+    fn learn(&mut self, profile: &Profile, op: Op)
+        ensures { self.new ≡ stepped (abilities profile.now) op self.old (Some self.old.state) }
+    {
+        self.learn_rows(op);
+        self.spot = self.spot || places_spot(op);
+        self.pen = self.pen || sets_pen(op) || has_one_pen(profile);
+    }
+
+    // Which rows are known after an operation that was defined.
+    fn learn_rows(&mut self, op: Op)
+        ensures { self.new ≡ record self.old { known_rows = rows_followed op self.old } }
+    {
+        if clears(op) {
+            self.know_rows();
+        } else if changes_cells(op) && !(self.spot && self.pen) {
+            self.set_rows(false);
+        }
+    }
+
+    // Every row is known; where all were, nothing is done.
+    fn know_rows(&mut self)
+        ensures { self.new ≡ record self.old { known_rows = replicate (length self.old.known_rows) true } }
+    {
+        if !self.all_rows {
+            self.set_rows(true);
+        }
+    }
+
+    // Every row is known, or none is.
+    fn set_rows(&mut self, known: bool)
+        ensures { self.new ≡ record self.old { known_rows = replicate (length self.old.known_rows) known } }
+    {
+        set_all(&mut self.rows, known);
+        self.all_rows = known;
+    }
+}
+
+// Those of n rows from one on that there are: from which one on, and up to which.
+fn rows_there(first: u32, n: u32, rows: u32) -> (u32, u32)
+    ensures order { result.0 ≤ result.1 }
+    ensures end { result.1 ≤ rows }
+    ensures same { (r : ℕ) → r < rows → (leb result.0 r && ltb r result.1) ≡ (leb first r && ltb r (first + n)) }
+{
+    let from = first.min(rows);
+    (from, from + n.min(rows - from))
+}
+
+// One value everywhere.
+fn set_all(rows: &mut [bool], known: bool)
+    ensures { rows.new ≡ replicate (length rows.old) known }
+{
+    for row in 0..rows.len() {
+        rows[row] = known;
+    }
+}
+
+// False from one row up to another.
+fn forget_run(rows: &mut [bool], first: usize, end: usize)
+    requires order { first ≤ end }
+    requires end { end ≤ length rows.old }
+    ensures { rows.new ≡ without_run first end rows.old }
+{
+    for row in first..end {
+        rows[row] = false;
+    }
+}
+
+// Whether all are true.
+fn are_all(rows: &[bool]) -> bool
+    ensures { result ≡ list_all (λ known. known) rows.now }
+{
+    rows.iter().all(|known| *known)
+}
+
+// Whether the cursor is in the same place after an operation wherever it was.
+fn places_spot(op: Op) -> bool
+    ensures { result ≡ places_spot op }
+{
+    matches!(op, Op::Home | Op::Move(..) | Op::Clear)
+}
+
+// Whether attributes and colours are the same after an operation whatever they were.
+fn sets_pen(op: Op) -> bool
+    ensures { result ≡ sets_pen op }
+{
+    matches!(op, Op::Reset | Op::Set(_))
+}
+
+// Whether an operation changes cells where the cursor is.
+fn changes_cells(op: Op) -> bool
+    ensures { result ≡ changes_cells op }
+{
+    matches!(
+        op,
+        Op::EraseLine | Op::EraseBelow | Op::EraseChars(_) | Op::Put(_)
+    )
+}
+
+// Whether an operation makes the whole screen blank.
+fn clears(op: Op) -> bool
+    ensures { result ≡ clears op }
+{
+    matches!(op, Op::Clear)
+}
+
+// Whether a terminal shows no attribute and no colour.
+fn has_one_pen(profile: &Profile) -> bool
+    ensures { result ≡ has_one_pen (abilities profile.now) }
+{
+    profile.shows().0 == 0 && !profile.colours()
+}
