@@ -80,7 +80,7 @@ ends more keys (b ∷ x) waits =
 
 -- ---- what waits is short
 
-beginning_short : (bytes text : List ℕ) → is_beginning bytes text ≡ true → length bytes < length text
+pub beginning_short : (bytes text : List ℕ) → is_beginning bytes text ≡ true → length bytes < length text
 beginning_short bytes text is = by (nat_lt (length bytes) (length text)) refl is
   where
     by : (b : Bool) → nat_lt (length bytes) (length text) ≡ b → (b && bytes_eq bytes (take (length bytes) text)) ≡ true → length bytes < length text

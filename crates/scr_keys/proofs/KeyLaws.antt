@@ -1,29 +1,20 @@
 -- The longest key.
-use Rattle.std.proofs.Common.{◌≡◌, ◌∙◌, ℕ, ◌+◌, ◌-◌, ◌<◌, ◌≤◌, min, ◌⊎◌, inl, inr, Bool, true, false, refl, ap, sym, arith, zero, suc, length, take, List, [], ◌∷◌, Option, Some, None, option_map, if◌then◌else◌}
-use Rattle.std.specs.Str.{bytes_eq}
+use Rattle.std.proofs.Common.{◌≡◌, ◌∙◌, ℕ, ◌+◌, ◌-◌, ◌<◌, ◌≤◌, min, ◌⊎◌, inl, inr, refl, ap, sym, arith, zero, suc, length, take, List, [], ◌∷◌, Option, Some, None, option_map}
 use Rattle.std.proofs.lemmas.List.{length-take-le}
-use Rattle.std.proofs.lemmas.Slice.Eq.{bytes_eq-Decides}
 use Rattle.ti_caps.specs.Table.{or_else}
-use Rattle.scr_keys.specs.Keys.{Keys, first_of, key_of, key_or_byte, longest, longest_text}
+use Rattle.scr_keys.specs.Code.Maps.{longest_like}
+use Rattle.scr_keys.specs.Keys.{Keys, first_of, key_of, key_or_byte, longest}
+use Rattle.scr_keys.proofs.FirstLaws.{like_taken, none_like}
 
--- no key sends more bytes than the longest text has
-pub none_longer : (keys : Keys) (text : List ℕ) → longest_text keys < length text → key_of keys text ≡ None
-none_longer [] text long = refl
-none_longer (key ∷ keys) text long = by (bytes_eq text key.0) refl (none_longer keys text (omega (arith, long)))
-  where
-    by : (b : Bool) → bytes_eq text key.0 ≡ b → key_of keys text ≡ None → (if b then Some key.1 else key_of keys text) ≡ None
-    by true same rest = absurd (omega (arith, long, ap length ((bytes_eq-Decides text key.0).0 same)))
-    by false same rest = rest
-
--- so the longest key has at most so many bytes
-pub longest_of_more : (keys : Keys) (bytes : List ℕ) (n k : ℕ) → n + k ≤ length bytes → longest_text keys ≤ n → longest keys bytes (n + k) ≡ longest keys bytes n
+-- the longest key has no more bytes than the longest text that begins alike
+pub longest_of_more : (keys : Keys) (bytes : List ℕ) (n k : ℕ) → n + k ≤ length bytes → longest_like keys bytes ≤ n → longest keys bytes (n + k) ≡ longest keys bytes n
 longest_of_more keys bytes n zero inside all = let e : n + 0 ≡ n = omega arith in ap (longest keys bytes) e
 longest_of_more keys bytes n (suc k) inside all =
     let e : n + suc k ≡ suc (n + k) = omega arith in
-    let none : key_of keys (take (suc (n + k)) bytes) ≡ None = none_longer keys (take (suc (n + k)) bytes) (omega (arith, all, length-take-le (suc (n + k)) bytes (omega (arith, inside)))) in
+    let none : key_of keys (take (suc (n + k)) bytes) ≡ None = none_like keys (take (suc (n + k)) bytes) (omega (arith, all, like_taken keys bytes (n + k), length-take-le (suc (n + k)) bytes (omega (arith, inside)))) in
     ap (longest keys bytes) e ∙ ap (λ o. or_else (option_map (λ slot. (slot, suc (n + k))) o) (longest keys bytes (n + k))) none ∙ longest_of_more keys bytes n k (omega (arith, inside)) all
 
-pub longest_of_least : (keys : Keys) (bytes : List ℕ) (n : ℕ) → n ≤ length bytes → longest_text keys ≤ n → longest keys bytes (length bytes) ≡ longest keys bytes n
+pub longest_of_least : (keys : Keys) (bytes : List ℕ) (n : ℕ) → n ≤ length bytes → longest_like keys bytes ≤ n → longest keys bytes (length bytes) ≡ longest keys bytes n
 longest_of_least keys bytes n inside all =
     let e : length bytes ≡ n + (length bytes - n) = omega (arith, inside) in
     ap (longest keys bytes) e ∙ longest_of_more keys bytes n (length bytes - n) (omega (arith, inside)) all
@@ -48,7 +39,7 @@ either_least (suc a) (suc b) = further (either_least a b)
     further (inl l) = inl (omega (arith, l))
     further (inr r) = inr (omega (arith, r))
 
-pub longest_of_min : (keys : Keys) (bytes : List ℕ) (n most : ℕ) → n ≡ min (length bytes) most → most ≡ longest_text keys → longest keys bytes (length bytes) ≡ longest keys bytes n
+pub longest_of_min : (keys : Keys) (bytes : List ℕ) (n most : ℕ) → n ≡ min (length bytes) most → most ≡ longest_like keys bytes → longest keys bytes (length bytes) ≡ longest keys bytes n
 longest_of_min keys bytes n most is all = by (either_least most (length bytes))
   where
     by : (most ≤ length bytes) ⊎ (length bytes ≤ most) → longest keys bytes (length bytes) ≡ longest keys bytes n

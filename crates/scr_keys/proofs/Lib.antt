@@ -1,5 +1,6 @@
 pub mod DecideLaws
 pub mod EventLaws
+pub mod FirstLaws
 pub mod KeyLaws
 pub mod MapLaws
 pub mod TableLaws

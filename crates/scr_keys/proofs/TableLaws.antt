@@ -1,10 +1,11 @@
 -- The keys of an entry, one after another.
-use Rattle.std.proofs.Common.{◌≡◌, ◌∙◌, ℕ, ◌+◌, ◌-◌, ◌<◌, ◌≤◌, max, Bool, true, false, ◌||◌, refl, ap, sym, arith, zero, suc, length, List, [], ◌∷◌, ◌++◌, Some, None, is_some, nat_lt, if◌then◌else◌}
+use Rattle.std.proofs.Common.{◌≡◌, ◌∙◌, ℕ, ◌+◌, ◌-◌, ◌<◌, ◌≤◌, max, Bool, true, false, ◌||◌, refl, ap, sym, arith, zero, suc, length, get_or, List, [], ◌∷◌, ◌++◌, Some, None, is_some, nat_lt, if◌then◌else◌}
 use Rattle.ti_caps.specs.Description.{Description}
 use Rattle.ti_caps.specs.Table.{or_else}
-use Rattle.scr_keys.specs.Code.Maps.{IsTable}
+use Rattle.scr_keys.specs.Code.Maps.{IsTable, length_from, longest_from}
 use Rattle.scr_keys.specs.Keys.{Keys, goes_on, is_beginning, key_of, longest_text}
 use Rattle.scr_keys.specs.Tables.{keys_below, keys_of, text_of_key, too_long, too_long_below, with_key}
+use Rattle.scr_keys.proofs.FirstLaws.{longest_from_more}
 
 -- ---- one key more
 
@@ -25,13 +26,15 @@ longest_more : (keys : Keys) (text : List ℕ) (slot : ℕ) → longest_text (ke
 longest_more [] text slot = omega arith
 longest_more (k ∷ keys) text slot = omega (arith, longest_more keys text slot)
 
-pub table_more : (keys new old_beginnings beginnings : Keys) (most slot : ℕ) (text : List ℕ) → IsTable keys old_beginnings most → length text ≤ 64 → new ≡ keys ++ (text, slot) ∷ []
+pub table_more : (keys new old_beginnings beginnings : Keys) (most slot : ℕ) (text : List ℕ) → length text ≤ 64 → new ≡ keys ++ (text, slot) ∷ []
     → ((bytes : List ℕ) → is_some (key_of beginnings bytes) ≡ (is_some (key_of old_beginnings bytes) || is_beginning bytes text)) → (longest : ℕ) → longest ≡ max most (length text)
-    → IsTable new beginnings longest
-table_more keys new old_beginnings beginnings most slot text is few now begins longest all = record {
+    → (old_firsts firsts : List ℕ) → IsTable keys old_beginnings most old_firsts → ((byte : ℕ) → byte < 256 → get_or firsts byte 0 ≡ max (get_or old_firsts byte 0) (length_from byte text))
+    → IsTable new beginnings longest firsts
+table_more keys new old_beginnings beginnings most slot text few now begins longest all old_firsts firsts is raised = record {
   by_beginning = λ bytes. begins bytes ∙ ap (λ b. b || is_beginning bytes text) (is.by_beginning bytes) ∙ sym (goes_on_more keys text slot bytes) ∙ ap (λ k. goes_on k bytes) (sym now);
   longest = all ∙ ap (λ n. max n (length text)) is.longest ∙ sym (longest_more keys text slot) ∙ ap longest_text (sym now);
   few = omega (arith, all, is.few, few);
+  by_first = λ byte inside. raised byte inside ∙ ap (λ n. max n (length_from byte text)) (is.by_first byte inside) ∙ sym (longest_from_more byte keys text slot) ∙ ap (longest_from byte) (sym now);
 }
 
 -- ---- all positions

@@ -2,6 +2,7 @@
 #![tactic(auto)]
 
 mod faults;
+mod firsts;
 mod keys;
 mod laws;
 mod maps;

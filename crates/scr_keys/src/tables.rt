@@ -1,9 +1,11 @@
 //! The keys of a terminal, and how they are found.
 ghost use Rattle.std.specs.Prelude.{◌≡◌, ◌+◌, ◌<◌, ◌≤◌, ◌≢◌, ◌==◌, [], ◌∷◌, ◌++◌, None, IfErr, IfOk, IfSome, length, nat_lt};
 ghost use Rattle.scr_keys.specs.Tables.{AreKeysOf, AreRefused, is_key, is_new, text_of_key, with_key};
+ghost use Rattle.scr_keys.specs.Code.Maps.{longest_like};
 ghost use Rattle.scr_keys.specs.Keys.{first_of, goes_on, key_of, longest, longest_text};
 
 use crate::faults::KeyFault;
+use crate::firsts::{add_text, no_texts};
 use crate::keys::Key;
 use crate::maps::{add, position_of, put_beginnings};
 use indexmap::IndexMap;
@@ -21,6 +23,8 @@ pub struct KeyTable {
     beginnings: IndexMap<Vec<u8>, u16>,
     // How many bytes the longest text has.
     longest: usize,
+    // How many bytes the longest text has that begins with each byte.
+    firsts: [u8; 256],
 }
 
 impl Model for KeyTable {
@@ -31,7 +35,7 @@ impl Model for KeyTable {
 
     ghost view = { λ t. seen (λ k. k.items) t.texts.entries };
 
-    ghost invariant = { λ t. IsTable (seen (λ k. k.items) t.texts.entries) (seen (λ k. k.items) t.beginnings.entries) t.longest };
+    ghost invariant = { λ t. IsTable (seen (λ k. k.items) t.texts.entries) (seen (λ k. k.items) t.beginnings.entries) t.longest t.firsts };
 }
 
 impl KeyTable {
@@ -63,6 +67,7 @@ impl KeyTable {
             texts: IndexMap::new(alloc),
             beginnings: IndexMap::new(alloc),
             longest: 0,
+            firsts: no_texts(),
         }
     }
 
@@ -78,13 +83,16 @@ impl KeyTable {
             mut texts,
             mut beginnings,
             longest,
+            mut firsts,
         } = self;
         put_beginnings(alloc, &mut beginnings, text, slot)?;
         add(alloc, &mut texts, text, slot)?;
+        add_text(&mut firsts, text);
         Ok(KeyTable {
             texts,
             beginnings,
             longest: longest.max(text.len()),
+            firsts,
         })
     }
 
@@ -106,7 +114,18 @@ impl KeyTable {
     pub(crate) fn goes_on(&self, bytes: &[u8]) -> bool
         ensures { result ≡ goes_on self.now bytes.now }
     {
-        position_of(&self.beginnings, bytes).is_some()
+        bytes.len() < self.longest_like(bytes) && position_of(&self.beginnings, bytes).is_some()
+    }
+
+    // How many bytes the longest text has that begins with the same byte; where there are no bytes, the longest of all. So most
+    // bytes are decided with no look-up in a map.
+    fn longest_like(&self, bytes: &[u8]) -> usize
+        ensures { result ≡ longest_like self.now bytes.now }
+    {
+        match bytes.first() {
+            Some(byte) => usize::from(self.firsts[usize::from(*byte)]),
+            None => self.longest,
+        }
     }
 
     /// How many bytes the longest text of a key has, at most 64.
@@ -136,7 +155,7 @@ impl KeyTable {
         ensures some { IfSome result (λ key. 1 ≤ key.1) }
         ensures few { IfSome result (λ key. key.1 ≤ length bytes.now) }
     {
-        let mut len = bytes.len().min(self.longest());
+        let mut len = bytes.len().min(self.longest_like(bytes));
         while len > 0 {
             if let Some(slot) = self.key(&bytes[..len]) {
                 return Some((slot, len));
