@@ -1,43 +1,127 @@
 -- What a call of a session does to the windows and the virtual screen.
-use Rattle.std.proofs.Common.{◌≡◌, ℕ, Bool, true, false, not, refl, sym, ◌∙◌, ap, subst, List, [], Result, Ok, Err, inl, inr, if◌then◌else◌}
-use Rattle.scr_term.specs.Operations.Profiles.{ProfileView}
+use Rattle.std.proofs.Common.{◌≡◌, ℕ, Bool, true, false, not, ◌&&◌, refl, sym, ◌∙◌, ap, subst, List, [], Some, Result, Ok, Err, inl, inr, if◌then◌else◌}
+use Rattle.scr_term.specs.declared.operations.operation.Op.{Op}
+use Rattle.scr_term.specs.Operations.Profiles.{ProfileView, IsProfile, abilities}
+use Rattle.scr_term.specs.Operations.States.{TerminalState, IsState, blank_state}
+use Rattle.scr_term.specs.Operations.Steps.{runs}
+use Rattle.scr_plan.specs.Memories.{Agrees, MemoryLaws, MemoryView, all_followed, disturbed, forgotten, is_known, unknown}
+use Rattle.scr_plan.specs.MemoryRuns.{MemoryRuns}
+use Rattle.scr_plan.specs.Plans.{IsPlan, UpToDateLaws}
+use Rattle.scr_plan.specs.Scratch.{Fits}
+use Rattle.scr_term.specs.Operations.Laws.{BlankLaws}
+use Rattle.scr_cells.specs.PictureViews.{IsPicture}
+use Rattle.scr_windows.specs.Calls.Reading.{screen_rows_answer, size_answer}
 use Rattle.scr_cells.specs.CellViews.{CellView}
 use Rattle.scr_windows.specs.declared.faults.Win.{Win}
 use Rattle.scr_windows.specs.declared.faults.Added.{Added as AddedView}
 use Rattle.scr_windows.specs.declared.faults.WinFault.{WinFault}
 use Rattle.scr_windows.specs.declared.faults.WinFault.TheVariants as win_faults
 use Rattle.scr_windows.specs.DeskViews.{DeskView}
-use Rattle.scr_virtual.specs.VirtualViews.{VirtualView}
-use Rattle.scr_keys.specs.Readers.{ReaderView}
+use Rattle.scr_virtual.specs.Laws.{HoldsChanges}
+use Rattle.scr_virtual.specs.VirtualViews.{VirtualView, settled}
 use Rattle.curses.specs.declared.answers.Answer.{Answer}
 use Rattle.curses.specs.declared.answers.Answer.TheVariants.{Nothing, Refused, Sent, Made, Added, Seen, Pair, Touched, Failed}
 use Rattle.curses.specs.declared.calls.values.Call.{Call}
 use Rattle.curses.specs.declared.calls.values.Call.TheVariants.{NewWindow, NewPad, Derive, Sub, SubPad, Copy, Overlay, Overwrite, Delete, MoveWindow, MoveDerived, TouchWindow, Untouch, TouchLines, SyncUp, SyncDown, AddByte, AddText, InsertByte, LineAcross, LineDown, Border, ClearToEol, ClearToBottom, Erase, Clear, DeleteByte, InsertDeleteLines, Scroll, ChangeBackground, MoveCursor, SetRegion, ScrollOk, ClearOk, LeaveOk, AttrOn, AttrOff, AttrSet, ColorSet, SetBackground, CellAt, Cursor, Size, Origin, LineTouched, WindowTouched, RedrawWindow, RedrawLines, SetPair, Noutrefresh, PadNoutrefresh, Doupdate}
 use Rattle.curses.specs.Calls.{OnDeskOrRefused, answered, is_refusal, window_call}
 use Rattle.curses.specs.Cuts.{IsCut}
-use Rattle.curses.specs.Making.{IsMade, drawn_of}
-use Rattle.curses.specs.Refreshing.{OnBoth, OnVirtual}
-use Rattle.curses.specs.ScreenStates.{ScreenState, IsScreen}
-use Rattle.curses.specs.Sessions.{Drawn, RightAnswer, begun_of, both_told, count_of, is_cut, is_unfinished, is_update, left_by, ran_out, screen_call, tells_sent, tells_update, virtual_told, windows_told}
-use Rattle.curses.specs.Updates.{IsSent}
+use Rattle.curses.specs.declared.faults.Sent.{Sent as SentView}
+use Rattle.curses.specs.declared.faults.UpdateFault.{UpdateFault}
+use Rattle.curses.specs.declared.faults.UpdateFault.TheVariants as update_faults
+use Rattle.curses.specs.Making.{IsMade, Knows, drawn_of}
+use Rattle.curses.specs.Refreshing.{OnBoth, OnTerminal, OnVirtual, all_disturbed, all_redrawn, lines_disturbed, redraw_lines_call, redraw_window_call, rows_disturbed, rows_redrawn, window_disturbed}
+use Rattle.curses.specs.ScreenStates.{ScreenState, IsRemembered}
+use Rattle.curses.specs.Sessions.{Drawn, RightAnswer, begun_of, both_told, count_of, is_cut, is_unfinished, is_update, knows_after, left_by, ran_out, redraws, screen_call, tells_sent, tells_update, virtual_told, windows_told}
+use Rattle.curses.specs.Updates.{IsFailed, IsSent, IsShown}
 use Rattle.curses.specs.Writers.{WriterView, counted}
 use Rattle.curses.proofs.CutLaws.{cut_none}
 
--- ---- sizes
+-- ---- what is remembered
 
--- a virtual screen of the same size in place of the old one
-pub same_size : (desk : DeskView) (old new : VirtualView) (profile : ProfileView) (owed : List ℕ) (keys : ReaderView) → IsScreen (record { desk = desk; virtual = old; profile = profile; owed = owed; keys = keys })
-    → new.picture.rows ≡ old.picture.rows → new.picture.columns ≡ old.picture.columns → IsScreen (record { desk = desk; virtual = new; profile = profile; owed = owed; keys = keys })
-same_size desk old new profile owed keys is rows columns = record { desk_rows = is.desk_rows; desk_columns = is.desk_columns; picture_rows = rows ∙ is.picture_rows; picture_columns = columns ∙ is.picture_columns }
+-- another virtual screen, whose ranges hold what has changed
+pub remembers_held : UpToDateLaws → (profile : ProfileView) (memory : MemoryView) (old new : VirtualView) → IsRemembered profile memory old → HoldsChanges old new
+    → new.picture.rows ≡ old.picture.rows → new.picture.columns ≡ old.picture.columns → IsRemembered profile memory new
+remembers_held laws profile memory old new is changes rows columns = record {
+  fits = record { rows = rows ∙ is.fits.rows; columns = columns ∙ is.fits.columns };
+  size = record { rows = is.size.rows ∙ sym rows; columns = is.size.columns ∙ sym columns; known_rows = is.size.known_rows ∙ sym rows };
+  agrees = is.agrees;
+  same = laws.holds profile memory old new changes rows columns is.same;
+}
+
+-- less is remembered, since others wrote
+pub remembers_disturbed : UpToDateLaws → MemoryLaws → (profile : ProfileView) (memory : MemoryView) (virtual : VirtualView) (first n : ℕ) → IsRemembered profile memory virtual
+    → IsRemembered profile (disturbed first n memory) virtual
+remembers_disturbed laws memories profile memory virtual first n is =
+    let agrees = memories.disturbs (abilities profile) memory memory.state memory.state first n is.agrees is.agrees.is_state (λ r outside. refl) in
+    record {
+      fits = is.fits;
+      size = record { rows = is.size.rows; columns = is.size.columns; known_rows = agrees.high ∙ sym is.fits.rows };
+      agrees = agrees;
+      same = laws.disturbs profile memory virtual first n is.same;
+    }
+
+-- or nothing is
+pub remembers_nothing : UpToDateLaws → MemoryLaws → (profile : ProfileView) (memory : MemoryView) (virtual : VirtualView) → IsRemembered profile memory virtual → IsRemembered profile (forgotten memory) virtual
+remembers_nothing laws memories profile memory virtual is =
+    let agrees = memories.forgets (abilities profile) memory memory.state memory.state is.agrees is.agrees.is_state in
+    record {
+      fits = is.fits;
+      size = record { rows = is.size.rows; columns = is.size.columns; known_rows = agrees.high ∙ sym is.fits.rows };
+      agrees = agrees;
+      same = laws.forgets profile memory virtual;
+    }
+
+-- a plan was sent
+pub remembers_followed : UpToDateLaws → MemoryRuns → (profile : ProfileView) → IsProfile profile → (memory : MemoryView) (virtual : VirtualView) (ops : List Op) → IsPicture virtual.picture → IsRemembered profile memory virtual
+    → IsPlan profile memory virtual ops → IsRemembered profile (all_followed profile ops memory) (settled virtual)
+remembers_followed laws runs profile p memory virtual ops k is plan =
+    let agrees = laws.agrees profile p memory virtual ops is.agrees plan in
+    record {
+      fits = is.fits;
+      size = record { rows = runs.rows profile memory ops ∙ is.size.rows; columns = runs.columns profile memory ops ∙ is.size.columns; known_rows = agrees.high ∙ sym is.fits.rows };
+      agrees = agrees;
+      same = laws.follows profile memory virtual ops is.agrees k plan;
+    }
+
+-- at first
+pub remembers_at_first : UpToDateLaws → MemoryRuns → BlankLaws → (profile : ProfileView) → IsProfile profile → (virtual : VirtualView) → Fits profile virtual.picture
+    → IsRemembered profile (unknown profile.rows profile.columns) virtual
+remembers_at_first laws runs blanks profile p virtual fits =
+    let agrees = runs.at_first profile p (blank_state profile.rows profile.columns) (blanks.state profile p) in
+    record {
+      fits = fits;
+      size = record { rows = sym fits.rows; columns = sym fits.columns; known_rows = agrees.high ∙ sym fits.rows };
+      agrees = agrees;
+      same = laws.at_first profile profile.rows profile.columns virtual;
+    }
 
 -- ---- calls that send nothing
 
 -- nothing is begun, and what was owed is owed
-sends_nothing : (profile : ProfileView) (owed rest : List ℕ) (w : WriterView) → rest ≡ owed → IsSent profile owed w w [] 0 rest
-sends_nothing profile owed rest w same = record {
+sends_nothing : (profile : ProfileView) (memory : MemoryView) (owed rest : List ℕ) (w : WriterView) → rest ≡ owed → IsSent profile memory owed w w [] 0 rest
+sends_nothing profile memory owed rest w same = record {
   cut = subst (IsCut owed [] w.taken w.taken 0) (sym same) (cut_none owed w.taken);
-  defined = λ state here. record { new = state; run = refl; state = here };
+  defined = λ state here. record { new = state; run = refl; state = here.is_state };
 }
+
+-- what agreed with what was remembered agrees with what is remembered then
+abbrev pub StillAgrees : ProfileView → MemoryView → MemoryView → Type 0
+StillAgrees profile old new = (state : TerminalState) → Agrees (abilities profile) old state → Agrees (abilities profile) new state
+
+same_some : (a b : TerminalState) → Some a ≡ Some b → a ≡ b
+same_some a b e = (cc)
+
+agrees_on : (profile : ProfileView) (old new : MemoryView) (ops : List Op) → ops ≡ [] → StillAgrees profile old new → (state next : TerminalState) → Agrees (abilities profile) old state → runs profile state ops ≡ Some next
+    → Agrees (abilities profile) new next
+agrees_on profile old new ops none still state next agrees run =
+    subst (Agrees (abilities profile) new) (same_some state next (sym (ap (runs profile state) none) ∙ run)) (still state agrees)
+
+still_same : (profile : ProfileView) (old new : MemoryView) → new ≡ old → StillAgrees profile old new
+still_same profile old new same state agrees = subst (λ m. Agrees (abilities profile) m state) (sym same) agrees
+
+-- what is known goes on to be known, where nothing of it was lost
+knows_on : (old new : ScreenState) → new.owed ≡ old.owed → new.memory ≡ old.memory → Knows old → Knows new
+knows_on old new owed memory knows = record { owed = owed ∙ knows.owed; memory = ap is_known memory ∙ knows.memory }
 
 -- an answer that is the call's own says nothing of memory
 own_answer : (own answer : Answer) → answer ≡ own → ran_out own answer ≡ false
@@ -72,8 +156,13 @@ own_answer own answer same = ap (λ a. ran_out a answer) (sym same) ∙ itself a
     itself (Sent s) = refl
     itself (Failed f) = refl
 
+first_of : (a b : Bool) → (a && b) ≡ true → a ≡ true
+first_of true b e = refl
+first_of false b e = e
+
 -- what a session does not tell of an answer to a call that is no update
 pub record Quiet (answer : Answer) : Type 0 where
+  pub knows : (before : Bool) (call : Call) → knows_after before call answer ≡ true → before ≡ true
   pub begun : begun_of answer ≡ []
   pub count : count_of answer ≡ 0
   pub well : tells_sent answer ≡ false
@@ -83,15 +172,18 @@ pub record Quiet (answer : Answer) : Type 0 where
 
 -- a call that is no update was made as its definition says
 made_so : (old new : ScreenState) (call : Call) (answer : Answer) (w : WriterView) → is_update call ≡ false → Quiet answer → new.profile ≡ old.profile → new.keys ≡ old.keys → new.owed ≡ old.owed
+    → StillAgrees old.profile old.memory new.memory → ((before : Bool) → (before ≡ true → Knows old) → knows_after before call answer ≡ true → Knows new)
     → drawn_of new ≡ (screen_call (drawn_of old) call).0 → answer ≡ (screen_call (drawn_of old) call).1 → IsMade old new call answer w w
-made_so old new call answer w update quiet profile keys owed drawn own = record {
+made_so old new call answer w update quiet profile keys owed still knows drawn own = record {
   profile = profile;
   keys = keys;
   drawn = drawn ∙ sym (ap (λ b. if b then drawn_of old else (screen_call (drawn_of old) call).0) (own_answer (screen_call (drawn_of old) call).1 answer own))
       ∙ sym (ap (λ b. left_by b (drawn_of old) (screen_call (drawn_of old) call) answer) update);
   right = subst (λ b. RightAnswer b call (screen_call (drawn_of old) call).1 answer) (sym update) (inl own);
-  sent = subst (λ b. IsSent old.profile old.owed w w b (count_of answer) new.owed) (sym quiet.begun)
-      (subst (λ n. IsSent old.profile old.owed w w [] n new.owed) (sym quiet.count) (sends_nothing old.profile old.owed new.owed w owed));
+  sent = subst (λ b. IsSent old.profile old.memory old.owed w w b (count_of answer) new.owed) (sym quiet.begun)
+      (subst (λ n. IsSent old.profile old.memory old.owed w w [] n new.owed) (sym quiet.count) (sends_nothing old.profile old.memory old.owed new.owed w owed));
+  agrees = agrees_on old.profile old.memory new.memory (begun_of answer) quiet.begun still;
+  knows = knows;
   well = λ sent. absurd (never (sym sent ∙ quiet.well));
   puts = sym (ap (λ b. counted b w.failed_puts) quiet.cut);
   finishes = sym (ap (λ b. counted b w.failed_finishes) quiet.unfinished);
@@ -101,8 +193,8 @@ made_so old new call answer w update quiet profile keys owed drawn own = record 
     never e = (cc)
 
 quiet_done : (came : Result (Unit {0}) WinFault) → Quiet (answered (λ _. Nothing) came)
-quiet_done (Ok done) = record { begun = refl; count = refl; well = refl; tells = refl; cut = refl; unfinished = refl }
-quiet_done (Err fault) = record { begun = refl; count = refl; well = refl; tells = refl; cut = refl; unfinished = refl }
+quiet_done (Ok done) = record { knows = λ before call e. first_of before (not (redraws call)) e; begun = refl; count = refl; well = refl; tells = refl; cut = refl; unfinished = refl }
+quiet_done (Err fault) = record { knows = λ before call e. e; begun = refl; count = refl; well = refl; tells = refl; cut = refl; unfinished = refl }
 
 -- a call that takes a window or a pad
 pub both_made : (old new : ScreenState) (call : Call) (came : Result (Unit {0}) WinFault) (answer : Answer) (w : WriterView) (own : (VirtualView × DeskView) × Result (Unit {0}) WinFault)
@@ -110,6 +202,8 @@ pub both_made : (old new : ScreenState) (call : Call) (came : Result (Unit {0}) 
 both_made old new call came answer w own update called made told =
     subst (λ a. IsMade old new call a w w) (sym told)
     (made_so old new call (answered (λ _. Nothing) came) w update (quiet_done came) (ap (λ s. s.profile) made.0) (ap (λ s. s.keys) made.0) (ap (λ s. s.owed) made.0)
+    (still_same old.profile old.memory new.memory (ap (λ s. s.memory) made.0))
+    (λ before knew e. knows_on old new (ap (λ s. s.owed) made.0) (ap (λ s. s.memory) made.0) (knew ((quiet_done came).knows before call e)))
     (ap drawn_of made.0 ∙ sym (ap (λ c. c.0) called)) (ap (answered (λ _. Nothing)) made.1 ∙ sym (ap (λ c. c.1) called)))
 
 -- a call that changes the virtual screen alone
@@ -118,30 +212,148 @@ pub virtual_made : (old new : ScreenState) (call : Call) (came : Result (Unit {0
 virtual_made old new call came answer w own update called made told =
     subst (λ a. IsMade old new call a w w) (sym told)
     (made_so old new call (answered (λ _. Nothing) came) w update (quiet_done came) (ap (λ s. s.profile) made.0) (ap (λ s. s.keys) made.0) (ap (λ s. s.owed) made.0)
+    (still_same old.profile old.memory new.memory (ap (λ s. s.memory) made.0))
+    (λ before knew e. knows_on old new (ap (λ s. s.owed) made.0) (ap (λ s. s.memory) made.0) (knew ((quiet_done came).knows before call e)))
     (ap drawn_of made.0 ∙ sym (ap (λ c. c.0) called)) (ap (answered (λ _. Nothing)) made.1 ∙ sym (ap (λ c. c.1) called)))
+
+-- a call that says that others wrote on the screen
+pub terminal_made : (old new : ScreenState) (call : Call) (came : Result (Unit {0}) WinFault) (answer : Answer) (w : WriterView) (own : VirtualView × Result (Unit {0}) WinFault) (memory : MemoryView)
+    → is_update call ≡ false → screen_call (drawn_of old) call ≡ virtual_told old.desk own → OnTerminal old new came own memory → StillAgrees old.profile old.memory memory
+    → ((before : Bool) → (before ≡ true → Knows old) → knows_after before call (answered (λ _. Nothing) came) ≡ true → Knows new) → answer ≡ answered (λ _. Nothing) came → IsMade old new call answer w w
+terminal_made old new call came answer w own memory update called made still knows told =
+    subst (λ a. IsMade old new call a w w) (sym told)
+    (made_so old new call (answered (λ _. Nothing) came) w update (quiet_done came) (ap (λ s. s.profile) made.0) (ap (λ s. s.keys) made.0) (ap (λ s. s.owed) made.0)
+    (subst (StillAgrees old.profile old.memory) (sym (ap (λ s. s.memory) made.0)) still) knows
+    (ap drawn_of made.0 ∙ sym (ap (λ c. c.0) called)) (ap (answered (λ _. Nothing)) made.1 ∙ sym (ap (λ c. c.1) called)))
+
+still_disturbed : MemoryLaws → (profile : ProfileView) (memory : MemoryView) (rows : Result (ℕ × ℕ) WinFault) → StillAgrees profile memory (rows_disturbed memory rows)
+still_disturbed laws profile memory (Err fault) state agrees = agrees
+still_disturbed laws profile memory (Ok rows) state agrees = laws.disturbs (abilities profile) memory state state rows.0 rows.1 agrees agrees.is_state (λ r outside. refl)
+
+-- where rows were marked nothing is known, and else all is as before
+redrawn_knows : (old new : ScreenState) (call : Call) (came : Result (Unit {0}) WinFault) (rows : Result (ℕ × ℕ) WinFault) → redraws call ≡ true → new.owed ≡ old.owed
+    → new.memory ≡ rows_disturbed old.memory rows → came ≡ (rows_redrawn old.virtual rows).1
+    → (before : Bool) → (before ≡ true → Knows old) → knows_after before call (answered (λ _. Nothing) came) ≡ true → Knows new
+redrawn_knows old new call came (Err fault) is owed memory own before knew e = knows_on old new owed memory (knew (sym (ap (λ c. knows_after before call (answered (λ _. Nothing) c)) own) ∙ e))
+redrawn_knows old new call came (Ok rows) is owed memory own before knew e =
+    absurd (never before (sym (ap (λ b. before && not b) is) ∙ sym (ap (λ c. knows_after before call (answered (λ _. Nothing) c)) own) ∙ e))
+  where
+    never : (b : Bool) → (b && false) ≡ true → ⊥
+    never true e = (cc)
+    never false e = (cc)
+
+pub lines_made : MemoryLaws → (old new : ScreenState) (win : Win) (first n : ℕ) (came : Result (Unit {0}) WinFault) (answer : Answer) (w : WriterView)
+    → OnTerminal old new came (redraw_lines_call old.virtual old.desk win.0 first n) (lines_disturbed old.memory old.desk win.0 first n) → answer ≡ answered (λ _. Nothing) came
+    → IsMade old new (RedrawLines win first n) answer w w
+lines_made laws old new win first n came answer w made told =
+    let rows = screen_rows_answer old.desk win.0 first n in
+    terminal_made old new (RedrawLines win first n) came answer w (redraw_lines_call old.virtual old.desk win.0 first n) (lines_disturbed old.memory old.desk win.0 first n) refl refl made
+    (still_disturbed laws old.profile old.memory rows)
+    (redrawn_knows old new (RedrawLines win first n) came rows refl (ap (λ s. s.owed) made.0) (ap (λ s. s.memory) made.0) made.1) told
+
+pub window_made : MemoryLaws → (old new : ScreenState) (win : Win) (came : Result (Unit {0}) WinFault) (answer : Answer) (w : WriterView)
+    → OnTerminal old new came (redraw_window_call old.virtual old.desk win.0) (window_disturbed old.memory old.desk win.0) → answer ≡ answered (λ _. Nothing) came
+    → IsMade old new (RedrawWindow win) answer w w
+window_made laws old new win came answer w made told =
+    terminal_made old new (RedrawWindow win) came answer w (redraw_window_call old.virtual old.desk win.0) (window_disturbed old.memory old.desk win.0) refl refl made
+    (still (size_answer old.desk win.0)) (knows (size_answer old.desk win.0) (ap (λ s. s.memory) made.0) made.1) told
+  where
+    still : (size : Result (ℕ × ℕ) WinFault) → StillAgrees old.profile old.memory (all_disturbed old.memory old.desk win.0 size)
+    still (Err fault) state agrees = agrees
+    still (Ok size) state agrees = still_disturbed laws old.profile old.memory (screen_rows_answer old.desk win.0 0 size.0) state agrees
+
+    knows : (size : Result (ℕ × ℕ) WinFault) → new.memory ≡ all_disturbed old.memory old.desk win.0 size → came ≡ (all_redrawn old.virtual old.desk win.0 size).1
+        → (before : Bool) → (before ≡ true → Knows old) → knows_after before (RedrawWindow win) (answered (λ _. Nothing) came) ≡ true → Knows new
+    knows (Err fault) memory own before knew e = redrawn_knows old new (RedrawWindow win) came (Err fault) refl (ap (λ s. s.owed) made.0) memory own before knew e
+    knows (Ok size) memory own before knew e = redrawn_knows old new (RedrawWindow win) came (screen_rows_answer old.desk win.0 0 size.0) refl (ap (λ s. s.owed) made.0) memory own before knew e
+
+-- ---- updates
+
+untrue : false ≡ true → ⊥
+untrue e = (cc)
+
+-- what is forgotten agrees with every state
+forgets_all : {w v : WriterView} {count : ℕ} {rest : List ℕ} → MemoryLaws → (old new : ScreenState) (begun : List Op) → new.memory ≡ forgotten old.memory → IsSent old.profile old.memory old.owed w v begun count rest
+    → (state next : TerminalState) → Agrees (abilities old.profile) old.memory state → runs old.profile state begun ≡ Some next → Agrees (abilities old.profile) new.memory next
+forgets_all laws old new begun memory sent state next agrees run =
+    let defined = sent.defined state agrees in
+    subst (λ m. Agrees (abilities old.profile) m next) (sym memory)
+    (laws.forgets (abilities old.profile) old.memory state next agrees (subst (IsState (abilities old.profile)) (same_some defined.new next (sym defined.run ∙ run)) defined.state))
+
+pub shown_made : MemoryRuns → (old new : ScreenState) (sent : SentView) (before after : WriterView) → IsProfile old.profile → IsShown old new before after sent → IsMade old new Doupdate (Sent sent) before after
+shown_made runs old new sent before after is shown = record {
+  profile = ap (λ s. s.profile) shown.screen;
+  keys = ap (λ s. s.keys) shown.screen;
+  drawn = ap drawn_of shown.screen;
+  right = refl;
+  sent = shown.updated.sent;
+  agrees = λ state next agrees run. subst (λ m. Agrees (abilities old.profile) m next) (sym (ap (λ s. s.memory) shown.screen)) (runs.follows old.profile is old.memory state next sent.begun agrees run);
+  well = λ well. record { picture = ap (λ s. s.virtual.picture) shown.screen; plan = shown.updated.plan; nothing = ap (λ s. s.owed) shown.screen };
+  knows = λ b knew e. record { owed = ap (λ s. s.owed) shown.screen; memory = ap (λ s. is_known s.memory) shown.screen ∙ shown.updated.plan.known };
+  puts = shown.updated.puts;
+  finishes = shown.updated.finishes;
+}
+
+pub failed_made : MemoryLaws → (old new : ScreenState) (fault : UpdateFault) (before after : WriterView) → IsFailed old new before after fault → IsMade old new Doupdate (Failed fault) before after
+failed_made laws old new update_faults.NoMemory before after failed = record {
+  profile = ap (λ s. s.profile) failed.screen;
+  keys = ap (λ s. s.keys) failed.screen;
+  drawn = ap drawn_of failed.screen;
+  right = refl;
+  sent = subst (λ w. IsSent old.profile old.memory old.owed before w [] 0 new.owed) (sym failed.fault_told.1) (sends_nothing old.profile old.memory old.owed new.owed before failed.fault_told.0);
+  agrees = agrees_on old.profile old.memory new.memory [] refl (still_same old.profile old.memory new.memory (ap (λ s. s.memory) failed.screen));
+  well = λ well. absurd (untrue well);
+  knows = λ b knew e. knows_on old new failed.fault_told.0 (ap (λ s. s.memory) failed.screen) (knew (first_of b true e));
+  puts = ap (λ w. w.failed_puts) failed.fault_told.1;
+  finishes = ap (λ w. w.failed_finishes) failed.fault_told.1;
+}
+failed_made laws old new (update_faults.Write begun count kind) before after failed = record {
+  profile = ap (λ s. s.profile) failed.screen;
+  keys = ap (λ s. s.keys) failed.screen;
+  drawn = ap drawn_of failed.screen;
+  right = refl;
+  sent = failed.fault_told.sent;
+  agrees = forgets_all laws old new begun (ap (λ s. s.memory) failed.screen) failed.fault_told.sent;
+  well = λ well. absurd (untrue well);
+  knows = λ b knew e. absurd (untrue e);
+  puts = failed.fault_told.puts;
+  finishes = failed.fault_told.finishes;
+}
+failed_made laws old new (update_faults.Flush begun count kind) before after failed = record {
+  profile = ap (λ s. s.profile) failed.screen;
+  keys = ap (λ s. s.keys) failed.screen;
+  drawn = ap drawn_of failed.screen;
+  right = refl;
+  sent = failed.fault_told.sent;
+  agrees = forgets_all laws old new begun (ap (λ s. s.memory) failed.screen) failed.fault_told.sent;
+  well = λ well. absurd (untrue well);
+  knows = λ b knew e. absurd (untrue e);
+  puts = failed.fault_told.puts;
+  finishes = failed.fault_told.finishes;
+}
 
 -- ---- calls on windows
 
 -- what a call on windows answers says nothing of an update
 quiet_made : (came : Result Win WinFault) → Quiet (answered (λ win. Made win) came)
-quiet_made (Ok win) = record { begun = refl; count = refl; well = refl; tells = refl; cut = refl; unfinished = refl }
-quiet_made (Err fault) = record { begun = refl; count = refl; well = refl; tells = refl; cut = refl; unfinished = refl }
+quiet_made (Ok win) = record { knows = λ before call e. first_of before (not (redraws call)) e; begun = refl; count = refl; well = refl; tells = refl; cut = refl; unfinished = refl }
+quiet_made (Err fault) = record { knows = λ before call e. e; begun = refl; count = refl; well = refl; tells = refl; cut = refl; unfinished = refl }
 
 quiet_added : (came : Result AddedView WinFault) → Quiet (answered (λ all. Added all) came)
-quiet_added (Ok all) = record { begun = refl; count = refl; well = refl; tells = refl; cut = refl; unfinished = refl }
-quiet_added (Err fault) = record { begun = refl; count = refl; well = refl; tells = refl; cut = refl; unfinished = refl }
+quiet_added (Ok all) = record { knows = λ before call e. first_of before (not (redraws call)) e; begun = refl; count = refl; well = refl; tells = refl; cut = refl; unfinished = refl }
+quiet_added (Err fault) = record { knows = λ before call e. e; begun = refl; count = refl; well = refl; tells = refl; cut = refl; unfinished = refl }
 
 quiet_seen : (came : Result CellView WinFault) → Quiet (answered (λ cell. Seen cell) came)
-quiet_seen (Ok cell) = record { begun = refl; count = refl; well = refl; tells = refl; cut = refl; unfinished = refl }
-quiet_seen (Err fault) = record { begun = refl; count = refl; well = refl; tells = refl; cut = refl; unfinished = refl }
+quiet_seen (Ok cell) = record { knows = λ before call e. first_of before (not (redraws call)) e; begun = refl; count = refl; well = refl; tells = refl; cut = refl; unfinished = refl }
+quiet_seen (Err fault) = record { knows = λ before call e. e; begun = refl; count = refl; well = refl; tells = refl; cut = refl; unfinished = refl }
 
 quiet_pair : (came : Result (ℕ × ℕ) WinFault) → Quiet (answered (λ pair. Pair pair.0 pair.1) came)
-quiet_pair (Ok pair) = record { begun = refl; count = refl; well = refl; tells = refl; cut = refl; unfinished = refl }
-quiet_pair (Err fault) = record { begun = refl; count = refl; well = refl; tells = refl; cut = refl; unfinished = refl }
+quiet_pair (Ok pair) = record { knows = λ before call e. first_of before (not (redraws call)) e; begun = refl; count = refl; well = refl; tells = refl; cut = refl; unfinished = refl }
+quiet_pair (Err fault) = record { knows = λ before call e. e; begun = refl; count = refl; well = refl; tells = refl; cut = refl; unfinished = refl }
 
 quiet_touched : (came : Result Bool WinFault) → Quiet (answered (λ touched. Touched touched) came)
-quiet_touched (Ok touched) = record { begun = refl; count = refl; well = refl; tells = refl; cut = refl; unfinished = refl }
-quiet_touched (Err fault) = record { begun = refl; count = refl; well = refl; tells = refl; cut = refl; unfinished = refl }
+quiet_touched (Ok touched) = record { knows = λ before call e. first_of before (not (redraws call)) e; begun = refl; count = refl; well = refl; tells = refl; cut = refl; unfinished = refl }
+quiet_touched (Err fault) = record { knows = λ before call e. e; begun = refl; count = refl; well = refl; tells = refl; cut = refl; unfinished = refl }
 
 -- a call that is none of the screen's own
 pub record IsOther (call : Call) : Type 0 where
@@ -215,6 +427,8 @@ is_on_windows drawn Doupdate other = absurd (other.not_doupdate refl)
 pub windows_made : (old new : ScreenState) (call : Call) (answer : Answer) (w : WriterView) → IsOnWindows (drawn_of old) call → OnDeskOrRefused old new answer call → IsMade old new call answer w w
 windows_made old new call answer w is (inl made) =
     made_so old new call answer w is.updates (subst Quiet (sym made.1) is.quiet) (ap (λ s. s.profile) made.0) (ap (λ s. s.keys) made.0) (ap (λ s. s.owed) made.0)
+    (still_same old.profile old.memory new.memory (ap (λ s. s.memory) made.0))
+    (λ before knew e. knows_on old new (ap (λ s. s.owed) made.0) (ap (λ s. s.memory) made.0) (knew ((subst Quiet (sym made.1) is.quiet).knows before call e)))
     (ap drawn_of made.0 ∙ sym (ap (λ c. c.0) is.called)) (made.1 ∙ sym (ap (λ c. c.1) is.called))
 windows_made old new call answer w is (inr refused) =
     let own : Answer = (screen_call (drawn_of old) call).1 in
@@ -226,7 +440,9 @@ windows_made old new call answer w is (inr refused) =
       drawn = ap drawn_of refused.0 ∙ sym (ap (λ b. if b then drawn_of old else (screen_call (drawn_of old) call).0) out)
           ∙ sym (ap (λ b. left_by b (drawn_of old) (screen_call (drawn_of old) call) (Refused win_faults.NoMemory)) is.updates);
       right = subst (λ b. RightAnswer b call own (Refused win_faults.NoMemory)) (sym is.updates) (inr (refl, suits, refused.3));
-      sent = sends_nothing old.profile old.owed new.owed w (ap (λ s. s.owed) refused.0);
+      sent = sends_nothing old.profile old.memory old.owed new.owed w (ap (λ s. s.owed) refused.0);
+      agrees = agrees_on old.profile old.memory new.memory [] refl (still_same old.profile old.memory new.memory (ap (λ s. s.memory) refused.0));
+      knows = λ before knew e. knows_on old new (ap (λ s. s.owed) refused.0) (ap (λ s. s.memory) refused.0) (knew e);
       well = λ sent. absurd (never sent);
       puts = refl;
       finishes = refl;

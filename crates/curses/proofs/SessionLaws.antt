@@ -1,28 +1,30 @@
 -- A session goes on from call to call.
-use Rattle.std.proofs.Common.{◌≡◌, ℕ, ◌+◌, ◌≤◌, ◌<◌, ◌⊎◌, Bool, true, false, refl, sym, ◌∙◌, ap, subst, arith, List, [], ◌∷◌, ◌++◌, append_assoc, length, take, get_or, Option, Some, zero, suc, inl, inr}
-use Rattle.std.specs.Io.KnownBytes.{Appends}
+use Rattle.std.proofs.Common.{◌≡◌, ℕ, ◌+◌, ◌≤◌, ◌<◌, ◌⊎◌, Bool, true, false, refl, sym, ◌∙◌, ap, subst, arith, List, [], ◌∷◌, ◌++◌, append_assoc, length, take, get_or, Some, zero, suc, inl, inr}
 use Rattle.std.proofs.lemmas.List.{append-nil, get_or_append_left, length-append, length-take-le, take-append-le, take_all, take_more}
 use Rattle.std.proofs.lemmas.Grind.{flat_map-append}
 use Rattle.scr_cells.specs.PictureViews.{PictureView}
 use Rattle.scr_term.specs.declared.operations.operation.Op.{Op}
 use Rattle.scr_term.specs.Ecma.Meanings.{Leads}
-use Rattle.scr_term.specs.Operations.Admission.{IsEcma48}
 use Rattle.scr_term.specs.Operations.Laws.{BytesActAsTheirOperations, RunLaws}
 use Rattle.scr_term.specs.Operations.Painted.{Shows}
 use Rattle.scr_term.specs.Operations.Profiles.{ProfileView, abilities}
 use Rattle.scr_term.specs.Operations.States.{TerminalState, IsState, negative_state}
 use Rattle.scr_term.specs.Operations.Steps.{runs}
 use Rattle.scr_term.specs.Operations.Texts.{all_bytes}
+use Rattle.scr_plan.specs.Memories.{Agrees, MemoryView, remembered}
+use Rattle.scr_plan.specs.MemoryRuns.{KnownMemories}
+use Rattle.scr_plan.specs.Plans.{IsPlan}
+use Rattle.scr_plan.specs.Repaints.{plain_of}
 use Rattle.scr_plan.specs.Scratch.{RunsToShow}
 use Rattle.curses.specs.declared.answers.Answer.{Answer}
 use Rattle.curses.specs.declared.answers.Answer.TheVariants.{Nothing}
 use Rattle.curses.specs.declared.calls.values.Call.{Call}
 use Rattle.curses.specs.declared.calls.values.Call.TheVariants.{Doupdate}
 use Rattle.curses.specs.Code.Progress.{Current, SoFar}
-use Rattle.curses.specs.Making.{EndsWell, IsMade, drawn_of}
+use Rattle.curses.specs.Making.{IsMade, Knows, drawn_of}
 use Rattle.curses.specs.ScreenStates.{ScreenState}
-use Rattle.curses.specs.Sessions.{Drawn, IsAnswer, IsSession, IsShowing, Moment, after_call, after_calls, begun_in, begun_of, count_in, count_of, counted_in, drawn_at, ended_well, first_drawn, is_cut, is_unfinished, last_ok_behind, tells_sent}
-use Rattle.curses.specs.Updates.{IsDefined, IsSent, LeadToShow}
+use Rattle.curses.specs.Sessions.{Drawn, IsAnswer, IsCheap, IsSession, Moment, after_call, after_calls, begun_in, begun_of, count_in, count_of, counted_in, drawn_at, ended_well, first_drawn, is_cut, is_unfinished, knows_after, knows_behind, last_ok_behind, tells_sent}
+use Rattle.curses.specs.Updates.{IsSent}
 use Rattle.curses.specs.Writers.{WriterView, counted}
 use Rattle.curses.proofs.CutLaws.{appends_more}
 
@@ -78,16 +80,29 @@ counted_more : (kind : Answer → Bool) (answers : List Answer) (answer : Answer
 counted_more kind [] answer count = refl
 counted_more kind (a ∷ answers) answer count = counted_more kind answers answer (counted (kind a) count)
 
+-- ---- what is known
+
+knows_behind_more : (before : Bool) (calls : List Call) (answers : List Answer) (call : Call) (answer : Answer) → length calls ≡ length answers
+    → knows_behind before (calls ++ call ∷ []) (answers ++ answer ∷ []) ≡ knows_after (knows_behind before calls answers) call answer
+knows_behind_more before [] [] call answer same = refl
+knows_behind_more before [] (a ∷ answers) call answer same = absurd (omega (arith, same))
+knows_behind_more before (c ∷ calls) [] call answer same = absurd (omega (arith, same))
+knows_behind_more before (c ∷ calls) (a ∷ answers) call answer same = knows_behind_more (knows_after before c a) calls answers call answer (omega (arith, same))
+
 -- ---- one call more
 
-pub current_more : RunLaws → (profile : ProfileView) (opened : TerminalState) (begun more : List Op) (taken owed rest : List ℕ) (w v : WriterView) (count : ℕ) → Current profile opened begun taken owed
-    → (sent : IsSent profile owed w v more count rest) → Current profile opened (begun ++ more) (taken ++ sent.cut.taken) rest
-current_more laws profile opened begun more taken owed rest w v count is sent =
-    let next = sent.defined is.now is.state in
+-- a state that is as was remembered is, after these operations, as is remembered then
+abbrev GoesOn : ProfileView → MemoryView → MemoryView → List Op → Type 0
+GoesOn profile old new ops = (state next : TerminalState) → Agrees (abilities profile) old state → runs profile state ops ≡ Some next → Agrees (abilities profile) new next
+
+pub current_more : RunLaws → (profile : ProfileView) (m n : MemoryView) (opened : TerminalState) (begun more : List Op) (taken owed rest : List ℕ) (w v : WriterView) (count : ℕ)
+    → Current profile m opened begun taken owed → (sent : IsSent profile m owed w v more count rest) → GoesOn profile m n more → Current profile n opened (begun ++ more) (taken ++ sent.cut.taken) rest
+current_more laws profile m n opened begun more taken owed rest w v count is sent agrees =
+    let next = sent.defined is.now is.agrees in
     record {
       now = next.new;
       run = laws.joined profile opened is.now begun more is.run ∙ next.run;
-      state = next.state;
+      agrees = agrees is.now next.new is.agrees next.run;
       bytes = append_assoc taken sent.cut.taken rest ∙ ap (λ t. taken ++ t) (sym sent.cut.whole) ∙ sym (append_assoc taken owed (all_bytes profile more))
           ∙ ap (λ t. t ++ all_bytes profile more) is.bytes ∙ sym (laws.bytes profile begun more);
     }
@@ -96,9 +111,9 @@ some_same : (a b : TerminalState) → Some a ≡ Some b → a ≡ b
 some_same a b e = (cc)
 
 -- right after a call
-pub moment_now : BytesActAsTheirOperations → (profile : ProfileView) (opened : TerminalState) (begun : List Op) (taken owed : List ℕ) (picture : PictureView) (well : Bool) → IsState (abilities profile) opened
-    → (is : Current profile opened begun taken owed) → (well ≡ true → Shows (abilities profile) is.now picture) → (well ≡ true → owed ≡ []) → Moment profile opened picture begun taken well
-moment_now acts profile opened begun taken owed picture well first is shows nothing = record {
+pub moment_now : BytesActAsTheirOperations → (profile : ProfileView) (m : MemoryView) (opened : TerminalState) (begun : List Op) (taken owed : List ℕ) (picture : PictureView) (well : Bool) → IsState (abilities profile) opened
+    → (is : Current profile m opened begun taken owed) → (well ≡ true → Shows (abilities profile) is.now picture) → (well ≡ true → owed ≡ []) → Moment profile opened picture begun taken well
+moment_now acts profile m opened begun taken owed picture well first is shows nothing = record {
   now = is.now;
   run = is.run;
   owed = owed;
@@ -115,11 +130,11 @@ moment_now acts profile opened begun taken owed picture well first is shows noth
 shows_now : (profile : ProfileView) (old new : TerminalState) (more : List Op) (picture : PictureView) → runs profile old more ≡ Some new → RunsToShow profile old more picture → Shows (abilities profile) new picture
 shows_now profile old new more picture run shown = subst (λ s. Shows (abilities profile) s picture) (some_same shown.new new (sym shown.run ∙ run)) shown.shows
 
-pub one_more : RunLaws → BytesActAsTheirOperations → (profile : ProfileView) (calls : List Call) (answers : List Answer) (call : Call) (answer : Answer) (old new : ScreenState) (before mid after : WriterView)
+pub one_more : RunLaws → BytesActAsTheirOperations → KnownMemories → (profile : ProfileView) (calls : List Call) (answers : List Answer) (call : Call) (answer : Answer) (old new : ScreenState) (before mid after : WriterView)
     → length answers < length calls → get_or calls (length answers) Doupdate ≡ call → SoFar profile calls answers old before mid → IsMade old new call answer mid after
     → SoFar profile calls (answers ++ answer ∷ []) new before after
 unfolding current_more
-one_more laws acts profile calls answers call answer old new before mid after inside here is made = record {
+one_more laws acts remembers profile calls answers call answer old new before mid after inside here is made = record {
   same = made.profile ∙ is.same;
   drawn = made.drawn ∙ ap (λ d. after_call d call answer) is.drawn ∙ sym whole ∙ ap (drawn_at profile calls (answers ++ answer ∷ [])) (sym more);
   taken = is.taken ++ sent.cut.taken;
@@ -130,13 +145,18 @@ one_more laws acts profile calls answers call answer old new before mid after in
   right = λ i few. right_at i (before_or_last i (length answers) (omega (arith, few, more)));
   moments = λ i few opened state. moment_at i (before_or_last i (length answers) (omega (arith, few, more))) opened state;
   current = λ opened state. now opened state;
+  knows = λ known. made.knows (knows_behind false (take (length answers) calls) answers) is.knows (sym knows_more ∙ known);
+  cheap = λ i few. cheap_at i (before_or_last i (length answers) (omega (arith, few, more)));
 }
   where
     more : length (answers ++ answer ∷ []) ≡ length answers + 1
     more = length-append answers (answer ∷ [])
 
-    sent : IsSent profile old.owed mid after (begun_of answer) (count_of answer) new.owed
-    sent = subst (λ p. IsSent p old.owed mid after (begun_of answer) (count_of answer) new.owed) is.same made.sent
+    sent : IsSent profile old.memory old.owed mid after (begun_of answer) (count_of answer) new.owed
+    sent = subst (λ p. IsSent p old.memory old.owed mid after (begun_of answer) (count_of answer) new.owed) is.same made.sent
+
+    goes_on : GoesOn profile old.memory new.memory (begun_of answer)
+    goes_on = subst (λ p. GoesOn p old.memory new.memory (begun_of answer)) is.same made.agrees
 
     counts : count_in (answers ++ answer ∷ []) ≡ length (is.taken ++ sent.cut.taken)
     counts = omega (arith, count_more answers answer, is.counted_all, sent.cut.bytes, length-append is.taken sent.cut.taken)
@@ -163,18 +183,63 @@ one_more laws acts profile calls answers call answer old new before mid after in
         (subst (λ d. IsAnswer d (get_or calls (length answers) Doupdate) answer) (is.drawn ∙ sym (part (length answers) (omega arith)))
         (subst (λ c. IsAnswer (drawn_of old) c answer) (sym here) made.right)))
 
-    now : (opened : TerminalState) → IsState (abilities profile) opened → Current profile opened (begun_in (answers ++ answer ∷ [])) (is.taken ++ sent.cut.taken) new.owed
+    now : (opened : TerminalState) → IsState (abilities profile) opened → Current profile new.memory opened (begun_in (answers ++ answer ∷ [])) (is.taken ++ sent.cut.taken) new.owed
     now opened state =
-        subst (λ b. Current profile opened b (is.taken ++ sent.cut.taken) new.owed) (sym (begun_more answers answer))
-        (current_more laws profile opened (begun_in answers) (begun_of answer) is.taken old.owed new.owed mid after (count_of answer) (is.current opened state) sent)
+        subst (λ b. Current profile new.memory opened b (is.taken ++ sent.cut.taken) new.owed) (sym (begun_more answers answer))
+        (current_more laws profile old.memory new.memory opened (begun_in answers) (begun_of answer) is.taken old.owed new.owed mid after (count_of answer) (is.current opened state) sent goes_on)
+
+    knows_more : knows_behind false (take (length (answers ++ answer ∷ [])) calls) (answers ++ answer ∷ []) ≡ knows_after (knows_behind false (take (length answers) calls) answers) call answer
+    knows_more =
+        ap (λ n. knows_behind false (take n calls) (answers ++ answer ∷ [])) more
+        ∙ ap (λ c. knows_behind false c (answers ++ answer ∷ [])) (take_more calls (length answers) Doupdate inside ∙ ap (λ c. take (length answers) calls ++ c ∷ []) here)
+        ∙ knows_behind_more false (take (length answers) calls) answers call answer (length-take-le (length answers) calls (omega (arith, inside)))
+
+    -- an update that ended well, of a screen that knows what is shown
+    cheap_now : Knows old → drawn_of old ≡ drawn_at profile calls answers (length answers) → old.virtual.repaint ≡ false → tells_sent answer ≡ true → (opened state : TerminalState) → IsState (abilities profile) opened
+        → runs profile opened (begun_in answers) ≡ Some state → IsCheap profile state old.virtual.picture answer
+    cheap_now knows drawn paint well opened state first run =
+        let before = is.current opened first in
+        let same : before.now ≡ state = some_same before.now state (sym before.run ∙ run) in
+        let plan = (made.well well).plan in
+        let none = (made.well well).nothing in
+        let bytes : count_of answer ≡ length (all_bytes profile (begun_of answer)) =
+        sent.cut.bytes ∙ sym (ap length (append-nil sent.cut.taken)) ∙ sym (ap (λ r. length (sent.cut.taken ++ r)) none) ∙ sym (ap length sent.cut.whole) ∙ ap (λ o. length (o ++ all_bytes profile (begun_of answer))) knows.owed in
+        let few : length (all_bytes profile (begun_of answer)) ≤ length (all_bytes profile (plain_of profile old.memory old.virtual.picture)) =
+        subst (λ p. length (all_bytes p (begun_of answer)) ≤ length (all_bytes p (plain_of p old.memory old.virtual.picture))) is.same (plan.plain knows.memory paint) in
+        let known : plain_of profile old.memory old.virtual.picture ≡ plain_of profile (remembered profile.rows profile.columns state) old.virtual.picture =
+        remembers.plain profile old.memory state old.virtual.picture (subst (Agrees (abilities profile) old.memory) same before.agrees) knows.memory in
+        let less : length (all_bytes profile (begun_of answer)) ≤ length (all_bytes profile (plain_of profile (remembered profile.rows profile.columns state) old.virtual.picture)) =
+        subst (λ ops. length (all_bytes profile (begun_of answer)) ≤ length (all_bytes profile ops)) known few in
+        omega (arith, bytes, less)
+
+    cheap_at : (i : ℕ) → (i < length answers) ⊎ (i ≡ length answers) → knows_behind false (take i calls) (take i (answers ++ answer ∷ [])) ≡ true → (drawn_at profile calls (answers ++ answer ∷ []) i).virtual.repaint ≡ false
+        → tells_sent (get_or (answers ++ answer ∷ []) i Nothing) ≡ true → (opened state : TerminalState) → IsState (abilities profile) opened → runs profile opened (begun_in (take i (answers ++ answer ∷ []))) ≡ Some state
+        → IsCheap profile state (drawn_at profile calls (answers ++ answer ∷ []) i).virtual.picture (get_or (answers ++ answer ∷ []) i Nothing)
+    cheap_at i (inl l) known paint well opened state first run =
+        let few : take i (answers ++ answer ∷ []) ≡ take i answers = first_of i answers answer (omega (arith, l)) in
+        let drawn : drawn_at profile calls (answers ++ answer ∷ []) i ≡ drawn_at profile calls answers i = part i (omega (arith, l)) in
+        let told : get_or (answers ++ answer ∷ []) i Nothing ≡ get_or answers i Nothing = get_or_append_left answers (answer ∷ []) Nothing i l in
+        subst (λ d. IsCheap profile state d.virtual.picture (get_or (answers ++ answer ∷ []) i Nothing)) (sym drawn)
+        (subst (IsCheap profile state (drawn_at profile calls answers i).virtual.picture) (sym told)
+        (is.cheap i l (sym (ap (knows_behind false (take i calls)) few) ∙ known) (sym (ap (λ d. d.virtual.repaint) drawn) ∙ paint) (sym (ap tells_sent told) ∙ well) opened state first
+        (sym (ap (λ a. runs profile opened (begun_in a)) few) ∙ run)))
+    cheap_at i (inr e) known paint well opened state first run =
+        let few : take i (answers ++ answer ∷ []) ≡ answers = ap (λ n. take n (answers ++ answer ∷ [])) e ∙ first_of (length answers) answers answer (omega arith) ∙ take_all (length answers) answers (omega arith) in
+        let drawn : drawn_at profile calls (answers ++ answer ∷ []) i ≡ drawn_of old = ap (drawn_at profile calls (answers ++ answer ∷ [])) e ∙ part (length answers) (omega arith) ∙ sym is.drawn in
+        let told : get_or (answers ++ answer ∷ []) i Nothing ≡ answer = ap (λ n. get_or (answers ++ answer ∷ []) n Nothing) e ∙ last_of answers answer Nothing in
+        let knows : Knows old = is.knows (sym (ap (λ n. knows_behind false (take n calls) answers) e) ∙ sym (ap (knows_behind false (take i calls)) few) ∙ known) in
+        subst (λ d. IsCheap profile state d.virtual.picture (get_or (answers ++ answer ∷ []) i Nothing)) (sym drawn)
+        (subst (IsCheap profile state old.virtual.picture) (sym told)
+        (cheap_now knows is.drawn (sym (ap (λ d. d.virtual.repaint) drawn) ∙ paint) (sym (ap tells_sent told) ∙ well) opened state first
+        (sym (ap (λ a. runs profile opened (begun_in a)) few) ∙ run)))
 
     last_moment : (opened : TerminalState) → IsState (abilities profile) opened → Moment profile opened new.virtual.picture (begun_in answers ++ begun_of answer) (is.taken ++ sent.cut.taken) (tells_sent answer)
     last_moment opened state =
-        moment_now acts profile opened (begun_in answers ++ begun_of answer) (is.taken ++ sent.cut.taken) new.owed new.virtual.picture (tells_sent answer) state
-        (current_more laws profile opened (begun_in answers) (begun_of answer) is.taken old.owed new.owed mid after (count_of answer) (is.current opened state) sent)
-        (λ well. subst (λ p. Shows (abilities profile) (sent.defined (is.current opened state).now (is.current opened state).state).new p) (sym (made.well well).picture)
-        (shows_now profile (is.current opened state).now _ (begun_of answer) old.virtual.picture (sent.defined (is.current opened state).now (is.current opened state).state).run
-        (subst (λ p. LeadToShow p old.virtual.picture (begun_of answer)) is.same (made.well well).leads (is.current opened state).now (is.current opened state).state)))
+        moment_now acts profile new.memory opened (begun_in answers ++ begun_of answer) (is.taken ++ sent.cut.taken) new.owed new.virtual.picture (tells_sent answer) state
+        (current_more laws profile old.memory new.memory opened (begun_in answers) (begun_of answer) is.taken old.owed new.owed mid after (count_of answer) (is.current opened state) sent goes_on)
+        (λ well. subst (λ p. Shows (abilities profile) (sent.defined (is.current opened state).now (is.current opened state).agrees).new p) (sym (made.well well).picture)
+        (shows_now profile (is.current opened state).now _ (begun_of answer) old.virtual.picture (sent.defined (is.current opened state).now (is.current opened state).agrees).run
+        ((subst (λ p. IsPlan p old.memory old.virtual (begun_of answer)) is.same (made.well well).plan).shows (is.current opened state).now (is.current opened state).agrees)))
         (λ well. (made.well well).nothing)
 
     moment_at : (i : ℕ) → (i < length answers) ⊎ (i ≡ length answers) → (opened : TerminalState) → IsState (abilities profile) opened
@@ -224,4 +289,5 @@ session_of profile calls answers screen old new is all = record {
   counted_all = is.counted_all;
   right = λ i few. is.right i (omega (arith, few, all));
   moments = λ i few opened state. is.moments i (omega (arith, few, all)) opened state;
+  cheap = λ i few. is.cheap i (omega (arith, few, all));
 }

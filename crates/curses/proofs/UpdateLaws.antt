@@ -1,19 +1,20 @@
 -- A beginning of a plan is defined, and has only what the plan has.
-use Rattle.std.proofs.Common.{◌≡◌, ◌≢◌, ℕ, ◌≤◌, ◌*◌, ◌+◌, true, sym, ◌∙◌, ap, subst, arith, List, ◌++◌, length, take, drop, Option, None, Some, refl, ◌^◌}
+use Rattle.std.proofs.Common.{◌≡◌, ◌≢◌, ℕ, true, sym, ◌∙◌, ap, subst, arith, List, length, take, drop, Option, None, Some, refl}
 use Rattle.std.specs.List.{All}
 use Rattle.std.specs.Option.{option_and_then}
 use Rattle.std.proofs.lemmas.List.{take-append-drop, take_all}
 use Rattle.std.specs.Io.KnownBytes.{Keeps}
-use Rattle.scr_cells.specs.PictureViews.{PictureView, IsPicture}
+use Rattle.scr_virtual.specs.VirtualViews.{VirtualView}
 use Rattle.scr_term.specs.declared.operations.operation.Op.{Op}
-use Rattle.scr_term.specs.Operations.Laws.{BlankLaws, RunLaws}
+use Rattle.scr_term.specs.Operations.Laws.{RunLaws}
 use Rattle.scr_term.specs.Operations.Profiles.{ProfileView, IsProfile, abilities}
-use Rattle.scr_term.specs.Operations.States.{TerminalState, IsState, blank_state}
+use Rattle.scr_term.specs.Operations.States.{TerminalState, IsState}
 use Rattle.scr_term.specs.Operations.Steps.{runs}
 use Rattle.scr_term.specs.Operations.Texts.{all_bytes, has}
-use Rattle.scr_plan.specs.Scratch.{RunsToShow}
+use Rattle.scr_plan.specs.Memories.{Agrees, MemoryView}
+use Rattle.scr_plan.specs.Plans.{IsPlan}
 use Rattle.curses.specs.Cuts.{IsCut}
-use Rattle.curses.specs.Updates.{IsDefined, IsSent, LeadToShow}
+use Rattle.curses.specs.Updates.{IsDefined, IsSent}
 use Rattle.curses.specs.Writers.{WriterView}
 use Rattle.curses.proofs.CutLaws.{cut_kept}
 
@@ -31,36 +32,38 @@ beginning laws profile is old new state ops k run =
         never e = (cc)
     from (Some s) here whole = record { new = s; run = here; state = laws.kept profile is old s state (take k ops) here }
 
--- each beginning of operations that lead to a picture
-pub beginnings : RunLaws → (profile : ProfileView) → IsProfile profile → (picture : PictureView) (ops : List Op) (k : ℕ) → LeadToShow profile picture ops
-    → (state : TerminalState) → IsState (abilities profile) state → IsDefined profile state (take k ops)
-beginnings laws profile is picture ops k leads state here =
-    let shown = leads state here in
-    beginning laws profile is state shown.new here ops k shown.run
+-- each beginning of a plan
+pub beginnings : RunLaws → (profile : ProfileView) → IsProfile profile → (memory : MemoryView) (virtual : VirtualView) (ops : List Op) (k : ℕ) → IsPlan profile memory virtual ops
+    → (state : TerminalState) → Agrees (abilities profile) memory state → IsDefined profile state (take k ops)
+beginnings laws profile is memory virtual ops k plan state agrees =
+    let shown = plan.shows state agrees in
+    beginning laws profile is state shown.new agrees.is_state ops k shown.run
 
--- a plan that leads to a picture has only operations that the profile has
-pub had : RunLaws → BlankLaws → (profile : ProfileView) → IsProfile profile → (picture : PictureView) (ops : List Op) → LeadToShow profile picture ops → All (λ op. has profile op ≡ true) ops
-had laws blanks profile is picture ops leads =
-    let blank : TerminalState = blank_state profile.rows profile.columns in
-    let shown = leads blank (blanks.state profile is) in
-    laws.had profile blank shown.new ops shown.run
+-- a plan has only operations that the profile has
+pub had : RunLaws → (profile : ProfileView) (memory : MemoryView) (virtual : VirtualView) (ops : List Op) → Agrees (abilities profile) memory memory.state → IsPlan profile memory virtual ops
+    → All (λ op. has profile op ≡ true) ops
+had laws profile memory virtual ops agrees plan =
+    let shown = plan.shows memory.state agrees in
+    laws.had profile memory.state shown.new ops shown.run
 
 -- ---- what was sent of a plan
 
 -- as much of a plan as was begun
-pub sent_part : RunLaws → (profile : ProfileView) → IsProfile profile → (picture : PictureView) (plan ops begun : List Op) (k : ℕ) (owed rest : List ℕ) (old mid new : WriterView) (count : ℕ)
-    → LeadToShow profile picture plan → ops ≡ plan → begun ≡ take k ops → IsCut owed (all_bytes profile (take k ops)) old.taken mid.taken count rest → Keeps mid.taken new.taken
-    → IsSent profile owed old new begun count rest
-sent_part laws profile is picture plan ops begun k owed rest old mid new count leads same taken cut keeps =
+pub sent_part : RunLaws → (profile : ProfileView) → IsProfile profile → (memory : MemoryView) (virtual : VirtualView) (plan ops begun : List Op) (k : ℕ) (owed rest : List ℕ) (old mid new : WriterView) (count : ℕ)
+    → IsPlan profile memory virtual plan → ops ≡ plan → begun ≡ take k ops → IsCut owed (all_bytes profile (take k ops)) old.taken mid.taken count rest → Keeps mid.taken new.taken
+    → IsSent profile memory owed old new begun count rest
+sent_part laws profile is memory virtual plan ops begun k owed rest old mid new count whole same taken cut keeps =
     let part : begun ≡ take k plan = taken ∙ ap (take k) same in
     record {
       cut = cut_kept owed (all_bytes profile begun) rest old.taken mid.taken new.taken count (subst (λ t. IsCut owed (all_bytes profile t) old.taken mid.taken count rest) (sym taken) cut) keeps;
-      defined = λ state here. subst (IsDefined profile state) (sym part) (beginnings laws profile is picture plan k leads state here);
+      defined = λ state here. subst (IsDefined profile state) (sym part) (beginnings laws profile is memory virtual plan k whole state here);
     }
 
 -- a plan that was begun whole
-pub shown_whole : (profile : ProfileView) (picture : PictureView) (plan ops begun : List Op) (k : ℕ) → LeadToShow profile picture plan → ops ≡ plan → begun ≡ take k ops → k ≡ length ops → LeadToShow profile picture begun
-shown_whole profile picture plan ops begun k leads same taken whole = subst (LeadToShow profile picture) (sym (taken ∙ ap (λ n. take n ops) whole ∙ take_all (length ops) ops (omega arith) ∙ same)) leads
+pub planned_whole : (profile : ProfileView) (memory : MemoryView) (virtual : VirtualView) (plan ops begun : List Op) (k : ℕ) → IsPlan profile memory virtual plan → ops ≡ plan → begun ≡ take k ops → k ≡ length ops
+    → IsPlan profile memory virtual begun
+planned_whole profile memory virtual plan ops begun k is same taken whole =
+    subst (IsPlan profile memory virtual) (sym (taken ∙ ap (λ n. take n ops) whole ∙ take_all (length ops) ops (omega arith) ∙ same)) is
 
 -- what a writer holds that was not asked
 pub kept_same : (known : Option (List ℕ)) → Keeps known known

@@ -8,17 +8,19 @@ use Rattle.scr_term.specs.declared.operations.profile_faults.ProfileFault.TheVar
 use Rattle.scr_term.specs.Operations.Admission.{IsAdmitted, refusal}
 use Rattle.scr_windows.specs.DeskViews.{first_desk}
 use Rattle.scr_virtual.specs.VirtualViews.{blank_virtual}
+use Rattle.scr_plan.specs.Memories.{unknown}
 use Rattle.scr_keys.specs.Tables.{AreKeysOf, too_long}
 use Rattle.curses.specs.declared.faults.OpenFault.{OpenFault}
 use Rattle.curses.specs.declared.faults.OpenFault.TheVariants.{KeyTooLong, NoMemory, Profile}
 use Rattle.curses.specs.ScreenStates.{ScreenState}
 
--- a screen on the terminal that an entry describes: one window over the whole screen, blank, a blank virtual screen, nothing owed,
--- and the keys of the entry, none of which was pressed
+-- a screen on the terminal that an entry describes: one window over the whole screen, blank, a blank virtual screen, nothing known of
+-- what the terminal shows, nothing owed, and the keys of the entry, none of which was pressed
 pub record IsOpened (entry : Description) (size : Option Size) (screen : ScreenState) : Type 0 where
   pub profile : IsAdmitted entry size screen.profile
   pub desk : screen.desk ≡ first_desk screen.profile.rows screen.profile.columns
   pub virtual : screen.virtual ≡ blank_virtual screen.profile.rows screen.profile.columns
+  pub memory : screen.memory ≡ unknown screen.profile.rows screen.profile.columns
   pub owed : screen.owed ≡ []
   pub keys : AreKeysOf entry screen.keys.keys
   pub queue : screen.keys.queue ≡ []

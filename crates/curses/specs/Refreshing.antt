@@ -4,6 +4,7 @@
 use Rattle.std.specs.Prelude.{ℕ, ◌≡◌, Result, Ok, Err}
 use Rattle.scr_windows.specs.declared.faults.WinFault.{WinFault}
 use Rattle.scr_windows.specs.DeskViews.{DeskView}
+use Rattle.scr_plan.specs.Memories.{MemoryView, disturbed}
 use Rattle.scr_windows.specs.Calls.Reading.{screen_rows_answer, size_answer}
 use Rattle.scr_virtual.specs.VirtualViews.{VirtualView, marked_rows}
 use Rattle.curses.specs.ScreenStates.{ScreenState}
@@ -32,3 +33,22 @@ all_redrawn virtual desk win (Ok size) = redraw_lines_call virtual desk win 0 si
 
 abbrev pub redraw_window_call : VirtualView → DeskView → ℕ → VirtualView × Result (Unit {0}) WinFault
 redraw_window_call virtual desk win = all_redrawn virtual desk win (size_answer desk win)
+
+-- what is remembered then: nothing of these rows, nor where the cursor is and what is written with
+abbrev pub rows_disturbed : MemoryView → Result (ℕ × ℕ) WinFault → MemoryView
+rows_disturbed memory (Err fault) = memory
+rows_disturbed memory (Ok rows) = disturbed rows.0 rows.1 memory
+
+abbrev pub lines_disturbed : MemoryView → DeskView → ℕ → ℕ → ℕ → MemoryView
+lines_disturbed memory desk win first n = rows_disturbed memory (screen_rows_answer desk win first n)
+
+abbrev pub all_disturbed : MemoryView → DeskView → ℕ → Result (ℕ × ℕ) WinFault → MemoryView
+all_disturbed memory desk win (Err fault) = memory
+all_disturbed memory desk win (Ok size) = lines_disturbed memory desk win 0 size.0
+
+abbrev pub window_disturbed : MemoryView → DeskView → ℕ → MemoryView
+window_disturbed memory desk win = all_disturbed memory desk win (size_answer desk win)
+
+-- the virtual screen, what is remembered and the answer are as these say, and everything else of the screen stays
+abbrev pub OnTerminal : ScreenState → ScreenState → Result (Unit {0}) WinFault → VirtualView × Result (Unit {0}) WinFault → MemoryView → Type 0
+OnTerminal old new answer call memory = (new ≡ record old { virtual = call.0; memory = memory }) × (answer ≡ call.1)

@@ -4,33 +4,44 @@ use Rattle.std.specs.Coded.{Coded, code_by, coded×, coded_ℕ, coded_list}
 use Rattle.scr_virtual.specs.VirtualViews.{VirtualView}
 use Rattle.scr_windows.specs.DeskViews.{DeskView}
 use Rattle.scr_term.specs.declared.operations.operation.Op.{Op}
-use Rattle.scr_term.specs.Operations.Profiles.{ProfileView}
+use Rattle.scr_term.specs.Operations.Profiles.{ProfileView, abilities}
 use Rattle.scr_term.specs.Operations.Texts.{bytes_of}
+use Rattle.scr_plan.specs.Memories.{Agrees, MemoryView}
+use Rattle.scr_plan.specs.Repaints.{IsSizeOf, IsUpToDate}
+use Rattle.scr_plan.specs.Scratch.{Fits}
 use Rattle.scr_keys.specs.Readers.{ReaderView}
 
--- the windows, the virtual screen onto which they are taken, the terminal's profile, the bytes that an update began to send and has
--- still to send, and what came from the keyboard
+-- the windows, the virtual screen onto which they are taken, the terminal's profile and what is remembered of it, the bytes that an
+-- update began to send and has still to send, and what came from the keyboard
 pub record ScreenState : Type 0 where
   pub desk : DeskView
   pub virtual : VirtualView
   pub profile : ProfileView
+  pub memory : MemoryView
   pub owed : List ℕ
   pub keys : ReaderView
 
--- the windows, the virtual screen and the terminal have one size
+-- what is remembered of a terminal is of its size, one of its states, and up to date
+pub record IsRemembered (profile : ProfileView) (memory : MemoryView) (virtual : VirtualView) : Type 0 where
+  pub fits : Fits profile virtual.picture
+  pub size : IsSizeOf virtual.picture memory
+  pub agrees : Agrees (abilities profile) memory memory.state
+  pub same : IsUpToDate profile memory virtual
+
+-- the windows, the virtual screen and the terminal have one size; what is remembered of the terminal is one of its states, which shows
+-- the picture in each row that is known, but for the columns that may have changed since the last update that ended well
 pub record IsScreen (screen : ScreenState) : Type 0 where
   pub desk_rows : screen.desk.rows ≡ screen.profile.rows
   pub desk_columns : screen.desk.columns ≡ screen.profile.columns
-  pub picture_rows : screen.virtual.picture.rows ≡ screen.profile.rows
-  pub picture_columns : screen.virtual.picture.columns ≡ screen.profile.columns
+  pub memory : IsRemembered screen.profile screen.memory screen.virtual
 
 -- so many bytes are room for the text of each operation
 abbrev pub HasRoom : ProfileView → ℕ → Type 0
 HasRoom profile room = (op : Op) → length (bytes_of profile op) ≤ room
 
 -- a screen is stored as its fields, one beside another
-abbrev pub screen_code : Coded DeskView → Coded VirtualView → Coded ProfileView → Coded ReaderView → Coded ScreenState
-screen_code desk virtual profile keys =
-    code_by (DeskView × (VirtualView × (ProfileView × (List ℕ × ReaderView)))) (coded× desk (coded× virtual (coded× profile (coded× (coded_list coded_ℕ) keys))))
-    (λ s. (s.desk, (s.virtual, (s.profile, (s.owed, s.keys)))))
-    (λ t. record { desk = t.0; virtual = t.1.0; profile = t.1.1.0; owed = t.1.1.1.0; keys = t.1.1.1.1 }) (λ _. refl)
+abbrev pub screen_code : Coded DeskView → Coded VirtualView → Coded ProfileView → Coded MemoryView → Coded ReaderView → Coded ScreenState
+screen_code desk virtual profile memory keys =
+    code_by (DeskView × (VirtualView × (ProfileView × (MemoryView × (List ℕ × ReaderView))))) (coded× desk (coded× virtual (coded× profile (coded× memory (coded× (coded_list coded_ℕ) keys)))))
+    (λ s. (s.desk, (s.virtual, (s.profile, (s.memory, (s.owed, s.keys))))))
+    (λ t. record { desk = t.0; virtual = t.1.0; profile = t.1.1.0; memory = t.1.1.1.0; owed = t.1.1.1.1.0; keys = t.1.1.1.1.1 }) (λ _. refl)

@@ -1,5 +1,5 @@
 -- Sessions: lists of calls on one screen, and what is promised of them. X/Open Curses Issue 7; curs_refresh(3X).
-use Rattle.std.specs.Prelude.{ℕ, Bool, true, false, not, if◌then◌else◌, ◌≡◌, ◌+◌, ◌<◌, ◌⊎◌, List, [], ◌∷◌, ◌++◌, length, take, slice_index_or, Option, Some, Result}
+use Rattle.std.specs.Prelude.{ℕ, Bool, true, false, not, ◌&&◌, if◌then◌else◌, ◌≡◌, ◌+◌, ◌<◌, ◌≤◌, ◌⊎◌, List, [], ◌∷◌, ◌++◌, length, take, slice_index_or, Option, Some, Result}
 use Rattle.std.specs.List.{flat_map}
 use Rattle.std.specs.Io.KnownBytes.{Appends}
 use Rattle.scr_cells.specs.PictureViews.{PictureView}
@@ -19,6 +19,8 @@ use Rattle.scr_windows.specs.DeskViews.{DeskView, first_desk}
 use Rattle.scr_virtual.specs.VirtualViews.{VirtualView, blank_virtual, settled}
 use Rattle.scr_virtual.specs.Pairs.{set_pair_call}
 use Rattle.scr_virtual.specs.Taking.{take_pad_call, take_window_call}
+use Rattle.scr_plan.specs.Memories.{remembered}
+use Rattle.scr_plan.specs.Repaints.{plain_of}
 use Rattle.curses.specs.declared.answers.Answer.{Answer}
 use Rattle.curses.specs.declared.answers.Answer.TheVariants.{Failed, Nothing, Refused, Sent}
 use Rattle.curses.specs.declared.calls.values.Call.{Call}
@@ -160,6 +162,32 @@ pub record Moment (profile : ProfileView) (opened : TerminalState) (picture : Pi
   pub bytes : taken ++ owed ≡ all_bytes profile begun
   pub showing : well ≡ true → IsShowing profile opened now owed taken picture
 
+-- ---- economy
+
+-- others wrote on the screen
+abbrev pub redraws : Call → Bool
+redraws (RedrawWindow win) = true
+redraws (RedrawLines win first n) = true
+redraws call = false
+
+-- whether an update ended well, after which no write or flush failed and no row was marked that others wrote: what the terminal
+-- shows is known then
+abbrev pub knows_after : Bool → Call → Answer → Bool
+knows_after before call (Sent sent) = true
+knows_after before call (Failed (Write begun sent kind)) = false
+knows_after before call (Failed (Flush begun sent kind)) = false
+knows_after before call (Refused fault) = before
+knows_after before call answer = before && not (redraws call)
+
+abbrev pub knows_behind : Bool → List Call → List Answer → Bool
+knows_behind before [] answers = before
+knows_behind before (call ∷ calls) [] = before
+knows_behind before (call ∷ calls) (answer ∷ answers) = knows_behind (knows_after before call answer) calls answers
+
+-- an update that answered so took no more bytes than the plain repaint of a terminal in this state, all of which is known
+abbrev pub IsCheap : ProfileView → TerminalState → PictureView → Answer → Type 0
+IsCheap profile now picture answer = count_of answer ≤ length (all_bytes profile (plain_of profile (remembered profile.rows profile.columns now) picture))
+
 -- windows and virtual screen after the first n calls
 abbrev pub drawn_at : ProfileView → List Call → List Answer → ℕ → Drawn
 drawn_at profile calls answers n = after_calls (first_drawn profile.rows profile.columns) (take n calls) (take n answers)
@@ -173,6 +201,10 @@ pub record IsSession (profile : ProfileView) (calls : List Call) (answers : List
   pub moments : (i : ℕ) → i < length calls → (opened : TerminalState) → IsState (abilities profile) opened
       → Moment profile opened (drawn_at profile calls answers (i + 1)).virtual.picture (begun_in (take (i + 1) answers)) (take (count_in (take (i + 1) answers)) taken)
       (tells_sent (slice_index_or answers i Nothing))
+  -- where what the terminal shows is known, an update that ends well sends no more than what differs
+  pub cheap : (i : ℕ) → i < length calls → knows_behind false (take i calls) (take i answers) ≡ true → (drawn_at profile calls answers i).virtual.repaint ≡ false
+      → tells_sent (slice_index_or answers i Nothing) ≡ true → (opened now : TerminalState) → IsState (abilities profile) opened → runs profile opened (begun_in (take i answers)) ≡ Some now
+      → IsCheap profile now (drawn_at profile calls answers i).virtual.picture (slice_index_or answers i Nothing)
 
 -- whether there was an update, and the last one ended well
 abbrev pub ended_well : Bool → Answer → Bool

@@ -1,16 +1,16 @@
 -- An update: what it sends, what the terminal shows after it, and what a fault leaves. curs_refresh(3X), doupdate(); X/Open Curses
 -- Issue 7, the same.
 use Rattle.std.specs.Prelude.{ℕ, ◌≡◌, ◌≢◌, ◌≤◌, true, List, [], ◌∷◌, length, Some}
-use Rattle.scr_cells.specs.PictureViews.{PictureView}
 use Rattle.scr_term.specs.declared.operations.operation.Op.{Op}
 use Rattle.scr_term.specs.Operations.Profiles.{ProfileView, abilities}
 use Rattle.scr_term.specs.Operations.States.{TerminalState, IsState}
 use Rattle.scr_term.specs.Operations.Steps.{runs}
 use Rattle.scr_term.specs.Operations.Texts.{all_bytes, bytes_of}
-use Rattle.scr_plan.specs.Scratch.{RunsToShow}
+use Rattle.scr_plan.specs.Memories.{Agrees, MemoryView, all_followed, forgotten}
+use Rattle.scr_plan.specs.Plans.{IsPlan}
 use Rattle.curses.specs.Cuts.{IsCut}
 use Rattle.curses.specs.Writers.{WriterView, counted}
-use Rattle.scr_virtual.specs.VirtualViews.{settled}
+use Rattle.scr_virtual.specs.VirtualViews.{VirtualView, settled}
 use Rattle.curses.specs.declared.faults.Sent.{Sent}
 use Rattle.curses.specs.ScreenStates.{ScreenState}
 use Rattle.curses.specs.declared.faults.UpdateFault.{UpdateFault}
@@ -22,21 +22,17 @@ pub record IsDefined (profile : ProfileView) (old : TerminalState) (ops : List O
   pub run : runs profile old ops ≡ Some new
   pub state : IsState (abilities profile) new
 
--- operations lead from every state of the terminal to one that shows a picture
-abbrev pub LeadToShow : ProfileView → PictureView → List Op → Type 0
-LeadToShow profile picture ops = (state : TerminalState) → IsState (abilities profile) state → RunsToShow profile state ops picture
-
 -- What an update sent: what was owed, and then the texts of the operations that it began, as far as the writer took them. From
--- every state of the terminal these operations are all defined.
-pub record IsSent (profile : ProfileView) (owed : List ℕ) (old new : WriterView) (begun : List Op) (count : ℕ) (rest : List ℕ) : Type 0 where
+-- every state of the terminal that agrees with what was remembered of it these operations are all defined.
+pub record IsSent (profile : ProfileView) (memory : MemoryView) (owed : List ℕ) (old new : WriterView) (begun : List Op) (count : ℕ) (rest : List ℕ) : Type 0 where
   pub cut : IsCut owed (all_bytes profile begun) old.taken new.taken count rest
-  pub defined : (state : TerminalState) → IsState (abilities profile) state → IsDefined profile state begun
+  pub defined : (state : TerminalState) → Agrees (abilities profile) memory state → IsDefined profile state begun
 
--- An update that ended well: nothing is owed, the writer did not fail, and from every state of the terminal the operations lead
--- to one that shows the picture.
-pub record IsUpdated (profile : ProfileView) (picture : PictureView) (owed : List ℕ) (old new : WriterView) (begun : List Op) (count : ℕ) (rest : List ℕ) : Type 0 where
-  pub sent : IsSent profile owed old new begun count rest
-  pub shows : LeadToShow profile picture begun
+-- An update that ended well: nothing is owed, the writer did not fail, and the operations are a plan: from every state that agrees
+-- with what was remembered they lead to one that shows the picture, and all of it is known then.
+pub record IsUpdated (profile : ProfileView) (memory : MemoryView) (virtual : VirtualView) (owed : List ℕ) (old new : WriterView) (begun : List Op) (count : ℕ) (rest : List ℕ) : Type 0 where
+  pub sent : IsSent profile memory owed old new begun count rest
+  pub plan : IsPlan profile memory virtual begun
   pub nothing : rest ≡ []
   pub puts : new.failed_puts ≡ old.failed_puts
   pub finishes : new.failed_finishes ≡ old.failed_finishes
@@ -49,34 +45,41 @@ IsOfOneText profile owed (op ∷ []) rest = length rest ≤ length (bytes_of pro
 IsOfOneText profile owed (op ∷ next ∷ ops) rest = IsOfOneText profile owed (next ∷ ops) rest
 
 -- one whose write failed: that of the last operation begun, or of what was owed; the rest of that text is owed
-pub record IsCutShort (profile : ProfileView) (owed : List ℕ) (old new : WriterView) (begun : List Op) (count : ℕ) (rest : List ℕ) : Type 0 where
-  pub sent : IsSent profile owed old new begun count rest
+pub record IsCutShort (profile : ProfileView) (memory : MemoryView) (owed : List ℕ) (old new : WriterView) (begun : List Op) (count : ℕ) (rest : List ℕ) : Type 0 where
+  pub sent : IsSent profile memory owed old new begun count rest
   pub something : rest ≢ []
   pub one : IsOfOneText profile owed begun rest
   pub puts : new.failed_puts ≡ counted true old.failed_puts
   pub finishes : new.failed_finishes ≡ old.failed_finishes
 
 -- one of which the texts of all operations begun were taken, and whose flush failed
-pub record IsUnfinished (profile : ProfileView) (owed : List ℕ) (old new : WriterView) (begun : List Op) (count : ℕ) (rest : List ℕ) : Type 0 where
-  pub sent : IsSent profile owed old new begun count rest
+pub record IsUnfinished (profile : ProfileView) (memory : MemoryView) (owed : List ℕ) (old new : WriterView) (begun : List Op) (count : ℕ) (rest : List ℕ) : Type 0 where
+  pub sent : IsSent profile memory owed old new begun count rest
   pub nothing : rest ≡ []
   pub puts : new.failed_puts ≡ old.failed_puts
   pub finishes : new.failed_finishes ≡ counted true old.failed_finishes
 
 -- what a fault says of what was sent
-abbrev pub AfterFault : ProfileView → List ℕ → WriterView → WriterView → UpdateFault → List ℕ → Type 0
-AfterFault profile owed old new NoMemory rest = (rest ≡ owed) × (new ≡ old)
-AfterFault profile owed old new (Write begun sent kind) rest = IsCutShort profile owed old new begun sent rest
-AfterFault profile owed old new (Flush begun sent kind) rest = IsUnfinished profile owed old new begun sent rest
+abbrev pub AfterFault : ProfileView → MemoryView → List ℕ → WriterView → WriterView → UpdateFault → List ℕ → Type 0
+AfterFault profile memory owed old new NoMemory rest = (rest ≡ owed) × (new ≡ old)
+AfterFault profile memory owed old new (Write begun sent kind) rest = IsCutShort profile memory owed old new begun sent rest
+AfterFault profile memory owed old new (Flush begun sent kind) rest = IsUnfinished profile memory owed old new begun sent rest
+
+-- what is remembered after a fault: nothing, unless nothing was sent
+abbrev pub memory_after : UpdateFault → MemoryView → MemoryView
+memory_after NoMemory memory = memory
+memory_after (Write begun sent kind) memory = forgotten memory
+memory_after (Flush begun sent kind) memory = forgotten memory
 
 -- ---- of a screen
 
--- An update of a screen that ended well: the windows and the picture stay, and the screen is no longer to be painted anew.
+-- An update of a screen that ended well: the windows and the picture stay, the screen is no longer to be painted anew, and what is
+-- remembered has followed the operations.
 pub record IsShown (old new : ScreenState) (before after : WriterView) (sent : Sent) : Type 0 where
-  pub updated : IsUpdated old.profile old.virtual.picture old.owed before after sent.begun sent.bytes new.owed
-  pub screen : new ≡ record old { virtual = settled old.virtual; owed = [] }
+  pub updated : IsUpdated old.profile old.memory old.virtual old.owed before after sent.begun sent.bytes new.owed
+  pub screen : new ≡ record old { virtual = settled old.virtual; memory = all_followed old.profile sent.begun old.memory; owed = [] }
 
 -- one that ended early: windows, virtual screen and wishes stay
 pub record IsFailed (old new : ScreenState) (before after : WriterView) (fault : UpdateFault) : Type 0 where
-  pub fault_told : AfterFault old.profile old.owed before after fault new.owed
-  pub screen : new ≡ record old { owed = new.owed }
+  pub fault_told : AfterFault old.profile old.memory old.owed before after fault new.owed
+  pub screen : new ≡ record old { memory = memory_after fault old.memory; owed = new.owed }

@@ -1,13 +1,16 @@
 //! Opening a screen on a terminal. The definitions are in `specs/Opening.antt`.
-ghost use Rattle.std.specs.Prelude.{IfErr, IfOk};
+ghost use Rattle.std.specs.Prelude.{◌≡◌, [], IfErr, IfOk, vec_capacity};
+ghost use Rattle.curses.specs.Code.Openings.{IsReaderOf, first_screen};
 ghost use Rattle.curses.specs.Opening.{IsOpened, IsUnopened};
+ghost use Rattle.curses.specs.ScreenStates.{HasRoom};
 ghost use Rattle.scr_term.specs.Operations.Admission.{IsAdmitted};
 
 use crate::faults::OpenFault;
 use crate::screens::Screen;
-use scr_cells::Size;
+use scr_cells::{NoMemory, Size};
 use scr_keys::{KeyFault, KeyReader, KeyTable};
-use scr_term::{Profile, ProfileFault};
+use scr_plan::{Memory, memory_runs, up_to_date_laws};
+use scr_term::{Profile, ProfileFault, blank_laws};
 use scr_virtual::Virtual;
 use scr_windows::Desk;
 use std::alloc::Global;
@@ -26,27 +29,64 @@ impl Screen {
         ensures err { IfErr result (IsUnopened entry.now size) }
     {
         let profile = admitted(alloc, entry, size)?;
-        let table = match KeyTable::of(alloc, entry) {
-            Ok(table) => table,
-            Err(KeyFault::KeyTooLong(slot)) => return Err(OpenFault::KeyTooLong(slot)),
-            Err(_) => return Err(OpenFault::NoMemory),
-        };
-        let Ok(keys) = KeyReader::new(alloc, table) else {
-            return Err(OpenFault::NoMemory);
-        };
+        let keys = keys_of(alloc, entry, size, &profile)?;
+        let screen = Screen::on(alloc, profile, keys)?;
+        Ok(screen)
+    }
+
+    // A screen on the terminal of a profile. Fails only when memory runs out.
+    fn on(alloc: Global, profile: Profile, keys: KeyReader) -> Result<Screen, NoMemory>
+        ensures { IfOk result (λ screen. screen ≡ first_screen profile keys) }
+    {
+        memory_runs();
+        up_to_date_laws();
+        blank_laws();
         let size = profile.size();
         let Ok(desk) = Desk::new(alloc, size) else {
-            return Err(OpenFault::NoMemory);
+            return Err(NoMemory);
         };
         let wanted = Virtual::new(alloc, size)?;
-        let owed = Vec::with_capacity(alloc, profile.longest())?;
+        let memory = Memory::unknown(alloc, size)?;
+        let owed = buffer_for(alloc, &profile)?;
         Ok(Screen {
             desk,
             wanted,
             profile,
+            memory,
             owed,
             keys,
         })
+    }
+}
+
+// A buffer with room for the text of each operation. Fails only when memory runs out.
+fn buffer_for(alloc: Global, profile: &Profile) -> Result<Vec<u8>, NoMemory>
+    ensures empty { IfOk result (λ buffer. buffer.items ≡ []) }
+    ensures room { IfOk result (λ buffer. HasRoom profile.now (vec_capacity buffer)) }
+{
+    let buffer = Vec::with_capacity(alloc, profile.longest())?;
+    Ok(buffer)
+}
+
+// A reader of the keys of an entry that has made a profile.
+fn keys_of(
+    alloc: Global,
+    entry: &Entry,
+    size: Option<Size>,
+    profile: &Profile,
+) -> Result<KeyReader, OpenFault>
+    requires { IsAdmitted entry.now size profile.now }
+    ensures ok { IfOk result (IsReaderOf entry.now) }
+    ensures err { IfErr result (IsUnopened entry.now size) }
+{
+    let table = match KeyTable::of(alloc, entry) {
+        Ok(table) => table,
+        Err(KeyFault::KeyTooLong(slot)) => return Err(OpenFault::KeyTooLong(slot)),
+        Err(_) => return Err(OpenFault::NoMemory),
+    };
+    match KeyReader::new(alloc, table) {
+        Ok(keys) => Ok(keys),
+        Err(_) => Err(OpenFault::NoMemory),
     }
 }
 

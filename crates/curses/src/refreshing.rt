@@ -3,11 +3,12 @@
 ghost use Rattle.std.specs.Prelude.{◌≡◌};
 ghost use Rattle.scr_virtual.specs.Pairs.{set_pair_call};
 ghost use Rattle.scr_virtual.specs.Taking.{take_pad_call, take_window_call};
-ghost use Rattle.curses.specs.Refreshing.{OnBoth, OnVirtual, redraw_lines_call, redraw_window_call};
+ghost use Rattle.curses.specs.Refreshing.{OnBoth, OnTerminal, OnVirtual, lines_disturbed, redraw_lines_call, redraw_window_call, window_disturbed};
 
 use crate::screens::Screen;
 use scr_cells::Picture;
-use scr_virtual::sizes_stay;
+use scr_plan::{memory_laws, up_to_date_laws};
+use scr_virtual::{ranges_hold_changes, sizes_stay};
 use scr_windows::{Win, WinFault};
 
 impl Screen {
@@ -28,6 +29,8 @@ impl Screen {
         ensures { OnBoth self.old self.new result (take_window_call self.old.virtual self.old.desk win.0) }
     {
         sizes_stay();
+        ranges_hold_changes();
+        let _size = self.wanted.size();
         self.wanted.take_window(&mut self.desk, win)
     }
 
@@ -51,6 +54,8 @@ impl Screen {
         ensures { OnBoth self.old self.new result (take_pad_call self.old.virtual self.old.desk win.0 row column top left bottom right) }
     {
         sizes_stay();
+        ranges_hold_changes();
+        let _size = self.wanted.size();
         self.wanted
             .take_pad(&mut self.desk, win, row, column, top, left, bottom, right)
     }
@@ -63,6 +68,9 @@ impl Screen {
         ensures { OnVirtual self.old self.new result (set_pair_call self.old.virtual pair foreground background) }
     {
         sizes_stay();
+        ranges_hold_changes();
+        up_to_date_laws();
+        let _size = self.wanted.size();
         self.wanted.set_pair(pair, foreground, background)
     }
 
@@ -71,7 +79,7 @@ impl Screen {
     ///
     /// Refused: NoWindow; IsPad. X/Open Curses Issue 7, redrawwin().
     pub fn redraw_window(&mut self, win: Win) -> Result<(), WinFault>
-        ensures { OnVirtual self.old self.new result (redraw_window_call self.old.virtual self.old.desk win.0) }
+        ensures { OnTerminal self.old self.new result (redraw_window_call self.old.virtual self.old.desk win.0) (window_disturbed self.old.memory self.old.desk win.0) }
     {
         let (lines, _columns) = self.desk.size(win)?;
         self.redraw_lines(win, 0, lines)
@@ -83,11 +91,16 @@ impl Screen {
     /// Refused: NoWindow; IsPad; OutOfWindow where the window has fewer than `first + n` lines. X/Open Curses Issue 7,
     /// wredrawln().
     pub fn redraw_lines(&mut self, win: Win, first: u32, n: u32) -> Result<(), WinFault>
-        ensures { OnVirtual self.old self.new result (redraw_lines_call self.old.virtual self.old.desk win.0 first n) }
+        ensures { OnTerminal self.old self.new result (redraw_lines_call self.old.virtual self.old.desk win.0 first n) (lines_disturbed self.old.memory self.old.desk win.0 first n) }
     {
         sizes_stay();
+        ranges_hold_changes();
+        memory_laws();
+        up_to_date_laws();
         let (row, count) = self.desk.screen_rows(win, first, n)?;
+        let _size = self.wanted.size();
         self.wanted.mark(row, count);
+        self.memory.disturb(row, count);
         Ok(())
     }
 }

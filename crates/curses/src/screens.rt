@@ -3,6 +3,7 @@
 //!
 //! The calls on its windows are in the files of their kinds in `calls/`.
 use scr_keys::KeyReader;
+use scr_plan::Memory;
 use scr_term::Profile;
 use scr_virtual::Virtual;
 use scr_windows::Desk;
@@ -17,6 +18,8 @@ pub struct Screen {
     pub(crate) desk: Desk,
     pub(crate) wanted: Virtual,
     pub(crate) profile: Profile,
+    // What is known of what the terminal shows.
+    pub(crate) memory: Memory,
     // What an update began to send and has still to send, with room for the text of each operation.
     pub(crate) owed: Vec<u8>,
     pub(crate) keys: KeyReader,
@@ -27,14 +30,15 @@ impl Model for Screen {
     ghost use Rattle.scr_virtual.specs.contracts.screens.Virtual as the_virtual;
     ghost use Rattle.scr_term.specs.contracts.operations.profiles.Profile as the_profile;
     ghost use Rattle.scr_windows.specs.contracts.desks.Desk as the_desk;
+    ghost use Rattle.scr_plan.specs.contracts.memories.Memory as the_memory;
     ghost use Rattle.scr_keys.specs.contracts.readers.KeyReader as the_reader;
     ghost use Rattle.curses.specs.ScreenStates.{ScreenState, HasRoom, IsScreen, screen_code};
 
     ghost Value = { ScreenState };
 
-    ghost coded = { screen_code the_desk.the_row.coded the_virtual.the_row.coded the_profile.the_row.coded the_reader.the_row.coded };
+    ghost coded = { screen_code the_desk.the_row.coded the_virtual.the_row.coded the_profile.the_row.coded the_memory.the_row.coded the_reader.the_row.coded };
 
-    ghost view = { λ a. record { desk = a.desk; virtual = a.wanted; profile = a.profile; owed = a.owed.items; keys = a.keys } };
+    ghost view = { λ a. record { desk = a.desk; virtual = a.wanted; profile = a.profile; memory = a.memory; owed = a.owed.items; keys = a.keys } };
 
-    ghost invariant = { λ a. IsScreen (record { desk = a.desk; virtual = a.wanted; profile = a.profile; owed = a.owed.items; keys = a.keys }) × HasRoom a.profile (vec_capacity a.owed) };
+    ghost invariant = { λ a. IsScreen (record { desk = a.desk; virtual = a.wanted; profile = a.profile; memory = a.memory; owed = a.owed.items; keys = a.keys }) × HasRoom a.profile (vec_capacity a.owed) };
 }

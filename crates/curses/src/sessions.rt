@@ -1,5 +1,7 @@
 //! Sessions: a list of calls on one screen, from its opening on. The definitions are in `specs/Sessions.antt`.
 ghost use Rattle.std.specs.Prelude.{◌≡◌, IfErr, IfOk, OnErr, true};
+ghost use Rattle.curses.specs.declared.calls.values.Call.TheVariants.{Doupdate};
+ghost use Rattle.curses.specs.Code.Progress.{AreMade, IsFresh};
 ghost use Rattle.curses.specs.Making.{IsMade};
 ghost use Rattle.curses.specs.Opening.{IsUnopened};
 ghost use Rattle.curses.specs.Sessions.{IsReport, ended_well, tells_update};
@@ -9,7 +11,8 @@ use crate::calls::Call;
 use crate::faults::OpenFault;
 use crate::screens::Screen;
 use crate::writers::Counted;
-use scr_cells::Size;
+use scr_cells::{NoMemory, Size};
+use scr_plan::{known_memories, memory_laws, memory_runs};
 use scr_term::{bytes_act_as_their_operations, run_laws};
 use std::alloc::Global;
 use std::marker::Model;
@@ -57,20 +60,9 @@ pub fn session<W: Counted>(
     ensures err { IfErr result (IsUnopened entry.now size) }
     ensures untouched { OnErr result (out.new ≡ out.old) }
 {
-    run_laws();
-    bytes_act_as_their_operations();
     let mut screen = Screen::open(alloc, entry, size)?;
-    let mut answers = Vec::with_capacity(alloc, calls.len())?;
-    let mut last_ok = false;
-    for call in calls {
-        let answer = screen.make(alloc, call, out);
-        last_ok = is_last_ok(last_ok, &answer);
-        answers.push(answer)?;
-    }
-    Ok(Report {
-        answers: Answers(answers),
-        last_ok,
-    })
+    let report = screen.make_all(alloc, calls, out)?;
+    Ok(report)
 }
 
 impl Screen {
@@ -79,11 +71,9 @@ impl Screen {
     pub fn make<W: Counted>(&mut self, alloc: Global, call: &Call, out: &mut W) -> Answer
         ensures { IsMade self.old self.new call.now result (W.told out.old) (W.told out.new) }
     {
+        memory_laws();
         match call {
-            Call::Doupdate => match self.doupdate(alloc, out) {
-                Ok(sent) => Answer::Sent(sent),
-                Err(fault) => Answer::Failed(fault),
-            },
+            Call::Doupdate => self.make_update(alloc, out),
             Call::Noutrefresh(win) => done_answer(self.noutrefresh(*win)),
             Call::PadNoutrefresh(win, row, column, top, left, bottom, right) => done_answer(
                 self.pad_noutrefresh(*win, *row, *column, *top, *left, *bottom, *right),
@@ -94,6 +84,51 @@ impl Screen {
             Call::RedrawWindow(win) => done_answer(self.redraw_window(*win)),
             Call::RedrawLines(win, first, n) => done_answer(self.redraw_lines(*win, *first, *n)),
             _ => self.make_window_call(alloc, call),
+        }
+    }
+}
+
+impl Screen {
+    // Makes calls one after another on a screen that was just opened. Fails only when memory runs out for the answers, before
+    // the first call.
+    fn make_all<W: Counted>(
+        &mut self,
+        alloc: Global,
+        calls: &[Call],
+        out: &mut W,
+    ) -> Result<Report, NoMemory>
+        requires { IsFresh self.old }
+        ensures ok { IfOk result (AreMade self.old.profile calls.now (W.told out.old) (W.told out.new)) }
+        ensures untouched { OnErr result (out.new ≡ out.old) }
+    {
+        run_laws();
+        bytes_act_as_their_operations();
+        memory_runs();
+        known_memories();
+        let _profile = self.profile.size();
+        let mut answers = Vec::with_capacity(alloc, calls.len())?;
+        let mut last_ok = false;
+        for call in calls {
+            let answer = self.make(alloc, call, out);
+            last_ok = is_last_ok(last_ok, &answer);
+            answers.push(answer)?;
+        }
+        Ok(Report {
+            answers: Answers(answers),
+            last_ok,
+        })
+    }
+
+    // Makes an update.
+    fn make_update<W: Counted>(&mut self, alloc: Global, out: &mut W) -> Answer
+        ensures { IsMade self.old self.new Doupdate result (W.told out.old) (W.told out.new) }
+    {
+        memory_laws();
+        memory_runs();
+        let _profile = self.profile.size();
+        match self.doupdate(alloc, out) {
+            Ok(sent) => Answer::Sent(sent),
+            Err(fault) => Answer::Failed(fault),
         }
     }
 }

@@ -6,28 +6,33 @@ ghost use Rattle.std.specs.Io.KnownBytes.{Keeps};
 ghost use Rattle.scr_term.specs.declared.operations.operation.Op.{Op};
 ghost use Rattle.scr_term.specs.Operations.Texts.{bytes_of};
 ghost use Rattle.scr_term.specs.Operations.Profiles.{IsProfile};
-ghost use Rattle.scr_plan.specs.Scratch.{Fits};
-ghost use Rattle.curses.specs.Updates.{AfterFault, IsFailed, IsShown, IsUpdated, LeadToShow};
+ghost use Rattle.scr_virtual.specs.VirtualViews.{settled};
+ghost use Rattle.scr_plan.specs.Memories.{all_followed, forgotten};
+ghost use Rattle.scr_plan.specs.Plans.{IsPlan};
+ghost use Rattle.curses.specs.ScreenStates.{IsRemembered};
+ghost use Rattle.curses.specs.Updates.{AfterFault, IsFailed, IsShown, IsUpdated, memory_after};
 ghost use Rattle.curses.specs.Writers.{counted};
 
 use crate::faults::{Sent, UpdateFault};
 use crate::screens::Screen;
 use crate::sending::send_all;
 use crate::writers::Counted;
-use scr_cells::{NoMemory, Picture};
-use scr_plan::{scratch, scratch_is_bounded, scratch_shows};
-use scr_term::{Ops, Profile, blank_laws, run_laws};
+use scr_cells::NoMemory;
+use scr_plan::{Memory, memory_laws, memory_runs, plan, plans_are_made, up_to_date_laws};
+use scr_term::{Op, Ops, Profile, run_laws};
+use scr_virtual::Virtual;
 use std::alloc::Global;
 use std::io::ErrorKind;
 
 impl Screen {
-    /// Brings the terminal to the virtual screen: sends what an earlier update owed, and then the operations that lead from
-    /// whatever the terminal shows to the picture, and flushes the writer if it took something. After Ok the terminal shows the
-    /// picture with its cursor where it is wished, nothing is owed, and no repaint is wished.
+    /// Brings the terminal to the virtual screen: sends what an earlier update owed, then the operations that lead from what is
+    /// known of the terminal to the picture, and flushes the writer if it took something. Nothing is sent where nothing differs
+    /// and the cursor is as wished; the whole screen is painted where not all is known or this is wished. After Ok the terminal
+    /// shows the picture with its cursor where it is wished, all that it shows is known, nothing is owed, and no repaint is wished.
     ///
     /// The operations are made before the first byte is sent, and no memory is taken after that. Ended early: NoMemory,
-    /// where nothing is sent; Write, where what was not taken of the text that was cut is owed; Flush. Windows, virtual screen
-    /// and wishes stay then, and the next update paints all. curs_refresh(3X) and X/Open Curses Issue 7, doupdate().
+    /// where nothing is sent and all stays; Write, where what was not taken of the text that was cut is owed; Flush. Windows,
+    /// virtual screen and wishes stay then, and the next update paints all. curs_refresh(3X) and X/Open Curses Issue 7, doupdate().
     pub fn doupdate<W: Counted>(&mut self, alloc: Global, out: &mut W) -> Result<Sent, UpdateFault>
         ensures ok { IfOk result (IsShown self.old self.new (W.told out.old) (W.told out.new)) }
         ensures err { IfErr result (IsFailed self.old self.new (W.told out.old) (W.told out.new)) }
@@ -36,34 +41,70 @@ impl Screen {
         let sent = update(
             alloc,
             &self.profile,
-            self.wanted.picture(),
+            &self.memory,
+            &self.wanted,
             &mut self.owed,
             out,
-        )?;
+        );
+        self.remember(&sent);
+        sent
+    }
+
+    // What is known of the terminal, and what is to be painted, after an update that ended so.
+    fn remember(&mut self, sent: &Result<Sent, UpdateFault>)
+        requires { IfOk sent.now (λ sent. IsPlan self.old.profile self.old.memory self.old.virtual sent.begun) }
+        ensures ok { IfOk sent.now (λ sent. self.new ≡ record self.old { virtual = settled self.old.virtual; memory = all_followed self.old.profile sent.begun self.old.memory }) }
+        ensures err { IfErr sent.now (λ fault. self.new ≡ record self.old { memory = memory_after fault self.old.memory }) }
+    {
+        match sent {
+            Ok(sent) => self.follow(&sent.begun.0),
+            Err(UpdateFault::NoMemory) => {}
+            Err(_) => self.forget(),
+        }
+    }
+
+    // The terminal was sent a plan: it shows the picture.
+    fn follow(&mut self, ops: &[Op])
+        requires { IsPlan self.old.profile self.old.memory self.old.virtual ops.now }
+        ensures { self.new ≡ record self.old { virtual = settled self.old.virtual; memory = all_followed self.old.profile ops.now self.old.memory } }
+    {
+        memory_runs();
+        up_to_date_laws();
+        let _profile = self.profile.size();
+        let _wanted = self.wanted.size();
+        self.memory.follow_all(&self.profile, ops);
         self.wanted.settle();
-        Ok(sent)
+    }
+
+    // Nothing is known of the terminal any more.
+    fn forget(&mut self)
+        ensures { self.new ≡ record self.old { memory = forgotten self.old.memory } }
+    {
+        memory_laws();
+        up_to_date_laws();
+        self.memory.forget();
     }
 }
 
 // Brings a terminal to a picture: sends what waits in the buffer, which has room for the text of each operation, and then what
-// paints the picture.
+// is planned.
 pub(crate) fn update<W: Counted>(
     alloc: Global,
     profile: &Profile,
-    picture: &Picture,
+    memory: &Memory,
+    wanted: &Virtual,
     waiting: &mut Vec<u8>,
     out: &mut W,
 ) -> Result<Sent, UpdateFault>
-    requires fits { Fits profile.now picture.now }
+    requires remembered { IsRemembered profile.now memory.now wanted.now }
     requires room { (op : Op) → length (bytes_of profile.now op) ≤ vec_capacity waiting.old }
-    ensures ok { IfOk result (λ sent. IsUpdated profile.now picture.now waiting.old.items (W.told out.old) (W.told out.new) sent.begun sent.bytes waiting.new.items) }
-    ensures err { IfErr result (λ fault. AfterFault profile.now waiting.old.items (W.told out.old) (W.told out.new) fault waiting.new.items) }
+    ensures ok { IfOk result (λ sent. IsUpdated profile.now memory.now wanted.now waiting.old.items (W.told out.old) (W.told out.new) sent.begun sent.bytes waiting.new.items) }
+    ensures err { IfErr result (λ fault. AfterFault profile.now memory.now waiting.old.items (W.told out.old) (W.told out.new) fault waiting.new.items) }
     ensures room { vec_capacity waiting.old ≤ vec_capacity waiting.new }
     ensures untouched { IsErrOf result UpdateFault.NoMemory → out.new ≡ out.old }
 {
     run_laws();
-    blank_laws();
-    let mut plan = plan(alloc, profile, picture)?;
+    let mut plan = planned(alloc, profile, memory, wanted)?;
     let sent = send_all(profile, &plan.0, waiting, out);
     plan.0.truncate(sent.begun);
     if let Some(kind) = sent.fault {
@@ -86,18 +127,22 @@ pub(crate) fn update<W: Counted>(
     })
 }
 
-// The operations that lead from every state of a terminal to one that shows a picture.
-fn plan(alloc: Global, profile: &Profile, picture: &Picture) -> Result<Ops, NoMemory>
-    requires { Fits profile.now picture.now }
-    ensures leads { IfOk result (λ ops. LeadToShow profile.now picture.now ops) }
+// The operations that lead from every state of a terminal that agrees with what is remembered to one that shows the picture.
+fn planned(
+    alloc: Global,
+    profile: &Profile,
+    memory: &Memory,
+    wanted: &Virtual,
+) -> Result<Ops, NoMemory>
+    requires { IsRemembered profile.now memory.now wanted.now }
+    ensures plan { IfOk result (IsPlan profile.now memory.now wanted.now) }
     ensures few { IfOk result (λ ops. length ops ≤ 2 ^ 32) }
     ensures profile { IsProfile profile.now }
 {
     let _profile = profile.size();
-    let _picture = picture.size();
-    scratch_shows();
-    scratch_is_bounded();
-    scratch(alloc, profile, picture)
+    let _wanted = wanted.size();
+    plans_are_made();
+    plan(alloc, profile, memory, wanted)
 }
 
 // Has what was sent reach its end, where something was sent, and answers why it failed, if it did.

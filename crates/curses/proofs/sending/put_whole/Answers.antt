@@ -1,4 +1,4 @@
-use Rattle.std.proofs.Common.{◌+◌, ◌∙◌, arith}
+use Rattle.std.proofs.Common.{◌∙◌, arith}
 use Rattle.curses.proofs.CutLaws.{rest_length, taken_more, took_some}
 use Rattle.curses.proofs.sending.put_whole.Goals as goal
 

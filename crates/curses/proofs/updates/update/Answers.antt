@@ -4,18 +4,18 @@ use Rattle.std.specs.List.{All}
 use Rattle.scr_term.specs.Operations.Texts.{has}
 use Rattle.curses.specs.Updates.{IsOfOneText}
 use Rattle.curses.specs.Writers.{counted}
-use Rattle.curses.proofs.UpdateLaws.{had, kept_same, sent_part, shown_whole, some_not_none}
+use Rattle.curses.proofs.UpdateLaws.{had, kept_same, planned_whole, sent_part, some_not_none}
 use Rattle.curses.proofs.updates.update.Goals as goal
 
 pub send_all-sent-requires-clause-has : goal.send_all-sent-requires-clause-has
 send_all-sent-requires-clause-has g c =
-    subst (λ ops. All (λ op. has c.args.profile.now op ≡ true) ops) (sym (c.deref.ensures.value ∙ c.plan-2.view_is))
-    (had c.run_laws.ensures c.blank_laws.ensures c.args.profile.now c.plan.ensures.profile c.args.picture.now c.in_ok-plan.plan c.in_ok-plan.ensures.leads)
+    subst (λ ops. All (λ op. has c.args.profile.now op ≡ true) ops) (sym (c.deref.ensures.value ∙ c.plan.view_is))
+    (had c.run_laws.ensures c.args.profile.now c.args.memory.now c.args.wanted.now c.in_ok-plan.plan c.requires.remembered.agrees c.in_ok-plan.ensures.plan)
 
 pub returns-in-Some-clause-err : goal.returns-in-Some-clause-err
 returns-in-Some-clause-err g c = record {
-  sent = sent_part c.run_laws.ensures c.args.profile.now c.plan.ensures.profile c.args.picture.now c.in_ok-plan.plan c.deref.result.now c.truncate.new.self.items c.send_all-sent.result.begun c.args.waiting.now.items _
-      (g.W.Counted.told c.args.out.now) (g.W.Counted.told c.send_all-sent.new.out) (g.W.Counted.told c.send_all-sent.new.out) _ c.in_ok-plan.ensures.leads (c.deref.ensures.value ∙ c.plan-2.view_is)
+  sent = sent_part c.run_laws.ensures c.args.profile.now c.planned.ensures.profile c.args.memory.now c.args.wanted.now c.in_ok-plan.plan c.deref.result.now c.truncate.new.self.items c.send_all-sent.result.begun c.args.waiting.now.items _
+      (g.W.Counted.told c.args.out.now) (g.W.Counted.told c.send_all-sent.new.out) (g.W.Counted.told c.send_all-sent.new.out) _ c.in_ok-plan.ensures.plan (c.deref.ensures.value ∙ c.plan.view_is)
       (c.truncate.ensures.items ∙ sym (ap (take c.send_all-sent.result.begun) c.deref.ensures.value)) c.send_all-sent.ensures.cut (kept_same _);
   something = c.send_all-sent.ensures.fault (some_not_none _ _ c.in-Some.is);
   one = subst (λ begun. IsOfOneText c.args.profile.now c.args.waiting.now.items begun c.send_all-sent.new.waiting.items) (sym (c.truncate.ensures.items ∙ sym (ap (take c.send_all-sent.result.begun) c.deref.ensures.value)))
@@ -26,8 +26,8 @@ returns-in-Some-clause-err g c = record {
 
 pub returns-in-Some-finish_after-clause-err : goal.returns-in-Some-finish_after-clause-err
 returns-in-Some-finish_after-clause-err g c = record {
-  sent = sent_part c.run_laws.ensures c.args.profile.now c.plan.ensures.profile c.args.picture.now c.in_ok-plan.plan c.deref.result.now c.truncate.new.self.items c.send_all-sent.result.begun c.args.waiting.now.items _
-      (g.W.Counted.told c.args.out.now) (g.W.Counted.told c.send_all-sent.new.out) (g.W.Counted.told c.finish_after.new.out) _ c.in_ok-plan.ensures.leads (c.deref.ensures.value ∙ c.plan-2.view_is)
+  sent = sent_part c.run_laws.ensures c.args.profile.now c.planned.ensures.profile c.args.memory.now c.args.wanted.now c.in_ok-plan.plan c.deref.result.now c.truncate.new.self.items c.send_all-sent.result.begun c.args.waiting.now.items _
+      (g.W.Counted.told c.args.out.now) (g.W.Counted.told c.send_all-sent.new.out) (g.W.Counted.told c.finish_after.new.out) _ c.in_ok-plan.ensures.plan (c.deref.ensures.value ∙ c.plan.view_is)
       (c.truncate.ensures.items ∙ sym (ap (take c.send_all-sent.result.begun) c.deref.ensures.value)) c.send_all-sent.ensures.cut c.finish_after.ensures.bytes;
   nothing = c.send_all-sent.ensures.nothing c.in_default.is;
   puts = c.finish_after.ensures.puts ∙ c.send_all-sent.ensures.puts ∙ ap (λ f. counted (is_some f) (g.W.Counted.told c.args.out.now).failed_puts) c.in_default.is;
@@ -36,10 +36,10 @@ returns-in-Some-finish_after-clause-err g c = record {
 
 pub returns-clause-ok : goal.returns-clause-ok
 returns-clause-ok g c = record {
-  sent = sent_part c.run_laws.ensures c.args.profile.now c.plan.ensures.profile c.args.picture.now c.in_ok-plan.plan c.deref.result.now c.truncate.new.self.items c.send_all-sent.result.begun c.args.waiting.now.items _
-      (g.W.Counted.told c.args.out.now) (g.W.Counted.told c.send_all-sent.new.out) (g.W.Counted.told c.finish_after.new.out) _ c.in_ok-plan.ensures.leads (c.deref.ensures.value ∙ c.plan-2.view_is)
+  sent = sent_part c.run_laws.ensures c.args.profile.now c.planned.ensures.profile c.args.memory.now c.args.wanted.now c.in_ok-plan.plan c.deref.result.now c.truncate.new.self.items c.send_all-sent.result.begun c.args.waiting.now.items _
+      (g.W.Counted.told c.args.out.now) (g.W.Counted.told c.send_all-sent.new.out) (g.W.Counted.told c.finish_after.new.out) _ c.in_ok-plan.ensures.plan (c.deref.ensures.value ∙ c.plan.view_is)
       (c.truncate.ensures.items ∙ sym (ap (take c.send_all-sent.result.begun) c.deref.ensures.value)) c.send_all-sent.ensures.cut c.finish_after.ensures.bytes;
-  shows = shown_whole c.args.profile.now c.args.picture.now c.in_ok-plan.plan c.deref.result.now c.truncate.new.self.items c.send_all-sent.result.begun c.in_ok-plan.ensures.leads (c.deref.ensures.value ∙ c.plan-2.view_is)
+  plan = planned_whole c.args.profile.now c.args.memory.now c.args.wanted.now c.in_ok-plan.plan c.deref.result.now c.truncate.new.self.items c.send_all-sent.result.begun c.in_ok-plan.ensures.plan (c.deref.ensures.value ∙ c.plan.view_is)
       (c.truncate.ensures.items ∙ sym (ap (take c.send_all-sent.result.begun) c.deref.ensures.value)) (c.send_all-sent.ensures.whole c.in_default.is);
   nothing = c.send_all-sent.ensures.nothing c.in_default.is;
   puts = c.finish_after.ensures.puts ∙ c.send_all-sent.ensures.puts ∙ ap (λ f. counted (is_some f) (g.W.Counted.told c.args.out.now).failed_puts) c.in_default.is;

@@ -1,6 +1,6 @@
 use Rattle.std.proofs.Common.{refl, subst, sym}
 use Rattle.curses.specs.Making.{IsMade, drawn_of}
-use Rattle.curses.proofs.MakingLaws.{both_made, is_on_windows, virtual_made, windows_made}
+use Rattle.curses.proofs.MakingLaws.{both_made, is_on_windows, lines_made, virtual_made, window_made, windows_made}
 use Rattle.curses.proofs.screens.Screen.make.Goals as goal
 
 pub returns-in-Noutrefresh : goal.returns-in-Noutrefresh
@@ -29,3 +29,13 @@ returns-in_default g c =
       not_pad_noutrefresh = c.in_default.not-PadNoutrefresh;
       not_doupdate = c.in_default.not-Doupdate;
     })) c.make_window_call.ensures
+
+pub returns-in-RedrawWindow : goal.returns-in-RedrawWindow
+returns-in-RedrawWindow g c =
+    subst (λ call. IsMade c.args.self.now c.redraw_window.new.self call c.done_answer-in-RedrawWindow.result (g.W.Counted.told c.args.out.now) (g.W.Counted.told c.args.out.now)) (sym c.in-RedrawWindow.is)
+    (window_made c.memory_laws.ensures c.args.self.now c.redraw_window.new.self _ c.redraw_window.result c.done_answer-in-RedrawWindow.result (g.W.Counted.told c.args.out.now) c.redraw_window.ensures c.done_answer-in-RedrawWindow.ensures)
+
+pub returns-in-RedrawLines : goal.returns-in-RedrawLines
+returns-in-RedrawLines g c =
+    subst (λ call. IsMade c.args.self.now c.redraw_lines.new.self call c.done_answer-in-RedrawLines.result (g.W.Counted.told c.args.out.now) (g.W.Counted.told c.args.out.now)) (sym c.in-RedrawLines.is)
+    (lines_made c.memory_laws.ensures c.args.self.now c.redraw_lines.new.self _ _ _ c.redraw_lines.result c.done_answer-in-RedrawLines.result (g.W.Counted.told c.args.out.now) c.redraw_lines.ensures c.done_answer-in-RedrawLines.ensures)

@@ -1,0 +1,27 @@
+-- A screen as it is opened.
+use Rattle.std.specs.Prelude.{◌≡◌, []}
+use Rattle.ti_caps.specs.Description.{Description}
+use Rattle.scr_term.specs.Operations.Profiles.{ProfileView}
+use Rattle.scr_windows.specs.DeskViews.{first_desk}
+use Rattle.scr_virtual.specs.VirtualViews.{blank_virtual}
+use Rattle.scr_plan.specs.Memories.{unknown}
+use Rattle.scr_keys.specs.Readers.{ReaderView}
+use Rattle.scr_keys.specs.Tables.{AreKeysOf}
+use Rattle.curses.specs.ScreenStates.{ScreenState}
+
+-- a screen on the terminal of a profile, with a keyboard
+abbrev pub first_screen : ProfileView → ReaderView → ScreenState
+first_screen profile keys = record {
+  desk = first_desk profile.rows profile.columns;
+  virtual = blank_virtual profile.rows profile.columns;
+  profile = profile;
+  memory = unknown profile.rows profile.columns;
+  owed = [];
+  keys = keys;
+}
+
+-- a reader of an entry's keys, which has read nothing
+pub record IsReaderOf (entry : Description) (reader : ReaderView) : Type 0 where
+  pub keys : AreKeysOf entry reader.keys
+  pub queue : reader.queue ≡ []
+  pub waiting : reader.waiting ≡ []
