@@ -1,30 +1,33 @@
 -- What a call of a script does to its screen.
-use Rattle.std.proofs.Common.{◌≡◌, ◌≢◌, ℕ, Bool, true, false, refl, sym, ◌∙◌, ap, subst, List, [], ◌∷◌, ◌++◌, Option, Some, None, Result, Ok, Err, IfOk, inl, inr, ◌⊎◌, if◌then◌else◌}
+use Rattle.std.proofs.Common.{◌≡◌, ◌≢◌, ℕ, Bool, true, false, refl, sym, ◌∙◌, ap, subst, List, [], ◌∷◌, ◌++◌, Option, Some, None, Result, Ok, Err, IfOk, Vec, Global, inl, inr, length, ◌==◌, option_map, if◌then◌else◌}
 use Rattle.std.proofs.lemmas.List.{append-nil}
 use Rattle.std.specs.Io.KnownBytes.{Appends}
+use Rattle.std.specs.Option.{is_some}
 use Rattle.scr_cells.specs.PictureViews.{PictureView}
 use Rattle.scr_term.specs.declared.operations.operation.Op.{Op}
 use Rattle.scr_term.specs.Operations.Admission.{IsEcma48}
-use Rattle.scr_term.specs.Operations.Profiles.{ProfileView}
+use Rattle.scr_term.specs.Operations.Ecma48.{Ecma48Laws}
+use Rattle.scr_term.specs.Operations.Profiles.{ProfileView, abilities}
+use Rattle.scr_term.specs.Operations.Steps.{runs}
 use Rattle.scr_term.specs.Operations.Texts.{all_bytes}
-use Rattle.scr_virtual.specs.VirtualViews.{settled}
+use Rattle.scr_plan.specs.Memories.{Agrees, MemoryView}
+use Rattle.scr_plan.specs.MemoryRuns.{MemoryRuns}
 use Rattle.scr_windows.specs.declared.faults.WinFault.{WinFault}
 use Rattle.scr_windows.specs.declared.faults.WinFault.TheVariants as faults
 use Rattle.curses.specs.declared.answers.Answer.{Answer}
 use Rattle.curses.specs.declared.answers.Answer.TheVariants.{Nothing, Refused, Sent, Made, Added, Seen, Pair, Touched, Failed}
 use Rattle.curses.specs.declared.calls.values.Call.{Call}
+use Rattle.curses.specs.declared.calls.values.Call.TheVariants.{AddText, MoveCursor, Noutrefresh}
 use Rattle.curses.specs.declared.faults.Sent.{Sent as SentView}
-use Rattle.curses.specs.declared.faults.UpdateFault.{UpdateFault}
-use Rattle.curses.specs.Calls.{is_refusal}
-use Rattle.curses.specs.Cuts.{IsCut}
-use Rattle.curses.specs.Making.{EndsWell, IsMade, drawn_of}
+use Rattle.curses.specs.Making.{IsMade, drawn_of}
 use Rattle.curses.specs.ScreenStates.{ScreenState}
-use Rattle.curses.specs.Sessions.{Drawn, RightAnswer, begun_of, count_of, is_update, left_by, ran_out, screen_call, tells_sent}
+use Rattle.curses.specs.Sessions.{Drawn, RightAnswer, begun_of, count_of, is_update, left_by, ran_out, screen_call}
 use Rattle.curses.specs.Updates.{IsSent, IsShown}
 use Rattle.curses.specs.Writers.{WriterView}
-use Rattle.screen_scripts.specs.Stories.{Event, Outcome, Stage, called, followed, made, refusal_of, updated}
-use Rattle.screen_scripts.specs.Stories.{Shown}
-use Rattle.screen_scripts.specs.Showing.{IsQuiet, IsReady, IsRefusalOf, IsUpdateOf, Updates, event_if, stage_of}
+use Rattle.screen_scripts.specs.declared.effects.Effects.{Effects}
+use Rattle.screen_scripts.specs.Stories.{Event, Outcome, Shown, Stage, added, called, fault_name, first_window, followed, made, refusal_of, shown, unless_refused, updated}
+use Rattle.screen_scripts.specs.Stories.{Refused as RefusedEvent}
+use Rattle.screen_scripts.specs.Showing.{IsQuiet, IsReady, IsRefusalOf, IsSentIf, IsUpdateOf, Obeys, StillAgrees, Updates, event_if, events_in, events_of, shown_if, stage_of, update_in}
 
 -- ---- calls that are no updates
 
@@ -74,17 +77,10 @@ none_left (b ∷ taken) rest e = absurd (some e)
 still_none : (owed taken rest : List ℕ) → owed ≡ [] → owed ++ [] ≡ taken ++ rest → rest ≡ []
 still_none owed taken rest none whole = none_left taken rest (sym (append-nil owed ∙ none) ∙ whole)
 
-owes_nothing : (old new : ScreenState) (answer : Answer) (before after : WriterView) → old.owed ≡ [] → IsSent old.profile old.owed before after (begun_of answer) (count_of answer) new.owed
-    → (tells_sent answer ≡ true → EndsWell old new answer) → ((fault : UpdateFault) → answer ≢ Failed fault) → new.owed ≡ []
-owes_nothing old new (Sent s) before after none sent well early = (well refl).nothing
-owes_nothing old new (Failed f) before after none sent well early = absurd (early f refl)
-owes_nothing old new Nothing before after none sent well early = still_none old.owed sent.cut.taken new.owed none sent.cut.whole
-owes_nothing old new (Made w) before after none sent well early = still_none old.owed sent.cut.taken new.owed none sent.cut.whole
-owes_nothing old new (Added a) before after none sent well early = still_none old.owed sent.cut.taken new.owed none sent.cut.whole
-owes_nothing old new (Seen c) before after none sent well early = still_none old.owed sent.cut.taken new.owed none sent.cut.whole
-owes_nothing old new (Pair a b) before after none sent well early = still_none old.owed sent.cut.taken new.owed none sent.cut.whole
-owes_nothing old new (Touched b) before after none sent well early = still_none old.owed sent.cut.taken new.owed none sent.cut.whole
-owes_nothing old new (Refused f) before after none sent well early = still_none old.owed sent.cut.taken new.owed none sent.cut.whole
+owes_nothing : (old new : ScreenState) (before after : WriterView) (begun : List Op) (count : ℕ) → old.owed ≡ [] → begun ≡ []
+    → IsSent old.profile old.memory old.owed before after begun count new.owed → new.owed ≡ []
+owes_nothing old new before after begun count none nothing sent =
+    still_none old.owed sent.cut.taken new.owed none (ap (λ ops. old.owed ++ all_bytes old.profile ops) (sym nothing) ∙ sent.cut.whole)
 
 made_called : (stage : Stage) (call : Call) → is_update call ≡ false → made stage call ≡ called stage (screen_call stage.drawn call)
 unfolding made
@@ -100,7 +96,12 @@ quietly old new call answer fault before after update ready is refusal = record 
   stage = ap (λ o. o.stage) (made_called (stage_of old) call update) ∙ same_stage;
   events = ap (λ o. o.events) (made_called (stage_of old) call update) ∙ ap refusal_of (sym own) ∙ refusal.events;
   profile = is.profile;
-  ready = record { entry = subst IsEcma48 (sym is.profile) ready.entry; nothing = owes_nothing old new answer before after ready.nothing is.sent is.well refusal.early };
+  agrees = subst (λ p. StillAgrees p old.memory new.memory) (sym is.profile)
+      (record { still = λ state agrees. is.agrees state state agrees (ap (runs old.profile state) refusal.nothing) });
+  ready = record {
+    entry = subst IsEcma48 (sym is.profile) ready.entry;
+    nothing = owes_nothing old new before after (begun_of answer) (count_of answer) ready.nothing refusal.nothing is.sent;
+  };
 }
   where
     own : answer ≡ (screen_call (drawn_of old) call).1
@@ -119,16 +120,19 @@ quietly old new call answer fault before after update ready is refusal = record 
 sent_all : (owed taken sent rest : List ℕ) → owed ≡ [] → rest ≡ [] → owed ++ sent ≡ taken ++ rest → taken ≡ sent
 sent_all owed taken sent rest none nothing whole = sym (append-nil taken) ∙ ap (λ r. taken ++ r) (sym nothing) ∙ sym whole ∙ ap (λ o. o ++ sent) none
 
-pub updates : (old new : ScreenState) (before after : WriterView) (sent : SentView) (bytes : List ℕ) → IsReady old → IsShown old new before after sent
+pub updates : Ecma48Laws → MemoryRuns → (old new : ScreenState) (before after : WriterView) (sent : SentView) (bytes : List ℕ) → IsReady old → IsShown old new before after sent
     → before.taken ≡ Some [] → after.taken ≡ Some bytes → Updates old new bytes
-updates old new before after sent bytes ready is first last = record {
+updates laws runs_on old new before after sent bytes ready is first last = record {
   stage = ap stage_of (sym is.screen);
   picture = ap (λ s. s.virtual.picture) is.screen;
-  update = subst (λ p. IsUpdateOf p new.virtual.picture bytes) (sym profile) (subst (λ p. IsUpdateOf old.profile p bytes) (sym (ap (λ s. s.virtual.picture) is.screen)) (record {
-    ops = sent.begun;
-    bytes_are = wrote first last is.updated.sent.cut.writer ∙ sent_all old.owed is.updated.sent.cut.taken (all_bytes old.profile sent.begun) new.owed ready.nothing is.updated.nothing is.updated.sent.cut.whole;
-    lead = is.updated.shows;
-  }));
+  update = subst (λ p. IsUpdateOf p old.memory new.memory new.virtual.picture bytes) (sym profile)
+      (subst (λ p. IsUpdateOf old.profile old.memory new.memory p bytes) (sym (ap (λ s. s.virtual.picture) is.screen)) (record {
+        ops = sent.begun;
+        bytes_are = wrote first last is.updated.sent.cut.writer ∙ sent_all old.owed is.updated.sent.cut.taken (all_bytes old.profile sent.begun) new.owed ready.nothing is.updated.nothing is.updated.sent.cut.whole;
+        lead = is.updated.plan.shows;
+        agrees = λ state next agrees run. subst (λ m. Agrees (abilities old.profile) m next) (sym (ap (λ s. s.memory) is.screen))
+            (runs_on.follows old.profile (laws.is_profile old.profile ready.entry) old.memory state next sent.begun agrees run);
+      }));
   profile = profile;
   ready = record { entry = subst IsEcma48 (sym profile) ready.entry; nothing = is.updated.nothing };
 }
@@ -144,21 +148,123 @@ updates old new before after sent bytes ready is first last = record {
 
 -- ---- one thing after another
 
-pub followed_is : (first : Outcome) (next : Stage → Outcome) (mid new : ScreenState) (a b : List Event) → first.stage ≡ stage_of mid → first.events ≡ a → (next (stage_of mid)).stage ≡ stage_of new
+followed_is : (first : Outcome) (next : Stage → Outcome) (mid new : ScreenState) (a b : List Event) → first.stage ≡ stage_of mid → first.events ≡ a → (next (stage_of mid)).stage ≡ stage_of new
     → (next (stage_of mid)).events ≡ b → followed first next ≡ record { stage = stage_of new; events = a ++ b }
 followed_is first next mid new a b s e t f = λ i. record {
   stage = (ap (λ o. (next o).stage) s ∙ t) i;
   events = (ap (λ o. first.events ++ (next o).events) s ∙ ap (λ x. first.events ++ x) f ∙ ap (λ x. x ++ b) e) i;
 }
 
-pub is_outcome : (outcome : Outcome) (new : ScreenState) (a : List Event) → outcome.stage ≡ stage_of new → outcome.events ≡ a → outcome ≡ record { stage = stage_of new; events = a }
+is_outcome : (outcome : Outcome) (new : ScreenState) (a : List Event) → outcome.stage ≡ stage_of new → outcome.events ≡ a → outcome ≡ record { stage = stage_of new; events = a }
 is_outcome outcome new a s e = λ i. record { stage = s i; events = e i }
 
 -- no update came behind these events
-pub no_more : (events : List Event) → events ≡ events ++ []
+no_more : (events : List Event) → events ≡ events ++ []
 no_more events = sym (append-nil events)
 
+-- a call that sent nothing, and then an update or nothing
+pub sent_behind : (profile : ProfileView) (old mid new : MemoryView) (picture : PictureView) (update : Option (List ℕ)) → StillAgrees profile old mid → IsSentIf profile mid new picture update
+    → IsSentIf profile old new picture update
+sent_behind profile old mid new picture None first next = record { still = λ state agrees. next.still state (first.still state agrees) }
+sent_behind profile old mid new picture (Some bytes) first next = record {
+  ops = next.ops;
+  bytes_are = next.bytes_are;
+  lead = λ state agrees. next.lead state (first.still state agrees);
+  agrees = λ state last agrees run. next.agrees state last (first.still state agrees) run;
+}
+
+-- what is remembered stays
+pub same_memory : (profile : ProfileView) (old new : MemoryView) → new ≡ old → StillAgrees profile old new
+same_memory profile old new same = record { still = λ state agrees. subst (λ m. Agrees (abilities profile) m state) (sym same) agrees }
+
+-- what a screen is after a call that sent nothing and was refused so, if it was
+pub quiet_obeys : (old new : ScreenState) (call : Call) (fault : Option WinFault) (effects : Effects) → IsQuiet old new call fault → events_in effects.notes.items ≡ event_if fault
+    → effects.update ≡ None → Obeys old new effects (made (stage_of old) call)
+quiet_obeys old new call fault effects quiet notes none = record {
+  is = is_outcome (made (stage_of old) call) new (events_of effects new.virtual.picture) quiet.stage
+      (quiet.events ∙ sym notes ∙ no_more (events_in effects.notes.items) ∙ ap (λ u. events_in effects.notes.items ++ shown_if u new.virtual.picture) (sym none));
+  update = subst (λ u. IsSentIf new.profile old.memory new.memory new.virtual.picture (option_map (λ bytes. bytes.items) u)) (sym none) quiet.agrees;
+  profile = quiet.profile;
+  ready = quiet.ready;
+}
+
+-- and after an update
+pub update_obeys : (old new : ScreenState) (noted effects : Effects) (bytes : Vec ℕ Global) → Updates old new bytes.items → noted.notes.items ≡ [] → effects ≡ record noted { update = Some bytes }
+    → Obeys old new effects (updated (stage_of old))
+update_obeys old new noted effects bytes sent none same = subst (λ e. Obeys old new e (updated (stage_of old))) (sym same) (record {
+  is = is_outcome (updated (stage_of old)) new (events_in noted.notes.items ++ Shown new.virtual.picture ∷ []) sent.stage
+      (ap (λ p. Shown p ∷ []) (sym sent.picture) ∙ ap (λ n. events_in n ++ Shown new.virtual.picture ∷ []) (sym none));
+  update = sent.update;
+  profile = sent.profile;
+  ready = sent.ready;
+})
+
+-- a call that sent nothing, and then one that was obeyed
+pub obeys_behind : (old mid new : ScreenState) (call : Call) (fault : Option WinFault) (effects : Effects) (outcome : Outcome) → IsQuiet old mid call fault → Obeys mid new effects outcome
+    → Obeys old new effects outcome
+obeys_behind old mid new call fault effects outcome quiet obeys = record {
+  is = obeys.is;
+  update = sent_behind new.profile old.memory mid.memory new.memory new.virtual.picture (update_in effects) (subst (λ p. StillAgrees p old.memory mid.memory) (sym obeys.profile) quiet.agrees)
+      obeys.update;
+  profile = obeys.profile ∙ quiet.profile;
+  ready = obeys.ready;
+}
+
+-- a text is added where the cursor was moved, and nothing where that was refused
+added_on : (stage mid : Stage) (row column : ℕ) (text : List ℕ) → (made stage (MoveCursor first_window row column)).stage ≡ mid
+    → (made stage (MoveCursor first_window row column)).events ≡ [] → added stage row column text ≡ made mid (AddText first_window text)
+added_on stage mid row column text left none =
+    ap {A = Outcome} {B = Outcome} (λ o. unless_refused o (λ moved. made moved (AddText first_window text))) (λ i. record { stage = left i; events = none i })
+
+added_refused : (stage : Stage) (row column : ℕ) (text : List ℕ) (event : Event) → (made stage (MoveCursor first_window row column)).events ≡ event ∷ []
+    → added stage row column text ≡ made stage (MoveCursor first_window row column)
+added_refused stage row column text event some =
+    ap {A = List Event} {B = Outcome}
+    (λ events. if length events == 0 then made (made stage (MoveCursor first_window row column)).stage (AddText first_window text) else made stage (MoveCursor first_window row column)) some
+
+pub add_refused : {E : Type 0} → (old new : ScreenState) (row column : ℕ) (text : List ℕ) (fault : Option WinFault) (result : Result Effects E) → is_some fault ≡ true
+    → IsQuiet old new (MoveCursor first_window row column) fault → IfOk result (λ effects. events_in effects.notes.items ≡ event_if fault) → IfOk result (λ effects. effects.update ≡ None)
+    → IfOk result (λ effects. Obeys old new effects (added (stage_of old) row column text))
+add_refused old new row column text None result some quiet notes none = absurd (not_true some)
+  where
+    not_true : false ≡ true → ⊥
+    not_true e = (cc)
+add_refused old new row column text (Some fault) (Err error) some quiet notes none = tt
+add_refused old new row column text (Some fault) (Ok effects) some quiet notes none =
+    subst (Obeys old new effects) (sym (added_refused (stage_of old) row column text (RefusedEvent (fault_name fault)) quiet.events))
+    (quiet_obeys old new (MoveCursor first_window row column) (Some fault) effects quiet notes none)
+
+pub add_goes_on : {E : Type 0} → (old mid new : ScreenState) (row column : ℕ) (text : List ℕ) (fault : Option WinFault) (result : Result Effects E) → is_some fault ≡ false
+    → IsQuiet old mid (MoveCursor first_window row column) fault → IfOk result (λ effects. Obeys mid new effects (made (stage_of mid) (AddText first_window text)))
+    → IfOk result (λ effects. Obeys old new effects (added (stage_of old) row column text))
+add_goes_on old mid new row column text (Some fault) result none quiet obeys = absurd (not_false none)
+  where
+    not_false : true ≡ false → ⊥
+    not_false e = (cc)
+add_goes_on old mid new row column text None (Err error) none quiet obeys = tt
+add_goes_on old mid new row column text None (Ok effects) none quiet obeys =
+    subst (Obeys old new effects) (sym (added_on (stage_of old) (stage_of mid) row column text quiet.stage quiet.events))
+    (obeys_behind old mid new (MoveCursor first_window row column) None effects (made (stage_of mid) (AddText first_window text)) quiet obeys)
+
+-- a window is taken, and then an update shows the picture
+pub shows_taken : (old mid new : ScreenState) (fault : Option WinFault) (noted effects : Effects) (bytes : Vec ℕ Global) → IsQuiet old mid (Noutrefresh first_window) fault
+    → events_in noted.notes.items ≡ event_if fault → Updates mid new bytes.items → effects ≡ record noted { update = Some bytes } → Obeys old new effects (shown (stage_of old))
+shows_taken old mid new fault noted effects bytes quiet notes sent same = subst (λ e. Obeys old new e (shown (stage_of old))) (sym same) (record {
+  is = followed_is (made (stage_of old) (Noutrefresh first_window)) updated mid new (event_if fault) (Shown mid.virtual.picture ∷ []) quiet.stage quiet.events sent.stage refl
+      ∙ (λ i. record { stage = stage_of new; events = sym notes i ++ Shown (sym sent.picture i) ∷ [] });
+  update = sent_behind new.profile old.memory mid.memory new.memory new.virtual.picture (Some bytes.items) (subst (λ p. StillAgrees p old.memory mid.memory) (sym sent.profile) quiet.agrees)
+      sent.update;
+  profile = sent.profile ∙ quiet.profile;
+  ready = sent.ready;
+})
+
 -- ---- results
+
+pub quiet_obeys_if : {E : Type 0} → (old new : ScreenState) (call : Call) (fault : Option WinFault) (result : Result Effects E) → IsQuiet old new call fault
+    → IfOk result (λ effects. events_in effects.notes.items ≡ event_if fault) → IfOk result (λ effects. effects.update ≡ None)
+    → IfOk result (λ effects. Obeys old new effects (made (stage_of old) call))
+quiet_obeys_if old new call fault (Ok effects) quiet notes none = quiet_obeys old new call fault effects quiet notes none
+quiet_obeys_if old new call fault (Err error) quiet notes none = tt
 
 pub quietly_if : {E : Type 0} → (old new : ScreenState) (call : Call) (answer : Answer) (result : Result (Option WinFault) E) (before after : WriterView) → is_update call ≡ false → IsReady old
     → IsMade old new call answer before after → IfOk result (λ fault. IsRefusalOf answer fault) → IfOk result (λ fault. IsQuiet old new call fault)

@@ -1,12 +1,11 @@
 -- Outputs of events, one after another.
-use Rattle.std.proofs.Common.{◌≡◌, ℕ, Bool, true, false, refl, sym, ◌∙◌, ap, subst, List, [], ◌∷◌, ◌++◌, append_assoc, map, Option, Some, None, IfSome, Result, Ok, Err, OnOk, unwrap_or}
+use Rattle.std.proofs.Common.{◌≡◌, ℕ, Bool, true, false, refl, sym, ◌∙◌, ap, subst, List, [], ◌∷◌, ◌++◌, append_assoc, option_map, Option, Some, None, Result, Ok, Err, OnOk, unwrap_or}
 use Rattle.std.specs.List.{flat_map}
 use Rattle.std.proofs.lemmas.List.{append-nil}
 use Rattle.std.proofs.lemmas.List.Concat.{flat_map-append}
 use Rattle.scr_cells.specs.LookViews.{negative_grid}
 use Rattle.scr_cells.specs.PictureViews.{PictureView}
 use Rattle.scr_term.specs.declared.operations.operation.Op.{Op}
-use Rattle.scr_term.specs.Operations.Abilities.{full_abilities}
 use Rattle.scr_term.specs.Operations.Admission.{IsEcma48}
 use Rattle.scr_term.specs.Operations.Ecma48.{Ecma48Laws}
 use Rattle.scr_term.specs.Operations.Laws.{BytesActAsTheirOperations}
@@ -17,12 +16,14 @@ use Rattle.scr_term.specs.Operations.Texts.{all_bytes}
 use Rattle.scr_term.specs.Ecma.Laws.{ScreensFollowTexts}
 use Rattle.scr_term.specs.Ecma.Meanings.{Leads}
 use Rattle.scr_term.specs.Ecma.Screens.{ScreenView, IsScreen, IsFed}
+use Rattle.scr_plan.specs.Memories.{Agrees, MemoryView}
 use Rattle.scr_plan.specs.Scratch.{RunsToShow}
 use Rattle.screen_scripts.specs.declared.effects.Note.{Note}
 use Rattle.screen_scripts.specs.declared.effects.Note.TheVariants.{Refused, NotTaken, Pressed}
+use Rattle.screen_scripts.specs.declared.stages.Stage.{Stage as Playing}
 use Rattle.screen_scripts.specs.Stories.{Event, Shown}
-use Rattle.screen_scripts.specs.Printing.{AreSent, ArePrinted, IsOutput, IsPrinted, IsScreenOf, RunToShow, abilities_for, pictures_of, refused_event, refusals_of, screen_lines, shown_by}
-use Rattle.screen_scripts.specs.Showing.{AddsScreen, IsTerminalFor, IsUpdateOf, event_of, events_in, note_line, notes_lines, shown_if}
+use Rattle.screen_scripts.specs.Printing.{ArePrinted, IsOutput, IsPrinted, IsScreenOf, RunToShow, abilities_for, pictures_of, refused_event, refusals_of, screen_lines, shown_by}
+use Rattle.screen_scripts.specs.Showing.{AddsScreen, AreSentOn, IsAhead, IsOutputOn, IsReadyStage, IsSentIf, IsTerminalFor, IsUpdateOf, RunToEnd, StillAgrees, event_of, events_in, note_line, notes_lines, shown_if}
 
 -- ---- joined
 
@@ -31,27 +32,47 @@ printed_join [] ys a b first next = subst (λ t. ArePrinted ys (t ++ b)) (sym fi
 printed_join (x ∷ xs) ys a b first next =
     (first.0, first.1 ++ b, ap (λ t. t ++ b) first.2 ∙ append_assoc first.0 first.1 b, first.3, printed_join xs ys first.1 b first.4 next)
 
-runs_join : (profile : ProfileView) (state : TerminalState) (us vs : List (List Op)) (ps qs : List PictureView) → IsState (abilities profile) state → RunToShow profile state us ps
-    → ((next : TerminalState) → IsState (abilities profile) next → RunToShow profile next vs qs) → RunToShow profile state (us ++ vs) (ps ++ qs)
-runs_join profile state [] vs [] qs is first next = next state is
-runs_join profile state [] vs (p ∷ ps) qs is first next = absurd first
-runs_join profile state (u ∷ us) vs [] qs is first next = absurd first
-runs_join profile state (u ∷ us) vs (p ∷ ps) qs is first next = (first.0, runs_join profile first.0.new us vs ps qs first.0.state first.1 next)
+runs_join : (profile : ProfileView) (Between After : TerminalState → Type 0) (state : TerminalState) (us vs : List (List Op)) (ps qs : List PictureView) → RunToEnd profile Between state us ps
+    → ((next : TerminalState) → Between next → RunToEnd profile After next vs qs) → RunToEnd profile After state (us ++ vs) (ps ++ qs)
+runs_join profile Between After state [] vs [] qs first next = next state first
+runs_join profile Between After state [] vs (p ∷ ps) qs first next = absurd first
+runs_join profile Between After state (u ∷ us) vs [] qs first next = absurd first
+runs_join profile Between After state (u ∷ us) vs (p ∷ ps) qs first next = (first.0, runs_join profile Between After first.0.new us vs ps qs first.1 next)
 
-sent_join : (profile : ProfileView) (xs ys : List Event) (a b : List ℕ) → AreSent profile (pictures_of xs) a → AreSent profile (pictures_of ys) b → AreSent profile (pictures_of (xs ++ ys)) (a ++ b)
-sent_join profile xs ys a b first next = subst (λ p. AreSent profile p (a ++ b)) (sym (flat_map-append shown_by xs ys)) (record {
+sent_join : (profile : ProfileView) (Before Between After : TerminalState → Type 0) (xs ys : List Event) (a b : List ℕ) → AreSentOn profile Before Between (pictures_of xs) a
+    → AreSentOn profile Between After (pictures_of ys) b → AreSentOn profile Before After (pictures_of (xs ++ ys)) (a ++ b)
+sent_join profile Before Between After xs ys a b first next = subst (λ p. AreSentOn profile Before After p (a ++ b)) (sym (flat_map-append shown_by xs ys)) (record {
   updates = first.updates ++ next.updates;
   bytes = ap (λ t. t ++ b) first.bytes ∙ ap (λ t. flat_map (all_bytes profile) first.updates ++ t) next.bytes ∙ sym (flat_map-append (all_bytes profile) first.updates next.updates);
-  show = λ state is. runs_join profile state first.updates next.updates (pictures_of xs) (pictures_of ys) is (first.show state is) next.show;
+  show = λ state is. runs_join profile Between After state first.updates next.updates (pictures_of xs) (pictures_of ys) (first.show state is) next.show;
 })
 
-pub output_join : (raw : Bool) (profile : ProfileView) (xs ys : List Event) (a b : List ℕ) → IsOutput raw profile xs a → IsOutput raw profile ys b → IsOutput raw profile (xs ++ ys) (a ++ b)
-output_join true profile xs ys a b first next = sent_join profile xs ys a b first next
-output_join false profile xs ys a b first next = printed_join xs ys a b first next
+pub output_join : (raw : Bool) (profile : ProfileView) (Before Between After : TerminalState → Type 0) (xs ys : List Event) (a b : List ℕ) → IsOutputOn raw profile Before Between xs a
+    → IsOutputOn raw profile Between After ys b → IsOutputOn raw profile Before After (xs ++ ys) (a ++ b)
+output_join true profile Before Between After xs ys a b first next = sent_join profile Before Between After xs ys a b first next
+output_join false profile Before Between After xs ys a b first next = printed_join xs ys a b first next
 
-pub output_none : (raw : Bool) (profile : ProfileView) → IsOutput raw profile [] []
-output_none true profile = record { updates = []; bytes = refl; show = λ state is. tt }
-output_none false profile = refl
+-- nothing happened, and the terminal may be in no more states than before
+pub output_none : (raw : Bool) (profile : ProfileView) (Before After : TerminalState → Type 0) → ((state : TerminalState) → Before state → After state) → IsOutputOn raw profile Before After [] []
+output_none true profile Before After still = record { updates = []; bytes = refl; show = still }
+output_none false profile Before After still = refl
+
+-- where the terminal was in any state of its profile, this is what the run promises
+runs_show : (profile : ProfileView) (After : TerminalState → Type 0) (state : TerminalState) (us : List (List Op)) (ps : List PictureView) → RunToEnd profile After state us ps
+    → RunToShow profile state us ps
+runs_show profile After state [] [] run = tt
+runs_show profile After state [] (p ∷ ps) run = absurd run
+runs_show profile After state (u ∷ us) [] run = absurd run
+runs_show profile After state (u ∷ us) (p ∷ ps) run = (run.0, runs_show profile After run.0.new us ps run.1)
+
+pub output_at_last : (raw : Bool) (profile : ProfileView) (After : TerminalState → Type 0) (events : List Event) (text : List ℕ)
+    → IsOutputOn raw profile (IsState (abilities profile)) After events text → IsOutput raw profile events text
+output_at_last true profile After events text sent = record {
+  updates = sent.updates;
+  bytes = sent.bytes;
+  show = λ state is. runs_show profile After state sent.updates (pictures_of events) (sent.show state is);
+}
+output_at_last false profile After events text printed = printed
 
 -- ---- a line's notes and its update
 
@@ -74,38 +95,34 @@ notes_printed [] events text is = is
 notes_printed (note ∷ notes) events text is =
     (note_line note, notes_lines notes ++ text, append_assoc (note_line note) (notes_lines notes) text, note_printed note, notes_printed notes events text is)
 
-pub printed_alone : (raw : Bool) (profile : ProfileView) (notes : List Note) (text : List ℕ) → raw ≡ false → text ≡ notes_lines notes → IsOutput raw profile (events_in notes ++ []) text
-printed_alone raw profile notes text mode is =
-    subst (λ r. IsOutput r profile (events_in notes ++ []) text) (sym mode)
+pub printed_alone : (raw : Bool) (profile : ProfileView) (Before After : TerminalState → Type 0) (notes : List Note) (text : List ℕ) → raw ≡ false → text ≡ notes_lines notes
+    → IsOutputOn raw profile Before After (events_in notes ++ []) text
+printed_alone raw profile Before After notes text mode is =
+    subst (λ r. IsOutputOn r profile Before After (events_in notes ++ []) text) (sym mode)
     (subst (λ t. ArePrinted (events_in notes ++ []) t) (append-nil (notes_lines notes) ∙ sym is) (notes_printed notes [] [] refl))
 
-pub printed_shown : (raw : Bool) (profile : ProfileView) (picture : PictureView) (notes : List Note) (lines text : List ℕ) → raw ≡ false → IsScreenOf picture lines → text ≡ notes_lines notes ++ lines
-    → IsOutput raw profile (events_in notes ++ Shown picture ∷ []) text
-printed_shown raw profile picture notes lines text mode screen is =
-    subst (λ r. IsOutput r profile (events_in notes ++ Shown picture ∷ []) text) (sym mode)
+pub printed_shown : (raw : Bool) (profile : ProfileView) (Before After : TerminalState → Type 0) (picture : PictureView) (notes : List Note) (lines text : List ℕ) → raw ≡ false
+    → IsScreenOf picture lines → text ≡ notes_lines notes ++ lines → IsOutputOn raw profile Before After (events_in notes ++ Shown picture ∷ []) text
+printed_shown raw profile Before After picture notes lines text mode screen is =
+    subst (λ r. IsOutputOn r profile Before After (events_in notes ++ Shown picture ∷ []) text) (sym mode)
     (subst (λ t. ArePrinted (events_in notes ++ Shown picture ∷ []) t) (sym is)
     (notes_printed notes (Shown picture ∷ []) lines (lines, [], sym (append-nil lines), screen, refl)))
 
-sent_none : (profile : ProfileView) → AreSent profile [] []
-sent_none profile = record { updates = []; bytes = refl; show = λ state is. tt }
-
-sent_one : (profile : ProfileView) (picture : PictureView) (bytes : List ℕ) → IsUpdateOf profile picture bytes → AreSent profile (picture ∷ []) bytes
-sent_one profile picture bytes update = record {
+-- an update alone
+sent_one : (profile : ProfileView) (old new : MemoryView) (picture : PictureView) (bytes : List ℕ) → IsUpdateOf profile old new picture bytes
+    → AreSentOn profile (Agrees (abilities profile) old) (Agrees (abilities profile) new) (picture ∷ []) bytes
+sent_one profile old new picture bytes update = record {
   updates = update.ops ∷ [];
   bytes = update.bytes_are ∙ sym (append-nil (all_bytes profile update.ops));
-  show = λ state is. (update.lead state is, tt);
+  show = λ state agrees. (update.lead state agrees, update.agrees state (update.lead state agrees).new agrees (update.lead state agrees).run);
 }
 
-pub sent_alone : (raw : Bool) (profile : ProfileView) (notes : List Note) (text : List ℕ) → raw ≡ true → text ≡ [] → IsOutput raw profile (events_in notes ++ []) text
-sent_alone raw profile notes text mode is =
-    subst (λ r. IsOutput r profile (events_in notes ++ []) text) (sym mode)
-    (subst (λ t. AreSent profile (pictures_of (events_in notes ++ [])) t) (sym is) (subst (λ p. AreSent profile p []) (sym (notes_show_none notes [])) (sent_none profile)))
-
-pub sent_shown : (raw : Bool) (profile : ProfileView) (picture : PictureView) (notes : List Note) (text : List ℕ) → raw ≡ true → IsUpdateOf profile picture text
-    → IsOutput raw profile (events_in notes ++ Shown picture ∷ []) text
-sent_shown raw profile picture notes text mode update =
-    subst (λ r. IsOutput r profile (events_in notes ++ Shown picture ∷ []) text) (sym mode)
-    (subst (λ p. AreSent profile p text) (sym (notes_show_none notes (Shown picture ∷ []))) (sent_one profile picture text update))
+-- the notes of a line are nothing that is sent
+notes_sent : (raw : Bool) (profile : ProfileView) (Before After : TerminalState → Type 0) (notes : List Note) (events : List Event) (text : List ℕ) → raw ≡ true
+    → AreSentOn profile Before After (pictures_of events) text → IsOutputOn raw profile Before After (events_in notes ++ events) text
+notes_sent raw profile Before After notes events text mode sent =
+    subst (λ r. IsOutputOn r profile Before After (events_in notes ++ events) text) (sym mode)
+    (subst (λ p. AreSentOn profile Before After p text) (sym (notes_show_none notes events)) sent)
 
 -- ---- refusals
 
@@ -118,9 +135,9 @@ shown_refuses_none (Some u) picture = refl
 
 -- ---- the terminal after an update
 
-pub record IsAfter (profile : ProfileView) (picture : PictureView) (new : ScreenView) : Type 0 where
+pub record IsAfter (profile : ProfileView) (memory : MemoryView) (picture : PictureView) (new : ScreenView) : Type 0 where
   pub shows : ShowsNegative (abilities_for picture) new.state picture
-  pub ready : IsTerminalFor profile new
+  pub ready : IsTerminalFor profile memory new
 
 negative_shown : Ecma48Laws → (profile : ProfileView) (picture : PictureView) (state : TerminalState) → IsEcma48 profile → Shows (abilities profile) state picture
     → ShowsNegative (abilities_for picture) (negative_state state) picture
@@ -128,16 +145,17 @@ negative_shown laws profile picture state ecma shows =
     let full = subst (λ a. Shows a state picture) (ap abilities (laws.made profile ecma) ∙ laws.can_show profile.rows profile.columns) shows in
     record { grid = ap negative_grid full.grid; spot = full.spot }
 
-pub after_feeding : Ecma48Laws → BytesActAsTheirOperations → ScreensFollowTexts → (profile : ProfileView) → IsEcma48 profile → (picture : PictureView) (old new : ScreenView) (bytes : List ℕ)
-    → IsTerminalFor profile old → IsUpdateOf profile picture bytes → IsFed old bytes new → IsScreen new → IsAfter profile picture new
-after_feeding laws acts follow profile ecma picture old new bytes terminal update fed valid =
-    let shown : RunsToShow profile terminal.state update.ops picture = update.lead terminal.state terminal.is_state in
+pub after_feeding : Ecma48Laws → BytesActAsTheirOperations → ScreensFollowTexts → (profile : ProfileView) → IsEcma48 profile → (before after : MemoryView) (picture : PictureView)
+    (old new : ScreenView) (bytes : List ℕ) → IsTerminalFor profile before old → IsUpdateOf profile before after picture bytes → IsFed old bytes new → IsScreen new
+    → IsAfter profile after picture new
+after_feeding laws acts follow profile ecma before after picture old new bytes terminal update fed valid =
+    let shown : RunsToShow profile terminal.state update.ops picture = update.lead terminal.state terminal.agrees in
     let leads : Leads old.rows old.columns old.state bytes (negative_state shown.new) =
     subst (λ r. Leads r old.columns old.state bytes (negative_state shown.new)) (sym terminal.rows)
     (subst (λ c. Leads profile.rows c old.state bytes (negative_state shown.new)) (sym terminal.columns)
     (subst (λ s. Leads profile.rows profile.columns s bytes (negative_state shown.new)) (sym terminal.negative)
     (subst (λ b. Leads profile.rows profile.columns (negative_state terminal.state) b (negative_state shown.new)) (sym update.bytes_are)
-    (acts profile ecma terminal.state shown.new terminal.is_state update.ops shown.run)))) in
+    (acts profile ecma terminal.state shown.new terminal.agrees.is_state update.ops shown.run)))) in
     let same : new ≡ record old { state = negative_state shown.new } =
     follow old new bytes (negative_state shown.new) terminal.valid terminal.defined terminal.nothing_waits leads fed in
     record {
@@ -147,7 +165,7 @@ after_feeding laws acts follow profile ecma picture old new bytes terminal updat
         columns = ap (λ s. s.columns) same ∙ terminal.columns;
         valid = valid;
         state = shown.new;
-        is_state = shown.state;
+        agrees = update.agrees terminal.state shown.new terminal.agrees shown.run;
         negative = ap (λ s. s.state) same;
         nothing_waits = ap (λ s. s.waiting) same ∙ terminal.nothing_waits;
         defined = ap (λ s. s.undefined) same ∙ terminal.defined;
@@ -164,20 +182,56 @@ adds_screen (Ok done) picture state before after shows is = record {
 }
 adds_screen (Err error) picture state before after shows is = tt
 
+-- nothing was sent, and nothing was fed
+pub still_terminal : (profile : ProfileView) (old new : MemoryView) (screen : ScreenView) → StillAgrees profile old new → IsTerminalFor profile old screen → IsTerminalFor profile new screen
+still_terminal profile old new screen agrees terminal = record {
+  rows = terminal.rows;
+  columns = terminal.columns;
+  valid = terminal.valid;
+  state = terminal.state;
+  agrees = agrees.still terminal.state terminal.agrees;
+  negative = terminal.negative;
+  nothing_waits = terminal.nothing_waits;
+  defined = terminal.defined;
+}
+
 -- ---- with or without an update
 
-pub sent_by : {A : Type 0} → (items : A → List ℕ) (raw : Bool) (profile : ProfileView) (picture : PictureView) (notes : List Note) (update : Option A) (none result : A) → raw ≡ true
-    → IfSome update (λ b. IsUpdateOf profile picture (items b)) → items none ≡ [] → result ≡ unwrap_or update none → IsOutput raw profile (events_in notes ++ shown_if update picture) (items result)
-sent_by items raw profile picture notes None none result mode sent e is = sent_alone raw profile notes (items result) mode (ap items is ∙ e)
-sent_by items raw profile picture notes (Some b) none result mode sent e is = sent_shown raw profile picture notes (items result) mode (subst (IsUpdateOf profile picture) (sym (ap items is)) sent)
+pub sent_by : {A : Type 0} → (items : A → List ℕ) (raw : Bool) (profile : ProfileView) (old new : MemoryView) (picture : PictureView) (notes : List Note) (update : Option A) (none result : A)
+    → raw ≡ true → IsSentIf profile old new picture (option_map items update) → items none ≡ [] → result ≡ unwrap_or update none
+    → IsOutputOn raw profile (Agrees (abilities profile) old) (Agrees (abilities profile) new) (events_in notes ++ shown_if update picture) (items result)
+sent_by items raw profile old new picture notes None none result mode sent e is =
+    notes_sent raw profile (Agrees (abilities profile) old) (Agrees (abilities profile) new) notes [] (items result) mode
+    (record { updates = []; bytes = ap items is ∙ e; show = sent.still })
+sent_by items raw profile old new picture notes (Some b) none result mode sent e is =
+    notes_sent raw profile (Agrees (abilities profile) old) (Agrees (abilities profile) new) notes (Shown picture ∷ []) (items result) mode
+    (sent_one profile old new picture (items result) (subst (IsUpdateOf profile old new picture) (sym (ap items is)) sent))
 
-pub printed_some : {A : Type 0} → (raw : Bool) (profile : ProfileView) (picture : PictureView) (notes : List Note) (update : Option A) (b : A) (before text : List ℕ) → raw ≡ false → update ≡ Some b
-    → before ≡ notes_lines notes → AddsScreen picture before text → IsOutput raw profile (events_in notes ++ shown_if update picture) text
-printed_some raw profile picture notes update b before text mode e is adds =
-    subst (λ u. IsOutput raw profile (events_in notes ++ shown_if u picture) text) (sym e)
-    (printed_shown raw profile picture notes adds.lines text mode adds.is (adds.added ∙ ap (λ t. t ++ adds.lines) is))
+pub printed_some : {A : Type 0} → (raw : Bool) (profile : ProfileView) (Before After : TerminalState → Type 0) (picture : PictureView) (notes : List Note) (update : Option A) (b : A)
+    (before text : List ℕ) → raw ≡ false → update ≡ Some b → before ≡ notes_lines notes → AddsScreen picture before text
+    → IsOutputOn raw profile Before After (events_in notes ++ shown_if update picture) text
+printed_some raw profile Before After picture notes update b before text mode e is adds =
+    subst (λ u. IsOutputOn raw profile Before After (events_in notes ++ shown_if u picture) text) (sym e)
+    (printed_shown raw profile Before After picture notes adds.lines text mode adds.is (adds.added ∙ ap (λ t. t ++ adds.lines) is))
 
-pub printed_none : {A : Type 0} → (raw : Bool) (profile : ProfileView) (picture : PictureView) (notes : List Note) (update : Option A) (text : List ℕ) → raw ≡ false → update ≡ None
-    → text ≡ notes_lines notes → IsOutput raw profile (events_in notes ++ shown_if update picture) text
-printed_none raw profile picture notes update text mode e is =
-    subst (λ u. IsOutput raw profile (events_in notes ++ shown_if u picture) text) (sym e) (printed_alone raw profile notes text mode is)
+pub printed_none : {A : Type 0} → (raw : Bool) (profile : ProfileView) (Before After : TerminalState → Type 0) (picture : PictureView) (notes : List Note) (update : Option A) (text : List ℕ)
+    → raw ≡ false → update ≡ None → text ≡ notes_lines notes → IsOutputOn raw profile Before After (events_in notes ++ shown_if update picture) text
+printed_none raw profile Before After picture notes update text mode e is =
+    subst (λ u. IsOutputOn raw profile Before After (events_in notes ++ shown_if u picture) text) (sym e) (printed_alone raw profile Before After notes text mode is)
+
+-- ---- stages
+
+-- a terminal that is to be fed an update, or has nothing to be fed
+pub ahead_some : {A : Type 0} → (items : A → List ℕ) (fed : Bool) (stage : Playing) (update : Option A) (b : A) (bytes : List ℕ) → fed ≡ true → update ≡ Some b → bytes ≡ items b
+    → IsAhead fed stage (option_map items update) → IsAhead true stage (Some bytes)
+ahead_some items fed stage update b bytes on e is ahead =
+    subst (λ t. IsAhead true stage (Some t)) (sym is) (subst (λ u. IsAhead true stage (option_map items u)) e (subst (λ f. IsAhead f stage (option_map items update)) on ahead))
+
+pub ahead_none : {A : Type 0} → (items : A → List ℕ) (fed : Bool) (stage : Playing) (update : Option A) → update ≡ None → IsAhead fed stage (option_map items update) → IsReadyStage fed stage
+ahead_none items fed stage update e ahead = of_none (subst (λ u. IsAhead fed stage (option_map items u)) e ahead)
+  where
+    of_none : IsAhead fed stage None → IsReadyStage fed stage
+    of_none none = record {
+      screen = none.screen;
+      terminal = λ on. still_terminal stage.screen.profile none.before stage.screen.memory stage.terminal none.sent (none.terminal on);
+    }

@@ -1,11 +1,12 @@
 -- How a script's story goes on from line to line, and what is written of it.
-use Rattle.std.proofs.Common.{◌≡◌, ◌==◌, arith, length, ℕ, Bool, true, false, refl, sym, ◌∙◌, ap, subst, List, [], ◌∷◌, ◌++◌, append_assoc, Option, Some, None, Result, Ok, Err, OnOk, option_and_then}
+use Rattle.std.proofs.Common.{◌≡◌, ◌==◌, arith, length, ℕ, Bool, true, false, refl, sym, ◌∙◌, ap, subst, List, [], ◌∷◌, ◌++◌, append_assoc, not, Option, Some, None, Result, Ok, Err, IfOk, OnOk, option_and_then}
 use Rattle.std.specs.Io.KnownBytes.{Appends, Keeps}
 use Rattle.std.specs.Option.{ForSome}
 use Rattle.std.proofs.lemmas.Bool.Decides.{nat_tests}
 use Rattle.std.proofs.lemmas.List.{append-nil}
 use Rattle.scr_term.specs.Operations.Ecma48.{ecma48_profile}
-use Rattle.scr_term.specs.Operations.Profiles.{ProfileView}
+use Rattle.scr_plan.specs.Memories.{Agrees, MemoryView}
+use Rattle.scr_term.specs.Operations.Profiles.{abilities}
 use Rattle.screen_commands.specs.Commands.{command_of}
 use Rattle.screen_commands.specs.Lines.{lines_of}
 use Rattle.screen_commands.specs.declared.commands.Command.{Command}
@@ -13,9 +14,9 @@ use Rattle.curses.specs.ScreenStates.{ScreenState}
 use Rattle.screen_scripts.specs.declared.effects.Effects.{Effects}
 use Rattle.screen_scripts.specs.declared.stages.Stage.{Stage as Playing}
 use Rattle.screen_scripts.specs.Stories.{Event, Outcome, Stage, Story, continued, line_outcome, next_number, opened, outcome_of, size_in, size_on, story_from, story_of, story_on}
-use Rattle.screen_scripts.specs.Printing.{Begins, GrewByBeginning, IsOutput, Writes, profile_of, refusals_of}
-use Rattle.screen_scripts.specs.Showing.{AddsRefusals, CommandWrites, IsReadyStage, IsTerminalFor, LineWrites, Obeys, ObeysSome, Opens, events_in, profile_behind, shown_if, stage_of, stages_of}
-use Rattle.screen_scripts.proofs.OutputLaws.{output_join, output_none, refusals_join, shown_refuses_none}
+use Rattle.screen_scripts.specs.Printing.{Begins, GrewByBeginning, Writes, profile_of, refusals_of}
+use Rattle.screen_scripts.specs.Showing.{AddsRefusals, CommandWrites, IsAhead, IsOutputOn, IsReadyStage, IsSentIf, IsTerminalFor, LineWrites, MayBeIn, Obeys, ObeysSome, Opens, events_in, events_of, profile_behind, shown_if, stage_of, stages_of, update_in}
+use Rattle.screen_scripts.proofs.OutputLaws.{output_at_last, output_join, output_none, refusals_join, shown_refuses_none}
 use Rattle.screen_scripts.proofs.WriteLaws.{appends_kept, appends_more, appends_none}
 
 none_is_none : {A : Type 0} (x : A) → None ≡ Some x → ⊥
@@ -47,9 +48,10 @@ opening_writes raw line text command stage e is none = record {
   stage = stage;
   left = refl;
   same = refl;
-  ready = is.ready;
+  ready = record { screen = is.ready.screen; terminal = λ fed. is.ready.terminal refl };
   profile = is.profile ∙ ap (λ c. ecma48_profile (size_in c).0 (size_in c).1) (sym e);
-  written = subst (λ t. IsOutput raw stage.screen.profile [] t) (sym none) (output_none raw stage.screen.profile);
+  written = subst (λ t. IsOutputOn raw stage.screen.profile (MayBeIn stage.screen.profile None) (MayBeIn stage.screen.profile (Some stage)) [] t) (sym none)
+      (output_none raw stage.screen.profile (MayBeIn stage.screen.profile None) (MayBeIn stage.screen.profile (Some stage)) is.agrees);
 }
 
 pub command_writes : (raw : Bool) (old new : Playing) (line text : List ℕ) (command : Command) → command_of line ≡ Some command → CommandWrites raw old command text new
@@ -65,11 +67,46 @@ command_writes raw old new line text command e is = record {
   written = is.written;
 }
 
+pub command_writes_if : {A E : Type 0} → (items : A → List ℕ) (raw : Bool) (old new : Playing) (line : List ℕ) (command : Command) (result : Result A E) → command_of line ≡ Some command
+    → IfOk result (λ text. CommandWrites raw old command (items text) new) → IfOk result (λ text. LineWrites raw (Some old) line (items text) (Some new))
+command_writes_if items raw old new line command (Ok text) e is = command_writes raw old new line (items text) command e is
+command_writes_if items raw old new line command (Err error) e is = tt
+
 -- ---- the refusals of one line
 
 obeyed : (old new : ScreenState) (effects : Effects) (outcome : Option Outcome) → ObeysSome old new effects outcome → (o : Outcome) × (outcome ≡ Some o) × Obeys old new effects o
 obeyed old new effects None h = absurd h
 obeyed old new effects (Some o) h = (o, refl, h)
+
+-- what a command leaves is to be fed to the terminal that is there
+pub ahead_after : (raw : Bool) (old : Playing) (screen : ScreenState) (effects : Effects) (outcome : Option Outcome) → IsReadyStage (not raw) old → ObeysSome old.screen screen effects outcome
+    → IsAhead (not raw) (record { screen = screen; terminal = old.terminal }) (update_in effects)
+ahead_after raw old screen effects outcome ready obeys =
+    let o = obeyed old.screen screen effects outcome obeys in
+    record {
+      before = old.screen.memory;
+      screen = o.2.ready;
+      terminal = λ fed. subst (λ p. IsTerminalFor p old.screen.memory old.terminal) (sym o.2.profile) (ready.terminal fed);
+      sent = o.2.update;
+    }
+
+pub command_written : (raw : Bool) (old new : Playing) (screen : ScreenState) (effects : Effects) (command : Command) (text : List ℕ)
+    → ObeysSome old.screen screen effects (continued (stage_of old.screen) command) → new.screen ≡ screen → IsReadyStage (not raw) new
+    → ((before : MemoryView) → IsSentIf screen.profile before screen.memory screen.virtual.picture (update_in effects)
+    → IsOutputOn raw screen.profile (Agrees (abilities screen.profile) before) (Agrees (abilities screen.profile) screen.memory) (events_of effects screen.virtual.picture) text)
+    → CommandWrites raw old command text new
+command_written raw old new screen effects command text obeys same ready written =
+    let o = obeyed old.screen screen effects (continued (stage_of old.screen) command) obeys in
+    record {
+      outcome = o.0;
+      is = o.1;
+      left = ap (λ x. x.stage) o.2.is ∙ ap stage_of (sym same);
+      ready = ready;
+      profile = ap (λ s. s.profile) same ∙ o.2.profile;
+      written = subst (λ s. IsOutputOn raw s.profile (Agrees (abilities s.profile) old.screen.memory) (Agrees (abilities s.profile) s.memory) o.0.events text) (sym same)
+          (subst (λ events. IsOutputOn raw screen.profile (Agrees (abilities screen.profile) old.screen.memory) (Agrees (abilities screen.profile) screen.memory) events text)
+          (sym (ap (λ x. x.events) o.2.is)) (written old.screen.memory o.2.update));
+    }
 
 pub opening_adds : (line text : List ℕ) (command : Command) (stage : Playing) → command_of line ≡ Some command → Opens command stage → AddsRefusals None line text text (Some stage)
 opening_adds line text command stage e is = record {
@@ -78,14 +115,17 @@ opening_adds line text command stage e is = record {
   stage = stage;
   left = refl;
   same = refl;
-  ready = is.ready;
+  ready = record { screen = is.ready.screen; terminal = λ fed. is.ready.terminal refl };
   added = sym (append-nil text);
 }
 
-pub obeying_adds : (line before after : List ℕ) (command : Command) (old : Playing) (screen : ScreenState) (effects : Effects) → command_of line ≡ Some command → IsReadyStage old
+not_fed : false ≡ true → ⊥
+not_fed e = (cc)
+
+pub obeying_adds : (line before after : List ℕ) (command : Command) (old : Playing) (screen : ScreenState) (effects : Effects) → command_of line ≡ Some command
     → ObeysSome old.screen screen effects (continued (stage_of old.screen) command) → after ≡ before ++ refusals_of (events_in effects.notes.items)
     → AddsRefusals (Some old) line before after (Some (record { screen = screen; terminal = old.terminal }))
-obeying_adds line before after command old screen effects e ready obeys is =
+obeying_adds line before after command old screen effects e obeys is =
     let o = obeyed old.screen screen effects (continued (stage_of old.screen) command) obeys in
     record {
       outcome = o.0;
@@ -93,7 +133,7 @@ obeying_adds line before after command old screen effects e ready obeys is =
       stage = record { screen = screen; terminal = old.terminal };
       left = refl;
       same = ap (λ x. x.stage) o.2.is;
-      ready = record { screen = o.2.ready; terminal = subst (λ p. IsTerminalFor p old.terminal) (sym o.2.profile) ready.terminal };
+      ready = record { screen = o.2.ready; terminal = λ fed. absurd (not_fed fed) };
       added = is ∙ ap (λ t. before ++ t) (sym (append-nil (refusals_of (events_in effects.notes.items))))
           ∙ ap (λ t. before ++ (refusals_of (events_in effects.notes.items) ++ t)) (sym (shown_refuses_none effects.update screen.virtual.picture))
           ∙ ap (λ t. before ++ t) (sym (refusals_join (events_in effects.notes.items) (shown_if effects.update screen.virtual.picture)))
@@ -125,12 +165,12 @@ profile_after script rest line after (Some stage) first is e = is stage refl
 
 -- what is written so far is an output of what happened so far, and that and what the rest tells are the script's story
 pub record SoFar (raw : Bool) (script : List ℕ) (old now : Option (List ℕ)) (number : ℕ) (stage : Option Playing) (rest : List ℕ) : Type 0 where
-  pub ready : ForSome stage IsReadyStage
+  pub ready : ForSome stage (IsReadyStage (not raw))
   pub profile : ForSome stage (λ s. s.screen.profile ≡ profile_of script)
   pub first : stage ≡ None → rest ≡ script
   pub before : List Event
   pub text : List ℕ
-  pub output : IsOutput raw (profile_of script) before text
+  pub output : IsOutputOn raw (profile_of script) (MayBeIn (profile_of script) None) (MayBeIn (profile_of script) stage) before text
   pub written : Appends old now text
   pub events : before ++ (story_on number (stages_of stage) (lines_of rest)).events ≡ (story_of script).events
   pub bad_line : (story_on number (stages_of stage) (lines_of rest)).bad_line ≡ (story_of script).bad_line
@@ -142,7 +182,7 @@ so_far_first raw script now = record {
   first = λ e. refl;
   before = [];
   text = [];
-  output = output_none raw (profile_of script);
+  output = output_none raw (profile_of script) (MayBeIn (profile_of script) None) (MayBeIn (profile_of script) None) (λ state is. is);
   written = appends_none now;
   events = refl;
   bad_line = refl;
@@ -151,10 +191,11 @@ so_far_first raw script now = record {
 -- an output of one line more
 output_more : (raw : Bool) (script : List ℕ) (old now : Option (List ℕ)) (number : ℕ) (stage new : Option Playing) (rest line after text : List ℕ)
     → (so : SoFar raw script old now number stage rest) → lines_of rest ≡ line ∷ lines_of after → (writes : LineWrites raw stage line text new)
-    → IsOutput raw (profile_of script) (so.before ++ writes.outcome.events) (so.text ++ text)
+    → IsOutputOn raw (profile_of script) (MayBeIn (profile_of script) None) (MayBeIn (profile_of script) new) (so.before ++ writes.outcome.events) (so.text ++ text)
 output_more raw script old now number stage new rest line after text so e writes =
-    output_join raw (profile_of script) so.before writes.outcome.events so.text text so.output
-    (subst (λ p. IsOutput raw p writes.outcome.events text) (writes.profile ∙ profile_after script rest line after stage so.first so.profile e) writes.written)
+    output_join raw (profile_of script) (MayBeIn (profile_of script) None) (MayBeIn (profile_of script) stage) (MayBeIn (profile_of script) new)
+    so.before writes.outcome.events so.text text so.output
+    (subst (λ p. IsOutputOn raw p (MayBeIn p stage) (MayBeIn p new) writes.outcome.events text) (writes.profile ∙ profile_after script rest line after stage so.first so.profile e) writes.written)
 
 -- the story with one line more
 story_more : (raw : Bool) (script : List ℕ) (old now : Option (List ℕ)) (number : ℕ) (stage new : Option Playing) (rest line after text : List ℕ)
@@ -172,7 +213,7 @@ pub so_far_more : (raw : Bool) (script : List ℕ) (old now next : Option (List 
     → SoFar raw script old now number stage rest → lines_of rest ≡ line ∷ lines_of after → LineWrites raw stage line text new → Appends now next text
     → SoFar raw script old next (next_number number) new after
 so_far_more raw script old now next number stage new rest line after text so e writes appends = record {
-  ready = λ s is. subst IsReadyStage (left_is writes.stage s new writes.left is) writes.ready;
+  ready = λ s is. subst (IsReadyStage (not raw)) (left_is writes.stage s new writes.left is) writes.ready;
   profile = λ s is. subst (λ p. p.screen.profile ≡ profile_of script) (left_is writes.stage s new writes.left is) (writes.profile ∙ profile_after script rest line after stage so.first so.profile e);
   first = λ none. absurd (none_is_none writes.stage (sym none ∙ writes.left));
   before = so.before ++ writes.outcome.events;
@@ -193,7 +234,7 @@ so_far_begins raw script old now new number stage rest so kept = record {
   later = (story_on number (stages_of stage) (lines_of rest)).events;
   story = sym so.events;
   text = so.text;
-  output = so.output;
+  output = output_at_last raw (profile_of script) (MayBeIn (profile_of script) stage) so.before so.text so.output;
   grew = record { beginning = so.text; rest = []; whole = sym (append-nil so.text); written = appends_kept old now new so.text so.written kept };
 }
 
@@ -209,7 +250,8 @@ so_far_begun raw script old now next number stage new rest line after text so e 
   later = (story_on (next_number number) (stages_of new) (lines_of after)).events;
   story = sym (story_more raw script old now number stage new rest line after text so e writes);
   text = so.text ++ text;
-  output = output_more raw script old now number stage new rest line after text so e writes;
+  output = output_at_last raw (profile_of script) (MayBeIn (profile_of script) new) (so.before ++ writes.outcome.events) (so.text ++ text)
+      (output_more raw script old now number stage new rest line after text so e writes);
   grew = record {
     beginning = so.text ++ grew.beginning;
     rest = grew.rest;
@@ -223,7 +265,11 @@ writes_all : (raw : Bool) (script : List ℕ) (old now new : Option (List ℕ)) 
     → (story_on number (stages_of stage) (lines_of rest)).events ≡ [] → Writes raw script (story_of script).events old new
 writes_all raw script old now new number stage rest so kept none =
     subst (λ events. Writes raw script events old new) (sym (append-nil so.before) ∙ ap (λ t. so.before ++ t) (sym none) ∙ so.events)
-    (record { text = so.text; output = so.output; written = appends_kept old now new so.text so.written kept })
+    (record {
+      text = so.text;
+      output = output_at_last raw (profile_of script) (MayBeIn (profile_of script) stage) so.before so.text so.output;
+      written = appends_kept old now new so.text so.written kept;
+    })
 
 pub so_far_whole : (raw : Bool) (script : List ℕ) (old now new : Option (List ℕ)) (number : ℕ) (stage : Option Playing) (rest : List ℕ) → SoFar raw script old now number stage rest → rest ≡ []
     → Keeps now new → ((story_of script).bad_line ≡ None) × Writes raw script (story_of script).events old new
@@ -256,7 +302,7 @@ so_far_ends raw script old now new number stage rest line after so e bad kept =
 
 -- the refusals so far and those of what is left are those of the script, whatever number the line has
 pub record RefusedSoFar (script : List ℕ) (number : ℕ) (stage : Option Playing) (rest text : List ℕ) : Type 0 where
-  pub ready : ForSome stage IsReadyStage
+  pub ready : ForSome stage (IsReadyStage false)
   pub refused : text ++ refusals_of (story_on number (stages_of stage) (lines_of rest)).events ≡ refusals_of (story_of script).events
 
 pub refused_first : (script text : List ℕ) → text ≡ [] → RefusedSoFar script 1 None script text
@@ -270,7 +316,7 @@ pub refused_more : (script : List ℕ) (number : ℕ) (stage new : Option Playin
 refused_more script number stage new rest line after before text so e adds =
     let left : Story = story_on (next_number number) (stages_of new) (lines_of after) in
     record {
-      ready = λ s is. subst IsReadyStage (left_is adds.stage s new adds.left is) adds.ready;
+      ready = λ s is. subst (IsReadyStage false) (left_is adds.stage s new adds.left is) adds.ready;
       refused = ap (λ t. t ++ refusals_of left.events) adds.added ∙ append_assoc before (refusals_of adds.outcome.events) (refusals_of left.events)
           ∙ ap (λ t. before ++ t) (sym (refusals_join adds.outcome.events left.events))
           ∙ ap (λ s. before ++ refusals_of s.events) (sym (story_step number (stages_of stage) rest line after adds.outcome new adds.stage e adds.is adds.left adds.same))

@@ -1,5 +1,5 @@
 -- The stage that a script opens.
-use Rattle.std.proofs.Common.{◌≡◌, ℕ, zero, suc, ◌+◌, ◌<◌, ◌≤◌, ◌&&◌, nat_le, Bool, true, false, refl, sym, ◌∙◌, ap, subst, arith, List, [], ◌∷◌, Option, Some, None, if◌then◌else◌}
+use Rattle.std.proofs.Common.{◌≡◌, ℕ, zero, suc, ◌<◌, ◌≤◌, ◌&&◌, nat_le, Bool, true, refl, sym, ◌∙◌, ap, subst, arith, [], Option, Some, None, if◌then◌else◌}
 use Rattle.std.proofs.lemmas.Bool.Decides.{nat_tests}
 use Rattle.std.proofs.lemmas.List.FromFn.{get_or-map-range_with_len}
 use Rattle.scr_cells.specs.PictureViews.{IsSize}
@@ -11,16 +11,18 @@ use Rattle.scr_term.specs.Operations.Admission.{IsAdmitted, IsEcma48, admitted}
 use Rattle.scr_term.specs.Operations.Ecma48.{Ecma48Laws, ecma48_profile}
 use Rattle.scr_term.specs.Operations.Laws.{BlankLaws}
 use Rattle.scr_term.specs.Operations.Profiles.{ProfileView, abilities}
-use Rattle.scr_term.specs.Operations.States.{IsState, blank_state, negative_state}
+use Rattle.scr_term.specs.Operations.States.{TerminalState, IsState, blank_state}
 use Rattle.scr_term.specs.Ecma.Screens.{ScreenView, IsScreen, blank_screen}
+use Rattle.scr_plan.specs.Memories.{Agrees, MemoryView, unknown}
+use Rattle.scr_plan.specs.MemoryRuns.{MemoryRuns}
 use Rattle.scr_windows.specs.DeskViews.{first_desk}
 use Rattle.scr_virtual.specs.VirtualViews.{blank_virtual}
 use Rattle.curses.specs.Opening.{IsOpened}
 use Rattle.curses.specs.ScreenStates.{ScreenState}
 use Rattle.screen_commands.specs.declared.commands.Command.TheVariants.{Size as SizeCommand}
 use Rattle.screen_scripts.specs.declared.stages.Stage.{Stage as Playing}
-use Rattle.screen_scripts.specs.Stories.{Outcome, Stage, bundled_description, bundled_keys, first_stage, opened}
-use Rattle.screen_scripts.specs.Showing.{IsFirst, IsReady, IsReadyStage, IsTerminalFor, Opens, stage_of}
+use Rattle.screen_scripts.specs.Stories.{Outcome, Stage, bundled_description, bundled_keys, first_stage}
+use Rattle.screen_scripts.specs.Showing.{IsFirst, IsReadyStage, IsTerminalFor, Opens}
 
 -- ---- the keys of the bundled entry
 
@@ -60,31 +62,39 @@ ecma48_is entry size bundled profile is =
 
 -- ---- a blank stage
 
-blank_terminal : Ecma48Laws → BlankLaws → (rows columns : ℕ) (profile : ProfileView) (terminal : ScreenView) → IsEcma48 profile → profile.rows ≡ rows → profile.columns ≡ columns
-    → terminal ≡ blank_screen rows columns → IsScreen terminal → IsTerminalFor profile terminal
-blank_terminal laws blanks rows columns profile terminal ecma r c is valid = record {
+-- where nothing is remembered, every state agrees
+agrees_at_first : Ecma48Laws → MemoryRuns → (profile : ProfileView) (memory : MemoryView) → IsEcma48 profile → memory ≡ unknown profile.rows profile.columns
+    → (state : TerminalState) → IsState (abilities profile) state → Agrees (abilities profile) memory state
+agrees_at_first laws memories profile memory ecma is state valid =
+    subst (λ m. Agrees (abilities profile) m state) (sym is) (memories.at_first profile (laws.is_profile profile ecma) state valid)
+
+blank_terminal : Ecma48Laws → BlankLaws → MemoryRuns → (rows columns : ℕ) (profile : ProfileView) (memory : MemoryView) (terminal : ScreenView) → IsEcma48 profile
+    → memory ≡ unknown profile.rows profile.columns → profile.rows ≡ rows → profile.columns ≡ columns → terminal ≡ blank_screen rows columns → IsScreen terminal
+    → IsTerminalFor profile memory terminal
+blank_terminal laws blanks memories rows columns profile memory terminal ecma nothing r c is valid = record {
   rows = ap (λ t. t.rows) is ∙ sym r;
   columns = ap (λ t. t.columns) is ∙ sym c;
   valid = valid;
   state = blank_state profile.rows profile.columns;
-  is_state = blanks.state profile (laws.is_profile profile ecma);
+  agrees = agrees_at_first laws memories profile memory ecma nothing (blank_state profile.rows profile.columns) (blanks.state profile (laws.is_profile profile ecma));
   negative = ap (λ t. t.state) is ∙ (λ i. blank_state (sym r i) (sym c i)) ∙ sym (blanks.negative profile.rows profile.columns);
   nothing_waits = ap (λ t. t.waiting) is;
   defined = ap (λ t. t.undefined) is;
 }
 
-pub blank_ready : Ecma48Laws → BlankLaws → (entry : Description) (size : Size) → IsBundled entry → (screen : ScreenState) → IsOpened entry (Some size) screen
-    → (terminal : ScreenView) → terminal ≡ blank_screen size.rows size.columns → IsScreen terminal → IsReadyStage (record { screen = screen; terminal = terminal })
-blank_ready laws blanks entry size bundled screen is terminal blank valid =
+pub blank_ready : Ecma48Laws → BlankLaws → MemoryRuns → (entry : Description) (size : Size) → IsBundled entry → (screen : ScreenState) → IsOpened entry (Some size) screen
+    → (terminal : ScreenView) → terminal ≡ blank_screen size.rows size.columns → IsScreen terminal → IsReadyStage true (record { screen = screen; terminal = terminal })
+blank_ready laws blanks memories entry size bundled screen is terminal blank valid =
     let ecma = ecma48_is entry size bundled screen.profile is.profile in
     record {
       screen = record { entry = ecma; nothing = is.owed };
-      terminal = blank_terminal laws blanks size.rows size.columns screen.profile terminal ecma (rows_are entry size screen.profile is.profile) (columns_are entry size screen.profile is.profile) blank valid;
+      terminal = λ on. blank_terminal laws blanks memories size.rows size.columns screen.profile screen.memory terminal ecma is.memory (rows_are entry size screen.profile is.profile)
+          (columns_are entry size screen.profile is.profile) blank valid;
     }
 
-pub blank_first : Ecma48Laws → (entry : Description) (size : Size) → IsBundled entry → (screen : ScreenState) → IsOpened entry (Some size) screen
+pub blank_first : Ecma48Laws → MemoryRuns → (entry : Description) (size : Size) → IsBundled entry → (screen : ScreenState) → IsOpened entry (Some size) screen
     → (terminal : ScreenView) → IsFirst size.rows size.columns (record { screen = screen; terminal = terminal })
-blank_first laws entry size bundled screen is terminal =
+blank_first laws memories entry size bundled screen is terminal =
     let rows = rows_are entry size screen.profile is.profile in
     let columns = columns_are entry size screen.profile is.profile in
     record {
@@ -96,6 +106,7 @@ blank_first laws entry size bundled screen is terminal =
         keys = record { keys = (is.keys.all ∙ keys_are entry bundled) i; queue = is.queue i; waiting = is.waiting i };
       };
       profile = laws.made screen.profile (ecma48_is entry size bundled screen.profile is.profile) ∙ (λ i. ecma48_profile (rows i) (columns i));
+      agrees = agrees_at_first laws memories screen.profile screen.memory (ecma48_is entry size bundled screen.profile is.profile) is.memory;
     }
 
 -- ---- the first command
@@ -106,10 +117,11 @@ size_test rows columns size = by_parts size.some_rows size.few_rows size.some_co
     by_parts : 1 ≤ rows → rows ≤ 500 → 1 ≤ columns → columns ≤ 500 → (nat_le 1 rows && nat_le rows 500 && nat_le 1 columns && nat_le columns 500) ≡ true
     by_parts a b c d = grind (arith, nat_tests)
 
-pub opens : (rows columns : ℕ) (stage : Playing) → IsSize rows columns → IsReadyStage stage → IsFirst rows columns stage → Opens (SizeCommand rows columns) stage
+pub opens : (rows columns : ℕ) (stage : Playing) → IsSize rows columns → IsReadyStage true stage → IsFirst rows columns stage → Opens (SizeCommand rows columns) stage
 opens rows columns stage size ready first = record {
   is = ap {A = Bool} {B = Option Outcome} (λ b. if b then Some (record { stage = first_stage rows columns; events = [] }) else None) (size_test rows columns size)
       ∙ ap {A = Stage} {B = Option Outcome} (λ s. Some (record { stage = s; events = [] })) (sym first.is);
   profile = first.profile;
   ready = ready;
+  agrees = first.agrees;
 }

@@ -1,5 +1,5 @@
 -- What the run keeps true between two lines, and what a line does: words of private functions.
-use Rattle.std.specs.Prelude.{ℕ, ◌≡◌, ◌≢◌, ◌++◌, Bool, false, List, [], ◌∷◌, map, Option, Some, None, IfSome}
+use Rattle.std.specs.Prelude.{ℕ, ◌≡◌, ◌≢◌, ◌++◌, not, Bool, true, false, List, [], ◌∷◌, map, option_map, Option, Some, None}
 use Rattle.std.specs.List.{flat_map}
 use Rattle.scr_cells.specs.PictureViews.{PictureView}
 use Rattle.scr_term.specs.declared.operations.operation.Op.{Op}
@@ -7,17 +7,19 @@ use Rattle.scr_term.specs.Operations.Admission.{IsEcma48}
 use Rattle.scr_term.specs.Operations.Ecma48.{ecma48_profile}
 use Rattle.scr_term.specs.Operations.Profiles.{ProfileView, abilities}
 use Rattle.scr_term.specs.Operations.States.{TerminalState, IsState, negative_state}
+use Rattle.scr_term.specs.Operations.Steps.{runs}
 use Rattle.scr_term.specs.Operations.Texts.{all_bytes}
 use Rattle.scr_term.specs.Ecma.Screens.{ScreenView, IsScreen}
+use Rattle.scr_plan.specs.Memories.{Agrees, MemoryView}
+use Rattle.scr_plan.specs.Scratch.{RunsToShow}
 use Rattle.scr_windows.specs.declared.faults.WinFault.{WinFault}
 use Rattle.scr_windows.specs.declared.faults.WinFault.TheVariants as faults
 use Rattle.curses.specs.declared.answers.Answer.{Answer}
 use Rattle.curses.specs.declared.answers.Answer.TheVariants as answers
-use Rattle.curses.specs.declared.faults.UpdateFault.{UpdateFault}
 use Rattle.curses.specs.declared.calls.values.Call.{Call}
 use Rattle.curses.specs.Making.{drawn_of}
 use Rattle.curses.specs.ScreenStates.{ScreenState}
-use Rattle.curses.specs.Updates.{LeadToShow}
+use Rattle.curses.specs.Sessions.{begun_of}
 use Rattle.screen_commands.specs.Commands.{command_of}
 use Rattle.screen_commands.specs.declared.commands.Command.{Command}
 use Rattle.screen_scripts.specs.declared.effects.Effects.{Effects}
@@ -25,7 +27,7 @@ use Rattle.screen_scripts.specs.declared.effects.Note.{Note}
 use Rattle.screen_scripts.specs.declared.effects.Note.TheVariants as notes
 use Rattle.screen_scripts.specs.declared.stages.Stage.{Stage as Playing}
 use Rattle.screen_scripts.specs.Stories.{Event, Pressed, Refused, Shown, Stage, Outcome, continued, fault_name, first_stage, key_fault_name, line_outcome, made, opened, refusal_of, size_in, updated}
-use Rattle.screen_scripts.specs.Printing.{IsOutput, IsScreenOf, key_line, refusal_line, refusals_of}
+use Rattle.screen_scripts.specs.Printing.{ArePrinted, IsScreenOf, key_line, pictures_of, refusal_line, refusals_of}
 
 -- ---- what the run keeps true
 
@@ -38,16 +40,56 @@ pub record IsReady (screen : ScreenState) : Type 0 where
   pub entry : IsEcma48 screen.profile
   pub nothing : screen.owed ≡ []
 
--- an emulated screen of the terminal's size that shows the negative of some state of the terminal, with nothing waiting
-pub record IsTerminalFor (profile : ProfileView) (screen : ScreenView) : Type 0 where
+-- an emulated screen of the terminal's size that shows the negative of some state of the terminal that agrees with what is
+-- remembered of it, with nothing waiting
+pub record IsTerminalFor (profile : ProfileView) (memory : MemoryView) (screen : ScreenView) : Type 0 where
   pub rows : screen.rows ≡ profile.rows
   pub columns : screen.columns ≡ profile.columns
   pub valid : IsScreen screen
   pub state : TerminalState
-  pub is_state : IsState (abilities profile) state
+  pub agrees : Agrees (abilities profile) memory state
   pub negative : screen.state ≡ negative_state state
   pub nothing_waits : screen.waiting ≡ []
   pub defined : screen.undefined ≡ false
+
+-- ---- what is sent to a terminal of which something is remembered
+
+-- From a state the operations of updates, one update for each picture, are all defined one after another, each update leads to a
+-- state that shows its picture, and the state behind the last is as it has to be.
+abbrev pub RunToEnd : ProfileView → (TerminalState → Type 0) → TerminalState → List (List Op) → List PictureView → Type 0
+RunToEnd profile After state [] [] = After state
+RunToEnd profile After state [] (picture ∷ pictures) = ⊥
+RunToEnd profile After state (ops ∷ updates) [] = ⊥
+RunToEnd profile After state (ops ∷ updates) (picture ∷ pictures) = (first : RunsToShow profile state ops picture) × RunToEnd profile After first.new updates pictures
+
+-- the bytes of an update for each picture, which show them from each of the states that the terminal may be in before, and lead to
+-- one that it may be in after them
+pub record AreSentOn (profile : ProfileView) (Before After : TerminalState → Type 0) (pictures : List PictureView) (text : List ℕ) : Type 0 where
+  pub updates : List (List Op)
+  pub bytes : text ≡ flat_map (all_bytes profile) updates
+  pub show : (state : TerminalState) → Before state → RunToEnd profile After state updates pictures
+
+-- what is printed of events, or raw, what is sent
+abbrev pub IsOutputOn : Bool → ProfileView → (TerminalState → Type 0) → (TerminalState → Type 0) → List Event → List ℕ → Type 0
+IsOutputOn true profile Before After events text = AreSentOn profile Before After (pictures_of events) text
+IsOutputOn false profile Before After events text = ArePrinted events text
+
+-- nothing was sent: each state that agreed with what was remembered agrees with what is remembered now
+pub record StillAgrees (profile : ProfileView) (old new : MemoryView) : Type 0 where
+  pub still : (state : TerminalState) → Agrees (abilities profile) old state → Agrees (abilities profile) new state
+
+-- The bytes of operations that lead from every state that agrees with what was remembered to one that shows a picture, and that
+-- agrees with what is remembered then.
+pub record IsUpdateOf (profile : ProfileView) (old new : MemoryView) (picture : PictureView) (bytes : List ℕ) : Type 0 where
+  pub ops : List Op
+  pub bytes_are : bytes ≡ all_bytes profile ops
+  pub lead : (state : TerminalState) → Agrees (abilities profile) old state → RunsToShow profile state ops picture
+  pub agrees : (state next : TerminalState) → Agrees (abilities profile) old state → runs profile state ops ≡ Some next → Agrees (abilities profile) new next
+
+-- an update of these bytes was sent, or nothing
+abbrev pub IsSentIf : ProfileView → MemoryView → MemoryView → PictureView → Option (List ℕ) → Type 0
+IsSentIf profile old new picture None = StillAgrees profile old new
+IsSentIf profile old new picture (Some bytes) = IsUpdateOf profile old new picture bytes
 
 -- ---- what a line does
 
@@ -70,35 +112,34 @@ abbrev pub shown_if : {A : Type 0} → Option A → PictureView → List Event
 shown_if None picture = []
 shown_if (Some update) picture = Shown picture ∷ []
 
+-- the bytes of a line's update, where it had one
+abbrev pub update_in : Effects → Option (List ℕ)
+update_in effects = option_map (λ bytes. bytes.items) effects.update
+
 -- the events of a line that left this picture: its notes, and its update
 abbrev pub events_of : Effects → PictureView → List Event
 events_of effects picture = events_in effects.notes.items ++ shown_if effects.update picture
-
--- the bytes of operations that lead from every state of the terminal to one that shows a picture
-pub record IsUpdateOf (profile : ProfileView) (picture : PictureView) (bytes : List ℕ) : Type 0 where
-  pub ops : List Op
-  pub bytes_are : bytes ≡ all_bytes profile ops
-  pub lead : LeadToShow profile picture ops
 
 -- a call that is no update was made: it was refused so, if it was
 pub record IsQuiet (old new : ScreenState) (call : Call) (fault : Option WinFault) : Type 0 where
   pub stage : (made (stage_of old) call).stage ≡ stage_of new
   pub events : (made (stage_of old) call).events ≡ event_if fault
   pub profile : new.profile ≡ old.profile
+  pub agrees : StillAgrees new.profile old.memory new.memory
   pub ready : IsReady new
 
 -- an update was made, and sent these bytes
 pub record Updates (old new : ScreenState) (bytes : List ℕ) : Type 0 where
   pub stage : (updated (stage_of old)).stage ≡ stage_of new
   pub picture : new.virtual.picture ≡ old.virtual.picture
-  pub update : IsUpdateOf new.profile new.virtual.picture bytes
+  pub update : IsUpdateOf new.profile old.memory new.memory new.virtual.picture bytes
   pub profile : new.profile ≡ old.profile
   pub ready : IsReady new
 
 -- a command was obeyed: its outcome is the screen after it and these effects
 pub record Obeys (old new : ScreenState) (effects : Effects) (outcome : Outcome) : Type 0 where
   pub is : outcome ≡ record { stage = stage_of new; events = events_of effects new.virtual.picture }
-  pub update : IfSome effects.update (λ bytes. IsUpdateOf new.profile new.virtual.picture bytes.items)
+  pub update : IsSentIf new.profile old.memory new.memory new.virtual.picture (update_in effects)
   pub profile : new.profile ≡ old.profile
   pub ready : IsReady new
 
@@ -106,34 +147,48 @@ abbrev pub ObeysSome : ScreenState → ScreenState → Effects → Option Outcom
 ObeysSome old new effects None = ⊥
 ObeysSome old new effects (Some outcome) = Obeys old new effects outcome
 
--- an answer is the refusal of a call, or none; it is neither want of memory nor an update that ended early
+-- an answer is the refusal of a call, or none; it is no want of memory, and no update began anything
 pub record IsRefusalOf (answer : Answer) (fault : Option WinFault) : Type 0 where
   pub events : refusal_of answer ≡ event_if fault
   pub memory : answer ≢ answers.Refused faults.NoMemory
-  pub early : (fault : UpdateFault) → answer ≢ answers.Failed fault
+  pub nothing : begun_of answer ≡ []
 
 -- ---- stages
 
--- a screen that is ready, and a terminal for it
-pub record IsReadyStage (stage : Playing) : Type 0 where
+-- a screen that is ready, and a terminal for it, where that is fed what updates send
+pub record IsReadyStage (fed : Bool) (stage : Playing) : Type 0 where
   pub screen : IsReady stage.screen
-  pub terminal : IsTerminalFor stage.screen.profile stage.terminal
+  pub terminal : fed ≡ true → IsTerminalFor stage.screen.profile stage.screen.memory stage.terminal
 
--- a stage of so many rows and columns, on which nothing was done yet
+-- a screen that is ready and has sent an update, or nothing, which its terminal, where that is fed, is still to be fed
+pub record IsAhead (fed : Bool) (stage : Playing) (update : Option (List ℕ)) : Type 0 where
+  pub before : MemoryView
+  pub screen : IsReady stage.screen
+  pub terminal : fed ≡ true → IsTerminalFor stage.screen.profile before stage.terminal
+  pub sent : IsSentIf stage.screen.profile before stage.screen.memory stage.screen.virtual.picture update
+
+-- a stage of so many rows and columns, on which nothing was done yet and with whose memory every state of its terminal agrees
 pub record IsFirst (rows columns : ℕ) (stage : Playing) : Type 0 where
   pub is : stage_of stage.screen ≡ first_stage rows columns
   pub profile : stage.screen.profile ≡ ecma48_profile rows columns
+  pub agrees : (state : TerminalState) → IsState (abilities stage.screen.profile) state → Agrees (abilities stage.screen.profile) stage.screen.memory state
 
--- a command opened the stage
+-- a command opened the stage, which remembers nothing of its terminal: every state agrees with that
 pub record Opens (command : Command) (stage : Playing) : Type 0 where
   pub is : opened command ≡ Some (record { stage = stage_of stage.screen; events = [] })
   pub profile : stage.screen.profile ≡ ecma48_profile (size_in (Some command)).0 (size_in (Some command)).1
-  pub ready : IsReadyStage stage
+  pub ready : IsReadyStage true stage
+  pub agrees : (state : TerminalState) → IsState (abilities stage.screen.profile) state → Agrees (abilities stage.screen.profile) stage.screen.memory state
 
 -- the stage, where one is open
 abbrev pub stages_of : Option Playing → Option Stage
 stages_of None = None
 stages_of (Some stage) = Some (stage_of stage.screen)
+
+-- the states that the terminal may be in: any, and from the first line on those that agree with what is remembered
+abbrev pub MayBeIn : ProfileView → Option Playing → TerminalState → Type 0
+MayBeIn profile None = IsState (abilities profile)
+MayBeIn profile (Some stage) = Agrees (abilities profile) stage.screen.memory
 
 -- ---- what is written
 
@@ -157,9 +212,9 @@ pub record CommandWrites (raw : Bool) (old : Playing) (command : Command) (text 
   pub outcome : Outcome
   pub is : continued (stage_of old.screen) command ≡ Some outcome
   pub left : outcome.stage ≡ stage_of new.screen
-  pub ready : IsReadyStage new
+  pub ready : IsReadyStage (not raw) new
   pub profile : new.screen.profile ≡ old.screen.profile
-  pub written : IsOutput raw new.screen.profile outcome.events text
+  pub written : IsOutputOn raw new.screen.profile (MayBeIn new.screen.profile (Some old)) (MayBeIn new.screen.profile (Some new)) outcome.events text
 
 -- the profile behind a line: that of the size that it gives, if it opened the stage
 abbrev pub profile_behind : Option Playing → List ℕ → ProfileView
@@ -173,9 +228,9 @@ pub record LineWrites (raw : Bool) (old : Option Playing) (line text : List ℕ)
   pub stage : Playing
   pub left : new ≡ Some stage
   pub same : outcome.stage ≡ stage_of stage.screen
-  pub ready : IsReadyStage stage
+  pub ready : IsReadyStage (not raw) stage
   pub profile : stage.screen.profile ≡ profile_behind old line
-  pub written : IsOutput raw stage.screen.profile outcome.events text
+  pub written : IsOutputOn raw stage.screen.profile (MayBeIn stage.screen.profile old) (MayBeIn stage.screen.profile new) outcome.events text
 
 -- what a line did, and what it adds to the refusals
 pub record AddsRefusals (old : Option Playing) (line before after : List ℕ) (new : Option Playing) : Type 0 where
@@ -184,5 +239,5 @@ pub record AddsRefusals (old : Option Playing) (line before after : List ℕ) (n
   pub stage : Playing
   pub left : new ≡ Some stage
   pub same : outcome.stage ≡ stage_of stage.screen
-  pub ready : IsReadyStage stage
+  pub ready : IsReadyStage false stage
   pub added : after ≡ before ++ refusals_of outcome.events

@@ -1,5 +1,5 @@
 -- What a script means: what is refused, what is shown and which keys are pressed, in order, up to the first bad line.
-use Rattle.std.specs.Prelude.{ℕ, ◌≡◌, ◌+◌, ◌-◌, ◌^◌, ◌==◌, ◌&&◌, nat_le, List, [], ◌∷◌, ◌++◌, length, map, Option, Some, None, option_and_then, Result, Ok, Err, min, codes, if◌then◌else◌}
+use Rattle.std.specs.Prelude.{ℕ, ◌+◌, ◌-◌, ◌^◌, ◌==◌, ◌&&◌, nat_le, List, [], ◌∷◌, ◌++◌, length, map, Option, Some, None, option_and_then, Result, Ok, Err, min, codes, if◌then◌else◌}
 use Rattle.std.specs.List.{range_with_len}
 use Rattle.scr_cells.specs.PictureViews.{PictureView}
 use Rattle.scr_keys.specs.Keys.{Keys}

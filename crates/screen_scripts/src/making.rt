@@ -7,6 +7,8 @@ ghost use Rattle.screen_scripts.specs.Showing.{IsQuiet, IsReady, IsRefusalOf, Ob
 use crate::effects::Effects;
 use curses::{Answer, Call, Device, Screen};
 use scr_cells::NoMemory;
+use scr_plan::memory_runs;
+use scr_term::ecma48_laws;
 use scr_windows::WinFault;
 use std::alloc::Global;
 
@@ -42,6 +44,8 @@ pub fn update_bytes(alloc: Global, screen: &mut Screen) -> Result<Vec<u8>, NoMem
     requires { IsReady screen.old }
     ensures { IfOk result (λ bytes. Updates screen.old screen.new bytes.items) }
 {
+    ecma48_laws();
+    memory_runs();
     let mut device = Device::new(Vec::new(alloc));
     match screen.doupdate(alloc, &mut device) {
         Ok(_) => Ok(device.writer),
@@ -65,12 +69,12 @@ fn is_update(call: &Call) -> bool
     matches!(call, Call::Doupdate)
 }
 
-// Why a call was refused, if it was. Fails where the answer is want of memory, or an update that ended early.
+// Why a call was refused, if it was. Fails where the answer is want of memory, or that of an update.
 fn refusal(answer: Answer) -> Result<Option<WinFault>, NoMemory>
     ensures { IfOk result (λ fault. IsRefusalOf answer fault) }
 {
     match answer {
-        Answer::Refused(WinFault::NoMemory) | Answer::Failed(_) => Err(NoMemory),
+        Answer::Refused(WinFault::NoMemory) | Answer::Failed(_) | Answer::Sent(_) => Err(NoMemory),
         Answer::Refused(fault) => Ok(Some(fault)),
         _ => Ok(None),
     }

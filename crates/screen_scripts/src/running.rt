@@ -1,5 +1,5 @@
 //! A script from its text to what is written of it.
-ghost use Rattle.std.specs.Prelude.{◌≡◌, ℕ, None, Some, IfOk, OnOk, IsErrOf};
+ghost use Rattle.std.specs.Prelude.{◌≡◌, ℕ, None, Some, false, not, IfOk, OnOk, IsErrOf};
 ghost use Rattle.std.specs.Option.{ForSome};
 ghost use Rattle.std.specs.Io.KnownBytes.{Appends, Keeps};
 ghost use Rattle.screen_scripts.specs.Stories.{continued, line_outcome, story_of};
@@ -118,7 +118,7 @@ fn line_text(
     line: &[u8],
     stage: &mut Option<Stage>,
 ) -> Result<Vec<u8>, LineFault>
-    requires { ForSome stage.old IsReadyStage }
+    requires { ForSome stage.old (IsReadyStage (not raw)) }
     ensures text { IfOk result (λ text. LineWrites raw stage.old line.now text.items stage.new) }
     ensures bad { IsErrOf result LineFault.Bad → line_outcome (stages_of stage.old) line.now ≡ None }
 {
@@ -139,7 +139,7 @@ fn command_text(
     command: Command,
     stage: &mut Stage,
 ) -> Result<Vec<u8>, LineFault>
-    requires { IsReadyStage stage.old }
+    requires { IsReadyStage (not raw) stage.old }
     ensures text { IfOk result (λ text. CommandWrites raw stage.old command text.items stage.new) }
     ensures bad { IsErrOf result LineFault.Bad → continued (stage_of stage.old.screen) command ≡ None }
 {
@@ -154,7 +154,7 @@ fn add_refusal(
     stage: &mut Option<Stage>,
     text: &mut Vec<u8>,
 ) -> Result<(), LineFault>
-    requires { ForSome stage.old IsReadyStage }
+    requires { ForSome stage.old (IsReadyStage false) }
     ensures ok { OnOk result (AddsRefusals stage.old line.now text.old.items text.new.items stage.new) }
     ensures bad { IsErrOf result LineFault.Bad → (line_outcome (stages_of stage.old) line.now ≡ None) × (text.new.items ≡ text.old.items) }
 {

@@ -1,8 +1,10 @@
 //! What is written of a line's effects.
-ghost use Rattle.std.specs.Prelude.{◌≡◌, ◌++◌, IfOk, IfSome, OnOk};
+ghost use Rattle.std.specs.Prelude.{◌≡◌, ◌++◌, not, true, Some, IfOk, OnOk};
+ghost use Rattle.scr_plan.specs.Memories.{Agrees, MemoryView};
 ghost use Rattle.scr_term.specs.Operations.Painted.{ShowsNegative};
-ghost use Rattle.screen_scripts.specs.Printing.{IsOutput, abilities_for, refusals_of};
-ghost use Rattle.screen_scripts.specs.Showing.{AddsScreen, IsReadyStage, IsUpdateOf, events_in, events_of, note_line, notes_lines};
+ghost use Rattle.scr_term.specs.Operations.Profiles.{abilities};
+ghost use Rattle.screen_scripts.specs.Printing.{abilities_for, refusals_of};
+ghost use Rattle.screen_scripts.specs.Showing.{AddsScreen, IsAhead, IsOutputOn, IsReadyStage, IsSentIf, events_in, events_of, note_line, notes_lines, update_in};
 
 use crate::effects::{Effects, Note};
 use crate::faults::{fault_name, key_fault_name};
@@ -20,11 +22,12 @@ pub fn effects_text(
     effects: Effects,
     stage: &mut Stage,
 ) -> Result<Vec<u8>, NoMemory>
-    requires ready { IsReadyStage stage.old }
-    requires update { IfSome effects.update (λ bytes. IsUpdateOf stage.old.screen.profile stage.old.screen.virtual.picture bytes.items) }
-    ensures text { IfOk result (λ text. IsOutput raw stage.old.screen.profile (events_of effects stage.old.screen.virtual.picture) text.items) }
+    requires { IsAhead (not raw) stage.old (update_in effects) }
+    ensures text { (before : MemoryView) → IsSentIf stage.old.screen.profile before stage.old.screen.memory stage.old.screen.virtual.picture (update_in effects)
+        → IfOk result (λ text. IsOutputOn raw stage.old.screen.profile (Agrees (abilities stage.old.screen.profile) before)
+        (Agrees (abilities stage.old.screen.profile) stage.old.screen.memory) (events_of effects stage.old.screen.virtual.picture) text.items) }
     ensures screen { OnOk result (stage.new.screen ≡ stage.old.screen) }
-    ensures ready { OnOk result (IsReadyStage stage.new) }
+    ensures ready { OnOk result (IsReadyStage (not raw) stage.new) }
 {
     let Effects { notes, update } = effects;
     if raw {
@@ -73,11 +76,10 @@ pub fn print_refusals(notes: &[Note], text: &mut Vec<u8>) -> Result<(), NoMemory
 
 // Feeds a terminal the bytes of an update, and adds the lines that it shows then.
 fn show(bytes: &[u8], stage: &mut Stage, text: &mut Vec<u8>) -> Result<(), NoMemory>
-    requires ready { IsReadyStage stage.old }
-    requires update { IsUpdateOf stage.old.screen.profile stage.old.screen.virtual.picture bytes.now }
+    requires { IsAhead true stage.old (Some bytes.now) }
     ensures text { OnOk result (AddsScreen stage.old.screen.virtual.picture text.old.items text.new.items) }
     ensures screen { stage.new.screen ≡ stage.old.screen }
-    ensures ready { IsReadyStage stage.new }
+    ensures ready { IsReadyStage true stage.new }
 {
     feed(bytes, stage);
     print_screen(&stage.terminal, text)
@@ -85,11 +87,10 @@ fn show(bytes: &[u8], stage: &mut Stage, text: &mut Vec<u8>) -> Result<(), NoMem
 
 // Feeds a terminal the bytes of an update.
 fn feed(bytes: &[u8], stage: &mut Stage)
-    requires ready { IsReadyStage stage.old }
-    requires update { IsUpdateOf stage.old.screen.profile stage.old.screen.virtual.picture bytes.now }
+    requires { IsAhead true stage.old (Some bytes.now) }
     ensures shows { ShowsNegative (abilities_for stage.old.screen.virtual.picture) stage.new.terminal.state stage.old.screen.virtual.picture }
     ensures screen { stage.new.screen ≡ stage.old.screen }
-    ensures ready { IsReadyStage stage.new }
+    ensures ready { IsReadyStage true stage.new }
 {
     ecma48_laws();
     bytes_act_as_their_operations();

@@ -1,10 +1,11 @@
 //! The stage of a script: its screen, and a terminal.
-ghost use Rattle.std.specs.Prelude.{◌≡◌, None, IfOk, IsErrOf};
+ghost use Rattle.std.specs.Prelude.{◌≡◌, None, true, IfOk, IsErrOf};
 ghost use Rattle.screen_scripts.specs.Stories.{opened};
 ghost use Rattle.screen_scripts.specs.Showing.{IsFirst, IsReadyStage, Opens};
 
 use curses::Screen;
 use scr_cells::{NoMemory, Size};
+use scr_plan::memory_runs;
 use scr_term::{EcmaScreen, blank_laws, ecma48_laws};
 use screen_commands::{Command, LineFault};
 use std::alloc::Global;
@@ -33,11 +34,12 @@ pub fn open_stage(alloc: Global, command: Command) -> Result<Stage, LineFault>
 
 // A blank stage.
 fn blank_stage(alloc: Global, size: Size) -> Result<Stage, NoMemory>
-    ensures ready { IfOk result IsReadyStage }
+    ensures ready { IfOk result (IsReadyStage true) }
     ensures first { IfOk result (λ stage. IsFirst size.rows size.columns stage) }
 {
     blank_laws();
     ecma48_laws();
+    memory_runs();
     let Ok(entry) = bundled(alloc) else {
         return Err(NoMemory);
     };

@@ -16,5 +16,5 @@ pub returns-in_ok-print_refusals-in-Some-clause-ok : goal.returns-in_ok-print_re
 returns-in_ok-print_refusals-in-Some-clause-ok c =
     subst (λ old. AddsRefusals old c.args.line.now c.args.text.now.items c.print_refusals.new.text.items (Some (record { screen = c.obey.new.screen; terminal = c.in-Some.stage.terminal }))) (sym c.in-Some.is)
     (obeying_adds c.args.line.now c.args.text.now.items c.print_refusals.new.text.items c.in_ok-command.command c.in-Some.stage c.obey.new.screen c.in_ok-effects-in-Some.effects c.in_ok-command.ensures.ok
-    (c.requires c.in-Some.stage c.in-Some.is) c.in_ok-effects-in-Some.ensures.ok
+    c.in_ok-effects-in-Some.ensures.ok
     (c.in_ok-print_refusals-in-Some.ensures ∙ ap (λ notes. c.args.text.now.items ++ refusals_of (events_in notes)) c.deref.ensures.value))

@@ -1,30 +1,37 @@
-use Rattle.std.proofs.Common.{◌≡◌, ◌∙◌, ◌++◌, ap, subst, sym}
-use Rattle.screen_scripts.specs.Printing.{IsOutput}
-use Rattle.screen_scripts.specs.Showing.{IsReadyStage, events_of, notes_lines}
-use Rattle.screen_scripts.proofs.OutputLaws.{printed_none, printed_some, sent_by}
+use Rattle.std.proofs.Common.{◌≡◌, ◌∙◌, ◌++◌, ap, not, subst, sym}
+use Rattle.scr_plan.specs.Memories.{Agrees}
+use Rattle.scr_term.specs.Operations.Profiles.{abilities}
+use Rattle.screen_scripts.specs.Showing.{IsOutputOn, IsReadyStage, events_of, notes_lines}
+use Rattle.screen_scripts.proofs.OutputLaws.{ahead_none, ahead_some, printed_none, printed_some, sent_by}
 use Rattle.screen_scripts.proofs.showing.effects_text.Goals as goal
 use Rattle.screen_scripts.proofs.showing.effects_text.Goals.{in-Some+in_ok-show, in_default}
 
 pub returns-then-raw-clause-text : goal.returns-then-raw-clause-text
-returns-then-raw-clause-text c =
-    sent_by (λ bytes. bytes.items) c.args.raw c.args.stage.now.screen.profile c.args.stage.now.screen.virtual.picture c.args.effects.notes.items c.args.effects.update c.new.result c.unwrap_or.result
-    c.if-raw.true c.requires.update c.new.ensures.items c.unwrap_or.ensures
+returns-then-raw-clause-text c = λ before sent.
+    sent_by (λ bytes. bytes.items) c.args.raw c.args.stage.now.screen.profile before c.args.stage.now.screen.memory c.args.stage.now.screen.virtual.picture c.args.effects.notes.items
+    c.args.effects.update c.new.result c.unwrap_or.result c.if-raw.true sent c.new.ensures.items c.unwrap_or.ensures
+
+pub show-requires : goal.show-requires
+show-requires c = ahead_some (λ bytes. bytes.items) (not c.args.raw) c.args.stage.now c.args.effects.update _ _ (ap not c.if-raw.false) c.in-Some.is c.deref-in-Some.ensures.value c.requires
 
 pub returns-clause-text : goal.returns-clause-text
-returns-clause-text c =
-    let before : c.print_notes.new.text.items ≡ notes_lines c.args.effects.notes.items =
+returns-clause-text c = λ before sent.
+    let old = Agrees (abilities c.args.stage.now.screen.profile) before in
+    let new = Agrees (abilities c.args.stage.now.screen.profile) c.args.stage.now.screen.memory in
+    let noted : c.print_notes.new.text.items ≡ notes_lines c.args.effects.notes.items =
     c.in_ok-print_notes.ensures ∙ ap (λ t. t ++ notes_lines c.deref.result.now) c.new-text.ensures.items ∙ ap notes_lines c.deref.ensures.value in
     elim c.match-update-2.branch [
-      | in-Some+in_ok-show w ↦ subst (λ t. IsOutput c.args.raw c.args.stage.now.screen.profile (events_of c.args.effects c.args.stage.now.screen.virtual.picture) t.items) (sym w.text-is)
-          (printed_some c.args.raw c.args.stage.now.screen.profile c.args.stage.now.screen.virtual.picture c.args.effects.notes.items c.args.effects.update _ c.print_notes.new.text.items
-          w.show.new.text.items c.if-raw.false w.in-Some.is before w.in_ok-show.ensures.text)
-      | in_default w ↦ subst (λ t. IsOutput c.args.raw c.args.stage.now.screen.profile (events_of c.args.effects c.args.stage.now.screen.virtual.picture) t.items) (sym w.text-is)
-          (printed_none c.args.raw c.args.stage.now.screen.profile c.args.stage.now.screen.virtual.picture c.args.effects.notes.items c.args.effects.update c.print_notes.new.text.items
-          c.if-raw.false w.in_default.is before)
+      | in-Some+in_ok-show w ↦ subst (λ t. IsOutputOn c.args.raw c.args.stage.now.screen.profile old new (events_of c.args.effects c.args.stage.now.screen.virtual.picture) t.items) (sym w.text-is)
+          (printed_some c.args.raw c.args.stage.now.screen.profile old new c.args.stage.now.screen.virtual.picture c.args.effects.notes.items c.args.effects.update _ c.print_notes.new.text.items
+          w.show.new.text.items c.if-raw.false w.in-Some.is noted w.in_ok-show.ensures.text)
+      | in_default w ↦ subst (λ t. IsOutputOn c.args.raw c.args.stage.now.screen.profile old new (events_of c.args.effects c.args.stage.now.screen.virtual.picture) t.items) (sym w.text-is)
+          (printed_none c.args.raw c.args.stage.now.screen.profile old new c.args.stage.now.screen.virtual.picture c.args.effects.notes.items c.args.effects.update c.print_notes.new.text.items
+          c.if-raw.false w.in_default.is noted)
     ]
 
 pub returns-clause-ready : goal.returns-clause-ready
 returns-clause-ready c = elim c.match-update-2.branch [
-  | in-Some+in_ok-show w ↦ subst IsReadyStage (sym w.stage-is) w.show.ensures.ready
-  | in_default w ↦ subst IsReadyStage (sym w.stage-is) c.requires.ready
+  | in-Some+in_ok-show w ↦ subst (IsReadyStage (not c.args.raw)) (sym w.stage-is)
+      (subst (λ fed. IsReadyStage fed w.show.new.stage) (sym (ap not c.if-raw.false)) w.show.ensures.ready)
+  | in_default w ↦ subst (IsReadyStage (not c.args.raw)) (sym w.stage-is) (ahead_none (λ bytes. bytes.items) (not c.args.raw) c.args.stage.now c.args.effects.update w.in_default.is c.requires)
 ]
