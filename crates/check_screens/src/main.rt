@@ -7,6 +7,7 @@ mod cell_lines;
 mod comparing;
 mod desk_calls;
 mod desk_lines;
+mod differences;
 mod dumps;
 mod generated;
 mod generating;

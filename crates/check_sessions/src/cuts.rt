@@ -4,21 +4,39 @@ use crate::answers::add_count;
 use crate::recorded::Recorded;
 use crate::writers::Fails;
 use check_scripts::answers::{add_number, add_word};
+use check_scripts::texts::read_text;
 use check_scripts::troubles::Trouble;
 use check_scripts::words::Words;
 use curses::Call;
-use scr_cells::Size;
-use scr_plan::scratch;
+use scr_cells::{Picture, Size};
+use scr_plan::{Memory, plain, scratch};
 use scr_term::{Op, Ops, Profile};
 use scr_windows::Win;
 use std::alloc::Global;
 use ti_caps::{Bytes, bundled};
 
-// What the uncut update sends, and where the text of each of its operations ends.
+// What is sent, and where the text of each operation ends.
 #[derive(Drop)]
-struct Whole {
+struct Text {
     bytes: Vec<u8>,
     ends: Vec<usize>,
+}
+
+impl Text {
+    fn new(alloc: Global) -> Text {
+        Text {
+            bytes: Vec::new(alloc),
+            ends: Vec::new(alloc),
+        }
+    }
+}
+
+// What is sent before the update that is cut, what that one sends uncut, and what paints all behind it.
+#[derive(Drop)]
+struct Whole {
+    before: Text,
+    update: Text,
+    repaint: Text,
 }
 
 // How many operations of an update are begun that is cut, and how many bytes of it are sent by it and the next one first.
@@ -38,7 +56,8 @@ enum Verdict {
 
 /// The line `cuts BEHIND`: two rows of five with `hi`, and an update into a writer that fails behind 0, 1 .. bytes, up to so
 /// many, by an error and by taking nothing, each on a new screen. The fault has to tell what was begun and sent; the next
-/// update is Ok, and sends what was owed and then the whole; the terminal shows `hi`. Adds `agrees`, or the first that differs.
+/// update is Ok, and sends what was owed and then what paints all; the terminal shows the picture. With `cuts BEHIND TEXT` one update
+/// ends well, and the one is cut that adds a text behind `hi`. Adds `agrees`, or the first that differs.
 pub fn check_cuts(
     alloc: Global,
     tried: &mut Option<Recorded>,
@@ -46,11 +65,15 @@ pub fn check_cuts(
     came: &mut Vec<u8>,
 ) -> Result<(), Trouble> {
     let count = words.number()?;
-    let Some(whole) = whole_update(alloc, tried)? else {
+    let mut text = Vec::new(alloc);
+    if !matches!(words.peek(), b"" | b"=") {
+        read_text(words.next(), &mut text)?;
+    }
+    let Some(whole) = whole_update(alloc, tried, &text)? else {
         return add_word("NoMemory", came);
     };
     for behind in 0..count {
-        let verdict = check_both(alloc, tried, &whole, behind, came)?;
+        let verdict = check_both(alloc, tried, &text, &whole, behind, came)?;
         match verdict {
             Verdict::Agrees => {}
             Verdict::Differs => return add_number(i64::from(behind), came),
@@ -64,12 +87,13 @@ pub fn check_cuts(
 fn check_both(
     alloc: Global,
     tried: &mut Option<Recorded>,
+    text: &[u8],
     whole: &Whole,
     behind: u32,
     came: &mut Vec<u8>,
 ) -> Result<Verdict, Trouble> {
-    match check_cut(alloc, tried, whole, behind, false, came)? {
-        Verdict::Agrees => check_cut(alloc, tried, whole, behind, true, came),
+    match check_cut(alloc, tried, text, whole, behind, false, came)? {
+        Verdict::Agrees => check_cut(alloc, tried, text, whole, behind, true, came),
         verdict => Ok(verdict),
     }
 }
@@ -78,18 +102,19 @@ fn check_both(
 fn check_cut(
     alloc: Global,
     tried: &mut Option<Recorded>,
+    text: &[u8],
     whole: &Whole,
     behind: u32,
     stuck: bool,
     came: &mut Vec<u8>,
 ) -> Result<Verdict, Trouble> {
-    let cut = cut_at(&whole.ends, behind as usize);
+    let cut = cut_at(&whole.update.ends, behind as usize);
     let (fails, kind) = if stuck {
         (Fails::StuckBehind(behind), "WriteZero")
     } else {
         (Fails::Behind(behind), "BrokenPipe")
     };
-    let Some(opened) = open_example(alloc, tried)? else {
+    let Some(opened) = open_example(alloc, tried, text)? else {
         return Ok(Verdict::NoMemory);
     };
     let mut answers = Vec::new(alloc);
@@ -111,11 +136,11 @@ fn update_twice(
     fails: Fails,
     answers: &mut Vec<u8>,
 ) -> Result<bool, Trouble> {
-    opened.update(fails, answers)?;
+    let _is_well = opened.update(fails, answers)?;
     if answers.ends_with(b" NoMemory") {
         return Ok(false);
     }
-    opened.update(Fails::Never, answers)?;
+    let _is_well = opened.update(Fails::Never, answers)?;
     Ok(!answers.ends_with(b" NoMemory"))
 }
 
@@ -145,82 +170,149 @@ fn add_wanted(
     add_number(i64::from(behind), wanted)?;
     add_word("Ok", wanted)?;
     let owed = cut.end.saturating_sub(behind as usize);
-    add_count(owed.saturating_add(whole.bytes.len()) as u64, wanted)
+    add_count(
+        owed.saturating_add(whole.repaint.bytes.len()) as u64,
+        wanted,
+    )
 }
 
-// Whether what was sent is the beginning of the whole up to the end of the text that was cut, and then the whole.
+// Whether what was sent is what was sent before, the beginning of the update up to the end of the text that was cut, and then what
+// paints all.
 fn is_sent(sent: &[u8], whole: &Whole, end: usize) -> bool {
+    let Some(behind) = sent.strip_prefix(whole.before.bytes.as_slice()) else {
+        return false;
+    };
     match (
-        sent.split_at_checked(end),
-        whole.bytes.split_at_checked(end),
+        behind.split_at_checked(end),
+        whole.update.bytes.split_at_checked(end),
     ) {
         (Some((head, rest)), Some((begun, _))) => {
-            head == begun && rest == whole.bytes.as_slice()
+            head == begun && rest == whole.repaint.bytes.as_slice()
         }
         _ => false,
     }
 }
 
-// Two rows of five with `hi`, to be shown by the next update; `None` where the library was refused memory.
-fn open_example(
+// Two rows of five with `hi`, to be shown by the next update, or, where a text is to be added, shown, and with the text to be
+// shown by the next; `None` where the library was refused memory.
+fn open_example<'a>(
     alloc: Global,
-    tried: &mut Option<Recorded>,
-) -> Result<Option<&mut Recorded>, Trouble> {
+    tried: &'a mut Option<Recorded>,
+    text: &[u8],
+) -> Result<Option<&'a mut Recorded>, Trouble> {
     let size = Size::new(2, 5).ok_or(Trouble::Bad("no size"))?;
-    if !Recorded::open_into(alloc, size, tried)? {
+    let Ok(entry) = bundled(alloc) else {
+        return Ok(None);
+    };
+    if !Recorded::open_into(alloc, entry, size, tried)? {
         return Ok(None);
     }
     let Some(opened) = tried else {
         return Ok(None);
     };
-    let mut text = Vec::new(alloc);
-    text.extend_from_slice(b"hi")?;
-    let mut answers = Vec::new(alloc);
-    opened.call(Call::AddText(Win(0), Bytes(text)), &mut answers)?;
-    opened.call(Call::Noutrefresh(Win(0)), &mut answers)?;
+    write(alloc, opened, b"hi")?;
+    if !text.is_empty() {
+        let mut answers = Vec::new(alloc);
+        let _is_well = opened.update(Fails::Never, &mut answers)?;
+        if answers.ends_with(b" NoMemory") {
+            return Ok(None);
+        }
+        write(alloc, opened, text)?;
+    }
     Ok(Some(opened))
 }
 
-// What the uncut update sends; `None` where the library was refused memory.
-fn whole_update(alloc: Global, tried: &mut Option<Recorded>) -> Result<Option<Whole>, Trouble> {
-    let Some(opened) = open_example(alloc, tried)? else {
-        return Ok(None);
-    };
-    let Ok(entry) = bundled(alloc) else {
-        return Ok(None);
-    };
-    let size = Size::new(2, 5).ok_or(Trouble::Bad("no size"))?;
-    let Ok(profile) = Profile::admit(alloc, &entry, Some(size)) else {
-        return Ok(None);
-    };
-    let Some(ops) = plan(alloc, &profile, opened)? else {
-        return Ok(None);
-    };
-    render_all(alloc, &profile, &ops)
+// Adds a text to the first window, and takes it onto the virtual screen.
+fn write(alloc: Global, opened: &mut Recorded, text: &[u8]) -> Result<(), Trouble> {
+    let mut bytes = Vec::new(alloc);
+    bytes.extend_from_slice(text)?;
+    let mut answers = Vec::new(alloc);
+    opened.call(Call::AddText(Win(0), Bytes(bytes)), &mut answers)?;
+    opened.call(Call::Noutrefresh(Win(0)), &mut answers)
 }
 
-// The operations that paint the picture of a screen.
-fn plan(alloc: Global, profile: &Profile, opened: &Recorded) -> Result<Option<Ops>, Trouble> {
-    let picture = opened.screen.picture();
-    let (size, other) = (picture.size(), profile.size());
-    if size.rows != other.rows || size.columns != other.columns {
+// What the uncut update sends, and what is sent before and behind it; `None` where the library was refused memory.
+fn whole_update(
+    alloc: Global,
+    tried: &mut Option<Recorded>,
+    text: &[u8],
+) -> Result<Option<Whole>, Trouble> {
+    let Some(opened) = open_example(alloc, tried, b"")? else {
+        return Ok(None);
+    };
+    let Ok(mut memory) = Memory::unknown(alloc, opened.profile.size()) else {
+        return Ok(None);
+    };
+    let mut before = Text::new(alloc);
+    if !text.is_empty() {
+        let Some(first) = next_text(alloc, opened, &mut memory)? else {
+            return Ok(None);
+        };
+        before = first;
+        write(alloc, opened, text)?;
+    }
+    let Some(update) = next_text(alloc, opened, &mut memory)? else {
+        return Ok(None);
+    };
+    memory.forget();
+    let Some(repaint) = next_text(alloc, opened, &mut memory)? else {
+        return Ok(None);
+    };
+    Ok(Some(Whole {
+        before,
+        update,
+        repaint,
+    }))
+}
+
+// What brings a terminal of which this is remembered to the picture of a screen, and is remembered then; `None` where the library
+// was refused memory.
+fn next_text(
+    alloc: Global,
+    opened: &Recorded,
+    memory: &mut Memory,
+) -> Result<Option<Text>, Trouble> {
+    let profile = &opened.profile;
+    match plan(alloc, profile, memory, opened.screen.picture())? {
+        Some(ops) => render_all(alloc, profile, &ops),
+        None => Ok(None),
+    }
+}
+
+// The operations that bring a terminal to a picture: those for the places that differ where all is known, else those for all. They
+// are remembered.
+fn plan(
+    alloc: Global,
+    profile: &Profile,
+    memory: &mut Memory,
+    picture: &Picture,
+) -> Result<Option<Ops>, Trouble> {
+    let (size, other, remembered) = (picture.size(), profile.size(), memory.size());
+    let is_same = size.rows == other.rows && size.columns == other.columns;
+    if !is_same || remembered.rows != other.rows || remembered.columns != other.columns {
         return Err(Trouble::Bad("the profile has another size"));
     }
-    Ok(scratch(alloc, profile, picture).ok())
+    let planned = if memory.known() {
+        plain(alloc, profile, memory, picture)
+    } else {
+        scratch(alloc, profile, picture)
+    };
+    let Ok(ops) = planned else {
+        return Ok(None);
+    };
+    memory.follow_all(profile, &ops.0);
+    Ok(Some(ops))
 }
 
-fn render_all(alloc: Global, profile: &Profile, ops: &Ops) -> Result<Option<Whole>, Trouble> {
-    let mut whole = Whole {
-        bytes: Vec::new(alloc),
-        ends: Vec::new(alloc),
-    };
+fn render_all(alloc: Global, profile: &Profile, ops: &Ops) -> Result<Option<Text>, Trouble> {
+    let mut text = Text::new(alloc);
     for op in &ops.0 {
-        if !render(profile, *op, &mut whole.bytes)? {
+        if !render(profile, *op, &mut text.bytes)? {
             return Ok(None);
         }
-        whole.ends.push(whole.bytes.len())?;
+        text.ends.push(text.bytes.len())?;
     }
-    Ok(Some(whole))
+    Ok(Some(text))
 }
 
 // Adds the text of an operation, and tells whether there was memory for it.

@@ -1,17 +1,19 @@
 //! Generated calls on a screen, with updates whose writer fails now and then.
 
-use crate::generating::{COLUMNS, ROWS, next_call, next_fails};
+use crate::generating::{COLUMNS, ROWS, next_call, next_fails, next_window};
 use crate::recorded::Recorded;
 use check_scripts::answers::{add_number, add_word};
 use check_scripts::random::Random;
 use check_scripts::troubles::Trouble;
 use check_scripts::words::Words;
+use curses::Call;
 use scr_cells::Size;
 use std::alloc::Global;
+use ti_caps::bundled;
 
 /// The line `generated COUNT SEED`: so many calls on a screen, every fifth of them or so an update. After each update that
-/// is Ok the terminal has to show the picture, and one session has to give the same answers and send the same bytes. Adds
-/// `agrees`, or the number of the call after which the terminal shows something else.
+/// is Ok the terminal has to show the picture, and no more may be sent than what differs; one session has to give the same answers and
+/// send the same bytes. Adds `agrees`, or the number of the update that is not so.
 pub fn check_generated(
     alloc: Global,
     tried: &mut Option<Recorded>,
@@ -20,7 +22,10 @@ pub fn check_generated(
 ) -> Result<(), Trouble> {
     let (count, seed) = (words.number()?, words.number()?);
     let size = Size::new(ROWS, COLUMNS).ok_or(Trouble::Bad("no size"))?;
-    if !Recorded::open_into(alloc, size, tried)? {
+    let Ok(entry) = bundled(alloc) else {
+        return add_word("NoMemory", came);
+    };
+    if !Recorded::open_into(alloc, entry, size, tried)? {
         return add_word("NoMemory", came);
     }
     match tried {
@@ -40,11 +45,11 @@ fn make_all(
     let mut answer = Vec::new(alloc);
     for number in 0..count {
         answer.clear();
-        step(alloc, opened, &mut random, &mut answer)?;
+        let is_well = step(alloc, opened, &mut random, &mut answer)?;
         if answer.ends_with(b" NoMemory") {
             return add_word("NoMemory", came);
         }
-        if answer.ends_with(b" else") || answer.ends_with(b" text") {
+        if !is_well {
             add_number(i64::from(number), came)?;
             came.extend_from_slice(&answer)?;
             return Ok(());
@@ -53,16 +58,18 @@ fn make_all(
     opened.add_session(came)
 }
 
-// Makes the next call.
+// Makes the next call, where it is an update behind the taking of a window, and tells whether it is as it has to be.
 fn step(
     alloc: Global,
     opened: &mut Recorded,
     random: &mut Random,
     answer: &mut Vec<u8>,
-) -> Result<(), Trouble> {
+) -> Result<bool, Trouble> {
     if random.below(5) == 0 {
+        opened.call(Call::Noutrefresh(next_window(random)), answer)?;
         return opened.update(next_fails(random), answer);
     }
     let call = next_call(alloc, random)?;
-    opened.call(call, answer)
+    opened.call(call, answer)?;
+    Ok(true)
 }

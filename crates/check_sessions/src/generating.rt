@@ -15,9 +15,10 @@ pub const ROWS: u32 = 4;
 /// How many columns the screen has.
 pub const COLUMNS: u32 = 9;
 
-/// How the writer fails in the next update: most often it does not.
+/// How the writer fails in the next update: most often it does not, or past all that is sent.
 pub fn next_fails(random: &mut Random) -> Fails {
-    let behind = random.below(700);
+    let most = if random.below(2) == 0 { 60 } else { 700 };
+    let behind = random.below(most);
     match random.below(8) {
         0 | 1 => Fails::Behind(behind),
         2 => Fails::StuckBehind(behind),
@@ -26,9 +27,15 @@ pub fn next_fails(random: &mut Random) -> Fails {
     }
 }
 
+/// A window, most often the first.
+pub fn next_window(random: &mut Random) -> Win {
+    let most = if random.below(2) == 0 { 1 } else { 7 };
+    Win(random.below(most))
+}
+
 /// A call other than an update.
 pub fn next_call(alloc: Global, random: &mut Random) -> Result<Call, Trouble> {
-    let win = Win(random.below(7));
+    let win = next_window(random);
     Ok(match random.below(16) {
         0 | 1 | 2 => Call::AddText(win, next_text(alloc, random)?),
         3 => Call::AddByte(win, random.byte(), Attrs(random.attributes())),
@@ -74,12 +81,13 @@ fn next_setting(win: Win, random: &mut Random) -> Call {
 
 fn next_flag(win: Win, random: &mut Random) -> Call {
     let on = random.below(2) == 0;
-    match random.below(6) {
+    match random.below(7) {
         0 => Call::ScrollOk(win, on),
         1 => Call::ClearOk(win, on),
         2 => Call::LeaveOk(win, on),
         3 => Call::TouchWindow(win),
         4 => Call::Untouch(win),
+        5 => Call::RedrawWindow(win),
         _ => Call::RedrawLines(win, random.below(4), random.below(3)),
     }
 }

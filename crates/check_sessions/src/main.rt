@@ -5,9 +5,11 @@
 #![tactic(auto)]
 
 mod answers;
+mod bounds;
 mod call_lines;
 mod cuts;
 mod dumps;
+mod entries;
 mod generated;
 mod generating;
 mod recorded;

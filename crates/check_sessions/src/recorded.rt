@@ -1,15 +1,16 @@
 //! A screen whose calls and answers are kept, and the emulated screen that is fed what its updates send.
 
 use crate::answers::{add_answer, ran_out};
+use crate::bounds::Left;
 use crate::shown::shows;
 use crate::writers::{Fails, Planned};
 use check_scripts::answers::add_word;
 use check_scripts::troubles::Trouble;
 use curses::{Answer, Call, Device, OpenFault, Report, Screen, session};
 use scr_cells::Size;
-use scr_term::EcmaScreen;
+use scr_term::{EcmaScreen, Profile, ProfileFault};
 use std::alloc::Global;
-use ti_caps::bundled;
+use ti_caps::Entry;
 
 // How many bytes the writer has room for: more than an update sends here.
 const ROOM: usize = 4096;
@@ -19,10 +20,15 @@ const ROOM: usize = 4096;
 pub struct Recorded {
     alloc: Global,
     size: Size,
+    entry: Entry,
+    /// The terminal's operations.
+    pub profile: Profile,
     /// The screen.
     pub screen: Screen,
     /// What the terminal shows.
     pub emulated: EcmaScreen,
+    // What the last update left there, if the next one may send only what differs.
+    left: Left,
     device: Device<Planned>,
     calls: Vec<Call>,
     answers: Vec<u8>,
@@ -35,25 +41,33 @@ pub struct Recorded {
 }
 
 impl Recorded {
-    /// Opens a screen on the bundled entry in place of another, and tells whether there was memory for it. A function that owns a screen
+    /// Opens a screen on an entry in place of another, and tells whether there was memory for it. A function that owns a screen
     /// takes long to prove, so the others borrow one.
     pub fn open_into(
         alloc: Global,
+        entry: Entry,
         size: Size,
         opened: &mut Option<Recorded>,
     ) -> Result<bool, Trouble> {
         let Ok(emulated) = EcmaScreen::new(alloc, size) else {
             return Ok(false);
         };
+        let Some(profile) = admit(alloc, &entry, size)? else {
+            return Ok(false);
+        };
         let writer = Planned::new(alloc, ROOM)?;
-        let Some(screen) = open_screen(alloc, size)? else {
+        let left = Left::unknown(alloc, size)?;
+        let Some(screen) = open_screen(alloc, &entry, size)? else {
             return Ok(false);
         };
         *opened = Some(Recorded {
             alloc,
             size,
+            entry,
+            profile,
             screen,
             emulated,
+            left,
             device: Device::new(writer),
             calls: Vec::new(alloc),
             answers: Vec::new(alloc),
@@ -66,27 +80,41 @@ impl Recorded {
 
     /// Makes a call other than an update, and adds what it answers.
     pub fn call(&mut self, call: Call, came: &mut Vec<u8>) -> Result<(), Trouble> {
+        if may_paint_all(&self.screen, &call) {
+            self.left.forget();
+        }
         let _answer = self.make(call, came)?;
         Ok(())
     }
 
-    /// Updates with a writer that fails so, and adds what the update answers. Where that is Ok, the terminal has to show the
-    /// picture; adds that it does not.
-    pub fn update(&mut self, fails: Fails, came: &mut Vec<u8>) -> Result<(), Trouble> {
+    /// Updates with a writer that fails so, adds what the update answers, and tells whether all is as it has to be. Where that
+    /// is Ok, the terminal has to show the picture, what was sent may not be more than what differs, and where that is nothing, the writer
+    /// may not be called; adds what is not so.
+    pub fn update(&mut self, fails: Fails, came: &mut Vec<u8>) -> Result<bool, Trouble> {
         self.device.writer.plan(fails)?;
+        self.device.writer.calls = 0;
         let answer = self.make(Call::Doupdate, came)?;
         let fed = self.feed()?;
         if !fed {
-            return add_word("and an undefined text", came);
+            add_word("and an undefined text", came)?;
+            return Ok(false);
         }
-        if ran_out(&answer) {
-            return Ok(());
+        match answer {
+            Answer::Sent(sent) => self.end_well(sent.bytes, came),
+            answer => {
+                if !ran_out(&answer) {
+                    self.last_ok = false;
+                    self.left.forget();
+                }
+                Ok(true)
+            }
         }
-        self.last_ok = matches!(answer, Answer::Sent(_));
-        if self.last_ok && !shows(&self.emulated, self.screen.picture()) {
-            return add_word("and the terminal shows something else", came);
-        }
-        Ok(())
+    }
+
+    /// Feeds the terminal what others write.
+    pub fn others(&mut self, text: &[u8], came: &mut Vec<u8>) -> Result<(), Trouble> {
+        let fed = self.emulated.feed(text);
+        add_word(if fed.is_ok() { "Ok" } else { "Undefined" }, came)
     }
 
     /// Makes the calls by one session with a writer that fails so, and adds `agrees` where its answers, its bytes and whether
@@ -129,11 +157,41 @@ impl Recorded {
         Ok(fed.is_ok())
     }
 
+    // Adds what is wrong with an update that ended well, and tells whether nothing is.
+    fn end_well(&mut self, bytes: u64, came: &mut Vec<u8>) -> Result<bool, Trouble> {
+        let trouble = self.trouble_of(bytes);
+        let spot = self.emulated.spot();
+        self.last_ok = true;
+        self.left.learn(&self.profile, self.screen.picture(), spot)?;
+        if let Some(words) = trouble {
+            add_word(words, came)?;
+        }
+        Ok(trouble.is_none())
+    }
+
+    // What is wrong with an update that ended well, and sent so many bytes.
+    fn trouble_of(&self, bytes: u64) -> Option<&'static str> {
+        let picture = self.screen.picture();
+        let most = self.left.most(&self.profile, picture);
+        if !shows(&self.emulated, &self.profile, picture) {
+            Some("and the terminal shows something else")
+        } else if most.is_some_and(|most| bytes > most as u64) {
+            Some("and more than what differs")
+        } else if bytes == 0 && self.device.writer.calls > 0 {
+            Some("and the writer was called")
+        } else {
+            None
+        }
+    }
+
     fn session(&self, device: &mut Device<Planned>) -> Result<Option<Report>, Trouble> {
-        let Ok(entry) = bundled(self.alloc) else {
-            return Ok(None);
-        };
-        match session(self.alloc, &entry, Some(self.size), &self.calls, device) {
+        match session(
+            self.alloc,
+            &self.entry,
+            Some(self.size),
+            &self.calls,
+            device,
+        ) {
             Ok(report) => Ok(Some(report)),
             Err(OpenFault::NoMemory) => Ok(None),
             Err(_) => Err(Trouble::Bad("no profile")),
@@ -148,12 +206,30 @@ impl Recorded {
     }
 }
 
-// A screen on the bundled entry; `None` where the library was refused memory.
-fn open_screen(alloc: Global, size: Size) -> Result<Option<Screen>, Trouble> {
-    let Ok(entry) = bundled(alloc) else {
-        return Ok(None);
-    };
-    match Screen::open(alloc, &entry, Some(size)) {
+// Whether an update behind a call may paint more than what differs: a redrawing, or a window that wishes the whole screen anew.
+fn may_paint_all(screen: &Screen, call: &Call) -> bool {
+    match call {
+        Call::RedrawWindow(_) | Call::RedrawLines(..) => true,
+        Call::Noutrefresh(win) | Call::PadNoutrefresh(win, ..) => match screen.window(*win) {
+            Ok(window) => window.clear_ok(),
+            Err(_) => false,
+        },
+        _ => false,
+    }
+}
+
+// The operations of an entry's terminal; `None` where the library was refused memory.
+fn admit(alloc: Global, entry: &Entry, size: Size) -> Result<Option<Profile>, Trouble> {
+    match Profile::admit(alloc, entry, Some(size)) {
+        Ok(profile) => Ok(Some(profile)),
+        Err(ProfileFault::NoMemory) => Ok(None),
+        Err(_) => Err(Trouble::Bad("no profile")),
+    }
+}
+
+// A screen on an entry; `None` where the library was refused memory.
+fn open_screen(alloc: Global, entry: &Entry, size: Size) -> Result<Option<Screen>, Trouble> {
+    match Screen::open(alloc, entry, Some(size)) {
         Ok(screen) => Ok(Some(screen)),
         Err(OpenFault::NoMemory) => Ok(None),
         Err(_) => Err(Trouble::Bad("no profile")),

@@ -3,12 +3,14 @@
 use crate::call_lines::read_call;
 use crate::cuts::check_cuts;
 use crate::dumps::dump_recorded;
+use crate::entries::read_entry;
 use crate::generated::check_generated;
 use crate::recorded::Recorded;
 use crate::shown_lines::answer_of_shown;
 use crate::writers::Fails;
 use check_scripts::answers::{add_word, read_size};
 use check_scripts::checking::Stage;
+use check_scripts::texts::read_text;
 use check_scripts::troubles::Trouble;
 use check_scripts::words::Words;
 use std::alloc::Global;
@@ -53,7 +55,8 @@ impl Stage for SessionStage {
     }
 }
 
-// The line `screen R C`, which opens a screen of so many rows and columns on the bundled entry.
+// The line `screen R C NAME ..`, which opens a screen of so many rows and columns on the bundled entry without the texts of these
+// names.
 fn open(
     alloc: Global,
     opened: &mut Option<Recorded>,
@@ -61,7 +64,10 @@ fn open(
     came: &mut Vec<u8>,
 ) -> Result<(), Trouble> {
     let size = read_size(words)?;
-    if Recorded::open_into(alloc, size, opened)? {
+    let Some(entry) = read_entry(alloc, words)? else {
+        return add_word("NoMemory", came);
+    };
+    if Recorded::open_into(alloc, entry, size, opened)? {
         add_word("Ok", came)
     } else {
         add_word("NoMemory", came)
@@ -80,11 +86,14 @@ fn answer_of_opened(
     words: &mut Words<'_>,
     came: &mut Vec<u8>,
 ) -> Result<(), Trouble> {
-    if word == b"session".as_slice() {
-        return opened.add_session(came);
+    match word {
+        b"session" => return opened.add_session(came),
+        b"others" => return write_as_others(alloc, opened, words, came),
+        _ => {}
     }
     if let Some(fails) = read_update(word, words)? {
-        return opened.update(fails, came);
+        let _is_well = opened.update(fails, came)?;
+        return Ok(());
     }
     if let Some(call) = read_call(alloc, word, words)? {
         return opened.call(call, came);
@@ -96,13 +105,26 @@ fn answer_of_opened(
     }
 }
 
-// How the writer fails in the lines `update`, `update_writing K`, `update_stuck K` and `update_flushing`.
+// The line `others TEXT`, a text that others write on the terminal.
+fn write_as_others(
+    alloc: Global,
+    opened: &mut Recorded,
+    words: &mut Words<'_>,
+    came: &mut Vec<u8>,
+) -> Result<(), Trouble> {
+    let mut text = Vec::new(alloc);
+    read_text(words.next(), &mut text)?;
+    opened.others(&text, came)
+}
+
+// How the writer fails in the lines `update`, `update_writing K`, `update_stuck K`, `update_flushing` and `update_failing`.
 fn read_update(word: &[u8], words: &mut Words<'_>) -> Result<Option<Fails>, Trouble> {
     Ok(Some(match word {
         b"update" => Fails::Never,
         b"update_writing" => Fails::Behind(words.number()?),
         b"update_stuck" => Fails::StuckBehind(words.number()?),
         b"update_flushing" => Fails::Flushed,
+        b"update_failing" => Fails::Always,
         _ => return Ok(None),
     }))
 }

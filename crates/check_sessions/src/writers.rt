@@ -16,13 +16,17 @@ pub enum Fails {
     StuckBehind(u32),
     /// When it is flushed, with `Other`.
     Flushed,
+    /// At every call.
+    Always,
 }
 
-/// A writer with a plan for each update: an update ends where a write fails, or with a flush.
+/// A writer with a plan for each update that calls it: an update ends where a write fails, or with a flush.
 #[derive(Drop)]
 pub struct Planned {
     /// What it took.
     pub taken: Vec<u8>,
+    /// How often it was called.
+    pub calls: u64,
     plans: Vec<Fails>,
     // How many updates ended, and how many bytes it took of the one that has not.
     ended: usize,
@@ -34,6 +38,7 @@ impl Planned {
     pub fn new(alloc: Global, room: usize) -> Result<Planned, Trouble> {
         Ok(Planned {
             taken: Vec::with_capacity(alloc, room)?,
+            calls: 0,
             plans: Vec::new(alloc),
             ended: 0,
             count: 0,
@@ -67,17 +72,19 @@ impl Planned {
     fn refuse(&mut self) -> bool {
         let planned = self.planned();
         self.end();
-        matches!(planned, Fails::Behind(_))
+        matches!(planned, Fails::Behind(_) | Fails::Always)
     }
 }
 
 impl Write for Planned {
     fn write(&mut self, piece: &[u8]) -> io::Result<usize> {
+        self.calls = self.calls.saturating_add(1);
         let room = match self.planned() {
             Fails::Behind(bytes) | Fails::StuckBehind(bytes) => {
                 (bytes as usize).saturating_sub(self.count)
             }
             Fails::Never | Fails::Flushed => usize::MAX,
+            Fails::Always => 0,
         };
         if room == 0 && !piece.is_empty() {
             return if self.refuse() {
@@ -93,10 +100,11 @@ impl Write for Planned {
     }
 
     fn flush(&mut self) -> io::Result<()> {
+        self.calls = self.calls.saturating_add(1);
         let planned = self.planned();
         self.end();
         match planned {
-            Fails::Flushed => Err(io::Error::from(ErrorKind::Other)),
+            Fails::Flushed | Fails::Always => Err(io::Error::from(ErrorKind::Other)),
             _ => Ok(()),
         }
     }
