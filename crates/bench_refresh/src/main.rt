@@ -56,11 +56,12 @@ fn take(screen: &mut Screen, windows: [Win; 2], lines: u32, count: u32) -> Resul
     Ok(u64::from(count))
 }
 
-// Brings the terminal to the screen, each time into a new buffer, and adds up the bytes.
+// Paints the whole screen, of which nothing is taken for known, each time into a new buffer, and adds up the bytes.
 fn update(alloc: Global, screen: &mut Screen, count: u32) -> Result<u64> {
     screen.noutrefresh(FIRST)?;
     let mut bytes = 0u64;
     for _ in 0..count {
+        screen.redraw_window(FIRST)?;
         let mut device = Device::new(Vec::new(alloc));
         let Ok(sent) = screen.doupdate(alloc, &mut device) else {
             bail!("the update ended early");

@@ -1,0 +1,72 @@
+#!/bin/sh
+# Counts the processor instructions of an update (doupdate), and of taking a window (noutrefresh) with it, beside ncurses' doupdate and
+# wnoutrefresh, and the bytes that each sends.
+# Windows over the whole screen are taken in turn: with nothing touched, with one character written, and with one line, a third of the
+# lines or all of them touched where the windows differ in every place. Both sides make the same calls, have the same entry (the bundled
+# one, compiled by tic), write into memory, and show the screen already when counting begins. What comes before is counted by itself and
+# taken away: the drawing, and for doupdate alone the taking too.
+# It needs valgrind, a C compiler, libncurses-dev, ncurses' tic, and the program crates/bench_update, which `rt run` builds.
+# Usage: benchmarks/update/run.sh PROGRAM ["ROWS COLUMNS" ..], from the top of the repository.
+set -e
+program=$1
+shift
+[ $# -gt 0 ] || set -- "24 80" "50 132" "100 300" "500 500"
+here=$(dirname "$0")
+folder=$(mktemp -d)
+trap 'rm -rf "$folder"' EXIT
+cc -O2 -o "$folder/update" "$here/update.c" -lncurses -ltinfo
+export TERMINFO="$folder/terminfo"
+tic -o "$TERMINFO" "$here/ecma48.ti"
+
+# The instructions of a command, and behind them what it prints.
+count() {
+    valgrind --tool=callgrind --callgrind-out-file=/dev/null "$@" 2>"$folder/words" >"$folder/printed"
+    echo "$(sed -n 's/.*Collected : //p' "$folder/words") $(cat "$folder/printed")"
+}
+
+# The instructions of ten times, and the bytes that are sent in them, from the difference of 12 times and 2.
+ten() {
+    few=$(count "$@" 2)
+    many=$(count "$@" 12)
+    echo "$((${many% *} - ${few% *})) $((${many#* } - ${few#* }))"
+}
+
+# The quotient of two numbers in hundredths.
+ratio() {
+    hundredths=$((($1 * 100 + $2 / 2) / $2))
+    printf '%d.%02d' $((hundredths / 100)) $((hundredths % 100))
+}
+
+# A tenth of a whole number, with its digit behind the point.
+tenths() { echo "$(($1 / 10)).$(($1 % 10))"; }
+
+# stages PROGRAM WORDS..: what taking and updating together takes, what updating takes alone, and the bytes.
+stages() {
+    side=$1
+    shift
+    drawing=$(ten "$side" draw "$@")
+    taking=$(ten "$side" take "$@")
+    whole=$(ten "$side" update "$@")
+    echo "$((${whole% *} - ${drawing% *})) $((${whole% *} - ${taking% *})) ${whole#* }"
+}
+
+# row WORDS CHANGE ROWS COLUMNS LINES: a line of the table.
+row() {
+    words=$1
+    shift
+    set -- "$words" "$2x$3" $(stages "$program" "$@") $(stages "$folder/update" "$@")
+    sent="-"
+    [ "$8" = 0 ] || sent=$(ratio "$5" "$8")
+    echo "$1 | $2 | $(tenths "$3") | $(tenths "$6") | $(ratio "$3" "$6") | $(tenths "$4") | $(tenths "$7") | $(ratio "$4" "$7") |" \
+        "$(tenths "$5") | $(tenths "$8") | $sent"
+}
+
+echo "change | size | taking and doupdate: ours | ncurses | ratio | doupdate: ours | ncurses | ratio | bytes: ours | ncurses | ratio"
+for size in "$@"; do
+    set -- $size
+    row "nothing" lines "$1" "$2" 0
+    row "one character" character "$1" "$2" 0
+    row "one line" lines "$1" "$2" 1
+    row "a third" lines "$1" "$2" $(($1 / 3))
+    row "everything" lines "$1" "$2" "$1"
+done
