@@ -93,11 +93,21 @@ fn taken(screen: &mut Screen) -> u64 {
     sum
 }
 
-// Reads bytes so often by a screen whose terminal has so many keys.
-fn measure(alloc: Global, keys: u32, bytes: &[u8], count: u32) -> Result<u64> {
+// The bundled entry with so many keys.
+fn entry_of(alloc: Global, keys: u32) -> Result<Entry> {
     let mut entry = bundled(alloc)?;
     set_keys(&mut entry, keys)?;
-    let mut screen = Screen::open(alloc, &entry, Size::new(24, 80))?;
+    Ok(entry)
+}
+
+// A screen whose terminal has so many keys.
+fn opened(alloc: Global, keys: u32) -> Result<Screen> {
+    Ok(Screen::open(alloc, &entry_of(alloc, keys)?, Size::new(24, 80))?)
+}
+
+// Reads bytes so often by a screen whose terminal has so many keys.
+fn measure(alloc: Global, keys: u32, bytes: &[u8], count: u32) -> Result<u64> {
+    let mut screen = opened(alloc, keys)?;
     read_often(&mut screen, bytes, count)
 }
 
