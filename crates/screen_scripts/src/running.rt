@@ -46,11 +46,39 @@ pub fn run<W: Write>(alloc: Global, script: &[u8], raw: bool, out: &mut W) -> Re
     ensures beginning { Begins raw script.now (W.contents out.old) (W.contents out.new) }
 {
     let mut stage = None;
+    run_on(alloc, script, raw, &mut stage, out)
+}
+
+/// The lines of a script's refusals, in order, up to the first bad line. Fails only when memory runs
+/// out.
+pub fn refusals(alloc: Global, script: &[u8]) -> Result<Vec<u8>, NoMemory>
+    ensures { IfOk result (λ text. text.items ≡ refusals_of (story_of script.now).events) }
+{
+    let mut stage = None;
+    refusals_on(alloc, script, &mut stage)
+}
+
+// Runs a script from its first line on: the stage is the caller's, and is not there yet.
+fn run_on<W: Write>(
+    alloc: Global,
+    script: &[u8],
+    raw: bool,
+    stage: &mut Option<Stage>,
+    out: &mut W,
+) -> Result<(), DemoFault>
+    requires { stage.old ≡ None }
+    ensures whole { OnOk result ((story_of script.now).bad_line ≡ None) }
+    ensures written { OnOk result (Writes raw script.now (story_of script.now).events (W.contents out.old) (W.contents out.new)) }
+    ensures bad { (n : ℕ) → IsErrOf result (DemoFault.BadCommand n) → (story_of script.now).bad_line ≡ Some n }
+    ensures before_bad { (n : ℕ) → IsErrOf result (DemoFault.BadCommand n)
+        → Writes raw script.now (story_of script.now).events (W.contents out.old) (W.contents out.new) }
+    ensures beginning { Begins raw script.now (W.contents out.old) (W.contents out.new) }
+{
     let mut rest = script;
     let mut number: u32 = 1;
     while !rest.is_empty() {
         let (line, after) = cut_line(rest);
-        match line_text(alloc, raw, line, &mut stage) {
+        match line_text(alloc, raw, line, stage) {
             Ok(text) => write_text(&text, out)?,
             Err(LineFault::Bad) => {
                 flush(out)?;
@@ -64,17 +92,16 @@ pub fn run<W: Write>(alloc: Global, script: &[u8], raw: bool, out: &mut W) -> Re
     flush(out)
 }
 
-/// The lines of a script's refusals, in order, up to the first bad line. Fails only when memory runs
-/// out.
-pub fn refusals(alloc: Global, script: &[u8]) -> Result<Vec<u8>, NoMemory>
+// The lines of the refusals of a script from its first line on: the stage is the caller's, and is not there yet.
+fn refusals_on(alloc: Global, script: &[u8], stage: &mut Option<Stage>) -> Result<Vec<u8>, NoMemory>
+    requires { stage.old ≡ None }
     ensures { IfOk result (λ text. text.items ≡ refusals_of (story_of script.now).events) }
 {
     let mut text = Vec::new(alloc);
-    let mut stage = None;
     let mut rest = script;
     while !rest.is_empty() {
         let (line, after) = cut_line(rest);
-        match add_refusal(alloc, line, &mut stage, &mut text) {
+        match add_refusal(alloc, line, stage, &mut text) {
             Ok(()) => rest = after,
             Err(LineFault::Bad) => break,
             Err(LineFault::NoMemory) => return Err(NoMemory),

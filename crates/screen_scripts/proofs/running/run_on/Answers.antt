@@ -4,10 +4,12 @@ use Rattle.screen_scripts.specs.Printing.{GrewByBeginning}
 use Rattle.screen_scripts.specs.Showing.{stages_of}
 use Rattle.screen_scripts.specs.Stories.{line_outcome}
 use Rattle.screen_scripts.proofs.RunLaws.{SoFar, nothing_left, so_far_begins, so_far_begun, so_far_ends, so_far_first, so_far_kept, so_far_more, so_far_whole, when_ok}
-use Rattle.screen_scripts.proofs.running.run.Goals as goal
+use Rattle.screen_scripts.proofs.running.run_on.Goals as goal
 
 pub loop-rest-init : goal.loop-rest-init
-loop-rest-init g c = so_far_first c.args.raw c.args.script.now (g.W.Write.contents c.args.out.now)
+loop-rest-init g c =
+    let old = g.W.Write.contents c.args.out.now in
+    subst (λ stage. SoFar c.args.raw c.args.script.now old old 1 stage c.args.script.now) (sym c.requires) (so_far_first c.args.raw c.args.script.now old)
 
 pub loop-rest-preserved : goal.loop-rest-preserved
 loop-rest-preserved g c =

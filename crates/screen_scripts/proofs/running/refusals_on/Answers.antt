@@ -2,12 +2,15 @@ use Rattle.std.proofs.Common.{◌≡◌, ◌∙◌, [], None, rules, subst, sym}
 use Rattle.screen_scripts.specs.Printing.{refusals_of}
 use Rattle.screen_scripts.specs.Showing.{stages_of}
 use Rattle.screen_scripts.specs.Stories.{line_outcome, next_number, story_of}
-use Rattle.screen_scripts.proofs.RunLaws.{nothing_left, refused_all, refused_end, refused_first, refused_more}
-use Rattle.screen_scripts.proofs.running.refusals.Goals as goal
-use Rattle.screen_scripts.proofs.running.refusals.Goals.{else-loop-rest-test, then-loop-rest-test+in-Err-Bad}
+use Rattle.screen_scripts.proofs.RunLaws.{RefusedSoFar, nothing_left, refused_all, refused_end, refused_first, refused_more}
+use Rattle.screen_scripts.proofs.running.refusals_on.Goals as goal
+use Rattle.screen_scripts.proofs.running.refusals_on.Goals.{else-loop-rest-test, then-loop-rest-test+in-Err-Bad}
 
 pub loop-rest-init : goal.loop-rest-init
-loop-rest-init c = (1, refused_first c.args.script.now c.new-text.result.items c.new-text.ensures.items)
+loop-rest-init c = (
+  1,
+  subst (λ stage. RefusedSoFar c.args.script.now 1 stage c.args.script.now c.new-text.result.items) (sym c.requires) (refused_first c.args.script.now c.new-text.result.items c.new-text.ensures.items),
+)
 
 pub loop-rest-preserved : goal.loop-rest-preserved
 loop-rest-preserved c = (
