@@ -4,6 +4,9 @@ ghost use Rattle.curses.specs.Code.Openings.{IsReaderOf, first_screen};
 ghost use Rattle.curses.specs.Opening.{IsOpened, IsUnopened};
 ghost use Rattle.curses.specs.ScreenStates.{HasRoom};
 ghost use Rattle.scr_term.specs.Operations.Admission.{IsAdmitted};
+ghost use Rattle.scr_windows.specs.DeskViews.{first_desk};
+ghost use Rattle.scr_virtual.specs.VirtualViews.{blank_virtual};
+ghost use Rattle.scr_plan.specs.Memories.{unknown};
 
 use crate::faults::OpenFault;
 use crate::screens::Screen;
@@ -41,22 +44,63 @@ impl Screen {
         memory_runs();
         up_to_date_laws();
         blank_laws();
-        let size = profile.size();
-        let Ok(desk) = Desk::new(alloc, size) else {
-            return Err(NoMemory);
-        };
-        let wanted = Virtual::new(alloc, size)?;
-        let memory = Memory::unknown(alloc, size)?;
-        let owed = buffer_for(alloc, &profile)?;
+        let _size = profile.size();
+        let blank = blank_on(alloc, &profile)?;
         Ok(Screen {
-            desk,
-            wanted,
+            desk: blank.surfaces.desk,
+            wanted: blank.surfaces.wanted,
             profile,
-            memory,
-            owed,
+            memory: blank.memory,
+            owed: blank.owed,
             keys,
         })
     }
+}
+
+// The windows and the virtual screen.
+#[derive(Drop)]
+struct Surfaces {
+    desk: Desk,
+    wanted: Virtual,
+}
+
+// What a screen has beside its terminal and its keyboard.
+#[derive(Drop)]
+struct Blank {
+    surfaces: Surfaces,
+    memory: Memory,
+    owed: Vec<u8>,
+}
+
+// What a screen on the terminal of a profile has at first. Fails only when memory runs out.
+fn blank_on(alloc: Global, profile: &Profile) -> Result<Blank, NoMemory>
+    ensures desk { IfOk result (λ blank. blank.surfaces.desk ≡ first_desk profile.now.rows profile.now.columns) }
+    ensures wanted { IfOk result (λ blank. blank.surfaces.wanted ≡ blank_virtual profile.now.rows profile.now.columns) }
+    ensures memory { IfOk result (λ blank. blank.memory ≡ unknown profile.now.rows profile.now.columns) }
+    ensures owed { IfOk result (λ blank. blank.owed.items ≡ []) }
+    ensures room { IfOk result (λ blank. HasRoom profile.now (vec_capacity blank.owed)) }
+{
+    let size = profile.size();
+    let owed = buffer_for(alloc, profile)?;
+    let memory = Memory::unknown(alloc, size)?;
+    let surfaces = surfaces_of(alloc, size)?;
+    Ok(Blank {
+        surfaces,
+        memory,
+        owed,
+    })
+}
+
+// One window over a screen of a size, and a blank virtual screen. Fails only when memory runs out.
+fn surfaces_of(alloc: Global, size: Size) -> Result<Surfaces, NoMemory>
+    ensures desk { IfOk result (λ surfaces. surfaces.desk ≡ first_desk size.rows size.columns) }
+    ensures wanted { IfOk result (λ surfaces. surfaces.wanted ≡ blank_virtual size.rows size.columns) }
+{
+    let Ok(desk) = Desk::new(alloc, size) else {
+        return Err(NoMemory);
+    };
+    let wanted = Virtual::new(alloc, size)?;
+    Ok(Surfaces { desk, wanted })
 }
 
 // A buffer with room for the text of each operation. Fails only when memory runs out.

@@ -1,11 +1,11 @@
 //! What a program sends to a terminal before its first update and behind its last. The definitions are in
 //! `specs/Texts.antt`.
-ghost use Rattle.std.specs.Prelude.{◌≡◌, ◌++◌, ◌≤◌, [], IfErr, IfOk, IfSome, OnOk, false, option_map, true};
+ghost use Rattle.std.specs.Prelude.{◌≡◌, ◌++◌, ◌∷◌, ◌≤◌, [], IfErr, IfOk, IfSome, OnOk, option_map};
 ghost use Rattle.ti_param.specs.Parsed.{parsed};
 ghost use Rattle.ti_param.specs.Tree.{depth};
-ghost use Rattle.scr_term.specs.Operations.Admission.{is_over_bound};
+ghost use Rattle.scr_term.specs.Operations.Admission.{first_some};
 ghost use Rattle.scr_term.specs.Operations.Texts.{nine, written};
-ghost use Rattle.curses.specs.Code.Texts.{Judges};
+ghost use Rattle.curses.specs.Code.Texts.{Judges, long_program};
 ghost use Rattle.curses.specs.Texts.{AreRefused, AreTexts, IsClosingText, IsNoClosingText, IsNoOpeningText, IsOpeningText, bad_text, long_text, plain_text, text_program};
 
 use crate::faults::OpenFault;
@@ -56,11 +56,27 @@ fn two_texts(alloc: Global, entry: &Entry, first: Slot, second: Slot) -> Result<
 {
     let begin = text_program(alloc, entry, first)?;
     let end = text_program(alloc, entry, second)?;
-    is_short(&begin, first)?;
-    is_short(&end, second)?;
+    both(alloc, &begin, first, &end, second)
+}
+
+// What one program gives, and then what another does, where all parameters and variables are 0 and neither can give too many bytes.
+fn both(
+    alloc: Global,
+    begin: &Option<Program>,
+    first: Slot,
+    end: &Option<Program>,
+    second: Slot,
+) -> Result<Bytes, OpenFault>
+    requires begin { IfSome begin.now (λ p. depth p ≤ 20) }
+    requires end { IfSome end.now (λ p. depth p ≤ 20) }
+    ensures bytes { IfOk result (λ bytes. bytes ≡ written begin.now (nine []) ++ written end.now (nine [])) }
+    ensures judged { Judges result (first_some (long_program begin.now first ∷ long_program end.now second ∷ [])) }
+{
+    is_short(begin, first)?;
+    is_short(end, second)?;
     let mut bytes = Vec::new(alloc);
-    append(&begin, &mut bytes)?;
-    append(&end, &mut bytes)?;
+    append(begin, &mut bytes)?;
+    append(end, &mut bytes)?;
     Ok(Bytes(bytes))
 }
 
@@ -106,8 +122,7 @@ fn parsed_program(alloc: Global, text: &[u8]) -> Result<Option<Program>, NoMemor
 
 // A program cannot give too many bytes; an absent one gives none.
 fn is_short(program: &Option<Program>, slot: Slot) -> Result<(), OpenFault>
-    ensures ok { OnOk result (is_over_bound program.now ≡ false) }
-    ensures err { IfErr result (λ fault. (is_over_bound program.now ≡ true) × (fault ≡ OpenFault.Profile (ProfileFault.LongString (Kind.Text, slot)))) }
+    ensures { Judges result (long_program program.now slot) }
 {
     match program {
         Some(program) if program.bound() > MOST_BYTES => Err(OpenFault::Profile(
