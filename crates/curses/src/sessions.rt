@@ -60,9 +60,24 @@ pub fn session<W: Counted>(
     ensures err { IfErr result (IsUnopened entry.now size) }
     ensures untouched { OnErr result (out.new ≡ out.old) }
 {
-    let mut screen = Screen::open(alloc, entry, size)?;
-    let report = screen.make_all(alloc, calls, out)?;
-    Ok(report)
+    let screen = Screen::open(alloc, entry, size)?;
+    made_on(screen, alloc, calls, out)
+}
+
+// Makes calls one after another on a screen that was just opened, and lets go of it. Fails only when memory runs out for the
+// answers, before the first call.
+fn made_on<W: Counted>(
+    mut screen: Screen,
+    alloc: Global,
+    calls: &[Call],
+    out: &mut W,
+) -> Result<Report, OpenFault>
+    requires { IsFresh screen }
+    ensures ok { IfOk result (AreMade screen.profile calls.now (W.told out.old) (W.told out.new)) }
+    ensures err { IfErr result (λ fault. fault ≡ OpenFault.NoMemory) }
+    ensures untouched { OnErr result (out.new ≡ out.old) }
+{
+    screen.report(alloc, calls, out)
 }
 
 impl Screen {
@@ -89,6 +104,22 @@ impl Screen {
 }
 
 impl Screen {
+    // Makes calls as `make_all` does; want of memory is the fault that an opening has for it.
+    fn report<W: Counted>(
+        &mut self,
+        alloc: Global,
+        calls: &[Call],
+        out: &mut W,
+    ) -> Result<Report, OpenFault>
+        requires { IsFresh self.old }
+        ensures ok { IfOk result (AreMade self.old.profile calls.now (W.told out.old) (W.told out.new)) }
+        ensures err { IfErr result (λ fault. fault ≡ OpenFault.NoMemory) }
+        ensures untouched { OnErr result (out.new ≡ out.old) }
+    {
+        let report = self.make_all(alloc, calls, out)?;
+        Ok(report)
+    }
+
     // Makes calls one after another on a screen that was just opened. Fails only when memory runs out for the answers, before
     // the first call.
     fn make_all<W: Counted>(
