@@ -14,7 +14,7 @@ invariant_of-self c =
         desk_rows = c.self.invariant.0.desk_rows;
         desk_columns = c.self.invariant.0.desk_columns;
         memory = subst (λ memory. IsRemembered c.self.inside.profile memory c.mark.new.self) (sym c.disturb.ensures)
-            (remembers_disturbed c.up_to_date_laws.ensures c.memory_laws.ensures c.self.inside.profile c.self.inside.memory c.mark.new.self c.in_ok-row.row c.in_ok-row.count held);
+            (remembers_disturbed c.up_to_date_laws.ensures c.memory_laws.ensures c.self.inside.profile c.self.inside.memory c.mark.new.self _ _ held);
       },
       c.self.invariant.1,
     )
