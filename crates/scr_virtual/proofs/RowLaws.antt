@@ -113,14 +113,14 @@ settled_now picture repaint changed lent new v first end is others lent_is new_i
     let ranges = settled_ranges picture repaint changed lent new v first end is others lent_is new_is in
     (λ i. record { picture = picture; repaint = false; changed = ranges i }) ∙ sym (ap settled is)
 
-pub settled_now_is_virtual : {Z : Type 0} (picture : PictureView) (repaint : Bool) (changed : Vec Range Z) (lent new : List Range) (v : VirtualView) (first end : ℕ) → v ≡ record { picture = picture; repaint = repaint; changed = changed.items } → NoneOutside v first end
+pub settled_now_is_virtual : {Z : Type 0} (picture : PictureView) (repaint after : Bool) (changed : Vec Range Z) (lent new : List Range) (v : VirtualView) (first end : ℕ) → v ≡ record { picture = picture; repaint = repaint; changed = changed.items } → NoneOutside v first end
     → lent ≡ changed.items → new ≡ ranges_with (λ r. leb first r && ltb r end) (λ _. None) lent → IsVirtual (record { picture = picture; repaint = repaint; changed = changed.items })
-    → IsVirtual (record { picture = picture; repaint = false; changed = (with_items changed new).items }) × HoldRanges None (with_items changed new).items
-settled_now_is_virtual picture repaint changed lent new v first end is others lent_is new_is h =
+    → IsVirtual (record { picture = picture; repaint = after; changed = (with_items changed new).items }) × HoldRanges None (with_items changed new).items
+settled_now_is_virtual picture repaint after changed lent new v first end is others lent_is new_is h =
     let none : Range = None in
     let count : ℕ = length changed.items in
     let ranges = settled_ranges picture repaint changed lent new v first end is others lent_is new_is in
-    let P : List Range → Type 0 = λ xs. IsVirtual (record { picture = picture; repaint = false; changed = xs }) × HoldRanges None xs in
+    let P : List Range → Type 0 = λ xs. IsVirtual (record { picture = picture; repaint = after; changed = xs }) × HoldRanges None xs in
     subst P (sym ranges) (
       record {
         picture = h.picture;
