@@ -17,15 +17,15 @@ const MOST: usize = 9;
 /// or an update.
 pub fn read_call(
     alloc: Global,
-    word: &[u8],
+    word: &str,
     words: &mut Words<'_>,
 ) -> Result<Option<Call>, Trouble> {
     match word {
-        b"add_text" => read_add_text(alloc, words),
-        b"add_byte" | b"insert_byte" | b"line_across" | b"line_down" => read_byte(word, words),
-        b"border" => read_border(words),
-        b"scroll" | b"insert_delete_lines" => read_signed(word, words),
-        b"set_background" | b"change_background" => read_background(word, words),
+        "add_text" => read_add_text(alloc, words),
+        "add_byte" | "insert_byte" | "line_across" | "line_down" => read_byte(word, words),
+        "border" => read_border(words),
+        "scroll" | "insert_delete_lines" => read_signed(word, words),
+        "set_background" | "change_background" => read_background(word, words),
         _ => read_numbered(word, words),
     }
 }
@@ -41,13 +41,13 @@ fn read_add_text(alloc: Global, words: &mut Words<'_>) -> Result<Option<Call>, T
     Ok(Some(Call::AddText(win, Bytes(text))))
 }
 
-fn read_byte(word: &[u8], words: &mut Words<'_>) -> Result<Option<Call>, Trouble> {
+fn read_byte(word: &str, words: &mut Words<'_>) -> Result<Option<Call>, Trouble> {
     let (win, byte, number) = (read_win(words)?, words.byte()?, words.number()?);
     let attrs = Attrs(u8::try_from(number).unwrap_or(u8::MAX));
     Ok(Some(match word {
-        b"add_byte" => Call::AddByte(win, byte, attrs),
-        b"insert_byte" => Call::InsertByte(win, byte, attrs),
-        b"line_across" => Call::LineAcross(win, byte, number),
+        "add_byte" => Call::AddByte(win, byte, attrs),
+        "insert_byte" => Call::InsertByte(win, byte, attrs),
+        "line_across" => Call::LineAcross(win, byte, number),
         _ => Call::LineDown(win, byte, number),
     }))
 }
@@ -61,25 +61,25 @@ fn read_border(words: &mut Words<'_>) -> Result<Option<Call>, Trouble> {
     Ok(Some(Call::Border(win, bytes)))
 }
 
-fn read_signed(word: &[u8], words: &mut Words<'_>) -> Result<Option<Call>, Trouble> {
+fn read_signed(word: &str, words: &mut Words<'_>) -> Result<Option<Call>, Trouble> {
     let win = read_win(words)?;
     let Ok(number) = i32::try_from(words.integer()?) else {
         return Err(Trouble::Bad("a number is out of range"));
     };
-    Ok(Some(if word == b"scroll".as_slice() {
+    Ok(Some(if word == "scroll" {
         Call::Scroll(win, number)
     } else {
         Call::InsertDeleteLines(win, number)
     }))
 }
 
-fn read_background(word: &[u8], words: &mut Words<'_>) -> Result<Option<Call>, Trouble> {
+fn read_background(word: &str, words: &mut Words<'_>) -> Result<Option<Call>, Trouble> {
     let win = read_win(words)?;
     let (byte, attrs, pair) = read_parts(words)?;
     let Some(cell) = Cell::paired(byte, attrs, pair) else {
         return Err(Trouble::Bad("no cell"));
     };
-    Ok(Some(if word == b"set_background".as_slice() {
+    Ok(Some(if word == "set_background" {
         Call::SetBackground(win, cell)
     } else {
         Call::ChangeBackground(win, cell)
@@ -87,7 +87,7 @@ fn read_background(word: &[u8], words: &mut Words<'_>) -> Result<Option<Call>, T
 }
 
 // Reads a call whose arguments are numbers.
-fn read_numbered(word: &[u8], words: &mut Words<'_>) -> Result<Option<Call>, Trouble> {
+fn read_numbered(word: &str, words: &mut Words<'_>) -> Result<Option<Call>, Trouble> {
     let count = count_of(word);
     if count == 0 {
         return Ok(None);
@@ -103,20 +103,20 @@ fn read_numbered(word: &[u8], words: &mut Words<'_>) -> Result<Option<Call>, Tro
 }
 
 // How many numbers a call has; 0 where no such call has numbers alone.
-fn count_of(word: &[u8]) -> usize {
+fn count_of(word: &str) -> usize {
     match word {
-        b"delete" | b"touch_window" | b"untouch" | b"sync_up" | b"sync_down" => 1,
-        b"clear_to_eol" | b"clear_to_bottom" | b"erase" | b"clear" | b"delete_byte" => 1,
-        b"cursor" | b"size" | b"origin" | b"window_touched" | b"redraw_window" => 1,
-        b"noutrefresh" => 1,
-        b"new_pad" | b"overlay" | b"overwrite" | b"scroll_ok" | b"clear_ok" | b"leave_ok" => 2,
-        b"attr_on" | b"attr_off" | b"attr_set" | b"color_set" | b"line_touched" => 2,
-        b"move_window" | b"move_derived" | b"move_cursor" | b"set_region" | b"cell_at" => 3,
-        b"redraw_lines" | b"set_pair" => 3,
-        b"new_window" | b"touch_lines" => 4,
-        b"derive" | b"sub" | b"sub_pad" => 5,
-        b"pad_noutrefresh" => 7,
-        b"copy" => 9,
+        "delete" | "touch_window" | "untouch" | "sync_up" | "sync_down" => 1,
+        "clear_to_eol" | "clear_to_bottom" | "erase" | "clear" | "delete_byte" => 1,
+        "cursor" | "size" | "origin" | "window_touched" | "redraw_window" => 1,
+        "noutrefresh" => 1,
+        "new_pad" | "overlay" | "overwrite" | "scroll_ok" | "clear_ok" | "leave_ok" => 2,
+        "attr_on" | "attr_off" | "attr_set" | "color_set" | "line_touched" => 2,
+        "move_window" | "move_derived" | "move_cursor" | "set_region" | "cell_at" => 3,
+        "redraw_lines" | "set_pair" => 3,
+        "new_window" | "touch_lines" => 4,
+        "derive" | "sub" | "sub_pad" => 5,
+        "pad_noutrefresh" => 7,
+        "copy" => 9,
         _ => 0,
     }
 }
@@ -131,82 +131,82 @@ fn read_numbers(words: &mut Words<'_>, count: usize) -> Result<[u32; MOST], Trou
 }
 
 // Calls that take memory.
-fn making(word: &[u8], numbers: [u32; MOST]) -> Option<Call> {
+fn making(word: &str, numbers: [u32; MOST]) -> Option<Call> {
     let [a, b, c, d, e, f, g, h, i] = numbers;
     Some(match word {
-        b"new_window" => Call::NewWindow(a, b, c, d),
-        b"new_pad" => Call::NewPad(a, b),
-        b"derive" => Call::Derive(Win(a), b, c, d, e),
-        b"sub" => Call::Sub(Win(a), b, c, d, e),
-        b"sub_pad" => Call::SubPad(Win(a), b, c, d, e),
-        b"copy" => Call::Copy(Win(a), Win(b), c, d, e, f, g, h, i != 0),
-        b"overlay" => Call::Overlay(Win(a), Win(b)),
-        b"overwrite" => Call::Overwrite(Win(a), Win(b)),
+        "new_window" => Call::NewWindow(a, b, c, d),
+        "new_pad" => Call::NewPad(a, b),
+        "derive" => Call::Derive(Win(a), b, c, d, e),
+        "sub" => Call::Sub(Win(a), b, c, d, e),
+        "sub_pad" => Call::SubPad(Win(a), b, c, d, e),
+        "copy" => Call::Copy(Win(a), Win(b), c, d, e, f, g, h, i != 0),
+        "overlay" => Call::Overlay(Win(a), Win(b)),
+        "overwrite" => Call::Overwrite(Win(a), Win(b)),
         _ => return None,
     })
 }
 
 // Calls that move windows or touch lines.
-fn placing(word: &[u8], numbers: [u32; MOST]) -> Option<Call> {
+fn placing(word: &str, numbers: [u32; MOST]) -> Option<Call> {
     let [a, b, c, d, ..] = numbers;
     Some(match word {
-        b"delete" => Call::Delete(Win(a)),
-        b"move_window" => Call::MoveWindow(Win(a), b, c),
-        b"move_derived" => Call::MoveDerived(Win(a), b, c),
-        b"touch_window" => Call::TouchWindow(Win(a)),
-        b"untouch" => Call::Untouch(Win(a)),
-        b"touch_lines" => Call::TouchLines(Win(a), b, c, d != 0),
-        b"sync_up" => Call::SyncUp(Win(a)),
-        b"sync_down" => Call::SyncDown(Win(a)),
+        "delete" => Call::Delete(Win(a)),
+        "move_window" => Call::MoveWindow(Win(a), b, c),
+        "move_derived" => Call::MoveDerived(Win(a), b, c),
+        "touch_window" => Call::TouchWindow(Win(a)),
+        "untouch" => Call::Untouch(Win(a)),
+        "touch_lines" => Call::TouchLines(Win(a), b, c, d != 0),
+        "sync_up" => Call::SyncUp(Win(a)),
+        "sync_down" => Call::SyncDown(Win(a)),
         _ => return None,
     })
 }
 
-fn setting(word: &[u8], numbers: [u32; MOST]) -> Option<Call> {
+fn setting(word: &str, numbers: [u32; MOST]) -> Option<Call> {
     let [a, b, c, ..] = numbers;
     let attrs = Attrs(u8::try_from(b).unwrap_or(u8::MAX));
     Some(match word {
-        b"move_cursor" => Call::MoveCursor(Win(a), b, c),
-        b"set_region" => Call::SetRegion(Win(a), b, c),
-        b"scroll_ok" => Call::ScrollOk(Win(a), b != 0),
-        b"clear_ok" => Call::ClearOk(Win(a), b != 0),
-        b"leave_ok" => Call::LeaveOk(Win(a), b != 0),
-        b"attr_on" => Call::AttrOn(Win(a), attrs),
-        b"attr_off" => Call::AttrOff(Win(a), attrs),
-        b"attr_set" => Call::AttrSet(Win(a), attrs),
-        b"color_set" => Call::ColorSet(Win(a), b),
+        "move_cursor" => Call::MoveCursor(Win(a), b, c),
+        "set_region" => Call::SetRegion(Win(a), b, c),
+        "scroll_ok" => Call::ScrollOk(Win(a), b != 0),
+        "clear_ok" => Call::ClearOk(Win(a), b != 0),
+        "leave_ok" => Call::LeaveOk(Win(a), b != 0),
+        "attr_on" => Call::AttrOn(Win(a), attrs),
+        "attr_off" => Call::AttrOff(Win(a), attrs),
+        "attr_set" => Call::AttrSet(Win(a), attrs),
+        "color_set" => Call::ColorSet(Win(a), b),
         _ => return None,
     })
 }
 
 // Calls that erase, or read.
-fn plain(word: &[u8], numbers: [u32; MOST]) -> Option<Call> {
+fn plain(word: &str, numbers: [u32; MOST]) -> Option<Call> {
     let [a, b, c, ..] = numbers;
     Some(match word {
-        b"clear_to_eol" => Call::ClearToEol(Win(a)),
-        b"clear_to_bottom" => Call::ClearToBottom(Win(a)),
-        b"erase" => Call::Erase(Win(a)),
-        b"clear" => Call::Clear(Win(a)),
-        b"delete_byte" => Call::DeleteByte(Win(a)),
-        b"cell_at" => Call::CellAt(Win(a), b, c),
-        b"cursor" => Call::Cursor(Win(a)),
-        b"size" => Call::Size(Win(a)),
-        b"origin" => Call::Origin(Win(a)),
-        b"line_touched" => Call::LineTouched(Win(a), b),
-        b"window_touched" => Call::WindowTouched(Win(a)),
+        "clear_to_eol" => Call::ClearToEol(Win(a)),
+        "clear_to_bottom" => Call::ClearToBottom(Win(a)),
+        "erase" => Call::Erase(Win(a)),
+        "clear" => Call::Clear(Win(a)),
+        "delete_byte" => Call::DeleteByte(Win(a)),
+        "cell_at" => Call::CellAt(Win(a), b, c),
+        "cursor" => Call::Cursor(Win(a)),
+        "size" => Call::Size(Win(a)),
+        "origin" => Call::Origin(Win(a)),
+        "line_touched" => Call::LineTouched(Win(a), b),
+        "window_touched" => Call::WindowTouched(Win(a)),
         _ => return None,
     })
 }
 
 // Calls that say what is to be shown.
-fn taking(word: &[u8], numbers: [u32; MOST]) -> Option<Call> {
+fn taking(word: &str, numbers: [u32; MOST]) -> Option<Call> {
     let [a, b, c, d, e, f, g, ..] = numbers;
     Some(match word {
-        b"redraw_window" => Call::RedrawWindow(Win(a)),
-        b"redraw_lines" => Call::RedrawLines(Win(a), b, c),
-        b"set_pair" => Call::SetPair(a, b, c),
-        b"noutrefresh" => Call::Noutrefresh(Win(a)),
-        b"pad_noutrefresh" => Call::PadNoutrefresh(Win(a), b, c, d, e, f, g),
+        "redraw_window" => Call::RedrawWindow(Win(a)),
+        "redraw_lines" => Call::RedrawLines(Win(a), b, c),
+        "set_pair" => Call::SetPair(a, b, c),
+        "noutrefresh" => Call::Noutrefresh(Win(a)),
+        "pad_noutrefresh" => Call::PadNoutrefresh(Win(a), b, c, d, e, f, g),
         _ => return None,
     })
 }

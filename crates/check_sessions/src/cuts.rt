@@ -39,6 +39,16 @@ struct Whole {
     repaint: Text,
 }
 
+impl Whole {
+    fn new(alloc: Global) -> Whole {
+        Whole {
+            before: Text::new(alloc),
+            update: Text::new(alloc),
+            repaint: Text::new(alloc),
+        }
+    }
+}
+
 // How many operations of an update are begun that is cut, and how many bytes of it are sent by it and the next one first.
 #[derive(Clone, Copy)]
 struct Cut {
@@ -69,12 +79,34 @@ pub fn check_cuts(
     if !matches!(words.peek(), b"" | b"=") {
         read_text(words.next(), &mut text)?;
     }
-    let Some(whole) = whole_update(alloc, tried, &text)? else {
+    check_all(alloc, tried, count, &text, came)
+}
+
+// Cuts behind 0, 1 .. bytes, up to so many.
+fn check_all(
+    alloc: Global,
+    tried: &mut Option<Recorded>,
+    count: u32,
+    text: &[u8],
+    came: &mut Vec<u8>,
+) -> Result<(), Trouble> {
+    let mut whole = Whole::new(alloc);
+    if !make_whole(alloc, tried, text, &mut whole)? {
         return add_word("NoMemory", came);
-    };
+    }
+    check_each(alloc, tried, count, text, &whole, came)
+}
+
+fn check_each(
+    alloc: Global,
+    tried: &mut Option<Recorded>,
+    count: u32,
+    text: &[u8],
+    whole: &Whole,
+    came: &mut Vec<u8>,
+) -> Result<(), Trouble> {
     for behind in 0..count {
-        let verdict = check_both(alloc, tried, &text, &whole, behind, came)?;
-        match verdict {
+        match check_both(alloc, tried, text, whole, behind, came)? {
             Verdict::Agrees => {}
             Verdict::Differs => return add_number(i64::from(behind), came),
             Verdict::NoMemory => return add_word("NoMemory", came),
@@ -108,7 +140,6 @@ fn check_cut(
     stuck: bool,
     came: &mut Vec<u8>,
 ) -> Result<Verdict, Trouble> {
-    let cut = cut_at(&whole.update.ends, behind as usize);
     let (fails, kind) = if stuck {
         (Fails::StuckBehind(behind), "WriteZero")
     } else {
@@ -121,13 +152,26 @@ fn check_cut(
     if !update_twice(opened, fails, &mut answers)? {
         return Ok(Verdict::NoMemory);
     }
-    let mut wanted = Vec::new(alloc);
-    add_wanted(whole, cut, behind, kind, &mut wanted)?;
-    if answers.as_slice() == wanted.as_slice() && is_sent(&opened.sent, whole, cut.end) {
+    if is_wanted(alloc, &opened.sent, whole, behind, kind, &answers)? {
         return Ok(Verdict::Agrees);
     }
     came.extend_from_slice(&answers)?;
     Ok(Verdict::Differs)
+}
+
+// Whether the two updates sent and answered what they have to.
+fn is_wanted(
+    alloc: Global,
+    sent: &[u8],
+    whole: &Whole,
+    behind: u32,
+    kind: &str,
+    answers: &[u8],
+) -> Result<bool, Trouble> {
+    let cut = cut_at(&whole.update.ends, behind as usize);
+    let mut wanted = Vec::new(alloc);
+    add_wanted(whole, cut, behind, kind, &mut wanted)?;
+    Ok(answers == wanted.as_slice() && is_sent(sent, whole, cut.end))
 }
 
 // Updates with a writer that fails and then with one that doesn't, and tells whether there was memory for both.
@@ -231,51 +275,54 @@ fn write(alloc: Global, opened: &mut Recorded, text: &[u8]) -> Result<(), Troubl
     opened.call(Call::Noutrefresh(Win(0)), &mut answers)
 }
 
-// What the uncut update sends, and what is sent before and behind it; `None` where the library was refused memory.
-fn whole_update(
+// Adds what the uncut update sends, and what is sent before and behind it, and tells whether there was memory for it.
+fn make_whole(
     alloc: Global,
     tried: &mut Option<Recorded>,
     text: &[u8],
-) -> Result<Option<Whole>, Trouble> {
+    whole: &mut Whole,
+) -> Result<bool, Trouble> {
     let Some(opened) = open_example(alloc, tried, b"")? else {
-        return Ok(None);
+        return Ok(false);
     };
     let Ok(mut memory) = Memory::unknown(alloc, opened.profile.size()) else {
-        return Ok(None);
+        return Ok(false);
     };
-    let mut before = Text::new(alloc);
-    if !text.is_empty() {
-        let Some(first) = next_text(alloc, opened, &mut memory)? else {
-            return Ok(None);
-        };
-        before = first;
-        write(alloc, opened, text)?;
-    }
-    let Some(update) = next_text(alloc, opened, &mut memory)? else {
-        return Ok(None);
-    };
-    memory.forget();
-    let Some(repaint) = next_text(alloc, opened, &mut memory)? else {
-        return Ok(None);
-    };
-    Ok(Some(Whole {
-        before,
-        update,
-        repaint,
-    }))
+    add_texts(alloc, opened, text, &mut memory, whole)
 }
 
-// What brings a terminal of which this is remembered to the picture of a screen, and is remembered then; `None` where the library
-// was refused memory.
-fn next_text(
+fn add_texts(
+    alloc: Global,
+    opened: &mut Recorded,
+    text: &[u8],
+    memory: &mut Memory,
+    whole: &mut Whole,
+) -> Result<bool, Trouble> {
+    if !text.is_empty() {
+        if !add_next(alloc, opened, memory, &mut whole.before)? {
+            return Ok(false);
+        }
+        write(alloc, opened, text)?;
+    }
+    if !add_next(alloc, opened, memory, &mut whole.update)? {
+        return Ok(false);
+    }
+    memory.forget();
+    add_next(alloc, opened, memory, &mut whole.repaint)
+}
+
+// Adds what brings a terminal of which this is remembered to the picture of a screen, and is remembered then; tells whether there
+// was memory for it.
+fn add_next(
     alloc: Global,
     opened: &Recorded,
     memory: &mut Memory,
-) -> Result<Option<Text>, Trouble> {
+    text: &mut Text,
+) -> Result<bool, Trouble> {
     let profile = &opened.profile;
     match plan(alloc, profile, memory, opened.screen.picture())? {
-        Some(ops) => render_all(alloc, profile, &ops),
-        None => Ok(None),
+        Some(ops) => render_all(profile, &ops, text),
+        None => Ok(false),
     }
 }
 
@@ -304,15 +351,15 @@ fn plan(
     Ok(Some(ops))
 }
 
-fn render_all(alloc: Global, profile: &Profile, ops: &Ops) -> Result<Option<Text>, Trouble> {
-    let mut text = Text::new(alloc);
+// Adds the texts of operations, and tells whether there was memory for them.
+fn render_all(profile: &Profile, ops: &Ops, text: &mut Text) -> Result<bool, Trouble> {
     for op in &ops.0 {
         if !render(profile, *op, &mut text.bytes)? {
-            return Ok(None);
+            return Ok(false);
         }
         text.ends.push(text.bytes.len())?;
     }
-    Ok(Some(text))
+    Ok(true)
 }
 
 // Adds the text of an operation, and tells whether there was memory for it.

@@ -49,33 +49,34 @@ impl Recorded {
         size: Size,
         opened: &mut Option<Recorded>,
     ) -> Result<bool, Trouble> {
-        let Ok(emulated) = EcmaScreen::new(alloc, size) else {
-            return Ok(false);
-        };
-        let Some(profile) = admit(alloc, &entry, size)? else {
-            return Ok(false);
-        };
-        let writer = Planned::new(alloc, ROOM)?;
-        let left = Left::unknown(alloc, size)?;
-        let Some(screen) = open_screen(alloc, &entry, size)? else {
-            return Ok(false);
-        };
-        *opened = Some(Recorded {
+        match open_display(alloc, &entry, size)? {
+            Some(display) => add_screen(alloc, entry, size, display, opened),
+            None => Ok(false),
+        }
+    }
+
+    fn begun(
+        alloc: Global,
+        entry: Entry,
+        size: Size,
+        display: Display,
+        screen: Screen,
+    ) -> Recorded {
+        Recorded {
             alloc,
             size,
             entry,
-            profile,
+            profile: display.profile,
             screen,
-            emulated,
-            left,
-            device: Device::new(writer),
+            emulated: display.emulated,
+            left: display.left,
+            device: Device::new(display.writer),
             calls: Vec::new(alloc),
             answers: Vec::new(alloc),
             sent: Vec::new(alloc),
             last_ok: false,
             answer: Vec::new(alloc),
-        });
-        Ok(true)
+        }
     }
 
     /// Makes a call other than an update, and adds what it answers.
@@ -138,14 +139,33 @@ impl Recorded {
     // Makes the call, keeps it with its answer unless memory ran out, and adds the answer.
     fn make(&mut self, call: Call, came: &mut Vec<u8>) -> Result<Answer, Trouble> {
         let answer = self.screen.make(self.alloc, &call, &mut self.device);
-        self.answer.clear();
-        add_answer(&answer, &mut self.answer)?;
-        came.extend_from_slice(&self.answer)?;
-        if !ran_out(&answer) {
-            self.answers.extend_from_slice(&self.answer)?;
+        self.keep(call, &answer, came)?;
+        Ok(answer)
+    }
+
+    fn keep(&mut self, call: Call, answer: &Answer, came: &mut Vec<u8>) -> Result<(), Trouble> {
+        let ran_out = ran_out(answer);
+        self.add_kept(answer, ran_out, came)?;
+        if !ran_out {
             self.calls.push(call)?;
         }
-        Ok(answer)
+        Ok(())
+    }
+
+    // Adds an answer, here too unless memory ran out.
+    fn add_kept(
+        &mut self,
+        answer: &Answer,
+        ran_out: bool,
+        came: &mut Vec<u8>,
+    ) -> Result<(), Trouble> {
+        self.answer.clear();
+        add_answer(answer, &mut self.answer)?;
+        came.extend_from_slice(&self.answer)?;
+        if !ran_out {
+            self.answers.extend_from_slice(&self.answer)?;
+        }
+        Ok(())
     }
 
     // Feeds the terminal what the writer took, and tells whether that is defined.
@@ -218,20 +238,56 @@ fn may_paint_all(screen: &Screen, call: &Call) -> bool {
     }
 }
 
-// The operations of an entry's terminal; `None` where the library was refused memory.
-fn admit(alloc: Global, entry: &Entry, size: Size) -> Result<Option<Profile>, Trouble> {
+// A terminal, before anything was sent to it.
+#[derive(Drop)]
+struct Display {
+    profile: Profile,
+    emulated: EcmaScreen,
+    left: Left,
+    writer: Planned,
+}
+
+// The terminal of an entry; `None` where the library was refused memory.
+fn open_display(alloc: Global, entry: &Entry, size: Size) -> Result<Option<Display>, Trouble> {
+    let Ok(emulated) = EcmaScreen::new(alloc, size) else {
+        return Ok(None);
+    };
     match Profile::admit(alloc, entry, Some(size)) {
-        Ok(profile) => Ok(Some(profile)),
+        Ok(profile) => Ok(Some(blank_display(alloc, size, profile, emulated)?)),
         Err(ProfileFault::NoMemory) => Ok(None),
         Err(_) => Err(Trouble::Bad("no profile")),
     }
 }
 
-// A screen on an entry; `None` where the library was refused memory.
-fn open_screen(alloc: Global, entry: &Entry, size: Size) -> Result<Option<Screen>, Trouble> {
-    match Screen::open(alloc, entry, Some(size)) {
-        Ok(screen) => Ok(Some(screen)),
-        Err(OpenFault::NoMemory) => Ok(None),
+fn blank_display(
+    alloc: Global,
+    size: Size,
+    profile: Profile,
+    emulated: EcmaScreen,
+) -> Result<Display, Trouble> {
+    let writer = Planned::new(alloc, ROOM)?;
+    Ok(Display {
+        profile,
+        emulated,
+        left: Left::unknown(alloc, size)?,
+        writer,
+    })
+}
+
+// Opens a screen on the terminal of an entry, and tells whether there was memory for it.
+fn add_screen(
+    alloc: Global,
+    entry: Entry,
+    size: Size,
+    display: Display,
+    opened: &mut Option<Recorded>,
+) -> Result<bool, Trouble> {
+    match Screen::open(alloc, &entry, Some(size)) {
+        Ok(screen) => {
+            *opened = Some(Recorded::begun(alloc, entry, size, display, screen));
+            Ok(true)
+        }
+        Err(OpenFault::NoMemory) => Ok(false),
         Err(_) => Err(Trouble::Bad("no profile")),
     }
 }

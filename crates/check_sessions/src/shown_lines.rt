@@ -15,17 +15,17 @@ use std::alloc::Global;
 pub fn answer_of_shown(
     alloc: Global,
     opened: &Recorded,
-    word: &[u8],
+    word: &str,
     words: &mut Words<'_>,
     came: &mut Vec<u8>,
 ) -> Result<bool, Trouble> {
     match word {
-        b"shown_rows" => add_rows(alloc, &opened.emulated, came)?,
-        b"shown_cursor" => add_spot(opened.emulated.spot(), came)?,
-        b"shown" => add_shown(&opened.emulated, words, came)?,
-        b"picture_rows" => add_picture_rows(opened.screen.picture(), came)?,
-        b"picture_at" => add_picture_at(opened.screen.picture(), words, came)?,
-        b"wish" => add_wish(opened.screen.picture(), came)?,
+        "shown_rows" => add_rows(alloc, &opened.emulated, came)?,
+        "shown_cursor" => add_spot(opened.emulated.spot(), came)?,
+        "shown" => add_shown(&opened.emulated, words, came)?,
+        "picture_rows" => add_picture_rows(opened.screen.picture(), came)?,
+        "picture_at" => add_picture_at(opened.screen.picture(), words, came)?,
+        "wish" => add_wish(opened.screen.picture(), came)?,
         _ => return Ok(false),
     }
     Ok(true)

@@ -34,11 +34,11 @@ impl Stage for SessionStage {
     }
 
     fn answer(&mut self, words: &mut Words<'_>, came: &mut Vec<u8>) -> Result<(), Trouble> {
-        let word = words.next();
+        let word = str::from_utf8(words.next()).unwrap_or("");
         match word {
-            b"screen" => open(self.alloc, &mut self.opened, words, came),
-            b"cuts" => check_cuts(self.alloc, &mut self.tried, words, came),
-            b"generated" => check_generated(self.alloc, &mut self.tried, words, came),
+            "screen" => open(self.alloc, &mut self.opened, words, came),
+            "cuts" => check_cuts(self.alloc, &mut self.tried, words, came),
+            "generated" => check_generated(self.alloc, &mut self.tried, words, came),
             _ => answer_of_opened(self.alloc, ready(&mut self.opened)?, word, words, came),
         }
     }
@@ -51,7 +51,7 @@ impl Stage for SessionStage {
     }
 
     fn leaves_all(word: &[u8]) -> bool {
-        matches!(word, b"cuts" | b"generated" | b"session")
+        matches!(str::from_utf8(word), Ok("cuts" | "generated" | "session"))
     }
 }
 
@@ -82,13 +82,13 @@ fn ready(opened: &mut Option<Recorded>) -> Result<&mut Recorded, Trouble> {
 fn answer_of_opened(
     alloc: Global,
     opened: &mut Recorded,
-    word: &[u8],
+    word: &str,
     words: &mut Words<'_>,
     came: &mut Vec<u8>,
 ) -> Result<(), Trouble> {
     match word {
-        b"session" => return opened.add_session(came),
-        b"others" => return write_as_others(alloc, opened, words, came),
+        "session" => return opened.add_session(came),
+        "others" => return write_as_others(alloc, opened, words, came),
         _ => {}
     }
     if let Some(fails) = read_update(word, words)? {
@@ -118,13 +118,13 @@ fn write_as_others(
 }
 
 // How the writer fails in the lines `update`, `update_writing K`, `update_stuck K`, `update_flushing` and `update_failing`.
-fn read_update(word: &[u8], words: &mut Words<'_>) -> Result<Option<Fails>, Trouble> {
+fn read_update(word: &str, words: &mut Words<'_>) -> Result<Option<Fails>, Trouble> {
     Ok(Some(match word {
-        b"update" => Fails::Never,
-        b"update_writing" => Fails::Behind(words.number()?),
-        b"update_stuck" => Fails::StuckBehind(words.number()?),
-        b"update_flushing" => Fails::Flushed,
-        b"update_failing" => Fails::Always,
+        "update" => Fails::Never,
+        "update_writing" => Fails::Behind(words.number()?),
+        "update_stuck" => Fails::StuckBehind(words.number()?),
+        "update_flushing" => Fails::Flushed,
+        "update_failing" => Fails::Always,
         _ => return Ok(None),
     }))
 }
