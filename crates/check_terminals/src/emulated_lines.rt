@@ -17,25 +17,45 @@ pub fn answer_of_emulated(
     alloc: Global,
     terminal: &mut Option<Terminal>,
     profile: &Option<Profile>,
-    word: &[u8],
+    word: &str,
     words: &mut Words<'_>,
     came: &mut Vec<u8>,
 ) -> Result<bool, Trouble> {
-    match word {
-        b"terminal" => make_terminal(alloc, terminal, words, came)?,
-        b"step" => step(ready_mut(terminal)?, ready_profile(profile)?, words, came)?,
-        b"terminal_spot" => add_spot(ready_mut(terminal)?.spot(), came)?,
-        b"terminal_attrs" => add_number(i64::from(ready_mut(terminal)?.attrs().0), came)?,
-        b"terminal_colours" => {
-            let (foreground, background) = ready_mut(terminal)?.colours();
-            add_colour(foreground, came)?;
-            add_colour(background, came)?;
-        }
-        b"terminal_at" => add_at(ready_mut(terminal)?, words, came)?,
-        b"terminal_rows" => add_rows(alloc, ready_mut(terminal)?, came)?,
-        _ => return Ok(false),
+    if word == "terminal" {
+        make_terminal(alloc, terminal, words, came)?;
+        return Ok(true);
     }
+    match terminal {
+        Some(terminal) => answer_of_made(alloc, terminal, profile, word, words, came),
+        None => Ok(false),
+    }
+}
+
+fn answer_of_made(
+    alloc: Global,
+    terminal: &mut Terminal,
+    profile: &Option<Profile>,
+    word: &str,
+    words: &mut Words<'_>,
+    came: &mut Vec<u8>,
+) -> Result<bool, Trouble> {
+    let done = match word {
+        "step" => step(terminal, ready_profile(profile)?, words, came),
+        "terminal_spot" => add_spot(terminal.spot(), came),
+        "terminal_attrs" => add_number(i64::from(terminal.attrs().0), came),
+        "terminal_colours" => add_colours(terminal, came),
+        "terminal_at" => add_at(terminal, words, came),
+        "terminal_rows" => add_rows(alloc, terminal, came),
+        _ => return Ok(false),
+    };
+    done?;
     Ok(true)
+}
+
+fn add_colours(terminal: &Terminal, came: &mut Vec<u8>) -> Result<(), Trouble> {
+    let (foreground, background) = terminal.colours();
+    add_colour(foreground, came)?;
+    add_colour(background, came)
 }
 
 /// Adds where a cursor is.
@@ -58,9 +78,7 @@ pub fn dump_terminal(terminal: &Terminal, bytes: &mut Vec<u8>) -> Result<(), Tro
     }
     add_spot(terminal.spot(), bytes)?;
     add_number(i64::from(terminal.attrs().0), bytes)?;
-    let (foreground, background) = terminal.colours();
-    add_colour(foreground, bytes)?;
-    add_colour(background, bytes)
+    add_colours(terminal, bytes)
 }
 
 fn make_terminal(
@@ -77,10 +95,6 @@ fn make_terminal(
         }
         Err(NoMemory) => add_word("NoMemory", came),
     }
-}
-
-fn ready_mut(terminal: &mut Option<Terminal>) -> Result<&mut Terminal, Trouble> {
-    terminal.as_mut().ok_or(Trouble::Bad("no terminal"))
 }
 
 fn step(

@@ -15,28 +15,47 @@ pub fn answer_of_entry(
     entry: &mut Option<Entry>,
     profile: &mut Option<Profile>,
     text: &mut Vec<u8>,
-    word: &[u8],
+    word: &str,
     words: &mut Words<'_>,
     came: &mut Vec<u8>,
 ) -> Result<bool, Trouble> {
-    match word {
-        b"entry" => make_entry(alloc, entry, text, words, came)?,
-        b"flag" | b"number" | b"string" | b"absent" => {
-            let entry = entry.as_mut().ok_or(Trouble::Bad("no entry"))?;
-            let set = set_capability(entry, word != b"absent".as_slice(), text, words)?;
-            add_set(set, came)?;
+    let done = match word {
+        "entry" => make_entry(alloc, entry, text, words, came),
+        "flag" | "number" | "string" | "absent" => {
+            change_entry(entry, word != "absent", text, words, came)
         }
-        b"admit" => {
-            let entry = entry.as_ref().ok_or(Trouble::Bad("no entry"))?;
-            let size = match words.peek() {
-                b"" | b"=" => None,
-                _ => Some(read_size(words)?),
-            };
-            add_admission(Profile::admit(alloc, entry, size), profile, came)?;
-        }
+        "admit" => admit(alloc, entry, profile, words, came),
         _ => return Ok(false),
-    }
+    };
+    done?;
     Ok(true)
+}
+
+fn change_entry(
+    entry: &mut Option<Entry>,
+    present: bool,
+    text: &mut Vec<u8>,
+    words: &mut Words<'_>,
+    came: &mut Vec<u8>,
+) -> Result<(), Trouble> {
+    let entry = entry.as_mut().ok_or(Trouble::Bad("no entry"))?;
+    let set = set_capability(entry, present, text, words)?;
+    add_set(set, came)
+}
+
+fn admit(
+    alloc: Global,
+    entry: &Option<Entry>,
+    profile: &mut Option<Profile>,
+    words: &mut Words<'_>,
+    came: &mut Vec<u8>,
+) -> Result<(), Trouble> {
+    let entry = entry.as_ref().ok_or(Trouble::Bad("no entry"))?;
+    let size = match words.peek() {
+        b"" | b"=" => None,
+        _ => Some(read_size(words)?),
+    };
+    add_admission(Profile::admit(alloc, entry, size), profile, came)
 }
 
 /// Keeps a profile, or adds why there is none.

@@ -9,18 +9,19 @@ use scr_term::Op;
 /// Reads an operation: `home`, `move R C`, `column C`, `line R`, `up N`, `down N`, `left N`, `right N`, `return`, `clear`,
 /// `erase_line`, `erase_below`, `erase_chars N`, `reset`, `enter A`, `set A`, `fore N`, `back N` or `put B`.
 pub fn read_op(words: &mut Words<'_>) -> Result<Op, Trouble> {
-    match words.next() {
-        b"reset" => Ok(Op::Reset),
-        b"enter" => Ok(Op::Enter(Attrs(words.byte()?))),
-        b"set" => Ok(Op::Set(Attrs(words.byte()?))),
-        b"fore" => Ok(Op::Fore(words.byte()?)),
-        b"back" => Ok(Op::Back(words.byte()?)),
-        b"put" => Ok(Op::Put(words.byte()?)),
-        b"clear" => Ok(Op::Clear),
-        b"erase_line" => Ok(Op::EraseLine),
-        b"erase_below" => Ok(Op::EraseBelow),
-        b"erase_chars" => Ok(Op::EraseChars(words.number()?)),
-        word => read_motion(word, words),
+    let word = str::from_utf8(words.next()).unwrap_or("");
+    match word {
+        "reset" => Ok(Op::Reset),
+        "enter" => Ok(Op::Enter(Attrs(words.byte()?))),
+        "set" => Ok(Op::Set(Attrs(words.byte()?))),
+        "fore" => Ok(Op::Fore(words.byte()?)),
+        "back" => Ok(Op::Back(words.byte()?)),
+        "put" => Ok(Op::Put(words.byte()?)),
+        "clear" => Ok(Op::Clear),
+        "erase_line" => Ok(Op::EraseLine),
+        "erase_below" => Ok(Op::EraseBelow),
+        "erase_chars" => Ok(Op::EraseChars(words.number()?)),
+        _ => read_motion(word, words),
     }
 }
 
@@ -44,17 +45,17 @@ pub fn add_op(op: Op, came: &mut Vec<u8>) -> Result<(), Trouble> {
     }
 }
 
-fn read_motion(word: &[u8], words: &mut Words<'_>) -> Result<Op, Trouble> {
+fn read_motion(word: &str, words: &mut Words<'_>) -> Result<Op, Trouble> {
     match word {
-        b"home" => Ok(Op::Home),
-        b"return" => Ok(Op::Return),
-        b"move" => Ok(Op::Move(words.number()?, words.number()?)),
-        b"column" => Ok(Op::Column(words.number()?)),
-        b"line" => Ok(Op::Line(words.number()?)),
-        b"up" => Ok(Op::Up(words.number()?)),
-        b"down" => Ok(Op::Down(words.number()?)),
-        b"left" => Ok(Op::Left(words.number()?)),
-        b"right" => Ok(Op::Right(words.number()?)),
+        "home" => Ok(Op::Home),
+        "return" => Ok(Op::Return),
+        "move" => Ok(Op::Move(words.number()?, words.number()?)),
+        "column" => Ok(Op::Column(words.number()?)),
+        "line" => Ok(Op::Line(words.number()?)),
+        "up" => Ok(Op::Up(words.number()?)),
+        "down" => Ok(Op::Down(words.number()?)),
+        "left" => Ok(Op::Left(words.number()?)),
+        "right" => Ok(Op::Right(words.number()?)),
         _ => Err(Trouble::Bad("no operation")),
     }
 }

@@ -17,26 +17,38 @@ pub fn answer_of_painting(
     picture: &Option<Picture>,
     profile: &Option<Profile>,
     screen: &mut Option<EcmaScreen>,
-    word: &[u8],
+    word: &str,
     came: &mut Vec<u8>,
 ) -> Result<bool, Trouble> {
     if !matches!(
         word,
-        b"scratch" | b"painted" | b"painted_count" | b"feed_painted"
+        "scratch" | "painted" | "painted_count" | "feed_painted"
     ) {
         return Ok(false);
     }
     let profile = ready_profile(profile)?;
-    match painting(alloc, profile, ready(picture)?)? {
-        Ok(ops) => match word {
-            b"scratch" => add_scratch(&ops, came)?,
-            b"painted" => add_painted(alloc, profile, &ops, came)?,
-            b"painted_count" => add_painted_count(alloc, profile, &ops, came)?,
-            _ => feed_painted(alloc, profile, &ops, ready_mut(screen)?, came)?,
-        },
-        Err(NoMemory) => add_word("NoMemory", came)?,
-    }
+    let done = match painting(alloc, profile, ready(picture)?)? {
+        Ok(ops) => add_of_ops(alloc, profile, &ops, screen, word, came),
+        Err(NoMemory) => add_word("NoMemory", came),
+    };
+    done?;
     Ok(true)
+}
+
+fn add_of_ops(
+    alloc: Global,
+    profile: &Profile,
+    ops: &Ops,
+    screen: &mut Option<EcmaScreen>,
+    word: &str,
+    came: &mut Vec<u8>,
+) -> Result<(), Trouble> {
+    match word {
+        "scratch" => add_scratch(ops, came),
+        "painted" => add_painted(alloc, profile, ops, came),
+        "painted_count" => add_painted_count(alloc, profile, ops, came),
+        _ => feed_painted(alloc, profile, ops, ready_mut(screen)?, came),
+    }
 }
 
 // Adds the operations.

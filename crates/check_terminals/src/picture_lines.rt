@@ -11,26 +11,54 @@ use std::alloc::Global;
 pub fn answer_of_picture(
     alloc: Global,
     picture: &mut Option<Picture>,
-    word: &[u8],
+    word: &str,
     words: &mut Words<'_>,
     came: &mut Vec<u8>,
 ) -> Result<bool, Trouble> {
-    match word {
-        b"picture" => make_picture(alloc, picture, words, came)?,
-        b"put" => put(ready_mut(picture)?, words, came)?,
-        b"put_row" => put_row(ready_mut(picture)?, words, came)?,
-        b"wish" => wish(ready_mut(picture)?, words, came)?,
-        b"wished" => add_wish(ready(picture)?, came)?,
-        b"picture_size" => {
-            let size = ready(picture)?.size();
-            add_place(size.rows, size.columns, came)?;
-        }
-        b"picture_rows" => add_picture_rows(ready(picture)?, came)?,
-        b"picture_at" => add_picture_at(ready(picture)?, words, came)?,
-        b"pair" => add_pair(ready(picture)?, words, came)?,
-        b"set_pair" => set_pair(ready_mut(picture)?, words, came)?,
-        _ => return Ok(false),
+    if word == "picture" {
+        make_picture(alloc, picture, words, came)?;
+        return Ok(true);
     }
+    match picture {
+        Some(picture) => answer_of_changes(picture, word, words, came),
+        None => Ok(false),
+    }
+}
+
+// The lines that change a picture.
+fn answer_of_changes(
+    picture: &mut Picture,
+    word: &str,
+    words: &mut Words<'_>,
+    came: &mut Vec<u8>,
+) -> Result<bool, Trouble> {
+    let done = match word {
+        "put" => put(picture, words, came),
+        "put_row" => put_row(picture, words, came),
+        "wish" => wish(picture, words, came),
+        "set_pair" => set_pair(picture, words, came),
+        _ => return answer_of_made(picture, word, words, came),
+    };
+    done?;
+    Ok(true)
+}
+
+// The lines that say what a picture holds.
+fn answer_of_made(
+    picture: &Picture,
+    word: &str,
+    words: &mut Words<'_>,
+    came: &mut Vec<u8>,
+) -> Result<bool, Trouble> {
+    let done = match word {
+        "wished" => add_wish(picture, came),
+        "picture_size" => add_size(picture, came),
+        "picture_rows" => add_picture_rows(picture, came),
+        "picture_at" => add_picture_at(picture, words, came),
+        "pair" => add_pair(picture, words, came),
+        _ => return Ok(false),
+    };
+    done?;
     Ok(true)
 }
 
@@ -53,10 +81,6 @@ fn make_picture(
         }
         Err(NoMemory) => add_word("NoMemory", came),
     }
-}
-
-fn ready_mut(picture: &mut Option<Picture>) -> Result<&mut Picture, Trouble> {
-    picture.as_mut().ok_or(Trouble::Bad("no picture"))
 }
 
 fn put(picture: &mut Picture, words: &mut Words<'_>, came: &mut Vec<u8>) -> Result<(), Trouble> {
@@ -112,6 +136,11 @@ fn add_wish(picture: &Picture, came: &mut Vec<u8>) -> Result<(), Trouble> {
         Some((row, column)) => add_place(row, column, came),
         None => add_word("none", came),
     }
+}
+
+fn add_size(picture: &Picture, came: &mut Vec<u8>) -> Result<(), Trouble> {
+    let size = picture.size();
+    add_place(size.rows, size.columns, came)
 }
 
 fn add_picture_rows(picture: &Picture, came: &mut Vec<u8>) -> Result<(), Trouble> {

@@ -19,24 +19,37 @@ pub fn answer_of_screen(
     screen: &mut Option<EcmaScreen>,
     text: &mut Vec<u8>,
     other: &mut Vec<u8>,
-    word: &[u8],
+    word: &str,
     words: &mut Words<'_>,
     came: &mut Vec<u8>,
 ) -> Result<bool, Trouble> {
-    match word {
-        b"screen" => make_screen(alloc, screen, words, came)?,
-        b"feed" => feed(ready_mut(screen)?, text, words, came)?,
-        b"cuts" => add_cuts(alloc, ready(screen)?.size(), text, words, came)?,
-        b"undefined_after" => add_undefined_after(
-            alloc,
-            ready(screen)?.size(),
-            text,
-            other,
-            words,
-            came,
-        )?,
-        _ => return answer_of_shown(alloc, screen.as_ref(), word, words, came),
+    if word == "screen" {
+        make_screen(alloc, screen, words, came)?;
+        return Ok(true);
     }
+    match screen {
+        Some(screen) => answer_of_made(alloc, screen, text, other, word, words, came),
+        None => Ok(false),
+    }
+}
+
+// The lines that feed a screen, or one of its size.
+fn answer_of_made(
+    alloc: Global,
+    screen: &mut EcmaScreen,
+    text: &mut Vec<u8>,
+    other: &mut Vec<u8>,
+    word: &str,
+    words: &mut Words<'_>,
+    came: &mut Vec<u8>,
+) -> Result<bool, Trouble> {
+    let done = match word {
+        "feed" => feed(screen, text, words, came),
+        "cuts" => add_cuts(alloc, screen.size(), text, words, came),
+        "undefined_after" => { add_undefined_after(alloc, screen.size(), text, other, words, came) }
+        _ => return answer_of_shown(alloc, screen, word, words, came),
+    };
+    done?;
     Ok(true)
 }
 
@@ -78,41 +91,47 @@ fn print_colour(colour: Option<u8>, text: &mut Vec<u8>) -> Result<(), NoMemory> 
 // The lines that say what there is.
 fn answer_of_shown(
     alloc: Global,
-    screen: Option<&EcmaScreen>,
-    word: &[u8],
+    screen: &EcmaScreen,
+    word: &str,
     words: &mut Words<'_>,
     came: &mut Vec<u8>,
 ) -> Result<bool, Trouble> {
-    let Some(screen) = screen else {
-        return Ok(false);
-    };
-    match word {
-        b"screen_size" => {
-            let size = screen.size();
-            add_place(size.rows, size.columns, came)?;
-        }
-        b"shown" => add_shown(screen, words, came)?,
-        b"spot" => add_spot(screen.spot(), came)?,
-        b"rendition" => add_number(i64::from(screen.rendition().0), came)?,
-        b"colours" => {
-            let (foreground, background) = screen.colours();
-            add_colour(foreground, came)?;
-            add_colour(background, came)?;
-        }
-        b"marked" => add_number(i64::from(marked(screen)), came)?,
-        b"printed" => {
-            let mut text = Vec::new(alloc);
-            let done = print_screen(screen, &mut text);
-            add_lines(done, &text, came)?;
-        }
-        b"state" => {
-            let mut text = Vec::new(alloc);
-            let done = print_state(screen, &mut text);
-            add_lines(done, &text, came)?;
-        }
+    let done = match word {
+        "screen_size" => add_size(screen, came),
+        "shown" => add_shown(screen, words, came),
+        "spot" => add_spot(screen.spot(), came),
+        "rendition" => add_number(i64::from(screen.rendition().0), came),
+        "colours" => add_colours(screen, came),
+        "marked" => add_number(i64::from(marked(screen)), came),
+        "printed" => add_printed(alloc, screen, came),
+        "state" => add_state(alloc, screen, came),
         _ => return Ok(false),
-    }
+    };
+    done?;
     Ok(true)
+}
+
+fn add_size(screen: &EcmaScreen, came: &mut Vec<u8>) -> Result<(), Trouble> {
+    let size = screen.size();
+    add_place(size.rows, size.columns, came)
+}
+
+fn add_colours(screen: &EcmaScreen, came: &mut Vec<u8>) -> Result<(), Trouble> {
+    let (foreground, background) = screen.colours();
+    add_colour(foreground, came)?;
+    add_colour(background, came)
+}
+
+fn add_printed(alloc: Global, screen: &EcmaScreen, came: &mut Vec<u8>) -> Result<(), Trouble> {
+    let mut text = Vec::new(alloc);
+    let done = print_screen(screen, &mut text);
+    add_lines(done, &text, came)
+}
+
+fn add_state(alloc: Global, screen: &EcmaScreen, came: &mut Vec<u8>) -> Result<(), Trouble> {
+    let mut text = Vec::new(alloc);
+    let done = print_state(screen, &mut text);
+    add_lines(done, &text, came)
 }
 
 fn make_screen(
@@ -129,10 +148,6 @@ fn make_screen(
         }
         Err(NoMemory) => add_word("NoMemory", came),
     }
-}
-
-fn ready(screen: &Option<EcmaScreen>) -> Result<&EcmaScreen, Trouble> {
-    screen.as_ref().ok_or(Trouble::Bad("no screen"))
 }
 
 // Feeds a text, and adds whether it is defined and whether the screen waits for more.

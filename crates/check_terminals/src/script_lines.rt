@@ -18,29 +18,57 @@ pub fn answer_of_script(
     alloc: Global,
     screen: &mut Option<EcmaScreen>,
     text: &mut Vec<u8>,
-    word: &[u8],
+    word: &str,
     words: &mut Words<'_>,
     came: &mut Vec<u8>,
 ) -> Result<bool, Trouble> {
-    let fails = match word {
-        b"run" | b"run_raw" | b"refusals" | b"feed_run" => None,
-        b"run_writing" => Some(Fails::Behind(words.number()? as usize)),
-        b"run_stuck" => Some(Fails::StuckBehind(words.number()? as usize)),
-        b"run_flushing" => Some(Fails::Flushed),
+    let done = match word {
+        "run" | "run_raw" | "refusals" | "feed_run" => {
+            read_and_run(alloc, screen, text, word, words, came)
+        }
+        "run_writing" | "run_stuck" | "run_flushing" => {
+            read_and_fail(alloc, text, word, words, came)
+        }
         _ => return Ok(false),
+    };
+    done?;
+    Ok(true)
+}
+
+// The lines whose writer does not fail.
+fn read_and_run(
+    alloc: Global,
+    screen: &mut Option<EcmaScreen>,
+    text: &mut Vec<u8>,
+    word: &str,
+    words: &mut Words<'_>,
+    came: &mut Vec<u8>,
+) -> Result<(), Trouble> {
+    text.clear();
+    read_text(words.next(), text)?;
+    match word {
+        "refusals" => add_refusals(alloc, text, came),
+        "feed_run" => feed_run(alloc, ready_mut(screen)?, text, came),
+        _ => add_run(alloc, word == "run_raw", text, came),
+    }
+}
+
+// The lines whose writer fails.
+fn read_and_fail(
+    alloc: Global,
+    text: &mut Vec<u8>,
+    word: &str,
+    words: &mut Words<'_>,
+    came: &mut Vec<u8>,
+) -> Result<(), Trouble> {
+    let fails = match word {
+        "run_writing" => Fails::Behind(words.number()? as usize),
+        "run_stuck" => Fails::StuckBehind(words.number()? as usize),
+        _ => Fails::Flushed,
     };
     text.clear();
     read_text(words.next(), text)?;
-    if let Some(fails) = fails {
-        run_into(alloc, fails, text, came)?;
-        return Ok(true);
-    }
-    match word {
-        b"refusals" => add_refusals(alloc, text, came)?,
-        b"feed_run" => feed_run(alloc, ready_mut(screen)?, text, came)?,
-        _ => add_run(alloc, word == b"run_raw".as_slice(), text, came)?,
-    }
-    Ok(true)
+    run_into(alloc, fails, text, came)
 }
 
 // Runs a script, and adds what it writes and how it ends.

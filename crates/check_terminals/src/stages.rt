@@ -46,7 +46,7 @@ impl Stage for TerminalStage {
     }
 
     fn answer(&mut self, words: &mut Words<'_>, came: &mut Vec<u8>) -> Result<(), Trouble> {
-        let word = words.next();
+        let word = str::from_utf8(words.next()).unwrap_or("");
         if self.answer_of_profiles(word, words, came)? || self.answer_of_shown(word, words, came)? {
             Ok(())
         } else {
@@ -82,7 +82,7 @@ impl TerminalStage {
     // Makes the call of a line that is about an entry, a profile or a terminal.
     fn answer_of_profiles(
         &mut self,
-        word: &[u8],
+        word: &str,
         words: &mut Words<'_>,
         came: &mut Vec<u8>,
     ) -> Result<bool, Trouble> {
@@ -104,7 +104,7 @@ impl TerminalStage {
     // Makes the call of a line that is about a picture, a screen or a script.
     fn answer_of_shown(
         &mut self,
-        word: &[u8],
+        word: &str,
         words: &mut Words<'_>,
         came: &mut Vec<u8>,
     ) -> Result<bool, Trouble> {

@@ -7,7 +7,7 @@ use check_scripts::answers::{
 };
 use check_scripts::troubles::Trouble;
 use check_scripts::words::Words;
-use scr_cells::NoMemory;
+use scr_cells::{NoMemory, Size};
 use scr_term::{Op, Profile};
 use std::alloc::Global;
 
@@ -15,31 +15,58 @@ use std::alloc::Global;
 pub fn answer_of_terminal(
     alloc: Global,
     profile: &mut Option<Profile>,
-    word: &[u8],
+    word: &str,
     words: &mut Words<'_>,
     came: &mut Vec<u8>,
 ) -> Result<bool, Trouble> {
-    match word {
-        b"profile" => {
-            let size = read_size(words)?;
-            add_admission(Profile::ecma48(alloc, size), profile, came)?;
-        }
-        b"profile_size" => {
-            let size = ready(profile)?.size();
-            add_place(size.rows, size.columns, came)?;
-        }
-        b"shows" => add_number(i64::from(ready(profile)?.shows().0), came)?,
-        b"shows_colours" => add_flag(ready(profile)?.colours(), came)?,
-        b"longest" => add_count(ready(profile)?.longest(), came)?,
-        b"has" => add_flag(ready(profile)?.has(read_op(words)?), came)?,
-        b"cost" => match ready(profile)?.cost(read_op(words)?) {
-            Some(cost) => add_count(cost, came)?,
-            None => add_word("none", came)?,
-        },
-        b"render" => add_rendered(alloc, ready(profile)?, words, came)?,
-        _ => return Ok(false),
+    if word == "profile" {
+        let size = read_size(words)?;
+        add_admission(Profile::ecma48(alloc, size), profile, came)?;
+        return Ok(true);
     }
+    match profile {
+        Some(profile) => answer_of_made(alloc, profile, word, words, came),
+        None => Ok(false),
+    }
+}
+
+// The lines that say what a profile tells.
+fn answer_of_made(
+    alloc: Global,
+    profile: &Profile,
+    word: &str,
+    words: &mut Words<'_>,
+    came: &mut Vec<u8>,
+) -> Result<bool, Trouble> {
+    let done = match word {
+        "profile_size" => add_size(profile.size(), came),
+        "shows" => add_number(i64::from(profile.shows().0), came),
+        "shows_colours" => add_flag(profile.colours(), came),
+        "longest" => add_count(profile.longest(), came),
+        "has" | "cost" | "render" => add_of_op(alloc, profile, word, words, came),
+        _ => return Ok(false),
+    };
+    done?;
     Ok(true)
+}
+
+// Adds what a profile tells of an operation.
+fn add_of_op(
+    alloc: Global,
+    profile: &Profile,
+    word: &str,
+    words: &mut Words<'_>,
+    came: &mut Vec<u8>,
+) -> Result<(), Trouble> {
+    let op = read_op(words)?;
+    match word {
+        "has" => add_flag(profile.has(op), came),
+        "cost" => match profile.cost(op) {
+            Some(cost) => add_count(cost, came),
+            None => add_word("none", came),
+        },
+        _ => add_rendered(alloc, profile, op, came),
+    }
 }
 
 /// The profile, which a line asks for.
@@ -60,6 +87,10 @@ pub fn render(
     }
 }
 
+fn add_size(size: Size, came: &mut Vec<u8>) -> Result<(), Trouble> {
+    add_place(size.rows, size.columns, came)
+}
+
 fn add_count(count: usize, came: &mut Vec<u8>) -> Result<(), Trouble> {
     add_number(i64::try_from(count).unwrap_or(-1), came)
 }
@@ -68,10 +99,9 @@ fn add_count(count: usize, came: &mut Vec<u8>) -> Result<(), Trouble> {
 fn add_rendered(
     alloc: Global,
     profile: &Profile,
-    words: &mut Words<'_>,
+    op: Op,
     came: &mut Vec<u8>,
 ) -> Result<(), Trouble> {
-    let op = read_op(words)?;
     if !profile.has(op) {
         return add_word("none", came);
     }
