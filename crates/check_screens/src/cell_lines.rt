@@ -10,37 +10,37 @@ use scr_cells::{Attrs, Cell, Look, Size};
 /// `paired B A P`, `new_look B A F G`, `blank_cell`, `blank_look` and `same_look B A F G B A F G`, where a look is a byte,
 /// attributes, a foreground and a background.
 pub fn answer_of_cells(
-    word: &[u8],
+    word: &str,
     words: &mut Words<'_>,
     came: &mut Vec<u8>,
 ) -> Result<bool, Trouble> {
     match word {
-        b"new_size" => {
+        "new_size" => {
             let (rows, columns) = (words.number()?, words.number()?);
             add_flag(Size::new(rows, columns).is_some(), came)?;
         }
-        b"union" | b"difference" | b"contains" | b"all_attributes" => {
+        "union" | "difference" | "contains" | "all_attributes" => {
             answer_of_sets(word, words, came)?;
         }
-        b"new_cell" => add_new_cell(words, came)?,
-        b"paired" => add_paired(words, came)?,
-        b"blank_cell" => add_cell(Cell::blank(), came)?,
-        b"new_look" => add_new_look(words, came)?,
-        b"blank_look" => add_look(Look::blank(), came)?,
-        b"same_look" => add_same_look(words, came)?,
+        "new_cell" => add_new_cell(words, came)?,
+        "paired" => add_paired(words, came)?,
+        "blank_cell" => add_cell(Cell::blank(), came)?,
+        "new_look" => add_new_look(words, came)?,
+        "blank_look" => add_look(Look::blank(), came)?,
+        "same_look" => add_same_look(words, came)?,
         _ => return Ok(false),
     }
     Ok(true)
 }
 
-fn answer_of_sets(word: &[u8], words: &mut Words<'_>, came: &mut Vec<u8>) -> Result<(), Trouble> {
-    if word == b"all_attributes".as_slice() {
+fn answer_of_sets(word: &str, words: &mut Words<'_>, came: &mut Vec<u8>) -> Result<(), Trouble> {
+    if word == "all_attributes" {
         return add_number(i64::from(Attrs::all().0), came);
     }
     let (one, other) = (Attrs(words.byte()?), Attrs(words.byte()?));
     match word {
-        b"union" => add_number(i64::from(one.union(other).0), came),
-        b"difference" => add_number(i64::from(one.difference(other).0), came),
+        "union" => add_number(i64::from(one.union(other).0), came),
+        "difference" => add_number(i64::from(one.difference(other).0), came),
         _ => add_flag(one.contains(other), came),
     }
 }

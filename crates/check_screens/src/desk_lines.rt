@@ -16,16 +16,16 @@ pub fn answer_of_desk(
     alloc: Global,
     desk: &mut Option<Desk>,
     text: &mut Vec<u8>,
-    word: &[u8],
+    word: &str,
     words: &mut Words<'_>,
     came: &mut Vec<u8>,
 ) -> Result<bool, Trouble> {
     match word {
-        b"desk" => {
+        "desk" => {
             let size = (words.number()?, words.number()?);
             make_desk(alloc, desk, size, None, came)?;
         }
-        b"drawn" => {
+        "drawn" => {
             let size = (words.number()?, words.number()?);
             text.clear();
             read_text(words.next(), text)?;
@@ -39,7 +39,7 @@ pub fn answer_of_desk(
 // The lines that say what a desk holds.
 fn answer_of_made_desk(
     desk: Option<&Desk>,
-    word: &[u8],
+    word: &str,
     words: &mut Words<'_>,
     came: &mut Vec<u8>,
 ) -> Result<bool, Trouble> {
@@ -47,11 +47,11 @@ fn answer_of_made_desk(
         return Ok(false);
     };
     match word {
-        b"line" => add_line(desk, words, came)?,
-        b"rows" => add_rows(desk, words, came)?,
-        b"attributes" => add_of_each(desk, words, false, came)?,
-        b"pairs" => add_of_each(desk, words, true, came)?,
-        b"touched" => add_touched(desk, words, came)?,
+        "line" => add_line(desk, words, came)?,
+        "rows" => add_rows(desk, words, came)?,
+        "attributes" => add_of_each(desk, words, false, came)?,
+        "pairs" => add_of_each(desk, words, true, came)?,
+        "touched" => add_touched(desk, words, came)?,
         _ => return answer_of_lent(desk, word, words, came),
     }
     Ok(true)

@@ -10,21 +10,21 @@ use scr_windows::{Desk, Win, WindowRef};
 /// The lines `desk_screen`, `count`, `nth INDEX`, and `window W FIELD`, `window W is_touched R` and `window W line R`.
 pub fn answer_of_lent(
     desk: &Desk,
-    word: &[u8],
+    word: &str,
     words: &mut Words<'_>,
     came: &mut Vec<u8>,
 ) -> Result<bool, Trouble> {
     match word {
-        b"desk_screen" => {
+        "desk_screen" => {
             let size = desk.screen();
             add_place(size.rows, size.columns, came)?;
         }
-        b"count" => add_number(desk.count() as i64, came)?,
-        b"nth" => {
+        "count" => add_number(desk.count() as i64, came)?,
+        "nth" => {
             let index = words.number()?;
             add_nth(desk, index as usize, came)?;
         }
-        b"window" => add_lent(desk, words, came)?,
+        "window" => add_lent(desk, words, came)?,
         _ => return Ok(false),
     }
     Ok(true)
@@ -41,14 +41,14 @@ fn add_nth(desk: &Desk, index: usize, came: &mut Vec<u8>) -> Result<(), Trouble>
 // Adds what a line asks of a window that is lent.
 fn add_lent(desk: &Desk, words: &mut Words<'_>, came: &mut Vec<u8>) -> Result<(), Trouble> {
     let win = Win(words.number()?);
-    let word = words.next();
+    let word = str::from_utf8(words.next()).unwrap_or("");
     let asked = match word {
-        b"is_touched" | b"line" => Some(words.number()?),
+        "is_touched" | "line" => Some(words.number()?),
         _ => None,
     };
     match desk.window(win) {
         Ok(window) => match asked {
-            Some(row) => add_lent_line(&window, row, word == b"line".as_slice(), came),
+            Some(row) => add_lent_line(&window, row, word == "line", came),
             None => add_answer(Ok(lent_field(&window, field_of(word)?)), came),
         },
         Err(fault) => add_word(fault_name(fault), came),
@@ -70,9 +70,9 @@ fn add_lent_line(
 }
 
 // The field of a word.
-fn field_of(word: &[u8]) -> Result<Field, Trouble> {
+fn field_of(word: &str) -> Result<Field, Trouble> {
     for (name, field) in FIELDS.iter() {
-        if name.as_bytes() == word {
+        if *name == word {
             return Ok(*field);
         }
     }

@@ -45,7 +45,7 @@ impl Stage for DeskStage {
         if let Some(form) = find(word) {
             return self.call(form, words, came);
         }
-        let made = self.answer_of_parts(word, words, came)?;
+        let made = self.answer_of_parts(str::from_utf8(word).unwrap_or(""), words, came)?;
         if made {
             Ok(())
         } else {
@@ -69,7 +69,7 @@ impl DeskStage {
     // Makes the call of a line that is not one of a window's calls.
     fn answer_of_parts(
         &mut self,
-        word: &[u8],
+        word: &str,
         words: &mut Words<'_>,
         came: &mut Vec<u8>,
     ) -> Result<bool, Trouble> {
