@@ -13,6 +13,51 @@ use ti_caps::Bytes;
 // How many numbers a call has at most.
 const MOST: usize = 9;
 
+// How many numbers a call has whose arguments are numbers alone.
+static COUNTS: [(&str, usize); 41] = [
+    ("delete", 1),
+    ("touch_window", 1),
+    ("untouch", 1),
+    ("sync_up", 1),
+    ("sync_down", 1),
+    ("clear_to_eol", 1),
+    ("clear_to_bottom", 1),
+    ("erase", 1),
+    ("clear", 1),
+    ("delete_byte", 1),
+    ("cursor", 1),
+    ("size", 1),
+    ("origin", 1),
+    ("window_touched", 1),
+    ("redraw_window", 1),
+    ("noutrefresh", 1),
+    ("new_pad", 2),
+    ("overlay", 2),
+    ("overwrite", 2),
+    ("scroll_ok", 2),
+    ("clear_ok", 2),
+    ("leave_ok", 2),
+    ("attr_on", 2),
+    ("attr_off", 2),
+    ("attr_set", 2),
+    ("color_set", 2),
+    ("line_touched", 2),
+    ("move_window", 3),
+    ("move_derived", 3),
+    ("move_cursor", 3),
+    ("set_region", 3),
+    ("cell_at", 3),
+    ("redraw_lines", 3),
+    ("set_pair", 3),
+    ("new_window", 4),
+    ("touch_lines", 4),
+    ("derive", 5),
+    ("sub", 5),
+    ("sub_pad", 5),
+    ("pad_noutrefresh", 7),
+    ("copy", 9),
+];
+
 /// Reads the call of a line, its arguments in the order of the method's; a flag is 0 or 1. `None` where the word names none,
 /// or an update.
 pub fn read_call(
@@ -88,7 +133,7 @@ fn read_background(word: &str, words: &mut Words<'_>) -> Result<Option<Call>, Tr
 
 // Reads a call whose arguments are numbers.
 fn read_numbered(word: &str, words: &mut Words<'_>) -> Result<Option<Call>, Trouble> {
-    let count = count_of(word);
+    let count = count_in(&COUNTS, word);
     if count == 0 {
         return Ok(None);
     }
@@ -103,22 +148,13 @@ fn read_numbered(word: &str, words: &mut Words<'_>) -> Result<Option<Call>, Trou
 }
 
 // How many numbers a call has; 0 where no such call has numbers alone.
-fn count_of(word: &str) -> usize {
-    match word {
-        "delete" | "touch_window" | "untouch" | "sync_up" | "sync_down" => 1,
-        "clear_to_eol" | "clear_to_bottom" | "erase" | "clear" | "delete_byte" => 1,
-        "cursor" | "size" | "origin" | "window_touched" | "redraw_window" => 1,
-        "noutrefresh" => 1,
-        "new_pad" | "overlay" | "overwrite" | "scroll_ok" | "clear_ok" | "leave_ok" => 2,
-        "attr_on" | "attr_off" | "attr_set" | "color_set" | "line_touched" => 2,
-        "move_window" | "move_derived" | "move_cursor" | "set_region" | "cell_at" => 3,
-        "redraw_lines" | "set_pair" => 3,
-        "new_window" | "touch_lines" => 4,
-        "derive" | "sub" | "sub_pad" => 5,
-        "pad_noutrefresh" => 7,
-        "copy" => 9,
-        _ => 0,
+fn count_in(counts: &[(&str, usize)], word: &str) -> usize {
+    for (name, count) in counts {
+        if *name == word {
+            return *count;
+        }
     }
+    0
 }
 
 // Reads so many numbers; those behind them are 0.

@@ -13,7 +13,7 @@ use scr_plan::{Memory, plain, scratch};
 use scr_term::{Op, Ops, Profile};
 use scr_windows::Win;
 use std::alloc::Global;
-use ti_caps::{Bytes, bundled};
+use ti_caps::Bytes;
 
 // What is sent, and where the text of each operation ends.
 #[derive(Drop)]
@@ -245,25 +245,36 @@ fn open_example<'a>(
     text: &[u8],
 ) -> Result<Option<&'a mut Recorded>, Trouble> {
     let size = Size::new(2, 5).ok_or(Trouble::Bad("no size"))?;
-    let Ok(entry) = bundled(alloc) else {
-        return Ok(None);
-    };
-    if !Recorded::open_into(alloc, entry, size, tried)? {
+    if !Recorded::open_bundled(alloc, size, tried)? {
         return Ok(None);
     }
     let Some(opened) = tried else {
         return Ok(None);
     };
-    write(alloc, opened, b"hi")?;
-    if !text.is_empty() {
-        let mut answers = Vec::new(alloc);
-        let _is_well = opened.update(Fails::Never, &mut answers)?;
-        if answers.ends_with(b" NoMemory") {
-            return Ok(None);
-        }
-        write(alloc, opened, text)?;
+    if write_example(alloc, opened, text)? {
+        Ok(Some(opened))
+    } else {
+        Ok(None)
     }
-    Ok(Some(opened))
+}
+
+fn write_example(alloc: Global, opened: &mut Recorded, text: &[u8]) -> Result<bool, Trouble> {
+    write(alloc, opened, b"hi")?;
+    if text.is_empty() {
+        return Ok(true);
+    }
+    if !show(alloc, opened)? {
+        return Ok(false);
+    }
+    write(alloc, opened, text)?;
+    Ok(true)
+}
+
+// Updates, and tells whether there was memory for it.
+fn show(alloc: Global, opened: &mut Recorded) -> Result<bool, Trouble> {
+    let mut answers = Vec::new(alloc);
+    let _is_well = opened.update(Fails::Never, &mut answers)?;
+    Ok(!answers.ends_with(b" NoMemory"))
 }
 
 // Adds a text to the first window, and takes it onto the virtual screen.

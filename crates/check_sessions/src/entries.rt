@@ -13,15 +13,24 @@ pub fn read_entry(alloc: Global, words: &mut Words<'_>) -> Result<Option<Entry>,
     let Ok(mut entry) = bundled(alloc) else {
         return Ok(None);
     };
+    if remove_all(&mut entry, words)? {
+        Ok(Some(entry))
+    } else {
+        Ok(None)
+    }
+}
+
+// Has an entry none of the texts that a line names, and tells whether there was memory for it.
+fn remove_all(entry: &mut Entry, words: &mut Words<'_>) -> Result<bool, Trouble> {
     for _ in 0..MOST {
         if matches!(words.peek(), b"" | b"=") {
             break;
         }
-        if remove(&mut entry, words.next())?.is_err() {
-            return Ok(None);
+        if remove(entry, words.next())?.is_err() {
+            return Ok(false);
         }
     }
-    Ok(Some(entry))
+    Ok(true)
 }
 
 // Has an entry no text of this name.

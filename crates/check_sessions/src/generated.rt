@@ -9,7 +9,6 @@ use check_scripts::words::Words;
 use curses::Call;
 use scr_cells::Size;
 use std::alloc::Global;
-use ti_caps::bundled;
 
 /// The line `generated COUNT SEED`: so many calls on a screen, every fifth of them or so an update. After each update that
 /// is Ok the terminal has to show the picture, and no more may be sent than what differs; one session has to give the same answers and
@@ -22,10 +21,7 @@ pub fn check_generated(
 ) -> Result<(), Trouble> {
     let (count, seed) = (words.number()?, words.number()?);
     let size = Size::new(ROWS, COLUMNS).ok_or(Trouble::Bad("no size"))?;
-    let Ok(entry) = bundled(alloc) else {
-        return add_word("NoMemory", came);
-    };
-    if !Recorded::open_into(alloc, entry, size, tried)? {
+    if !Recorded::open_bundled(alloc, size, tried)? {
         return add_word("NoMemory", came);
     }
     match tried {

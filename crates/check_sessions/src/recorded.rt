@@ -10,7 +10,7 @@ use curses::{Answer, Call, Device, OpenFault, Report, Screen, session};
 use scr_cells::Size;
 use scr_term::{EcmaScreen, Profile, ProfileFault};
 use std::alloc::Global;
-use ti_caps::Entry;
+use ti_caps::{Entry, bundled};
 
 // How many bytes the writer has room for: more than an update sends here.
 const ROOM: usize = 4096;
@@ -55,6 +55,18 @@ impl Recorded {
         }
     }
 
+    /// The same on the bundled entry.
+    pub fn open_bundled(
+        alloc: Global,
+        size: Size,
+        opened: &mut Option<Recorded>,
+    ) -> Result<bool, Trouble> {
+        match bundled(alloc) {
+            Ok(entry) => Recorded::open_into(alloc, entry, size, opened),
+            Err(_) => Ok(false),
+        }
+    }
+
     fn begun(
         alloc: Global,
         entry: Entry,
@@ -94,19 +106,17 @@ impl Recorded {
     pub fn update(&mut self, fails: Fails, came: &mut Vec<u8>) -> Result<bool, Trouble> {
         self.device.writer.plan(fails)?;
         self.device.writer.calls = 0;
-        let answer = self.make(Call::Doupdate, came)?;
-        let fed = self.feed()?;
-        if !fed {
+        let ended = self.make_update(came)?;
+        if !self.feed()? {
             add_word("and an undefined text", came)?;
             return Ok(false);
         }
-        match answer {
-            Answer::Sent(sent) => self.end_well(sent.bytes, came),
-            answer => {
-                if !ran_out(&answer) {
-                    self.last_ok = false;
-                    self.left.forget();
-                }
+        match ended {
+            Ended::Well(bytes) => self.end_well(bytes, came),
+            Ended::RanOut => Ok(true),
+            Ended::Failed => {
+                self.last_ok = false;
+                self.left.forget();
                 Ok(true)
             }
         }
@@ -122,9 +132,18 @@ impl Recorded {
     /// its last update ended well are the same.
     pub fn add_session(&self, came: &mut Vec<u8>) -> Result<(), Trouble> {
         let mut device = Device::new(self.device.writer.again(self.alloc, self.sent.len())?);
-        let Some(report) = self.session(&mut device)? else {
-            return add_word("NoMemory", came);
-        };
+        match self.session(&mut device)? {
+            Some(report) => self.add_agrees(&device, &report, came),
+            None => add_word("NoMemory", came),
+        }
+    }
+
+    fn add_agrees(
+        &self,
+        device: &Device<Planned>,
+        report: &Report,
+        came: &mut Vec<u8>,
+    ) -> Result<(), Trouble> {
         let mut answers = Vec::new(self.alloc);
         for answer in &report.answers.0 {
             if ran_out(answer) {
@@ -132,8 +151,13 @@ impl Recorded {
             }
             add_answer(answer, &mut answers)?;
         }
-        let same = self.agrees(&device, &answers) && report.last_ok == self.last_ok;
+        let same = self.agrees(device, &answers) && report.last_ok == self.last_ok;
         add_word(if same { "agrees" } else { "differs" }, came)
+    }
+
+    fn make_update(&mut self, came: &mut Vec<u8>) -> Result<Ended, Trouble> {
+        let answer = self.make(Call::Doupdate, came)?;
+        Ok(end_of(&answer))
     }
 
     // Makes the call, keeps it with its answer unless memory ran out, and adds the answer.
@@ -223,6 +247,23 @@ impl Recorded {
             && device.writer.taken.as_slice() == self.sent.as_slice()
             && device.failed_puts == self.device.failed_puts
             && device.failed_finishes == self.device.failed_finishes
+    }
+}
+
+// How an update ended.
+#[derive(Clone, Copy)]
+enum Ended {
+    // It sent so many bytes.
+    Well(u64),
+    RanOut,
+    Failed,
+}
+
+fn end_of(answer: &Answer) -> Ended {
+    match answer {
+        Answer::Sent(sent) => Ended::Well(sent.bytes),
+        answer if ran_out(answer) => Ended::RanOut,
+        _ => Ended::Failed,
     }
 }
 

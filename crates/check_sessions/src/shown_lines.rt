@@ -19,15 +19,17 @@ pub fn answer_of_shown(
     words: &mut Words<'_>,
     came: &mut Vec<u8>,
 ) -> Result<bool, Trouble> {
-    match word {
-        "shown_rows" => add_rows(alloc, &opened.emulated, came)?,
-        "shown_cursor" => add_spot(opened.emulated.spot(), came)?,
-        "shown" => add_shown(&opened.emulated, words, came)?,
-        "picture_rows" => add_picture_rows(opened.screen.picture(), came)?,
-        "picture_at" => add_picture_at(opened.screen.picture(), words, came)?,
-        "wish" => add_wish(opened.screen.picture(), came)?,
+    let (emulated, picture) = (&opened.emulated, opened.screen.picture());
+    let done = match word {
+        "shown_rows" => add_rows(alloc, emulated, came),
+        "shown_cursor" => add_spot(emulated.spot(), came),
+        "shown" => add_shown(emulated, words, came),
+        "picture_rows" => add_picture_rows(picture, came),
+        "picture_at" => add_picture_at(picture, words, came),
+        "wish" => add_wish(picture, came),
         _ => return Ok(false),
-    }
+    };
+    done?;
     Ok(true)
 }
 

@@ -64,14 +64,11 @@ fn open(
     came: &mut Vec<u8>,
 ) -> Result<(), Trouble> {
     let size = read_size(words)?;
-    let Some(entry) = read_entry(alloc, words)? else {
-        return add_word("NoMemory", came);
+    let is_open = match read_entry(alloc, words)? {
+        Some(entry) => Recorded::open_into(alloc, entry, size, opened)?,
+        None => false,
     };
-    if Recorded::open_into(alloc, entry, size, opened)? {
-        add_word("Ok", came)
-    } else {
-        add_word("NoMemory", came)
-    }
+    add_word(if is_open { "Ok" } else { "NoMemory" }, came)
 }
 
 fn ready(opened: &mut Option<Recorded>) -> Result<&mut Recorded, Trouble> {
