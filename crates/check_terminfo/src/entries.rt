@@ -30,8 +30,9 @@ pub fn show(current: &Current, answer: &mut Answer) -> Result<(), CheckFault> {
 
 /// `is-bundled`.
 pub fn is_bundled(current: &Current, answer: &mut Answer) -> Result<(), CheckFault> {
+    let entry = current.entry()?;
     match again::bundled(current.alloc) {
-        Ok(bundled) => answer.say_whether(are_same(&bundled, current.entry()?)),
+        Ok(bundled) => answer.say_whether(are_same(&bundled, entry)),
         Err(fault) => answer.refused(&fault),
     }
 }

@@ -8,7 +8,8 @@ use crate::fault::CheckFault;
 use crate::sources::say_note;
 use crate::words::text;
 use std::alloc::Global;
-use terminfo_files::{Compiled, Files, Notes, Sizes};
+use terminfo_files::{Compiled, Files, Listing, Notes, Sizes};
+use ti_caps::Entry;
 
 /// `encode`.
 pub fn encode(current: &mut Current, answer: &mut Answer) -> Result<(), CheckFault> {
@@ -40,13 +41,22 @@ pub fn say_decoded(
 ) -> Result<(), CheckFault> {
     match again::decode(current.alloc, bytes) {
         Ok((entry, rest)) => {
-            answer.say_number(rest)?;
-            say_entry(current.alloc, &entry, answer)?;
+            say_read(current.alloc, &entry, rest, answer)?;
             current.entry = Some(entry);
             Ok(())
         }
         Err(fault) => answer.refused(&fault),
     }
+}
+
+fn say_read(
+    alloc: Global,
+    entry: &Entry,
+    rest: usize,
+    answer: &mut Answer,
+) -> Result<(), CheckFault> {
+    answer.say_number(rest)?;
+    say_entry(alloc, entry, answer)
 }
 
 /// `decode`.
@@ -67,13 +77,15 @@ pub fn compile(alloc: Global, words: &[Vec<u8>], answer: &mut Answer) -> Result<
 /// `list`.
 pub fn list(current: &Current, answer: &mut Answer) -> Result<(), CheckFault> {
     match again::list(current.alloc, current.file.as_slice()) {
-        Ok(listing) => {
-            answer.say(listing.text.0.as_slice())?;
-            answer.say_number(listing.unnamed)?;
-            answer.say_number(listing.skipped)
-        }
+        Ok(listing) => say_listing(&listing, answer),
         Err(fault) => answer.refused(&fault),
     }
+}
+
+fn say_listing(listing: &Listing, answer: &mut Answer) -> Result<(), CheckFault> {
+    answer.say(listing.text.0.as_slice())?;
+    answer.say_number(listing.unnamed)?;
+    answer.say_number(listing.skipped)
 }
 
 fn say_files(files: &Files, answer: &mut Answer) -> Result<(), CheckFault> {

@@ -77,9 +77,9 @@ fn fault(words: &[Vec<u8>]) -> Result<Option<(usize, ErrorKind)>, CheckFault> {
         return Ok(None);
     }
     let before = size(words, 3)?;
-    match text(words, 4)? {
-        b"interrupted" => Ok(Some((before, ErrorKind::Interrupted))),
-        b"broken" => Ok(Some((before, ErrorKind::BrokenPipe))),
+    match str::from_utf8(text(words, 4)?).unwrap_or("") {
+        "interrupted" => Ok(Some((before, ErrorKind::Interrupted))),
+        "broken" => Ok(Some((before, ErrorKind::BrokenPipe))),
         _ => Err(CheckFault::Line("no such fault")),
     }
 }

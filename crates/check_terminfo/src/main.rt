@@ -112,9 +112,14 @@ fn difference(
     let mut answer = Answer::new(alloc);
     calls::perform(current, &line.call, &mut answer)?;
     if answer.words == line.wanted {
-        return Ok(None);
+        Ok(None)
+    } else {
+        Ok(Some(told(alloc, &line.wanted, &answer.words)?))
     }
-    let wanted = words::shown(alloc, &line.wanted)?;
-    let came = words::shown(alloc, &answer.words)?;
-    Ok(Some(format!(in alloc; "wanted {wanted}, came {came}")?))
+}
+
+fn told(alloc: Global, wanted: &[Vec<u8>], came: &[Vec<u8>]) -> Result<String, CheckFault> {
+    let wanted = words::shown(alloc, wanted)?;
+    let came = words::shown(alloc, came)?;
+    Ok(format!(in alloc; "wanted {wanted}, came {came}")?)
 }
