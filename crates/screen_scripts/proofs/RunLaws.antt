@@ -1,5 +1,5 @@
 -- How a script's story goes on from line to line, and what is written of it.
-use Rattle.std.proofs.Common.{◌≡◌, ◌==◌, arith, length, ℕ, Bool, true, false, refl, sym, ◌∙◌, ap, subst, List, [], ◌∷◌, ◌++◌, append_assoc, not, Option, Some, None, Result, Ok, Err, IfOk, OnOk, option_and_then}
+use Rattle.std.proofs.Common.{◌≡◌, ◌==◌, arith, length, ℕ, Bool, true, false, refl, inl, inr, sym, ◌∙◌, ap, subst, List, [], ◌∷◌, ◌++◌, append_assoc, not, Option, Some, None, Result, Ok, Err, IfOk, OnOk, option_and_then}
 use Rattle.std.specs.Io.KnownBytes.{Appends, Keeps}
 use Rattle.std.specs.Option.{ForSome}
 use Rattle.std.proofs.lemmas.Bool.Decides.{nat_tests}
@@ -15,6 +15,7 @@ use Rattle.screen_scripts.specs.declared.effects.Effects.{Effects}
 use Rattle.screen_scripts.specs.declared.stages.Stage.{Stage as Playing}
 use Rattle.screen_scripts.specs.Stories.{Event, Outcome, Stage, Story, continued, line_outcome, next_number, opened, outcome_of, size_in, size_on, story_from, story_of, story_on}
 use Rattle.screen_scripts.specs.Printing.{Begins, GrewByBeginning, Writes, profile_of, refusals_of}
+use Rattle.screen_scripts.specs.Running.{BeginsLine, CommandRefuses, LineWritten, OpensOn}
 use Rattle.screen_scripts.specs.Showing.{AddsRefusals, CommandWrites, IsAhead, IsOutputOn, IsReadyStage, IsSentIf, IsTerminalFor, LineWrites, MayBeIn, Obeys, ObeysSome, Opens, events_in, events_of, profile_behind, shown_if, stage_of, stages_of, update_in}
 use Rattle.screen_scripts.proofs.OutputLaws.{output_at_last, output_join, output_none, refusals_join, shown_refuses_none}
 use Rattle.screen_scripts.proofs.WriteLaws.{appends_kept, appends_more, appends_none}
@@ -40,7 +41,7 @@ bad_opening line command e bad = outcome_at None line command e ∙ bad
 pub bad_command : (stage : Stage) (line : List ℕ) (command : Command) → command_of line ≡ Some command → continued stage command ≡ None → line_outcome (Some stage) line ≡ None
 bad_command stage line command e bad = outcome_at (Some stage) line command e ∙ bad
 
-pub opening_writes : (raw : Bool) (line text : List ℕ) (command : Command) (stage : Playing) → command_of line ≡ Some command → Opens command stage → text ≡ []
+opening_writes : (raw : Bool) (line text : List ℕ) (command : Command) (stage : Playing) → command_of line ≡ Some command → Opens command stage → text ≡ []
     → LineWrites raw None line text (Some stage)
 opening_writes raw line text command stage e is none = record {
   outcome = record { stage = stage_of stage.screen; events = [] };
@@ -53,6 +54,11 @@ opening_writes raw line text command stage e is none = record {
   written = subst (λ t. IsOutputOn raw stage.screen.profile (MayBeIn stage.screen.profile None) (MayBeIn stage.screen.profile (Some stage)) [] t) (sym none)
       (output_none raw stage.screen.profile (MayBeIn stage.screen.profile None) (MayBeIn stage.screen.profile (Some stage)) is.agrees);
 }
+
+pub opened_writes : (raw : Bool) (line text : List ℕ) (command : Command) (new : Option Playing) → command_of line ≡ Some command → OpensOn command new → text ≡ []
+    → LineWrites raw None line text new
+opened_writes raw line text command new e is none =
+    subst (λ stage. LineWrites raw None line text stage) (sym is.left) (opening_writes raw line text command is.stage e is.is none)
 
 pub command_writes : (raw : Bool) (old new : Playing) (line text : List ℕ) (command : Command) → command_of line ≡ Some command → CommandWrites raw old command text new
     → LineWrites raw (Some old) line text (Some new)
@@ -71,6 +77,19 @@ pub command_writes_if : {A E : Type 0} → (items : A → List ℕ) (raw : Bool)
     → IfOk result (λ text. CommandWrites raw old command (items text) new) → IfOk result (λ text. LineWrites raw (Some old) line (items text) (Some new))
 command_writes_if items raw old new line command (Ok text) e is = command_writes raw old new line (items text) command e is
 command_writes_if items raw old new line command (Err error) e is = tt
+
+-- where all went well, that is so too
+pub on_ok : {A E P Q : Type 0} → (result : Result A E) → (P → Q) → OnOk result P → OnOk result Q
+on_ok (Ok done) so p = so p
+on_ok (Err error) so p = tt
+
+pub line_written : (raw : Bool) (old new : Option Playing) (line text : List ℕ) (held holds : Option (List ℕ)) → LineWrites raw old line text new → Appends held holds text
+    → LineWritten raw old line held holds new
+line_written raw old new line text held holds is written = record { text = text; is = is; written = written }
+
+pub line_begun : (raw : Bool) (old new : Option Playing) (line text : List ℕ) (held holds : Option (List ℕ)) → LineWrites raw old line text new → GrewByBeginning held holds text
+    → BeginsLine raw old line held holds new
+line_begun raw old new line text held holds is grew = inr (record { text = text; is = is; grew = grew })
 
 -- ---- the refusals of one line
 
@@ -108,7 +127,7 @@ command_written raw old new screen effects command text obeys same ready written
           (sym (ap (λ x. x.events) o.2.is)) (written old.screen.memory o.2.update));
     }
 
-pub opening_adds : (line text : List ℕ) (command : Command) (stage : Playing) → command_of line ≡ Some command → Opens command stage → AddsRefusals None line text text (Some stage)
+opening_adds : (line text : List ℕ) (command : Command) (stage : Playing) → command_of line ≡ Some command → Opens command stage → AddsRefusals None line text text (Some stage)
 opening_adds line text command stage e is = record {
   outcome = record { stage = stage_of stage.screen; events = [] };
   is = outcome_at None line command e ∙ is.is;
@@ -119,26 +138,39 @@ opening_adds line text command stage e is = record {
   added = sym (append-nil text);
 }
 
+pub opened_adds : (line text : List ℕ) (command : Command) (new : Option Playing) → command_of line ≡ Some command → OpensOn command new → AddsRefusals None line text text new
+opened_adds line text command new e is = subst (λ stage. AddsRefusals None line text text stage) (sym is.left) (opening_adds line text command is.stage e is.is)
+
 not_fed : false ≡ true → ⊥
 not_fed e = (cc)
 
-pub obeying_adds : (line before after : List ℕ) (command : Command) (old : Playing) (screen : ScreenState) (effects : Effects) → command_of line ≡ Some command
-    → ObeysSome old.screen screen effects (continued (stage_of old.screen) command) → after ≡ before ++ refusals_of (events_in effects.notes.items)
-    → AddsRefusals (Some old) line before after (Some (record { screen = screen; terminal = old.terminal }))
-obeying_adds line before after command old screen effects e obeys is =
-    let o = obeyed old.screen screen effects (continued (stage_of old.screen) command) obeys in
+pub obeying_refuses : (before after : List ℕ) (command : Command) (old screen : ScreenState) (effects : Effects)
+    → ObeysSome old screen effects (continued (stage_of old) command) → after ≡ before ++ refusals_of (events_in effects.notes.items)
+    → CommandRefuses old command before after screen
+obeying_refuses before after command old screen effects obeys is =
+    let o = obeyed old screen effects (continued (stage_of old) command) obeys in
     record {
       outcome = o.0;
-      is = outcome_at (Some (stage_of old.screen)) line command e ∙ o.1;
-      stage = record { screen = screen; terminal = old.terminal };
-      left = refl;
-      same = ap (λ x. x.stage) o.2.is;
-      ready = record { screen = o.2.ready; terminal = λ fed. absurd (not_fed fed) };
+      is = o.1;
+      left = ap (λ x. x.stage) o.2.is;
+      ready = o.2.ready;
       added = is ∙ ap (λ t. before ++ t) (sym (append-nil (refusals_of (events_in effects.notes.items))))
           ∙ ap (λ t. before ++ (refusals_of (events_in effects.notes.items) ++ t)) (sym (shown_refuses_none effects.update screen.virtual.picture))
           ∙ ap (λ t. before ++ t) (sym (refusals_join (events_in effects.notes.items) (shown_if effects.update screen.virtual.picture)))
           ∙ ap (λ x. before ++ refusals_of x.events) (sym o.2.is);
     }
+
+pub refusing_adds : (line before after : List ℕ) (command : Command) (old : Playing) (screen : ScreenState) → command_of line ≡ Some command
+    → CommandRefuses old.screen command before after screen → AddsRefusals (Some old) line before after (Some (record { screen = screen; terminal = old.terminal }))
+refusing_adds line before after command old screen e is = record {
+  outcome = is.outcome;
+  is = outcome_at (Some (stage_of old.screen)) line command e ∙ is.is;
+  stage = record { screen = screen; terminal = old.terminal };
+  left = refl;
+  same = is.left;
+  ready = record { screen = is.ready; terminal = λ fed. absurd (not_fed fed) };
+  added = is.added;
+}
 
 -- ---- stories
 
@@ -175,7 +207,7 @@ pub record SoFar (raw : Bool) (script : List ℕ) (old now : Option (List ℕ)) 
   pub events : before ++ (story_on number (stages_of stage) (lines_of rest)).events ≡ (story_of script).events
   pub bad_line : (story_on number (stages_of stage) (lines_of rest)).bad_line ≡ (story_of script).bad_line
 
-pub so_far_first : (raw : Bool) (script : List ℕ) (now : Option (List ℕ)) → SoFar raw script now now 1 None script
+so_far_first : (raw : Bool) (script : List ℕ) (now : Option (List ℕ)) → SoFar raw script now now 1 None script
 so_far_first raw script now = record {
   ready = λ s e. absurd (none_is_none s e);
   profile = λ s e. absurd (none_is_none s e);
@@ -187,6 +219,9 @@ so_far_first raw script now = record {
   events = refl;
   bad_line = refl;
 }
+
+pub so_far_opened : (raw : Bool) (script : List ℕ) (now : Option (List ℕ)) (stage : Option Playing) → stage ≡ None → SoFar raw script now now 1 stage script
+so_far_opened raw script now stage none = subst (λ stage. SoFar raw script now now 1 stage script) (sym none) (so_far_first raw script now)
 
 -- an output of one line more
 output_more : (raw : Bool) (script : List ℕ) (old now : Option (List ℕ)) (number : ℕ) (stage new : Option Playing) (rest line after text : List ℕ)
@@ -238,12 +273,8 @@ so_far_begins raw script old now new number stage rest so kept = record {
   grew = record { beginning = so.text; rest = []; whole = sym (append-nil so.text); written = appends_kept old now new so.text so.written kept };
 }
 
-pub so_far_kept : (now : Option (List ℕ)) → Keeps now now
-so_far_kept None = tt
-so_far_kept (Some bytes) = refl
-
 -- a beginning of one line more is written
-pub so_far_begun : (raw : Bool) (script : List ℕ) (old now next : Option (List ℕ)) (number : ℕ) (stage new : Option Playing) (rest line after text : List ℕ)
+so_far_begun : (raw : Bool) (script : List ℕ) (old now next : Option (List ℕ)) (number : ℕ) (stage new : Option Playing) (rest line after text : List ℕ)
     → SoFar raw script old now number stage rest → lines_of rest ≡ line ∷ lines_of after → LineWrites raw stage line text new → GrewByBeginning now next text → Begins raw script old next
 so_far_begun raw script old now next number stage new rest line after text so e writes grew = record {
   first = so.before ++ writes.outcome.events;
@@ -259,6 +290,13 @@ so_far_begun raw script old now next number stage new rest line after text so e 
     written = appends_more old now next so.text grew.beginning so.written grew.written;
   };
 }
+
+-- a line was begun, or nothing of it was written
+pub so_far_cut : (raw : Bool) (script : List ℕ) (old now next : Option (List ℕ)) (number : ℕ) (stage new : Option Playing) (rest line after : List ℕ)
+    → SoFar raw script old now number stage rest → lines_of rest ≡ line ∷ lines_of after → BeginsLine raw stage line now next new → Begins raw script old next
+so_far_cut raw script old now next number stage new rest line after so e (inl kept) = so_far_begins raw script old now next number stage rest so kept
+so_far_cut raw script old now next number stage new rest line after so e (inr begun) =
+    so_far_begun raw script old now next number stage new rest line after begun.text so e begun.is begun.grew
 
 -- where nothing is left, all is written
 writes_all : (raw : Bool) (script : List ℕ) (old now new : Option (List ℕ)) (number : ℕ) (stage : Option Playing) (rest : List ℕ) → (so : SoFar raw script old now number stage rest) → Keeps now new
@@ -291,12 +329,20 @@ pub when_ok : {A E P : Type 0} → (result : Result A E) → P → OnOk result P
 when_ok (Ok done) p = p
 when_ok (Err error) p = tt
 
-pub so_far_ends : (raw : Bool) (script : List ℕ) (old now new : Option (List ℕ)) (number : ℕ) (stage : Option Playing) (rest line after : List ℕ) → SoFar raw script old now number stage rest
+so_far_ends : (raw : Bool) (script : List ℕ) (old now new : Option (List ℕ)) (number : ℕ) (stage : Option Playing) (rest line after : List ℕ) → SoFar raw script old now number stage rest
     → lines_of rest ≡ line ∷ lines_of after → line_outcome (stages_of stage) line ≡ None → Keeps now new
     → ((story_of script).bad_line ≡ Some number) × Writes raw script (story_of script).events old new
 so_far_ends raw script old now new number stage rest line after so e bad kept =
     let story = story_ends number (stages_of stage) rest line after e bad in
     (sym so.bad_line ∙ ap (λ s. s.bad_line) story, writes_all raw script old now new number stage rest so kept (ap (λ s. s.events) story))
+
+-- the same for any number that is the line's
+pub so_far_bad : (raw : Bool) (script : List ℕ) (old now new : Option (List ℕ)) (number n : ℕ) (stage : Option Playing) (rest line after : List ℕ) → SoFar raw script old now number stage rest
+    → lines_of rest ≡ line ∷ lines_of after → (number ≡ n) × (line_outcome (stages_of stage) line ≡ None) × Keeps now new
+    → ((story_of script).bad_line ≡ Some n) × Writes raw script (story_of script).events old new
+so_far_bad raw script old now new number n stage rest line after so e bad =
+    let ends = so_far_ends raw script old now new number stage rest line after so e bad.1 bad.2 in
+    (ends.0 ∙ ap {A = ℕ} {B = Option ℕ} (λ m. Some m) bad.0, ends.1)
 
 -- ---- refusals
 
@@ -305,11 +351,14 @@ pub record RefusedSoFar (script : List ℕ) (number : ℕ) (stage : Option Playi
   pub ready : ForSome stage (IsReadyStage false)
   pub refused : text ++ refusals_of (story_on number (stages_of stage) (lines_of rest)).events ≡ refusals_of (story_of script).events
 
-pub refused_first : (script text : List ℕ) → text ≡ [] → RefusedSoFar script 1 None script text
-refused_first script text none = record {
+refused_none : (script text : List ℕ) → text ≡ [] → RefusedSoFar script 1 None script text
+refused_none script text none = record {
   ready = λ s e. absurd (none_is_none s e);
   refused = ap (λ t. t ++ refusals_of (story_of script).events) none;
 }
+
+pub refused_first : (script text : List ℕ) (stage : Option Playing) → stage ≡ None → text ≡ [] → RefusedSoFar script 1 stage script text
+refused_first script text stage opens none = subst (λ stage. RefusedSoFar script 1 stage script text) (sym opens) (refused_none script text none)
 
 pub refused_more : (script : List ℕ) (number : ℕ) (stage new : Option Playing) (rest line after before text : List ℕ) → RefusedSoFar script number stage rest before
     → lines_of rest ≡ line ∷ lines_of after → AddsRefusals stage line before text new → RefusedSoFar script (next_number number) new after text

@@ -17,11 +17,11 @@ use Rattle.scr_plan.specs.Memories.{Agrees, MemoryView, unknown}
 use Rattle.scr_plan.specs.MemoryRuns.{MemoryRuns}
 use Rattle.scr_windows.specs.DeskViews.{first_desk}
 use Rattle.scr_virtual.specs.VirtualViews.{blank_virtual}
-use Rattle.curses.specs.Opening.{IsOpened}
 use Rattle.curses.specs.ScreenStates.{ScreenState}
 use Rattle.screen_commands.specs.declared.commands.Command.TheVariants.{Size as SizeCommand}
 use Rattle.screen_scripts.specs.declared.stages.Stage.{Stage as Playing}
 use Rattle.screen_scripts.specs.Stories.{Outcome, Stage, bundled_description, bundled_keys, first_stage}
+use Rattle.screen_scripts.specs.Running.{IsOpenedOn}
 use Rattle.screen_scripts.specs.Showing.{IsFirst, IsReadyStage, IsTerminalFor, Opens}
 
 -- ---- the keys of the bundled entry
@@ -82,19 +82,24 @@ blank_terminal laws blanks memories rows columns profile memory terminal ecma no
   defined = ap (λ t. t.undefined) is;
 }
 
-pub blank_ready : Ecma48Laws → BlankLaws → MemoryRuns → (entry : Description) (size : Size) → IsBundled entry → (screen : ScreenState) → IsOpened entry (Some size) screen
+pub blank_ready : Ecma48Laws → BlankLaws → MemoryRuns → (size : Size) (screen : ScreenState) → IsOpenedOn size screen
     → (terminal : ScreenView) → terminal ≡ blank_screen size.rows size.columns → IsScreen terminal → IsReadyStage true (record { screen = screen; terminal = terminal })
-blank_ready laws blanks memories entry size bundled screen is terminal blank valid =
-    let ecma = ecma48_is entry size bundled screen.profile is.profile in
+blank_ready laws blanks memories size screen opened terminal blank valid =
+    let entry = opened.entry in
+    let is = opened.is in
+    let ecma = ecma48_is entry size opened.bundled screen.profile is.profile in
     record {
       screen = record { entry = ecma; nothing = is.owed };
       terminal = λ on. blank_terminal laws blanks memories size.rows size.columns screen.profile screen.memory terminal ecma is.memory (rows_are entry size screen.profile is.profile)
           (columns_are entry size screen.profile is.profile) blank valid;
     }
 
-pub blank_first : Ecma48Laws → MemoryRuns → (entry : Description) (size : Size) → IsBundled entry → (screen : ScreenState) → IsOpened entry (Some size) screen
+pub blank_first : Ecma48Laws → MemoryRuns → (size : Size) (screen : ScreenState) → IsOpenedOn size screen
     → (terminal : ScreenView) → IsFirst size.rows size.columns (record { screen = screen; terminal = terminal })
-blank_first laws memories entry size bundled screen is terminal =
+blank_first laws memories size screen opened terminal =
+    let entry = opened.entry in
+    let bundled = opened.bundled in
+    let is = opened.is in
     let rows = rows_are entry size screen.profile is.profile in
     let columns = columns_are entry size screen.profile is.profile in
     record {

@@ -1,3 +1,4 @@
 pub mod Stories
 pub mod Printing
 pub mod Showing
+pub mod Running

@@ -1,14 +1,16 @@
 //! A script from its text to what is written of it.
-ghost use Rattle.std.specs.Prelude.{◌≡◌, ℕ, None, Some, false, not, IfOk, OnOk, IsErrOf};
+ghost use Rattle.std.specs.Prelude.{◌≡◌, ℕ, [], None, Some, false, not, IfOk, OnOk, IsErrOf};
 ghost use Rattle.std.specs.Option.{ForSome};
 ghost use Rattle.std.specs.Io.KnownBytes.{Appends, Keeps};
-ghost use Rattle.screen_scripts.specs.Stories.{continued, line_outcome, story_of};
+ghost use Rattle.screen_scripts.specs.Stories.{continued, line_outcome, opened, story_of};
 ghost use Rattle.screen_scripts.specs.Printing.{Begins, GrewByBeginning, Writes, refusals_of};
-ghost use Rattle.screen_scripts.specs.Showing.{AddsRefusals, CommandWrites, IsReadyStage, LineWrites, stage_of, stages_of};
+ghost use Rattle.screen_scripts.specs.Showing.{AddsRefusals, CommandWrites, IsReady, IsReadyStage, LineWrites, stage_of, stages_of};
+ghost use Rattle.screen_scripts.specs.Running.{BeginsLine, CommandRefuses, LineWritten, OpensOn};
 
 use crate::obeying::obey;
 use crate::showing::{effects_text, print_refusals};
 use crate::stages::{Stage, open_stage};
+use curses::Screen;
 use scr_cells::NoMemory;
 use screen_commands::{Command, LineFault, cut_line, read_command};
 use std::alloc::Global;
@@ -46,7 +48,7 @@ pub fn run<W: Write>(alloc: Global, script: &[u8], raw: bool, out: &mut W) -> Re
     ensures beginning { Begins raw script.now (W.contents out.old) (W.contents out.new) }
 {
     let mut stage = None;
-    run_on(alloc, script, raw, &mut stage, out)
+    run_lines(alloc, script, raw, &mut stage, out)
 }
 
 /// The lines of a script's refusals, in order, up to the first bad line. Fails only when memory runs
@@ -54,12 +56,13 @@ pub fn run<W: Write>(alloc: Global, script: &[u8], raw: bool, out: &mut W) -> Re
 pub fn refusals(alloc: Global, script: &[u8]) -> Result<Vec<u8>, NoMemory>
     ensures { IfOk result (λ text. text.items ≡ refusals_of (story_of script.now).events) }
 {
-    let mut stage = None;
-    refusals_on(alloc, script, &mut stage)
+    let mut text = Vec::new(alloc);
+    add_refusals(alloc, script, &mut text)?;
+    Ok(text)
 }
 
-// Runs a script from its first line on: the stage is the caller's, and is not there yet.
-fn run_on<W: Write>(
+// Runs the lines of a script on a stage that its first line opens.
+fn run_lines<W: Write>(
     alloc: Global,
     script: &[u8],
     raw: bool,
@@ -78,36 +81,68 @@ fn run_on<W: Write>(
     let mut number: u32 = 1;
     while !rest.is_empty() {
         let (line, after) = cut_line(rest);
-        match line_text(alloc, raw, line, stage) {
-            Ok(text) => write_text(&text, out)?,
-            Err(LineFault::Bad) => {
-                flush(out)?;
-                return Err(DemoFault::BadCommand(number));
-            }
-            Err(LineFault::NoMemory) => return Err(DemoFault::NoMemory),
-        }
+        write_line(alloc, raw, number, line, stage, out)?;
         rest = after;
         number = number.saturating_add(1);
     }
     flush(out)
 }
 
-// The lines of the refusals of a script from its first line on: the stage is the caller's, and is not there yet.
-fn refusals_on(alloc: Global, script: &[u8], stage: &mut Option<Stage>) -> Result<Vec<u8>, NoMemory>
-    requires { stage.old ≡ None }
-    ensures { IfOk result (λ text. text.items ≡ refusals_of (story_of script.now).events) }
+// Does what a line says, and writes what comes of it; where it is bad, the output is flushed.
+fn write_line<W: Write>(
+    alloc: Global,
+    raw: bool,
+    number: u32,
+    line: &[u8],
+    stage: &mut Option<Stage>,
+    out: &mut W,
+) -> Result<(), DemoFault>
+    requires { ForSome stage.old (IsReadyStage (not raw)) }
+    ensures ok { OnOk result (LineWritten raw stage.old line.now (W.contents out.old) (W.contents out.new) stage.new) }
+    ensures bad { (n : ℕ) → IsErrOf result (DemoFault.BadCommand n)
+        → (number ≡ n) × (line_outcome (stages_of stage.old) line.now ≡ None) × Keeps (W.contents out.old) (W.contents out.new) }
+    ensures beginning { BeginsLine raw stage.old line.now (W.contents out.old) (W.contents out.new) stage.new }
 {
-    let mut text = Vec::new(alloc);
+    match line_text(alloc, raw, line, stage) {
+        Ok(text) => write_text(&text, out),
+        Err(LineFault::Bad) => {
+            flush(out)?;
+            Err(DemoFault::BadCommand(number))
+        }
+        Err(LineFault::NoMemory) => Err(DemoFault::NoMemory),
+    }
+}
+
+// Adds the lines of a script's refusals to an empty text.
+fn add_refusals(alloc: Global, script: &[u8], text: &mut Vec<u8>) -> Result<(), NoMemory>
+    requires { text.old.items ≡ [] }
+    ensures { OnOk result (text.new.items ≡ refusals_of (story_of script.now).events) }
+{
+    let mut stage = None;
+    add_lines_refusals(alloc, script, &mut stage, text)
+}
+
+// Adds the lines of a script's refusals to an empty text; its first line opens the stage.
+fn add_lines_refusals(
+    alloc: Global,
+    script: &[u8],
+    stage: &mut Option<Stage>,
+    text: &mut Vec<u8>,
+) -> Result<(), NoMemory>
+    requires stage { stage.old ≡ None }
+    requires text { text.old.items ≡ [] }
+    ensures { OnOk result (text.new.items ≡ refusals_of (story_of script.now).events) }
+{
     let mut rest = script;
     while !rest.is_empty() {
         let (line, after) = cut_line(rest);
-        match add_refusal(alloc, line, stage, &mut text) {
+        match add_refusal(alloc, line, stage, text) {
             Ok(()) => rest = after,
             Err(LineFault::Bad) => break,
             Err(LineFault::NoMemory) => return Err(NoMemory),
         }
     }
-    Ok(text)
+    Ok(())
 }
 
 // Writes a text, whole; where a write fails or takes nothing, what was taken is a beginning of it.
@@ -152,7 +187,7 @@ fn line_text(
     let command = read_command(alloc, line)?;
     match stage {
         None => {
-            *stage = Some(open_stage(alloc, command)?);
+            open(alloc, command, stage)?;
             Ok(Vec::new(alloc))
         }
         Some(stage) => command_text(alloc, raw, command, stage),
@@ -187,11 +222,32 @@ fn add_refusal(
 {
     let command = read_command(alloc, line)?;
     match stage {
-        None => *stage = Some(open_stage(alloc, command)?),
-        Some(stage) => {
-            let effects = obey(alloc, &mut stage.screen, command)?;
-            print_refusals(&effects.notes, text)?;
-        }
+        None => open(alloc, command, stage),
+        Some(stage) => add_command_refusals(alloc, command, &mut stage.screen, text),
     }
+}
+
+// Opens the stage by a script's first command.
+fn open(alloc: Global, command: Command, stage: &mut Option<Stage>) -> Result<(), LineFault>
+    ensures ok { OnOk result (OpensOn command stage.new) }
+    ensures bad { IsErrOf result LineFault.Bad → opened command ≡ None }
+{
+    *stage = Some(open_stage(alloc, command)?);
+    Ok(())
+}
+
+// Does what a command says on an open screen, and adds the lines of its refusals.
+fn add_command_refusals(
+    alloc: Global,
+    command: Command,
+    screen: &mut Screen,
+    text: &mut Vec<u8>,
+) -> Result<(), LineFault>
+    requires { IsReady screen.old }
+    ensures ok { OnOk result (CommandRefuses screen.old command text.old.items text.new.items screen.new) }
+    ensures bad { IsErrOf result LineFault.Bad → (continued (stage_of screen.old) command ≡ None) × (text.new.items ≡ text.old.items) }
+{
+    let effects = obey(alloc, screen, command)?;
+    print_refusals(&effects.notes, text)?;
     Ok(())
 }

@@ -2,6 +2,7 @@
 ghost use Rattle.std.specs.Prelude.{◌≡◌, None, true, IfOk, IsErrOf};
 ghost use Rattle.screen_scripts.specs.Stories.{opened};
 ghost use Rattle.screen_scripts.specs.Showing.{IsFirst, IsReadyStage, Opens};
+ghost use Rattle.screen_scripts.specs.Running.{IsOpenedOn};
 
 use curses::Screen;
 use scr_cells::{NoMemory, Size};
@@ -40,13 +41,21 @@ fn blank_stage(alloc: Global, size: Size) -> Result<Stage, NoMemory>
     blank_laws();
     ecma48_laws();
     memory_runs();
-    let Ok(entry) = bundled(alloc) else {
-        return Err(NoMemory);
-    };
-    let Ok(screen) = Screen::open(alloc, &entry, Some(size)) else {
-        return Err(NoMemory);
-    };
+    let screen = open_screen(alloc, size)?;
     let terminal = EcmaScreen::new(alloc, size)?;
     let _size = terminal.size();
     Ok(Stage { screen, terminal })
+}
+
+// A screen of this size on the terminal of the bundled entry.
+fn open_screen(alloc: Global, size: Size) -> Result<Screen, NoMemory>
+    ensures { IfOk result (IsOpenedOn size) }
+{
+    let Ok(entry) = bundled(alloc) else {
+        return Err(NoMemory);
+    };
+    match Screen::open(alloc, &entry, Some(size)) {
+        Ok(screen) => Ok(screen),
+        Err(_) => Err(NoMemory),
+    }
 }

@@ -1,12 +1,12 @@
 use Rattle.std.proofs.Common.{IfOk, Some, subst, sym}
 use Rattle.screen_scripts.specs.Showing.{LineWrites}
-use Rattle.screen_scripts.proofs.RunLaws.{command_writes_if, opening_writes}
+use Rattle.screen_scripts.proofs.RunLaws.{command_writes_if, opened_writes}
 use Rattle.screen_scripts.proofs.running.line_text.Goals as goal
 
-pub returns-in_ok-open_stage-in-None-clause-text : goal.returns-in_ok-open_stage-in-None-clause-text
-returns-in_ok-open_stage-in-None-clause-text c =
-    subst (λ old. LineWrites c.args.raw old c.args.line.now c.new.result.items (Some c.in_ok-open_stage-in-None.field-0)) (sym c.in-None.is)
-    (opening_writes c.args.raw c.args.line.now c.new.result.items c.in_ok-command.command c.in_ok-open_stage-in-None.field-0 c.in_ok-command.ensures.ok c.in_ok-open_stage-in-None.ensures.ok c.new.ensures.items)
+pub returns-in_ok-open-in-None-clause-text : goal.returns-in_ok-open-in-None-clause-text
+returns-in_ok-open-in-None-clause-text c =
+    subst (λ old. LineWrites c.args.raw old c.args.line.now c.new.result.items c.open.new.stage) (sym c.in-None.is)
+    (opened_writes c.args.raw c.args.line.now c.new.result.items c.in_ok-command.command c.open.new.stage c.in_ok-command.ensures.ok c.in_ok-open-in-None.ensures.ok c.new.ensures.items)
 
 pub returns-in-Some-clause-text : goal.returns-in-Some-clause-text
 returns-in-Some-clause-text c =

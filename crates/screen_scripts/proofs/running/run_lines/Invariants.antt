@@ -1,6 +1,6 @@
 use Rattle.std.proofs.Common.{length}
 use Rattle.screen_scripts.proofs.RunLaws.{SoFar}
-use Rattle.screen_scripts.proofs.running.run_on.Given as goal
+use Rattle.screen_scripts.proofs.running.run_lines.Given as goal
 
 abbrev pub invariant-loop-rest : goal.invariant-loop-rest
 invariant-loop-rest g l = SoFar l.raw l.script (g.W.Write.contents l.fn.out) (g.W.Write.contents l.out) l.number l.stage l.rest
