@@ -1,0 +1,10 @@
+//! The joined repaint by its definition, place by place and slowly: what the bytes of a plan may be compared with. Nothing in the library
+//! stands on it.
+#![tactic(auto)]
+
+mod idle;
+mod joining;
+mod looking;
+mod painting;
+
+pub use joining::joined;
