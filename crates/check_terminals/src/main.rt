@@ -5,6 +5,7 @@
 mod dumps;
 mod emulated_lines;
 mod entry_lines;
+mod joining_lines;
 mod operation_lines;
 mod painting_lines;
 mod picture_lines;

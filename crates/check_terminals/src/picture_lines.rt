@@ -6,8 +6,9 @@ use check_scripts::words::Words;
 use scr_cells::{Cell, NoMemory, Picture};
 use std::alloc::Global;
 
-/// The lines `picture R C`, `put R C B A P`, `put_row R C B A P`, `wish R C`, `wish none`, `wished`, `picture_size`,
-/// `picture_rows`, `picture_at R C`, `pair P` and `set_pair P F G`, where a foreground and a background are set.
+/// The lines `picture R C`, `put R C B A P`, `put_row R C B A P`, `fill R C E B A P`, `wish R C`, `wish none`, `wished`, `picture_size`,
+/// `picture_rows`, `picture_at R C`, `pair P` and `set_pair P F G`, where a foreground and a background are set. `fill` puts a cell in
+/// the columns from C up to E.
 pub fn answer_of_picture(
     alloc: Global,
     picture: &mut Option<Picture>,
@@ -35,6 +36,7 @@ fn answer_of_changes(
     let done = match word {
         "put" => put(picture, words, came),
         "put_row" => put_row(picture, words, came),
+        "fill" => fill(picture, words, came),
         "wish" => wish(picture, words, came),
         "set_pair" => set_pair(picture, words, came),
         _ => return answer_of_made(picture, word, words, came),
@@ -114,6 +116,30 @@ fn put_row(
     }
     picture.put_row(row, column, &[cell, Cell::blank()]);
     add_word("Ok", came)
+}
+
+// A cell in each column of a part of a row.
+fn fill(picture: &mut Picture, words: &mut Words<'_>, came: &mut Vec<u8>) -> Result<(), Trouble> {
+    let (row, from, end) = (words.number()?, words.number()?, words.number()?);
+    let (byte, attrs, pair) = read_parts(words)?;
+    let Some(cell) = Cell::paired(byte, attrs, pair) else {
+        return Err(Trouble::Bad("no cell"));
+    };
+    let size = picture.size();
+    if row >= size.rows || end > size.columns {
+        return Err(Trouble::Bad("no places of the picture"));
+    }
+    fill_part(picture, row, from, end, cell);
+    add_word("Ok", came)
+}
+
+fn fill_part(picture: &mut Picture, row: u32, from: u32, end: u32, cell: Cell) {
+    for column in from..end {
+        let size = picture.size();
+        if row < size.rows && column < size.columns {
+            picture.put(row, column, cell);
+        }
+    }
 }
 
 fn wish(picture: &mut Picture, words: &mut Words<'_>, came: &mut Vec<u8>) -> Result<(), Trouble> {

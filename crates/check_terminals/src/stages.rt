@@ -4,6 +4,7 @@
 use crate::dumps::{dump_entry, dump_picture, dump_profile};
 use crate::emulated_lines::{answer_of_emulated, dump_terminal};
 use crate::entry_lines::answer_of_entry;
+use crate::joining_lines::answer_of_joining;
 use crate::painting_lines::answer_of_painting;
 use crate::picture_lines::answer_of_picture;
 use crate::screen_lines::{answer_of_screen, print_state};
@@ -116,6 +117,14 @@ impl TerminalStage {
                     &self.picture,
                     &self.profile,
                     &mut self.screen,
+                    word,
+                    came,
+                )?
+                || answer_of_joining(
+                    alloc,
+                    &mut self.terminal,
+                    &self.picture,
+                    &self.profile,
                     word,
                     came,
                 )?
