@@ -2,10 +2,10 @@
 
 use crate::painting_lines::{add_painted_count, add_scratch};
 use crate::picture_lines::ready;
+use crate::repaints::joined;
 use crate::terminal_lines::ready as ready_profile;
 use check_scripts::answers::add_word;
 use check_scripts::troubles::Trouble;
-use plain_repaints::joined;
 use scr_cells::{NoMemory, Picture};
 use scr_term::{Ops, Profile, Terminal};
 use std::alloc::Global;
