@@ -69,14 +69,21 @@ pub fn add_admission(
             *profile = Some(made);
             add_word("Ok", came)
         }
-        Err(ProfileFault::Unsuitable(capability)) => add_named("Unsuitable", capability, came),
-        Err(ProfileFault::AutoMargin) => add_word("AutoMargin", came),
-        Err(ProfileFault::Missing(capability)) => add_named("Missing", capability, came),
-        Err(ProfileFault::NoSize) => add_word("NoSize", came),
-        Err(ProfileFault::BadSize) => add_word("BadSize", came),
-        Err(ProfileFault::BadString(capability)) => add_named("BadString", capability, came),
-        Err(ProfileFault::LongString(capability)) => add_named("LongString", capability, came),
-        Err(ProfileFault::NoMemory) => add_word("NoMemory", came),
+        Err(fault) => add_profile_fault(fault, came),
+    }
+}
+
+/// Adds why there is no profile, or a text of an entry cannot be run.
+pub fn add_profile_fault(fault: ProfileFault, came: &mut Vec<u8>) -> Result<(), Trouble> {
+    match fault {
+        ProfileFault::Unsuitable(capability) => add_named("Unsuitable", capability, came),
+        ProfileFault::AutoMargin => add_word("AutoMargin", came),
+        ProfileFault::Missing(capability) => add_named("Missing", capability, came),
+        ProfileFault::NoSize => add_word("NoSize", came),
+        ProfileFault::BadSize => add_word("BadSize", came),
+        ProfileFault::BadString(capability) => add_named("BadString", capability, came),
+        ProfileFault::LongString(capability) => add_named("LongString", capability, came),
+        ProfileFault::NoMemory => add_word("NoMemory", came),
     }
 }
 

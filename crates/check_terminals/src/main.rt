@@ -14,6 +14,7 @@ mod screen_lines;
 mod script_lines;
 mod stages;
 mod terminal_lines;
+mod text_lines;
 
 use check_scripts::checking::check_input;
 use stages::TerminalStage;

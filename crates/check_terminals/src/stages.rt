@@ -10,6 +10,7 @@ use crate::picture_lines::answer_of_picture;
 use crate::screen_lines::{answer_of_screen, print_state};
 use crate::script_lines::answer_of_script;
 use crate::terminal_lines::answer_of_terminal;
+use crate::text_lines::answer_of_texts;
 use check_scripts::checking::Stage;
 use check_scripts::troubles::Trouble;
 use check_scripts::words::Words;
@@ -97,7 +98,8 @@ impl TerminalStage {
                 word,
                 words,
                 came,
-            )? || answer_of_terminal(alloc, &mut self.profile, word, words, came)?
+            )? || answer_of_texts(alloc, &self.entry, word, came)?
+                || answer_of_terminal(alloc, &mut self.profile, word, words, came)?
                 || answer_of_emulated(alloc, &mut self.terminal, &self.profile, word, words, came)?,
         )
     }

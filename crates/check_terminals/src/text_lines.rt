@@ -1,0 +1,36 @@
+//! Lines about the texts that a program sends before its first update and behind its last.
+
+use crate::entry_lines::add_profile_fault;
+use check_scripts::answers::{add_text, add_word};
+use check_scripts::troubles::Trouble;
+use curses::{OpenFault, closing_text, opening_text};
+use std::alloc::Global;
+use ti_caps::{Bytes, Entry};
+
+/// The lines `opening_text` and `closing_text`, the bytes that an entry has for them, or why it has none.
+pub fn answer_of_texts(
+    alloc: Global,
+    entry: &Option<Entry>,
+    word: &str,
+    came: &mut Vec<u8>,
+) -> Result<bool, Trouble> {
+    let Some(entry) = entry else {
+        return Ok(false);
+    };
+    let made = match word {
+        "opening_text" => opening_text(alloc, entry),
+        "closing_text" => closing_text(alloc, entry),
+        _ => return Ok(false),
+    };
+    add_made(&made, came)?;
+    Ok(true)
+}
+
+fn add_made(made: &Result<Bytes, OpenFault>, came: &mut Vec<u8>) -> Result<(), Trouble> {
+    match made {
+        Ok(text) => add_text(&text.0, came),
+        Err(OpenFault::Profile(fault)) => add_profile_fault(*fault, came),
+        Err(OpenFault::NoMemory) => add_word("NoMemory", came),
+        Err(OpenFault::KeyTooLong(_)) => Err(Trouble::Bad("a text is refused for a key")),
+    }
+}
