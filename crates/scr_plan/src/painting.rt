@@ -25,10 +25,13 @@ pub fn scratch(alloc: Global, profile: &Profile, picture: &Picture) -> Result<Op
     ensures { IfOk result (λ ops. ops ≡ scratch_of profile.now picture.now) }
 {
     let painter = Painter::of(profile);
-    let mut ops = Vec::new(alloc);
+    let size = picture.size();
+    let places = size.rows as usize * size.columns as usize;
+    // Most places take three operations.
+    let mut ops = Vec::with_capacity(alloc, places * 3 + 4)?;
     painter.reset(&mut ops)?;
     ops.push(Op::Clear)?;
-    for row in 0..picture.size().rows {
+    for row in 0..size.rows {
         painter.paint_row(picture, row, &mut ops)?;
     }
     painter.reset(&mut ops)?;
