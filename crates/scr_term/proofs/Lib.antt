@@ -10,6 +10,7 @@ pub mod LeadsLaws
 pub mod RenditionLaws
 mod ShownPenLaws
 mod ProfileLaws
+mod ChangeLaws
 pub mod OperationLaws
 mod StepLaws
 mod RunTextLaws

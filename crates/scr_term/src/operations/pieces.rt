@@ -110,19 +110,25 @@ pub(crate) fn entering(attribute: Attrs) -> Capability
     }
 }
 
+// 1 for an attribute of a set.
+fn one_if_in(set: Attrs, attribute: Attrs) -> i32
+    ensures { result ≡ one_if_in set.0 attribute.0 }
+{
+    i32::from(set.contains(attribute))
+}
+
 /// The parameters of `sgr`: one for each attribute in its order, and none for protected and alternate characters.
 pub(crate) fn renditions_of(attributes: Attrs) -> [i32; 9]
     ensures { result ≡ renditions_of attributes.0 }
 {
-    let one_if_in = |attribute: Attrs| i32::from(attributes.contains(attribute));
     [
-        one_if_in(Attrs::STANDOUT),
-        one_if_in(Attrs::UNDERLINE),
-        one_if_in(Attrs::REVERSE),
-        one_if_in(Attrs::BLINK),
-        one_if_in(Attrs::DIM),
-        one_if_in(Attrs::BOLD),
-        one_if_in(Attrs::INVIS),
+        one_if_in(attributes, Attrs::STANDOUT),
+        one_if_in(attributes, Attrs::UNDERLINE),
+        one_if_in(attributes, Attrs::REVERSE),
+        one_if_in(attributes, Attrs::BLINK),
+        one_if_in(attributes, Attrs::DIM),
+        one_if_in(attributes, Attrs::BOLD),
+        one_if_in(attributes, Attrs::INVIS),
         0,
         0,
     ]

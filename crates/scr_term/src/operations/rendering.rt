@@ -159,23 +159,51 @@ impl Profile {
                 Ok(())
             }
             Sent::Numbers(capability, first, second) => {
-                stack_is_enough();
-                let Some(program) = &self.programs[capability.ordinal()] else {
-                    return Ok(());
-                };
-                program
-                    .run_of_two(first, second, out)
-                    .map_err(|_: RunFault| NoMemory)
+                self.render_numbers(capability, first, second, out)
             }
-            Sent::Renditions(set) => {
-                stack_is_enough();
-                let Some(program) = &self.programs[Capability::Sgr.ordinal()] else {
-                    return Ok(());
-                };
-                program
-                    .run(renditions_of(set), &mut Vars::new(), out)
-                    .map_err(|_: RunFault| NoMemory)
-            }
+            Sent::Renditions(set) => self.render_renditions(set, out),
         }
+    }
+
+    // Appends the text of a capability for two numbers.
+    #[inline(always)]
+    fn render_numbers(
+        &self,
+        capability: Capability,
+        first: i32,
+        second: i32,
+        out: &mut Vec<u8>,
+    ) -> Result<(), NoMemory>
+        requires { IsTrue (is_there self.now capability) }
+        ensures ok { OnOk result (out.new.items ≡ out.old.items ++ written (program_of self.now capability) (nine (first ∷ second ∷ []))) }
+        ensures err { OnErr result (out.new.items ≡ out.old.items) }
+        ensures room { OnErr result (vec_capacity out.old < vec_len out.old + length (written (program_of self.now capability) (nine (first ∷ second ∷ [])))) }
+        ensures kept { vec_capacity out.old ≤ vec_capacity out.new }
+    {
+        stack_is_enough();
+        let Some(program) = &self.programs[capability.ordinal()] else {
+            return Ok(());
+        };
+        program
+            .run_of_two(first, second, out)
+            .map_err(|_: RunFault| NoMemory)
+    }
+
+    // Appends the text of `sgr` for a set of attributes.
+    #[inline(always)]
+    fn render_renditions(&self, set: Attrs, out: &mut Vec<u8>) -> Result<(), NoMemory>
+        requires { IsTrue (is_there self.now Capability.Sgr) }
+        ensures ok { OnOk result (out.new.items ≡ out.old.items ++ written (program_of self.now Capability.Sgr) (renditions_of set.0)) }
+        ensures err { OnErr result (out.new.items ≡ out.old.items) }
+        ensures room { OnErr result (vec_capacity out.old < vec_len out.old + length (written (program_of self.now Capability.Sgr) (renditions_of set.0))) }
+        ensures kept { vec_capacity out.old ≤ vec_capacity out.new }
+    {
+        stack_is_enough();
+        let Some(program) = &self.programs[Capability::Sgr.ordinal()] else {
+            return Ok(());
+        };
+        program
+            .run(renditions_of(set), &mut Vars::new(), out)
+            .map_err(|_: RunFault| NoMemory)
     }
 }
