@@ -1,6 +1,6 @@
 //! Reading a source line by line.
 
-ghost use Rattle.std.specs.Prelude.{◌≡◌, [], None, Ok};
+ghost use Rattle.std.specs.Prelude.{◌≡◌, [], None, Some, Ok};
 ghost use Rattle.ti_source.specs.Reading.Sources.{source_of};
 ghost use Rattle.ti_source.specs.Code.Steps.{begun, continued, filled_by, whole, with_line};
 ghost use Rattle.ti_source.specs.Reading.Field.{fields};
@@ -110,11 +110,16 @@ impl ReaderState {
     ) -> Result<(), SourceFault>
         ensures { Becomes result (filled_by line (fields text.now) done open_entry) self.new }
     {
-        let mut open_entry = open_entry;
-        open_entry.with_fields(alloc, line, text)?;
+        self.put(done, open_entry);
+        self.continued(alloc, line, text)
+    }
+
+    /// Puts an entry behind others, as the one that the next line of fields goes on with.
+    fn put(&mut self, done: Entries, open_entry: OpenEntry)
+        ensures { self.new ≡ record { done = done; current = Some open_entry.entry; notes = open_entry.notes } }
+    {
         self.done = done;
         self.current = Some(open_entry);
-        Ok(())
     }
 
     fn begun(
