@@ -141,23 +141,23 @@ border d win bytes = record { rows = grind (arith, common_steps); columns = grin
 
 clear_to_eol : (d : DeskView) (win : ℕ) → HasSameSize d (clear_to_eol_call d win).0
 unfolding clear_to_eol_call write
-clear_to_eol d win = record { rows = grind (arith, common_steps); columns = grind (arith, common_steps) }
+clear_to_eol d win = on d (index_of d win) _ (λ i. record { rows = refl; columns = refl })
 
 clear_to_bottom : (d : DeskView) (win : ℕ) → HasSameSize d (clear_to_bottom_call d win).0
 unfolding clear_to_bottom_call write
-clear_to_bottom d win = record { rows = grind (arith, common_steps); columns = grind (arith, common_steps) }
+clear_to_bottom d win = on d (index_of d win) _ (λ i. record { rows = refl; columns = refl })
 
 erase : (d : DeskView) (win : ℕ) → HasSameSize d (erase_call d win).0
 unfolding erase_call write
-erase d win = record { rows = grind (arith, common_steps); columns = grind (arith, common_steps) }
+erase d win = on d (index_of d win) _ (λ i. record { rows = refl; columns = refl })
 
 clear : (d : DeskView) (win : ℕ) → HasSameSize d (clear_call d win).0
 unfolding clear_call write
-clear d win = record { rows = grind (arith, common_steps); columns = grind (arith, common_steps) }
+clear d win = on d (index_of d win) _ (λ i. record { rows = refl; columns = refl })
 
 delete_byte : (d : DeskView) (win : ℕ) → HasSameSize d (delete_byte_call d win).0
 unfolding delete_byte_call write
-delete_byte d win = record { rows = grind (arith, common_steps); columns = grind (arith, common_steps) }
+delete_byte d win = on d (index_of d win) _ (λ i. record { rows = refl; columns = refl })
 
 set_region : (d : DeskView) (win top bottom : ℕ) → HasSameSize d (set_region_call d win top bottom).0
 unfolding set_region_call
@@ -165,27 +165,27 @@ set_region d win top bottom = record { rows = grind (arith, common_steps); colum
 
 scroll_ok : (d : DeskView) (win : ℕ) (set : Bool) → HasSameSize d (scroll_ok_call d win set).0
 unfolding scroll_ok_call
-scroll_ok d win set = record { rows = grind (arith, common_steps); columns = grind (arith, common_steps) }
+scroll_ok d win set = on d (index_of d win) _ (λ i. record { rows = refl; columns = refl })
 
 clear_ok : (d : DeskView) (win : ℕ) (set : Bool) → HasSameSize d (clear_ok_call d win set).0
 unfolding clear_ok_call
-clear_ok d win set = record { rows = grind (arith, common_steps); columns = grind (arith, common_steps) }
+clear_ok d win set = on d (index_of d win) _ (λ i. record { rows = refl; columns = refl })
 
 leave_ok : (d : DeskView) (win : ℕ) (set : Bool) → HasSameSize d (leave_ok_call d win set).0
 unfolding leave_ok_call
-leave_ok d win set = record { rows = grind (arith, common_steps); columns = grind (arith, common_steps) }
+leave_ok d win set = on d (index_of d win) _ (λ i. record { rows = refl; columns = refl })
 
 attr_on : (d : DeskView) (win : ℕ) (attrs : Attrs) → HasSameSize d (attr_on_call d win attrs).0
 unfolding attr_on_call
-attr_on d win attrs = record { rows = grind (arith, common_steps); columns = grind (arith, common_steps) }
+attr_on d win attrs = on d (index_of d win) _ (λ i. record { rows = refl; columns = refl })
 
 attr_off : (d : DeskView) (win : ℕ) (attrs : Attrs) → HasSameSize d (attr_off_call d win attrs).0
 unfolding attr_off_call
-attr_off d win attrs = record { rows = grind (arith, common_steps); columns = grind (arith, common_steps) }
+attr_off d win attrs = on d (index_of d win) _ (λ i. record { rows = refl; columns = refl })
 
 attr_set : (d : DeskView) (win : ℕ) (attrs : Attrs) → HasSameSize d (attr_set_call d win attrs).0
 unfolding attr_set_call
-attr_set d win attrs = record { rows = grind (arith, common_steps); columns = grind (arith, common_steps) }
+attr_set d win attrs = on d (index_of d win) _ (λ i. record { rows = refl; columns = refl })
 
 color_set : (d : DeskView) (win pair : ℕ) → HasSameSize d (color_set_call d win pair).0
 unfolding color_set_call
@@ -193,23 +193,23 @@ color_set d win pair = record { rows = grind (arith, common_steps); columns = gr
 
 set_background : (d : DeskView) (win : ℕ) (cell : CellView) → HasSameSize d (set_background_call d win cell).0
 unfolding set_background_call
-set_background d win cell = record { rows = grind (arith, common_steps); columns = grind (arith, common_steps) }
+set_background d win cell = on d (index_of d win) _ (λ i. record { rows = refl; columns = refl })
 
 change_background : (d : DeskView) (win : ℕ) (cell : CellView) → HasSameSize d (change_background_call d win cell).0
 unfolding change_background_call write
-change_background d win cell = record { rows = grind (arith, common_steps); columns = grind (arith, common_steps) }
+change_background d win cell = on d (index_of d win) _ (λ i. record { rows = refl; columns = refl })
 
 sync_up : (d : DeskView) (win : ℕ) → HasSameSize d (sync_up_call d win).0
 unfolding sync_up_call
-sync_up d win = record { rows = grind (arith, common_steps); columns = grind (arith, common_steps) }
+sync_up d win = on d (index_of d win) _ (λ i. record { rows = refl; columns = refl })
 
 sync_down : (d : DeskView) (win : ℕ) → HasSameSize d (sync_down_call d win).0
 unfolding sync_down_call
-sync_down d win = record { rows = grind (arith, common_steps); columns = grind (arith, common_steps) }
+sync_down d win = on d (index_of d win) _ (λ i. record { rows = refl; columns = refl })
 
 touch_all : (d : DeskView) (win : ℕ) (changed : Bool) → HasSameSize d (touch_all_call d win changed).0
 unfolding touch_all_call
-touch_all d win changed = record { rows = grind (arith, common_steps); columns = grind (arith, common_steps) }
+touch_all d win changed = on d (index_of d win) _ (λ i. record { rows = refl; columns = refl })
 
 touch_lines : (d : DeskView) (win first n : ℕ) (changed : Bool) → HasSameSize d (touch_lines_call d win first n changed).0
 unfolding touch_lines_call

@@ -1,7 +1,7 @@
 //! Calls that add bytes: a byte, a text, an inserted byte, and lines of one byte.
 //!
 //! The definitions are in `specs/Calls/Adding.antt`; what is drawn of them is a matter of `scr_surfaces`.
-ghost use Rattle.std.specs.Prelude.{◌≡◌, ◌+◌, ◌<◌, ◌≤◌, ◌⊎◌, length, leb, false};
+ghost use Rattle.std.specs.Prelude.{◌≡◌, ◌+◌, ◌<◌, ◌≤◌, ◌⊎◌, length, leb, min, false};
 ghost use Rattle.std.specs.List.{list_any};
 ghost use Rattle.scr_cells.specs.CellViews.{IsPair};
 ghost use Rattle.scr_windows.specs.DeskViews.{window_at};
@@ -89,7 +89,7 @@ impl Desk {
         }
         let (row, column) = pen.state.cursor;
         if n > 0 {
-            let end = column + n.min(pen.area.columns - column);
+            let end = end_of(column, n, pen.area.columns);
             let cell = written_form(byte, Attrs(0), pen.state);
             self.draw(
                 pen.index,
@@ -118,7 +118,7 @@ impl Desk {
         }
         let (row, column) = pen.state.cursor;
         if n > 0 {
-            let end = row + n.min(pen.area.rows - row);
+            let end = end_of(row, n, pen.area.rows);
             let cell = written_form(byte, Attrs(0), pen.state);
             self.draw(
                 pen.index,
@@ -271,6 +271,14 @@ impl Desk {
             self.go_to(index, row + 1, 0)
         }
     }
+}
+
+// Where n places from one on end, at most at the edge.
+fn end_of(first: u32, n: u32, edge: u32) -> u32
+    requires { first ≤ edge }
+    ensures { result ≡ min (first + n) edge }
+{
+    first + n.min(edge - first)
 }
 
 // The written form of a byte 32 to 126.

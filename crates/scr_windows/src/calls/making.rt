@@ -137,9 +137,9 @@ impl Desk {
             origin,
         };
         surface_laws();
+        self.windows.reserve(1)?;
         let surface = Surface::blank(alloc, rows, columns)?;
         let window = Window::fresh(alloc, frame, Attrs(0), 0, Cell::blank())?;
-        self.windows.reserve(1)?;
         self.surfaces.push(Sheet { number, surface })?;
         self.windows.push(window)?;
         self.made = number;

@@ -39,15 +39,14 @@ impl Desk {
         ensures { (self.new, result) ≡ insert_delete_lines_call self.old win.0 n }
     {
         let pen = self.pen(win)?;
-        let row = pen.state.cursor.0;
-        let rows = pen.area.rows;
+        let (first, end) = lines_from(pen.state.cursor, pen.area.rows);
         let many = n.unsigned_abs();
         if n > 0 {
             self.draw(
                 pen.index,
                 &Drawing::Down {
-                    first: row,
-                    end: rows,
+                    first,
+                    end,
                     count: many,
                     cell: pen.state.background,
                 },
@@ -56,8 +55,8 @@ impl Desk {
             self.draw(
                 pen.index,
                 &Drawing::Up {
-                    first: row,
-                    end: rows,
+                    first,
+                    end,
                     count: many,
                     cell: pen.state.background,
                 },
@@ -103,4 +102,12 @@ impl Desk {
         }
         Ok(())
     }
+}
+
+// The lines from a cursor's to a window's last: the first, and the one behind the last.
+fn lines_from(cursor: (u32, u32), rows: u32) -> (u32, u32)
+    ensures first { result.0 ≡ cursor.0 }
+    ensures end { result.1 ≡ rows }
+{
+    (cursor.0, rows)
 }
