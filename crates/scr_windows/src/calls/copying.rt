@@ -1,12 +1,12 @@
 //! Calls that copy cells from one window to another. The definitions are in `specs/Calls/Copying.antt`.
-ghost use Rattle.std.specs.Prelude.{◌≡◌, ◌+◌, ◌<◌, ◌≤◌, length, true, false, MatchResult, Ok};
+ghost use Rattle.std.specs.Prelude.{◌≡◌, ◌+◌, ◌<◌, ◌≤◌, length, true, false, MatchResult, Ok, Some};
 ghost use Rattle.scr_surfaces.specs.SurfaceViews.{inside_at};
 ghost use Rattle.scr_surfaces.specs.Formulas.{block_at, part_laid, part_of};
 ghost use Rattle.scr_windows.specs.Changes.{write};
 ghost use Rattle.scr_cells.specs.Grids.{grid_of};
 ghost use Rattle.scr_windows.specs.DeskViews.{surface_at, window_at};
 ghost use Rattle.scr_windows.specs.Changes.{Allocated};
-ghost use Rattle.scr_windows.specs.Calls.Copying.{copied, copy_call, has_part, overlay_call};
+ghost use Rattle.scr_windows.specs.Calls.Copying.{copied, copy_call, has_part, laid_over, overlay_call};
 ghost use Rattle.scr_windows.specs.declared.faults.WinFault.TheVariants.{NoMemory};
 
 use crate::desks::Desk;
@@ -97,10 +97,31 @@ impl Desk {
         let (Some(first), Some(second)) = (one.origin, other.origin) else {
             return Err(WinFault::IsPad);
         };
+        self.lay_shared(alloc, from, to, first, second, overlay)
+    }
+
+    // Copies the part of the screen that the windows at two indices both cover, which stand at two places of it.
+    fn lay_shared(
+        &mut self,
+        alloc: Global,
+        source: usize,
+        target: usize,
+        first: (u32, u32),
+        second: (u32, u32),
+        overlay: bool,
+    ) -> Result<(), WinFault>
+        requires source { source < length self.old.windows }
+        requires target { target < length self.old.windows }
+        requires first { (window_at self.old source).frame.origin ≡ Some first }
+        requires second { (window_at self.old target).frame.origin ≡ Some second }
+        ensures { Allocated self.old (laid_over self.old source target first second overlay, Ok tt) (self.new, result) }
+    {
+        let one = self.window_at(source).frame().area;
+        let other = self.window_at(target).frame().area;
         let top = first.0.max(second.0);
         let left = first.1.max(second.1);
-        let bottom = (first.0 + one.area.rows).min(second.0 + other.area.rows);
-        let right = (first.1 + one.area.columns).min(second.1 + other.area.columns);
+        let bottom = (first.0 + one.rows).min(second.0 + other.rows);
+        let right = (first.1 + one.columns).min(second.1 + other.columns);
         if top >= bottom || left >= right {
             return Ok(());
         }
@@ -112,8 +133,8 @@ impl Desk {
         };
         self.copy_part(
             alloc,
-            from,
-            to,
+            source,
+            target,
             top - first.0,
             left - first.1,
             part,
