@@ -1,11 +1,11 @@
 //! Calls that make a desk, windows with cells of their own, and pads. The definitions are in `specs/Calls/Making.antt`.
-ghost use Rattle.std.specs.Prelude.{◌≡◌, MatchResult};
+ghost use Rattle.std.specs.Prelude.{◌≡◌, ◌+◌, ◌<◌, length, MatchResult, Ok};
 ghost use Rattle.scr_windows.specs.declared.faults.WinFault.TheVariants.{NoMemory};
 ghost use Rattle.scr_cells.specs.PictureViews.{IsSize};
 ghost use Rattle.scr_windows.specs.DeskViews.{first_desk};
 ghost use Rattle.scr_windows.specs.Changes.{Allocated};
 ghost use Rattle.scr_windows.specs.Code.NewFrames.{IsRootPlace};
-ghost use Rattle.scr_windows.specs.Calls.Making.{screen_area, root_made, new_window_call, new_pad_call};
+ghost use Rattle.scr_windows.specs.Calls.Making.{screen_area, root_made, with_root, new_window_call, new_pad_call};
 
 use crate::calls::subwindows::{MOST, part_of};
 use crate::desks::Desk;
@@ -123,6 +123,22 @@ impl Desk {
         if self.windows.len() >= MOST || self.made == u32::MAX {
             return Err(WinFault::TooMany);
         }
+        self.push_root(alloc, rows, columns, origin)
+    }
+
+    // The same where one window more may be made.
+    fn push_root(
+        &mut self,
+        alloc: Global,
+        rows: u32,
+        columns: u32,
+        origin: Option<(u32, u32)>,
+    ) -> Result<Win, WinFault>
+        requires place { IsRootPlace self.old rows columns origin }
+        requires few { length self.old.windows < 1000 }
+        requires made { self.old.made < 4294967295 }
+        ensures { Allocated self.old (with_root self.old rows columns origin, Ok (record { 0 = self.old.made + 1 })) (self.new, result) }
+    {
         let number = self.made + 1;
         let frame = Frame {
             number,
