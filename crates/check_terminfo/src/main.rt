@@ -52,21 +52,35 @@ fn main(rt: HostRuntime) -> ExitCode {
 }
 
 fn run(rt: &HostRuntime) -> Result<(), CheckFault> {
-    let script = match read_input(rt.alloc(), &mut rt.stdin()) {
-        Ok(script) => script,
-        Err(InputFault::NoMemory) => return Err(CheckFault::NoMemory),
-        Err(InputFault::Failed) => return Err(CheckFault::Line("the script cannot be read")),
-    };
+    let script = read_script(rt)?;
     let mut current = Current::new(rt.alloc());
+    agree_all(rt, &mut current, script.as_slice())
+}
+
+// The standard input.
+fn read_script(rt: &HostRuntime) -> Result<Vec<u8>, CheckFault> {
+    match read_input(rt.alloc(), &mut rt.stdin()) {
+        Ok(script) => Ok(script),
+        Err(InputFault::NoMemory) => Err(CheckFault::NoMemory),
+        Err(InputFault::Failed) => Err(CheckFault::Line("the script cannot be read")),
+    }
+}
+
+// Makes the calls of a script, and prints how many lines agree.
+fn agree_all(rt: &HostRuntime, current: &mut Current, script: &[u8]) -> Result<(), CheckFault> {
     let mut agreed = 0u32;
     let mut number = 0u32;
-    for text in script.as_slice().split(|byte| *byte == b'\n') {
+    for text in script.split(|byte| *byte == b'\n') {
         number = number.saturating_add(1);
         if is_call(text) {
-            agree(rt, &mut current, number, text)?;
+            agree(rt, current, number, text)?;
             agreed = agreed.saturating_add(1);
         }
     }
+    print_agreed(rt, agreed)
+}
+
+fn print_agreed(rt: &HostRuntime, agreed: u32) -> Result<(), CheckFault> {
     match println!(rt; "{agreed} lines agree") {
         Ok(()) => Ok(()),
         Err(_) => Err(CheckFault::Output),

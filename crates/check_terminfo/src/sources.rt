@@ -8,7 +8,7 @@ use crate::fault::CheckFault;
 use crate::words::text;
 use std::alloc::Global;
 use ti_caps::{Entry, Slot};
-use ti_source::{Cause, Note, Resolver, SourceFault};
+use ti_source::{Cause, Note, Resolver, Source, SourceFault};
 
 /// `source TEXT`. A source that is refused leaves none.
 pub fn read(
@@ -19,14 +19,20 @@ pub fn read(
     current.source = None;
     match again::read_source(current.alloc, text(words, 1)?) {
         Ok(source) => {
-            if source.is_empty() != (source.len() == 0) {
-                return Err(CheckFault::Line("is_empty and len differ"));
-            }
-            answer.say_number(source.len())?;
+            let said = say_length(&source, answer);
             current.source = Some(source);
-            Ok(())
+            said
         }
         Err(fault) => answer.refused(&fault),
+    }
+}
+
+// Answers how many entries a source has.
+fn say_length(source: &Source, answer: &mut Answer) -> Result<(), CheckFault> {
+    if source.is_empty() == (source.len() == 0) {
+        answer.say_number(source.len())
+    } else {
+        Err(CheckFault::Line("is_empty and len differ"))
     }
 }
 
