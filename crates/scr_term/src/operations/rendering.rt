@@ -2,7 +2,7 @@
 ghost use Rattle.std.specs.Prelude.{◌≡◌, ◌+◌, ◌<◌, ◌≤◌, ◌∷◌, [], ◌++◌, ◌&&◌, IsTrue, OnOk, OnErr, Some, None, if◌then◌else◌, length, vec_len, vec_capacity};
 ghost use Rattle.scr_term.specs.Operations.Profiles.{has_colours, is_there, program_of};
 ghost use Rattle.scr_term.specs.Code.Sent.{piece_of};
-ghost use Rattle.scr_term.specs.declared.operations.operation.Op.TheVariants.{Put};
+ghost use Rattle.scr_term.specs.declared.operations.operation.Op.TheVariants.{Move, Put};
 ghost use Rattle.scr_term.specs.Operations.Texts.{bytes_of, first_piece, has, is_sendable, nine, piece_bytes, renditions_of, resets_colours, written};
 
 use crate::operations::capability::Capability;
@@ -42,6 +42,7 @@ impl Profile {
     {
         match op {
             Op::Put(byte) => self.render_character(byte, out),
+            Op::Move(row, column) => self.render_address(row, column, out),
             _ => self.render_any(op, out),
         }
     }
@@ -56,6 +57,20 @@ impl Profile {
     {
         out.push(byte)?;
         Ok(())
+    }
+
+    // Appends a cursor address. It stands apart, since another third is these.
+    #[inline(never)]
+    #[tactic(auto, using(crate::proofs::RenderingLaws::bytes_of_one), unfolding(crate::specs::Operations::Texts::has))]
+    fn render_address(&self, row: u32, column: u32, out: &mut Vec<u8>) -> Result<(), NoMemory>
+        requires { IsTrue (has self.now (Move row column)) }
+        ensures ok { OnOk result (out.new.items ≡ out.old.items ++ bytes_of self.now (Move row column)) }
+        ensures err { OnErr result (out.new.items ≡ out.old.items) }
+        ensures room { OnErr result (vec_capacity out.old < vec_len out.old + length (bytes_of self.now (Move row column))) }
+        ensures kept { vec_capacity out.old ≤ vec_capacity out.new }
+    {
+        let _size = self.size();
+        self.render_numbers(Capability::Cup, row as i32, column as i32, out)
     }
 
     // Appends the bytes of any operation that the terminal has.
