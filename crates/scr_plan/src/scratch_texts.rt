@@ -35,7 +35,8 @@ fn rendered(alloc: Global, profile: &Profile, ops: &[Op]) -> Result<Vec<u8>, NoM
     requires { All (λ op. has profile.now op ≡ true) ops.now }
     ensures { IfOk result (λ bytes. bytes.items ≡ all_bytes profile.now ops.now) }
 {
-    let mut bytes = Vec::new(alloc);
+    // A place has some twenty bytes in its three texts.
+    let mut bytes = Vec::with_capacity(alloc, ops.len().saturating_mul(8))?;
     for op in ops {
         profile.render(*op, &mut bytes)?;
     }
