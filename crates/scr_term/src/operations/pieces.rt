@@ -10,7 +10,7 @@ use bitflags::Flags;
 use scr_cells::Attrs;
 
 /// A piece of what an operation sends. Only `sgr` takes more than two numbers, so that a piece is small.
-#[derive(Clone, Copy, Debug, PartialEq, Eq)]
+#[derive(Clone, Copy)]
 pub(crate) enum Sent {
     /// A character.
     Byte(u8),
