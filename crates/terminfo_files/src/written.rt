@@ -39,7 +39,7 @@ impl Model for Sizes {
 }
 
 /// The files and sizes of some entries.
-#[derive(Debug, Drop)]
+#[derive(Drop)]
 pub(crate) struct Written {
     pub(crate) files: Files,
     pub(crate) sizes: Sizes,
