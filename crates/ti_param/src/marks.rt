@@ -11,7 +11,7 @@ use std::marker::Model;
 pub const NESTING: usize = 32;
 
 /// A part of a conditional.
-#[derive(Clone, Copy, PartialEq, Eq, Debug)]
+#[derive(Clone, Copy, PartialEq, Eq)]
 pub enum Part {
     Test,
     First,
@@ -19,7 +19,7 @@ pub enum Part {
 }
 
 /// Why a mark does not fit.
-#[derive(Clone, Copy, PartialEq, Eq, Debug)]
+#[derive(Clone, Copy)]
 pub enum Misfit {
     /// It has no place there.
     Misplaced,

@@ -9,7 +9,7 @@ ghost use Rattle.ti_param.specs.declared.directives.Directive.TheVariants.{SetDy
 use crate::directives::{Conversion, Directive, Format, Operator};
 
 /// A directive, or a mark of a conditional.
-#[derive(Clone, Copy, PartialEq, Eq, Debug)]
+#[derive(Clone, Copy)]
 pub enum Token {
     Do(Directive),
     /// `%?`
@@ -23,7 +23,7 @@ pub enum Token {
 }
 
 /// What is wrong with a directive.
-#[derive(Clone, Copy, PartialEq, Eq, Debug)]
+#[derive(Clone, Copy)]
 pub enum Flaw {
     /// The text ends in it.
     Cut,
