@@ -6,11 +6,12 @@ ghost use Rattle.ti_caps.specs.Names.{first_name};
 
 use crate::note::Note;
 use crate::reading::entries::Entries;
+use std::fmt;
 use std::marker::Model;
 use ti_caps::first_name;
 
 /// The entries of a source (terminfo(5)), in their order, and the notes on its doubtful fields.
-#[derive(Debug, Drop)]
+#[derive(Drop)]
 pub struct Source {
     entries: Entries,
     notes: Vec<Note>,
@@ -22,6 +23,13 @@ impl Model for Source {
     ghost Value = { Whole };
 
     ghost view = { λ s. record { entries = s.entries; notes = s.notes.items } };
+}
+
+// What a source is made of is private.
+impl fmt::Debug for Source {
+    fn fmt<W: fmt::Write>(&self, f: &mut fmt::Formatter<W>) -> fmt::Result {
+        f.write_str("Source")
+    }
 }
 
 impl Source {

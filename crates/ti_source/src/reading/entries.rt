@@ -17,7 +17,7 @@ use std::marker::Model;
 use ti_caps::{cut_name, has_no_blank};
 
 /// Entries in their order, each of which is found by its reference names.
-#[derive(Debug, Drop)]
+#[derive(Drop)]
 pub(crate) struct Entries {
     items: Vec<SourceEntry>,
     indices: IndexMap<Vec<u8>, usize, KeyedHasher>,

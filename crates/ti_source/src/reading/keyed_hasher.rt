@@ -16,7 +16,7 @@ use sha2::{Digest, Sha512};
 use std::hash::{BuildHasher, DefaultHasher, Hasher};
 
 /// SipHash with the digest of a source's lines of names written before each name.
-#[derive(Clone, Copy, Debug)]
+#[derive(Clone, Copy)]
 pub(crate) struct KeyedHasher {
     keyed: DefaultHasher,
 }

@@ -17,7 +17,7 @@ use std::marker::Model;
 use ti_caps::{Bytes, Kind, Slot};
 
 /// What a field says of its capability.
-#[derive(Debug, Drop)]
+#[derive(Drop)]
 pub(crate) enum FieldValue {
     Present,
     Number(u16),
@@ -26,7 +26,7 @@ pub(crate) enum FieldValue {
 }
 
 /// A field that counts: the first of its entry that is about the capability.
-#[derive(Debug, Drop)]
+#[derive(Drop)]
 pub(crate) struct Statement {
     pub(crate) kind: Kind,
     pub(crate) slot: Slot,
@@ -34,7 +34,7 @@ pub(crate) struct Statement {
 }
 
 /// An entry as it stands in a source.
-#[derive(Debug, Drop)]
+#[derive(Drop)]
 pub(crate) struct SourceEntry {
     names: Bytes,
     statements: Vec<Statement>,

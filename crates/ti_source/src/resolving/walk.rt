@@ -15,7 +15,7 @@ use std::alloc::{AllocError, Global};
 use ti_caps::{Bytes, Entry};
 
 /// How far an entry is.
-#[derive(Clone, Copy, Debug, PartialEq, Eq)]
+#[derive(Clone, Copy)]
 pub(crate) enum Mark {
     /// Not entered.
     New,
@@ -28,7 +28,7 @@ pub(crate) enum Mark {
 }
 
 /// What is left to do.
-#[derive(Clone, Copy, Debug, PartialEq, Eq)]
+#[derive(Clone, Copy)]
 pub(crate) enum Task {
     /// The entry at an index, or none of that name.
     Visit(Option<usize>),
