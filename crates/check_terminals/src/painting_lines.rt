@@ -79,8 +79,8 @@ fn add_painted(
     add_number(i64::from(count), came)
 }
 
-/// Adds how many operations there are, and how many bytes in all.
-pub fn add_painted_count(
+// Adds how many operations there are, and how many bytes in all.
+fn add_painted_count(
     alloc: Global,
     profile: &Profile,
     ops: &Ops,
