@@ -1,5 +1,5 @@
 -- What is remembered goes on to agree with the terminal.
-use Rattle.std.proofs.Common.{◌≡◌, ℕ, ◌+◌, ◌<◌, ◌≤◌, ◌⊎◌, inl, inr, ◌==◌, ◌&&◌, ◌||◌, not, leb, ltb, Bool, true, false, refl, sym, ◌∙◌, ap, subst, arith, bit_and, List, [], ◌∷◌, get_or, length, Option, Some, None, replicate, zero, suc, if◌then◌else◌}
+use Rattle.std.proofs.Common.{◌≡◌, ℕ, ◌+◌, ◌<◌, ◌==◌, ◌&&◌, ◌||◌, not, leb, ltb, Bool, true, false, refl, sym, ◌∙◌, ap, subst, arith, bit_and, List, [], ◌∷◌, get_or, length, Option, Some, None, replicate, zero, suc, if◌then◌else◌}
 use Rattle.std.specs.List.{list_all, range_with_len}
 use Rattle.std.proofs.lemmas.Bool.Decides.{nat_tests}
 use Rattle.std.proofs.lemmas.List.{length-map, length-replicate}
@@ -19,7 +19,7 @@ use Rattle.scr_term.specs.Operations.Steps.{act, step}
 use Rattle.scr_term.specs.Operations.Texts.{has}
 use Rattle.scr_plan.proofs.ActLaws.{Acts, acts, grid_by, pen_by, rows_same, spot_by}
 use Rattle.scr_plan.proofs.ScratchLaws.{grid_same}
-use Rattle.scr_plan.specs.Memories.{Agrees, MemoryLaws, MemoryView, changes_cells, clears, disturbed, followed, forgotten, has_one_pen, is_known, is_known_row, places_spot, sets_pen, stepped}
+use Rattle.scr_plan.specs.Memories.{Agrees, IsDisturbance, IsWithout, MemoryLaws, MemoryView, changes_cells, clears, disturbed, followed, forgotten, has_one_pen, is_known, is_known_row, places_spot, sets_pen, stepped}
 
 -- ---- truth values
 
@@ -52,31 +52,53 @@ forgets abilities memory old new agrees state = record {
   pen = λ known. false_is_not false refl known;
 }
 
-known_outside : (first n r : ℕ) (before : Bool) → (here : Bool) → (leb first r && ltb r (first + n)) ≡ here → (if here then false else before) ≡ true → (before ≡ true) × (r < first ⊎ first + n ≤ r)
-known_outside first n r before true e known = (cc)
-known_outside first n r before false e known = (known, outside (leb first r) (ltb r (first + n)) refl refl e)
-  where
-    outside : (a b : Bool) → leb first r ≡ a → ltb r (first + n) ≡ b → (a && b) ≡ false → r < first ⊎ first + n ≤ r
-    outside true true first_is second_is both = (cc)
-    outside true false first_is second_is both = inr (grind (arith, nat_tests))
-    outside false b first_is second_is both = inl (grind (arith, nat_tests))
+-- ---- what others wrote
 
-pub disturbs : (abilities : Abilities) (memory : MemoryView) (old new : TerminalState) (first n : ℕ) → Agrees abilities memory old → IsState abilities new
-    → ((r : ℕ) → r < first ⊎ first + n ≤ r → grid_row new.grid r ≡ grid_row old.grid r) → Agrees abilities (disturbed first n memory) new
-disturbs abilities memory old new first n agrees state same =
+pub others : (abilities : Abilities) (rows : ℕ → Bool) (memory less : MemoryView) (old new : TerminalState) → Agrees abilities memory old → IsDisturbance abilities rows old new
+    → IsWithout rows memory less → Agrees abilities less new
+others abilities rows memory less old new agrees wrote without = record {
+  is_state = wrote.state;
+  may_be = subst (IsState abilities) (sym without.state) agrees.may_be;
+  high = without.high ∙ agrees.high;
+  rows = λ r h known.
+      let was = without.rows r (omega (arith, h, agrees.high)) known in
+      wrote.same r was.1 ∙ agrees.rows r h was.0 ∙ ap (λ s. grid_row s.grid r) (sym without.state);
+  spot = λ known. false_is_not less.known_spot without.spot known;
+  pen = λ known. false_is_not less.known_pen without.pen known;
+}
+
+known_before : (lost before : Bool) → (if lost then false else before) ≡ true → (before ≡ true) × (lost ≡ false)
+known_before true before e = (cc)
+known_before false before e = (e, refl)
+
+pub marks : (memory : MemoryView) (first n : ℕ) → IsWithout (λ r. leb first r && ltb r (first + n)) memory (disturbed first n memory)
+marks memory first n =
     let f : ℕ → Bool = λ r. if leb first r && ltb r (first + n) then false else is_known_row memory r in
     record {
-      is_state = state;
-      may_be = agrees.may_be;
-      high = length-map (range_with_len 0 (length memory.known_rows)) f ∙ length-range_with_len 0 (length memory.known_rows) ∙ agrees.high;
+      state = refl;
+      high = length-map (range_with_len 0 (length memory.known_rows)) f ∙ length-range_with_len 0 (length memory.known_rows);
       rows = λ r h known.
           let at : 0 + r ≡ r = omega arith in
-          let found : f r ≡ true = sym (get_or-map-range_with_len f 0 (length memory.known_rows) r r false (omega (arith, h, agrees.high)) at) ∙ known in
-          let outside = known_outside first n r (is_known_row memory r) (leb first r && ltb r (first + n)) refl found in
-          same r outside.1 ∙ agrees.rows r h outside.0;
-      spot = λ known. false_is_not false refl known;
-      pen = λ known. false_is_not false refl known;
+          known_before (leb first r && ltb r (first + n)) (is_known_row memory r) (sym (get_or-map-range_with_len f 0 (length memory.known_rows) r r false h at) ∙ known);
+      spot = refl;
+      pen = refl;
     }
+
+neither : (a b : Bool) → a ≡ false → b ≡ false → (a || b) ≡ false
+neither true b e f = (cc)
+neither false b e f = f
+
+pub marks_join : (one other : ℕ → Bool) (memory between less : MemoryView) → IsWithout one memory between → IsWithout other between less → IsWithout (λ r. one r || other r) memory less
+marks_join one other memory between less a b = record {
+  state = b.state ∙ a.state;
+  high = b.high ∙ a.high;
+  rows = λ r h known.
+      let later = b.rows r (omega (arith, h, a.high)) known in
+      let before = a.rows r h later.0 in
+      (before.0, neither (one r) (other r) before.1 later.1);
+  spot = b.spot;
+  pen = b.pen;
+}
 
 -- ---- the kinds of operations
 
@@ -222,4 +244,4 @@ stays_known grids profile p memory old new op agrees e known =
     ∙ still_known op memory (clears op) (changes_cells op) (places_spot op) (has_one_pen (abilities profile)) parts.0 parts.1 most.1
 
 pub memory_laws : StepsKeepStates → GridLaws LookView → MemoryLaws
-memory_laws keep grids = record { follows = follows keep; stays_known = stays_known grids; forgets = forgets; disturbs = disturbs }
+memory_laws keep grids = record { follows = follows keep; stays_known = stays_known grids; forgets = forgets; others = others; marks = marks; marks_join = marks_join }

@@ -51,6 +51,7 @@ plan_few profile memory picture false = omega arith
 pub plans_are_made : PlanShows → PlanIsCheap → PlansAreRemembered → ScratchIsBounded → PlansAreMade
 plans_are_made shows cheap remembered bounded = λ profile p virtual k fits memory may. record {
   shows = λ old agrees. shows.agreeing profile p virtual k fits memory old agrees;
+  anew = λ wished old state. shows.anew profile p virtual k fits wished memory old state;
   known = remembered.known profile p virtual k fits memory may;
   few = omega (arith, plan_few profile memory virtual.picture (is_known memory && not virtual.repaint), bounded profile virtual.picture);
   scratch = cheap.scratch profile memory virtual;

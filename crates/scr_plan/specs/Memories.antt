@@ -1,6 +1,6 @@
 -- What is remembered of a terminal between updates. curs_refresh(3X), 'physical screen'; X/Open Curses Issue 7, clearok(),
 -- redrawwin().
-use Rattle.std.specs.Prelude.{ℕ, ◌≡◌, ◌+◌, ◌<◌, ◌≤◌, ◌⊎◌, ◌==◌, ◌&&◌, ◌||◌, not, leb, ltb, Bool, true, false, List, [], ◌∷◌, length, map, replicate, slice_index_or, Option, Some, None, if◌then◌else◌}
+use Rattle.std.specs.Prelude.{ℕ, ◌≡◌, ◌+◌, ◌<◌, ◌==◌, ◌&&◌, ◌||◌, not, leb, ltb, Bool, true, false, List, [], ◌∷◌, length, map, replicate, slice_index_or, Option, Some, None, if◌then◌else◌}
 use Rattle.std.specs.List.{list_all, range_with_len}
 use Rattle.scr_cells.specs.Grids.{grid_row}
 use Rattle.scr_cells.specs.LookViews.{LookView}
@@ -77,6 +77,19 @@ disturbed first n memory = record memory {
   known_pen = false;
 }
 
+-- Others wrote on the terminal: its state is any, but that every row other than these is the same.
+pub record IsDisturbance (abilities : Abilities) (rows : ℕ → Bool) (old new : TerminalState) : Type 0 where
+  pub state : IsState abilities new
+  pub same : (r : ℕ) → rows r ≡ false → grid_row new.grid r ≡ grid_row old.grid r
+
+-- what is remembered without these rows, the spot and the pen, and maybe without further rows
+pub record IsWithout (lost : ℕ → Bool) (memory less : MemoryView) : Type 0 where
+  pub state : less.state ≡ memory.state
+  pub high : length less.known_rows ≡ length memory.known_rows
+  pub rows : (r : ℕ) → r < length memory.known_rows → is_known_row less r ≡ true → (is_known_row memory r ≡ true) × (lost r ≡ false)
+  pub spot : less.known_spot ≡ false
+  pub pen : less.known_pen ≡ false
+
 -- ---- following an operation
 
 -- the cursor is then in the same place wherever it was
@@ -147,12 +160,16 @@ remembered rows columns state = record {
 -- ---- the laws
 
 -- Where a state agrees with what is remembered and an operation is defined from it, the state after it agrees with what is
--- remembered then, and where all was known, all is. What is forgotten agrees with every state.
+-- remembered then, and where all was known, all is. What is forgotten agrees with every state. Where others wrote in some rows, the
+-- state agrees with what is remembered without these rows, the spot and the pen; a mark leaves its rows out, and several marks
+-- leave out the rows of each.
 pub record MemoryLaws : Type 0 where
   pub follows : (profile : ProfileView) → IsProfile profile → (memory : MemoryView) (old new : TerminalState) (op : Op)
       → Agrees (abilities profile) memory old → step profile old op ≡ Some new → Agrees (abilities profile) (followed profile op memory) new
   pub stays_known : (profile : ProfileView) → IsProfile profile → (memory : MemoryView) (old new : TerminalState) (op : Op)
       → Agrees (abilities profile) memory old → step profile old op ≡ Some new → is_known memory ≡ true → is_known (followed profile op memory) ≡ true
   pub forgets : (abilities : Abilities) (memory : MemoryView) (old new : TerminalState) → Agrees abilities memory old → IsState abilities new → Agrees abilities (forgotten memory) new
-  pub disturbs : (abilities : Abilities) (memory : MemoryView) (old new : TerminalState) (first n : ℕ) → Agrees abilities memory old → IsState abilities new
-      → ((r : ℕ) → r < first ⊎ first + n ≤ r → grid_row new.grid r ≡ grid_row old.grid r) → Agrees abilities (disturbed first n memory) new
+  pub others : (abilities : Abilities) (rows : ℕ → Bool) (memory less : MemoryView) (old new : TerminalState) → Agrees abilities memory old → IsDisturbance abilities rows old new
+      → IsWithout rows memory less → Agrees abilities less new
+  pub marks : (memory : MemoryView) (first n : ℕ) → IsWithout (λ r. leb first r && ltb r (first + n)) memory (disturbed first n memory)
+  pub marks_join : (one other : ℕ → Bool) (memory between less : MemoryView) → IsWithout one memory between → IsWithout other between less → IsWithout (λ r. one r || other r) memory less

@@ -5,18 +5,19 @@ use Rattle.scr_virtual.specs.Laws.{HoldsChanges}
 use Rattle.scr_virtual.specs.VirtualViews.{VirtualView, settled}
 use Rattle.scr_term.specs.declared.operations.operation.Op.{Op}
 use Rattle.scr_term.specs.Operations.Profiles.{ProfileView, IsProfile, abilities}
-use Rattle.scr_term.specs.Operations.States.{TerminalState}
+use Rattle.scr_term.specs.Operations.States.{TerminalState, IsState}
 use Rattle.scr_term.specs.Operations.Texts.{all_bytes}
 use Rattle.scr_plan.specs.Memories.{Agrees, MemoryView, all_followed, disturbed, forgotten, is_known, unknown}
 use Rattle.scr_plan.specs.MemoryRuns.{MayBe}
 use Rattle.scr_plan.specs.Repaints.{IsUpToDate, plain_of, plan_of}
 use Rattle.scr_plan.specs.Scratch.{Fits, RunsToShow, scratch_of}
 
--- From every state that agrees with what is remembered the operations are defined and show the picture, and all is known after them.
--- They are at most so many for a place; their bytes are no more than those of scratch, and where all was known and the screen is not
--- to be painted anew, no more than those of the plain repaint.
+-- From every state that agrees with what is remembered, and from every state of the profile where the screen is to be painted anew, the
+-- operations are defined and show the picture, and all is known after them. They are at most so many for a place; their bytes are no
+-- more than those of scratch, and where all was known and the screen is not to be painted anew, no more than those of the plain repaint.
 pub record IsPlan (profile : ProfileView) (memory : MemoryView) (virtual : VirtualView) (ops : List Op) : Type 0 where
   pub shows : (old : TerminalState) → Agrees (abilities profile) memory old → RunsToShow profile old ops virtual.picture
+  pub anew : virtual.repaint ≡ true → (old : TerminalState) → IsState (abilities profile) old → RunsToShow profile old ops virtual.picture
   pub known : is_known (all_followed profile ops memory) ≡ true
   pub few : length ops ≤ virtual.picture.rows * virtual.picture.columns * 12 + 4
   pub scratch : length (all_bytes profile ops) ≤ length (all_bytes profile (scratch_of profile virtual.picture))
