@@ -120,6 +120,25 @@ cut_behind profile owed [] rest few = omega (arith, few)
 cut_behind profile owed (op ∷ []) rest few = few
 cut_behind profile owed (op ∷ next ∷ ops) rest few = cut_behind profile owed (next ∷ ops) rest few
 
+-- nothing is left
+pub nothing_left : (profile : ProfileView) (owed : List ℕ) (ops : List Op) (rest : List ℕ) → rest ≡ [] → IsOfOneText profile owed ops rest
+nothing_left profile owed [] rest none = omega (arith, ap length none)
+nothing_left profile owed (op ∷ []) rest none = omega (arith, ap length none)
+nothing_left profile owed (op ∷ next ∷ ops) rest none = nothing_left profile owed (next ∷ ops) rest none
+
+-- where an operation was begun, what was owed before it does not matter
+whatever_was_owed : (profile : ProfileView) (a b : List ℕ) (op : Op) (ops : List Op) (rest : List ℕ) → IsOfOneText profile a (op ∷ ops) rest → IsOfOneText profile b (op ∷ ops) rest
+whatever_was_owed profile a b op [] rest few = few
+whatever_was_owed profile a b op (next ∷ ops) rest few = whatever_was_owed profile a b next ops rest few
+
+-- operations were begun, and then others
+pub one_behind : (profile : ProfileView) (owed : List ℕ) (begun more : List Op) (rest : List ℕ) → IsOfOneText profile [] begun owed → IsOfOneText profile owed more rest → IsOfOneText profile [] (begun ++ more) rest
+one_behind profile owed [] [] rest before few = omega (arith, before, few)
+one_behind profile owed [] (m ∷ more) rest before few = whatever_was_owed profile owed [] m more rest few
+one_behind profile owed (op ∷ []) [] rest before few = omega (arith, before, few)
+one_behind profile owed (op ∷ []) (m ∷ more) rest before few = whatever_was_owed profile owed [] m more rest few
+one_behind profile owed (op ∷ next ∷ begun) more rest before few = one_behind profile owed (next ∷ begun) more rest before few
+
 -- ---- counts
 
 -- a put that took something has not failed

@@ -1,5 +1,5 @@
 -- What a call of a session does to the windows and the virtual screen.
-use Rattle.std.proofs.Common.{◌≡◌, ℕ, Bool, true, false, not, ◌&&◌, refl, sym, ◌∙◌, ap, subst, List, [], Some, Result, Ok, Err, inl, inr, if◌then◌else◌}
+use Rattle.std.proofs.Common.{◌≡◌, ℕ, ◌+◌, leb, ltb, Bool, true, false, not, ◌&&◌, refl, sym, ◌∙◌, ap, subst, List, [], length, arith, Some, Result, Ok, Err, inl, inr, if◌then◌else◌}
 use Rattle.scr_term.specs.declared.operations.operation.Op.{Op}
 use Rattle.scr_term.specs.Operations.Profiles.{ProfileView, IsProfile, abilities}
 use Rattle.scr_term.specs.Operations.States.{TerminalState, IsState, blank_state}
@@ -48,11 +48,17 @@ remembers_held laws profile memory old new is changes rows columns = record {
   same = laws.holds profile memory old new changes rows columns is.same;
 }
 
+-- a state that agrees goes on to agree where less is remembered
+disturbed_agrees : MemoryLaws → (profile : ProfileView) (memory : MemoryView) (first n : ℕ) (state : TerminalState) → Agrees (abilities profile) memory state → Agrees (abilities profile) (disturbed first n memory) state
+disturbed_agrees memories profile memory first n state agrees =
+    memories.others (abilities profile) (λ r. leb first r && ltb r (first + n)) memory (disturbed first n memory) state state agrees (record { state = agrees.is_state; same = λ r kept. refl })
+    (memories.marks memory first n)
+
 -- less is remembered, since others wrote
 pub remembers_disturbed : UpToDateLaws → MemoryLaws → (profile : ProfileView) (memory : MemoryView) (virtual : VirtualView) (first n : ℕ) → IsRemembered profile memory virtual
     → IsRemembered profile (disturbed first n memory) virtual
 remembers_disturbed laws memories profile memory virtual first n is =
-    let agrees = memories.disturbs (abilities profile) memory memory.state memory.state first n is.agrees is.agrees.is_state (λ r outside. refl) in
+    let agrees = disturbed_agrees memories profile memory first n memory.state is.agrees in
     record {
       fits = is.fits;
       size = record { rows = is.size.rows; columns = is.size.columns; known_rows = agrees.high ∙ sym is.fits.rows };
@@ -101,6 +107,7 @@ remembers_at_first laws runs blanks profile p virtual fits =
 sends_nothing : (profile : ProfileView) (memory : MemoryView) (owed rest : List ℕ) (w : WriterView) → rest ≡ owed → IsSent profile memory owed w w [] 0 rest
 sends_nothing profile memory owed rest w same = record {
   cut = subst (IsCut owed [] w.taken w.taken 0) (sym same) (cut_none owed w.taken);
+  one = omega (arith, ap length same);
   defined = λ state here. record { new = state; run = refl; state = here.is_state };
 }
 
@@ -228,7 +235,7 @@ terminal_made old new call came answer w own memory update called made still kno
 
 still_disturbed : MemoryLaws → (profile : ProfileView) (memory : MemoryView) (rows : Result (ℕ × ℕ) WinFault) → StillAgrees profile memory (rows_disturbed memory rows)
 still_disturbed laws profile memory (Err fault) state agrees = agrees
-still_disturbed laws profile memory (Ok rows) state agrees = laws.disturbs (abilities profile) memory state state rows.0 rows.1 agrees agrees.is_state (λ r outside. refl)
+still_disturbed laws profile memory (Ok rows) state agrees = disturbed_agrees laws profile memory rows.0 rows.1 state agrees
 
 -- where rows were marked nothing is known, and else all is as before
 redrawn_knows : (old new : ScreenState) (call : Call) (came : Result (Unit {0}) WinFault) (rows : Result (ℕ × ℕ) WinFault) → redraws call ≡ true → new.owed ≡ old.owed

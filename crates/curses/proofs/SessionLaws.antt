@@ -26,7 +26,7 @@ use Rattle.curses.specs.ScreenStates.{ScreenState}
 use Rattle.curses.specs.Sessions.{Drawn, IsAnswer, IsCheap, IsSession, Moment, after_call, after_calls, begun_in, begun_of, count_in, count_of, counted_in, drawn_at, ended_well, first_drawn, is_cut, is_unfinished, knows_after, knows_behind, last_ok_behind, tells_sent}
 use Rattle.curses.specs.Updates.{IsSent}
 use Rattle.curses.specs.Writers.{WriterView, counted}
-use Rattle.curses.proofs.CutLaws.{appends_more}
+use Rattle.curses.proofs.CutLaws.{appends_more, one_behind}
 
 -- ---- lists
 
@@ -105,6 +105,7 @@ current_more laws profile m n opened begun more taken owed rest w v count is sen
       agrees = agrees is.now next.new is.agrees next.run;
       bytes = append_assoc taken sent.cut.taken rest ∙ ap (λ t. taken ++ t) (sym sent.cut.whole) ∙ sym (append_assoc taken owed (all_bytes profile more))
           ∙ ap (λ t. t ++ all_bytes profile more) is.bytes ∙ sym (laws.bytes profile begun more);
+      one = one_behind profile owed begun more rest is.one sent.one;
     }
 
 some_same : (a b : TerminalState) → Some a ≡ Some b → a ≡ b
@@ -118,6 +119,7 @@ moment_now acts profile m opened begun taken owed picture well first is shows no
   run = is.run;
   owed = owed;
   bytes = is.bytes;
+  one = is.one;
   showing = λ sent. record {
     nothing = nothing sent;
     shows = shows sent;

@@ -14,7 +14,7 @@ use Rattle.scr_term.specs.Operations.Texts.{all_bytes, has}
 use Rattle.scr_plan.specs.Memories.{Agrees, MemoryView}
 use Rattle.scr_plan.specs.Plans.{IsPlan}
 use Rattle.curses.specs.Cuts.{IsCut}
-use Rattle.curses.specs.Updates.{IsDefined, IsSent}
+use Rattle.curses.specs.Updates.{IsDefined, IsDefinedAnew, IsOfOneText, IsSent}
 use Rattle.curses.specs.Writers.{WriterView}
 use Rattle.curses.proofs.CutLaws.{cut_kept}
 
@@ -39,6 +39,13 @@ beginnings laws profile is memory virtual ops k plan state agrees =
     let shown = plan.shows state agrees in
     beginning laws profile is state shown.new agrees.is_state ops k shown.run
 
+-- where the screen is to be painted anew, from every state
+pub beginnings_anew : RunLaws → (profile : ProfileView) → IsProfile profile → (memory : MemoryView) (virtual : VirtualView) (plan ops begun : List Op) (k : ℕ) → IsPlan profile memory virtual plan → ops ≡ plan
+    → begun ≡ take k ops → IsDefinedAnew profile virtual begun
+beginnings_anew laws profile is memory virtual plan ops begun k whole same taken = λ wished state here.
+    let shown = whole.anew wished state here in
+    subst (IsDefined profile state) (sym (taken ∙ ap (take k) same)) (beginning laws profile is state shown.new here plan k shown.run)
+
 -- a plan has only operations that the profile has
 pub had : RunLaws → (profile : ProfileView) (memory : MemoryView) (virtual : VirtualView) (ops : List Op) → Agrees (abilities profile) memory memory.state → IsPlan profile memory virtual ops
     → All (λ op. has profile op ≡ true) ops
@@ -50,12 +57,13 @@ had laws profile memory virtual ops agrees plan =
 
 -- as much of a plan as was begun
 pub sent_part : RunLaws → (profile : ProfileView) → IsProfile profile → (memory : MemoryView) (virtual : VirtualView) (plan ops begun : List Op) (k : ℕ) (owed rest : List ℕ) (old mid new : WriterView) (count : ℕ)
-    → IsPlan profile memory virtual plan → ops ≡ plan → begun ≡ take k ops → IsCut owed (all_bytes profile (take k ops)) old.taken mid.taken count rest → Keeps mid.taken new.taken
-    → IsSent profile memory owed old new begun count rest
-sent_part laws profile is memory virtual plan ops begun k owed rest old mid new count whole same taken cut keeps =
+    → IsPlan profile memory virtual plan → ops ≡ plan → begun ≡ take k ops → IsCut owed (all_bytes profile (take k ops)) old.taken mid.taken count rest → IsOfOneText profile owed (take k ops) rest
+    → Keeps mid.taken new.taken → IsSent profile memory owed old new begun count rest
+sent_part laws profile is memory virtual plan ops begun k owed rest old mid new count whole same taken cut one keeps =
     let part : begun ≡ take k plan = taken ∙ ap (take k) same in
     record {
       cut = cut_kept owed (all_bytes profile begun) rest old.taken mid.taken new.taken count (subst (λ t. IsCut owed (all_bytes profile t) old.taken mid.taken count rest) (sym taken) cut) keeps;
+      one = subst (λ t. IsOfOneText profile owed t rest) (sym taken) one;
       defined = λ state here. subst (IsDefined profile state) (sym part) (beginnings laws profile is memory virtual plan k whole state here);
     }
 

@@ -29,6 +29,7 @@ use Rattle.curses.specs.declared.faults.UpdateFault.TheVariants.{Flush, Write}
 use Rattle.curses.specs.declared.sessions.Report.{Report}
 use Rattle.curses.specs.Calls.{answered, is_refusal, takes_memory, window_call}
 use Rattle.curses.specs.Refreshing.{redraw_lines_call, redraw_window_call}
+use Rattle.curses.specs.Updates.{IsOfOneText}
 use Rattle.curses.specs.Writers.{WriterView, counted}
 
 -- ---- the fold of the calls
@@ -153,13 +154,14 @@ pub record IsShowing (profile : ProfileView) (opened now : TerminalState) (owed 
   pub leads : IsEcma48 profile → Leads profile.rows profile.columns (negative_state opened) taken (negative_state now)
 
 -- Right after a call, for a terminal that was in state `opened` when the screen was opened: the operations begun so far are all
--- defined and lead to the state `now`; the bytes taken so far, and then those that are owed, are their texts; and where the call is an
--- update that ended well, the terminal shows the picture.
+-- defined and lead to the state `now`; the bytes taken so far, and then those that are owed, are their texts, and what is owed is the rest
+-- of one text, that of the last of them; and where the call is an update that ended well, the terminal shows the picture.
 pub record Moment (profile : ProfileView) (opened : TerminalState) (picture : PictureView) (begun : List Op) (taken : List ℕ) (well : Bool) : Type 0 where
   pub now : TerminalState
   pub run : runs profile opened begun ≡ Some now
   pub owed : List ℕ
   pub bytes : taken ++ owed ≡ all_bytes profile begun
+  pub one : IsOfOneText profile [] begun owed
   pub showing : well ≡ true → IsShowing profile opened now owed taken picture
 
 -- ---- economy

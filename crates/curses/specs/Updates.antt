@@ -22,10 +22,19 @@ pub record IsDefined (profile : ProfileView) (old : TerminalState) (ops : List O
   pub run : runs profile old ops ≡ Some new
   pub state : IsState (abilities profile) new
 
--- What an update sent: what was owed, and then the texts of the operations that it began, as far as the writer took them. From
--- every state of the terminal that agrees with what was remembered of it these operations are all defined.
+-- What is owed, which is the end of what was to be sent, is no longer than one text: that of the last operation begun, or what was
+-- owed before where none was.
+abbrev pub IsOfOneText : ProfileView → List ℕ → List Op → List ℕ → Type 0
+IsOfOneText profile owed [] rest = length rest ≤ length owed
+IsOfOneText profile owed (op ∷ []) rest = length rest ≤ length (bytes_of profile op)
+IsOfOneText profile owed (op ∷ next ∷ ops) rest = IsOfOneText profile owed (next ∷ ops) rest
+
+-- What an update sent: what was owed, and then the texts of the operations that it began, as far as the writer took them. What
+-- is owed then is the rest of one text. From every state of the terminal that agrees with what was remembered of it these operations
+-- are all defined.
 pub record IsSent (profile : ProfileView) (memory : MemoryView) (owed : List ℕ) (old new : WriterView) (begun : List Op) (count : ℕ) (rest : List ℕ) : Type 0 where
   pub cut : IsCut owed (all_bytes profile begun) old.taken new.taken count rest
+  pub one : IsOfOneText profile owed begun rest
   pub defined : (state : TerminalState) → Agrees (abilities profile) memory state → IsDefined profile state begun
 
 -- An update that ended well: nothing is owed, the writer did not fail, and the operations are a plan: from every state that agrees
@@ -37,18 +46,10 @@ pub record IsUpdated (profile : ProfileView) (memory : MemoryView) (virtual : Vi
   pub puts : new.failed_puts ≡ old.failed_puts
   pub finishes : new.failed_finishes ≡ old.failed_finishes
 
--- What is owed, which is the end of what was to be sent, is no longer than one text: that of the last operation begun, or what was
--- owed before where none was.
-abbrev pub IsOfOneText : ProfileView → List ℕ → List Op → List ℕ → Type 0
-IsOfOneText profile owed [] rest = length rest ≤ length owed
-IsOfOneText profile owed (op ∷ []) rest = length rest ≤ length (bytes_of profile op)
-IsOfOneText profile owed (op ∷ next ∷ ops) rest = IsOfOneText profile owed (next ∷ ops) rest
-
 -- one whose write failed: that of the last operation begun, or of what was owed; the rest of that text is owed
 pub record IsCutShort (profile : ProfileView) (memory : MemoryView) (owed : List ℕ) (old new : WriterView) (begun : List Op) (count : ℕ) (rest : List ℕ) : Type 0 where
   pub sent : IsSent profile memory owed old new begun count rest
   pub something : rest ≢ []
-  pub one : IsOfOneText profile owed begun rest
   pub puts : new.failed_puts ≡ counted true old.failed_puts
   pub finishes : new.failed_finishes ≡ old.failed_finishes
 
@@ -64,6 +65,16 @@ abbrev pub AfterFault : ProfileView → MemoryView → List ℕ → WriterView �
 AfterFault profile memory owed old new NoMemory rest = (rest ≡ owed) × (new ≡ old)
 AfterFault profile memory owed old new (Write begun sent kind) rest = IsCutShort profile memory owed old new begun sent rest
 AfterFault profile memory owed old new (Flush begun sent kind) rest = IsUnfinished profile memory owed old new begun sent rest
+
+-- the operations that were begun before a fault
+abbrev pub begun_before : UpdateFault → List Op
+begun_before NoMemory = []
+begun_before (Write begun sent kind) = begun
+begun_before (Flush begun sent kind) = begun
+
+-- where the screen was to be painted anew, the operations that were begun are all defined from every state of the profile
+abbrev pub IsDefinedAnew : ProfileView → VirtualView → List Op → Type 0
+IsDefinedAnew profile virtual begun = virtual.repaint ≡ true → (state : TerminalState) → IsState (abilities profile) state → IsDefined profile state begun
 
 -- what is remembered after a fault: nothing, unless nothing was sent
 abbrev pub memory_after : UpdateFault → MemoryView → MemoryView

@@ -10,7 +10,7 @@ ghost use Rattle.scr_virtual.specs.VirtualViews.{settled};
 ghost use Rattle.scr_plan.specs.Memories.{all_followed, forgotten};
 ghost use Rattle.scr_plan.specs.Plans.{IsPlan};
 ghost use Rattle.curses.specs.ScreenStates.{IsRemembered};
-ghost use Rattle.curses.specs.Updates.{AfterFault, IsFailed, IsShown, IsUpdated, memory_after};
+ghost use Rattle.curses.specs.Updates.{AfterFault, IsDefinedAnew, IsFailed, IsShown, IsUpdated, begun_before, memory_after};
 ghost use Rattle.curses.specs.Writers.{counted};
 
 use crate::faults::{Sent, UpdateFault};
@@ -36,6 +36,7 @@ impl Screen {
     pub fn doupdate<W: Counted>(&mut self, alloc: Global, out: &mut W) -> Result<Sent, UpdateFault>
         ensures ok { IfOk result (IsShown self.old self.new (W.told out.old) (W.told out.new)) }
         ensures err { IfErr result (IsFailed self.old self.new (W.told out.old) (W.told out.new)) }
+        ensures anew { IfErr result (λ fault. IsDefinedAnew self.old.profile self.old.virtual (begun_before fault)) }
         ensures untouched { IsErrOf result UpdateFault.NoMemory → out.new ≡ out.old }
     {
         let sent = update(
@@ -100,6 +101,7 @@ pub(crate) fn update<W: Counted>(
     requires room { (op : Op) → length (bytes_of profile.now op) ≤ vec_capacity waiting.old }
     ensures ok { IfOk result (λ sent. IsUpdated profile.now memory.now wanted.now waiting.old.items (W.told out.old) (W.told out.new) sent.begun sent.bytes waiting.new.items) }
     ensures err { IfErr result (λ fault. AfterFault profile.now memory.now waiting.old.items (W.told out.old) (W.told out.new) fault waiting.new.items) }
+    ensures anew { IfErr result (λ fault. IsDefinedAnew profile.now wanted.now (begun_before fault)) }
     ensures room { vec_capacity waiting.old ≤ vec_capacity waiting.new }
     ensures untouched { IsErrOf result UpdateFault.NoMemory → out.new ≡ out.old }
 {

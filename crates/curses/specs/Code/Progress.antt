@@ -15,6 +15,7 @@ use Rattle.scr_plan.specs.Memories.{Agrees, MemoryView, unknown}
 use Rattle.curses.specs.Making.{Knows, drawn_of}
 use Rattle.curses.specs.ScreenStates.{ScreenState}
 use Rattle.curses.specs.Sessions.{IsAnswer, IsCheap, IsSession, Moment, begun_in, count_in, counted_in, drawn_at, first_drawn, is_cut, is_unfinished, knows_behind, last_ok_behind, tells_sent}
+use Rattle.curses.specs.Updates.{IsOfOneText}
 use Rattle.curses.specs.Writers.{WriterView}
 
 -- a screen that was just opened
@@ -33,12 +34,13 @@ pub record AreMade (profile : ProfileView) (calls : List Call) (old new : Writer
   pub finishes : new.failed_finishes ≡ counted_in is_unfinished report.answers old.failed_finishes
 
 -- a terminal that was in one state when the screen was opened is in this state after the operations begun so far, which is as it is
--- remembered; and the bytes taken so far, and then those that are owed, are their texts
+-- remembered; and the bytes taken so far, and then those that are owed, which are of one text, are their texts
 pub record Current (profile : ProfileView) (memory : MemoryView) (opened : TerminalState) (begun : List Op) (taken owed : List ℕ) : Type 0 where
   pub now : TerminalState
   pub run : runs profile opened begun ≡ Some now
   pub agrees : Agrees (abilities profile) memory now
   pub bytes : taken ++ owed ≡ all_bytes profile begun
+  pub one : IsOfOneText profile [] begun owed
 
 -- the first calls of a session were made, and answered so
 pub record SoFar (profile : ProfileView) (calls : List Call) (answers : List Answer) (screen : ScreenState) (old new : WriterView) : Type 0 where

@@ -2,9 +2,9 @@ use Rattle.std.proofs.Common.{◌≡◌, ◌∙◌, true, ap, subst, sym, take}
 use Rattle.std.specs.Option.{is_some}
 use Rattle.std.specs.List.{All}
 use Rattle.scr_term.specs.Operations.Texts.{has}
-use Rattle.curses.specs.Updates.{IsOfOneText}
 use Rattle.curses.specs.Writers.{counted}
-use Rattle.curses.proofs.UpdateLaws.{had, kept_same, planned_whole, sent_part, some_not_none}
+use Rattle.curses.proofs.CutLaws.{nothing_left}
+use Rattle.curses.proofs.UpdateLaws.{beginnings_anew, had, kept_same, planned_whole, sent_part, some_not_none}
 use Rattle.curses.proofs.updates.update.Goals as goal
 
 pub send_all-sent-requires-clause-has : goal.send_all-sent-requires-clause-has
@@ -16,10 +16,8 @@ pub returns-in-Some-clause-err : goal.returns-in-Some-clause-err
 returns-in-Some-clause-err g c = record {
   sent = sent_part c.run_laws.ensures c.args.profile.now c.planned.ensures.profile c.args.memory.now c.args.wanted.now c.in_ok-plan.plan c.deref.result.now c.truncate.new.self.items c.send_all-sent.result.begun c.args.waiting.now.items _
       (g.W.Counted.told c.args.out.now) (g.W.Counted.told c.send_all-sent.new.out) (g.W.Counted.told c.send_all-sent.new.out) _ c.in_ok-plan.ensures.plan (c.deref.ensures.value ∙ c.plan.view_is)
-      (c.truncate.ensures.items ∙ sym (ap (take c.send_all-sent.result.begun) c.deref.ensures.value)) c.send_all-sent.ensures.cut (kept_same _);
+      (c.truncate.ensures.items ∙ sym (ap (take c.send_all-sent.result.begun) c.deref.ensures.value)) c.send_all-sent.ensures.cut (c.send_all-sent.ensures.one (some_not_none _ _ c.in-Some.is)) (kept_same _);
   something = c.send_all-sent.ensures.fault (some_not_none _ _ c.in-Some.is);
-  one = subst (λ begun. IsOfOneText c.args.profile.now c.args.waiting.now.items begun c.send_all-sent.new.waiting.items) (sym (c.truncate.ensures.items ∙ sym (ap (take c.send_all-sent.result.begun) c.deref.ensures.value)))
-      (c.send_all-sent.ensures.one (some_not_none _ _ c.in-Some.is));
   puts = c.send_all-sent.ensures.puts ∙ ap (λ f. counted (is_some f) (g.W.Counted.told c.args.out.now).failed_puts) c.in-Some.is;
   finishes = c.send_all-sent.ensures.finishes;
 }
@@ -28,7 +26,8 @@ pub returns-in-Some-finish_after-clause-err : goal.returns-in-Some-finish_after-
 returns-in-Some-finish_after-clause-err g c = record {
   sent = sent_part c.run_laws.ensures c.args.profile.now c.planned.ensures.profile c.args.memory.now c.args.wanted.now c.in_ok-plan.plan c.deref.result.now c.truncate.new.self.items c.send_all-sent.result.begun c.args.waiting.now.items _
       (g.W.Counted.told c.args.out.now) (g.W.Counted.told c.send_all-sent.new.out) (g.W.Counted.told c.finish_after.new.out) _ c.in_ok-plan.ensures.plan (c.deref.ensures.value ∙ c.plan.view_is)
-      (c.truncate.ensures.items ∙ sym (ap (take c.send_all-sent.result.begun) c.deref.ensures.value)) c.send_all-sent.ensures.cut c.finish_after.ensures.bytes;
+      (c.truncate.ensures.items ∙ sym (ap (take c.send_all-sent.result.begun) c.deref.ensures.value)) c.send_all-sent.ensures.cut (nothing_left c.args.profile.now c.args.waiting.now.items (take c.send_all-sent.result.begun c.deref.result.now) c.send_all-sent.new.waiting.items
+      (c.send_all-sent.ensures.nothing c.in_default.is)) c.finish_after.ensures.bytes;
   nothing = c.send_all-sent.ensures.nothing c.in_default.is;
   puts = c.finish_after.ensures.puts ∙ c.send_all-sent.ensures.puts ∙ ap (λ f. counted (is_some f) (g.W.Counted.told c.args.out.now).failed_puts) c.in_default.is;
   finishes = c.finish_after.ensures.finishes ∙ ap (λ f. counted (is_some f) (g.W.Counted.told c.send_all-sent.new.out).failed_finishes) c.in-Some-finish_after.is ∙ ap (counted true) c.send_all-sent.ensures.finishes;
@@ -38,10 +37,21 @@ pub returns-clause-ok : goal.returns-clause-ok
 returns-clause-ok g c = record {
   sent = sent_part c.run_laws.ensures c.args.profile.now c.planned.ensures.profile c.args.memory.now c.args.wanted.now c.in_ok-plan.plan c.deref.result.now c.truncate.new.self.items c.send_all-sent.result.begun c.args.waiting.now.items _
       (g.W.Counted.told c.args.out.now) (g.W.Counted.told c.send_all-sent.new.out) (g.W.Counted.told c.finish_after.new.out) _ c.in_ok-plan.ensures.plan (c.deref.ensures.value ∙ c.plan.view_is)
-      (c.truncate.ensures.items ∙ sym (ap (take c.send_all-sent.result.begun) c.deref.ensures.value)) c.send_all-sent.ensures.cut c.finish_after.ensures.bytes;
+      (c.truncate.ensures.items ∙ sym (ap (take c.send_all-sent.result.begun) c.deref.ensures.value)) c.send_all-sent.ensures.cut (nothing_left c.args.profile.now c.args.waiting.now.items (take c.send_all-sent.result.begun c.deref.result.now) c.send_all-sent.new.waiting.items
+      (c.send_all-sent.ensures.nothing c.in_default.is)) c.finish_after.ensures.bytes;
   plan = planned_whole c.args.profile.now c.args.memory.now c.args.wanted.now c.in_ok-plan.plan c.deref.result.now c.truncate.new.self.items c.send_all-sent.result.begun c.in_ok-plan.ensures.plan (c.deref.ensures.value ∙ c.plan.view_is)
       (c.truncate.ensures.items ∙ sym (ap (take c.send_all-sent.result.begun) c.deref.ensures.value)) (c.send_all-sent.ensures.whole c.in_default.is);
   nothing = c.send_all-sent.ensures.nothing c.in_default.is;
   puts = c.finish_after.ensures.puts ∙ c.send_all-sent.ensures.puts ∙ ap (λ f. counted (is_some f) (g.W.Counted.told c.args.out.now).failed_puts) c.in_default.is;
   finishes = c.finish_after.ensures.finishes ∙ ap (λ f. counted (is_some f) (g.W.Counted.told c.send_all-sent.new.out).failed_finishes) c.in_default-finish_after.is ∙ c.send_all-sent.ensures.finishes;
 }
+
+pub returns-in-Some-clause-anew : goal.returns-in-Some-clause-anew
+returns-in-Some-clause-anew g c =
+    beginnings_anew c.run_laws.ensures c.args.profile.now c.planned.ensures.profile c.args.memory.now c.args.wanted.now c.in_ok-plan.plan c.deref.result.now c.truncate.new.self.items c.send_all-sent.result.begun
+    c.in_ok-plan.ensures.plan (c.deref.ensures.value ∙ c.plan.view_is) (c.truncate.ensures.items ∙ sym (ap (take c.send_all-sent.result.begun) c.deref.ensures.value))
+
+pub returns-in-Some-finish_after-clause-anew : goal.returns-in-Some-finish_after-clause-anew
+returns-in-Some-finish_after-clause-anew g c =
+    beginnings_anew c.run_laws.ensures c.args.profile.now c.planned.ensures.profile c.args.memory.now c.args.wanted.now c.in_ok-plan.plan c.deref.result.now c.truncate.new.self.items c.send_all-sent.result.begun
+    c.in_ok-plan.ensures.plan (c.deref.ensures.value ∙ c.plan.view_is) (c.truncate.ensures.items ∙ sym (ap (take c.send_all-sent.result.begun) c.deref.ensures.value))
