@@ -1,4 +1,4 @@
-/* Reads keys by ncurses' wgetch again and again, as crates/bench_keys does with ours.
+/* Reads keys by ncurses' wgetch again and again, as crates/bench_screen does with ours.
    Usage: keys text|keys|broken wgetch|read KEYS COUNT: gives 720 bytes COUNT times by a pipe, and takes all keys that they are, or
    with `read` each byte by read(2) alone, as wgetch reads it. */
 #include <curses.h>

@@ -4,10 +4,10 @@
 # The bytes are letters, texts of keys, and texts whose last byte is another, so that each byte is a key by itself. ncurses has the
 # entry dumb, which has no keys, gets the same keys by define_key(), and reads the bytes from a pipe, without delay; what reading them by
 # read(2) costs is counted by itself and taken away. What the kernel does is not counted on either side.
-# It needs valgrind, a C compiler, libncurses-dev, and the program crates/bench_keys, which `rt run` builds.
+# It needs valgrind, a C compiler, libncurses-dev, and the program crates/bench_screen, which `rt run` builds.
 # Usage: benchmarks/keys/run.sh PROGRAM, from the top of the repository.
 set -e
-program=$1
+program="$1 keys"
 here=$(dirname "$0")
 folder=$(mktemp -d)
 trap 'rm -rf "$folder"' EXIT
@@ -32,7 +32,7 @@ hundredths() { echo "$(($1 / 100)).$(($1 / 10 % 10))$(($1 % 10))"; }
 echo "bytes | keys | ours, a byte | ncurses, a byte | ratio"
 for action in text keys broken; do
     for keys in 5 120; do
-        ours=$(ten "$program" $action $keys)
+        ours=$(ten $program $action $keys)
         theirs=$(($(ten "$folder/keys" $action wgetch $keys) - $(ten "$folder/keys" $action read $keys)))
         echo "$action | $keys | $(tenths $((ours / 720))) | $(tenths $((theirs / 720))) | $(hundredths $((100 * ours / theirs)))"
     done

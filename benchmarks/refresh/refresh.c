@@ -1,4 +1,4 @@
-/* Calls ncurses' touchline and wnoutrefresh again and again, as crates/bench_refresh does with ours.
+/* Calls ncurses' touchline and wnoutrefresh again and again, as crates/bench_screen does with ours.
    Usage: refresh touch|take|take_new ROWS COLUMNS LINES COUNT */
 #include <curses.h>
 #include <stdio.h>

@@ -6,10 +6,10 @@
 # and COLUMNS; no update comes between its calls either.
 # `update`: a full screen is painted (redrawwin, and doupdate into a new buffer), beside scratch_bytes, which makes the same bytes in one buffer
 # with no screen.
-# It needs valgrind, a C compiler, libncurses-dev, and the program crates/bench_refresh, which `rt run` builds.
+# It needs valgrind, a C compiler, libncurses-dev, and the program crates/bench_screen, which `rt run` builds.
 # Usage: benchmarks/refresh/run.sh PROGRAM, from the top of the repository.
 set -e
-program=$1
+program="$1 refresh"
 here=$(dirname "$0")
 folder=$(mktemp -d)
 trap 'rm -rf "$folder"' EXIT
@@ -29,8 +29,8 @@ ten() {
 
 # taken PROGRAM ACTION ROWS COLUMNS LINES: the instructions of ten takings, without those of the touching.
 taken() {
-    whole=$(ten "$1" "$2" "$3" "$4" "$5")
-    touching=$(ten "$1" touch "$3" "$4" "$5")
+    whole=$(ten $1 "$2" "$3" "$4" "$5")
+    touching=$(ten $1 touch "$3" "$4" "$5")
     echo $((whole - touching))
 }
 
@@ -55,5 +55,5 @@ for size in "24 80" "100 300"; do
         done
     done
     row "take, lines 0" "$1x$2" 0 "$(taken "$program" take "$1" "$2" 0)" "$(taken "$folder/refresh" take "$1" "$2" 0)"
-    row "update" "$1x$2" $(($1 * $2)) "$(ten "$program" update "$1" "$2" 0)" "$(ten "$program" scratch "$1" "$2" 0)"
+    row "update" "$1x$2" $(($1 * $2)) "$(ten $program update "$1" "$2" 0)" "$(ten $program scratch "$1" "$2" 0)"
 done

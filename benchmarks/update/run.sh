@@ -5,10 +5,10 @@
 # lines or all of them touched where the windows differ in every place. Both sides make the same calls, have the same entry (the bundled
 # one, compiled by tic), write into memory, and show the screen already when counting begins. What comes before is counted by itself and
 # taken away: the drawing, and for doupdate alone the taking too.
-# It needs valgrind, a C compiler, libncurses-dev, ncurses' tic, and the program crates/bench_update, which `rt run` builds.
+# It needs valgrind, a C compiler, libncurses-dev, ncurses' tic, and the program crates/bench_screen, which `rt run` builds.
 # Usage: benchmarks/update/run.sh PROGRAM ["ROWS COLUMNS" ..], from the top of the repository.
 set -e
-program=$1
+program="$1 update"
 shift
 [ $# -gt 0 ] || set -- "24 80" "50 132" "100 300" "500 500"
 here=$(dirname "$0")
@@ -44,9 +44,9 @@ tenths() { echo "$(($1 / 10)).$(($1 % 10))"; }
 stages() {
     side=$1
     shift
-    drawing=$(ten "$side" draw "$@")
-    taking=$(ten "$side" take "$@")
-    whole=$(ten "$side" update "$@")
+    drawing=$(ten $side draw "$@")
+    taking=$(ten $side take "$@")
+    whole=$(ten $side update "$@")
     echo "$((${whole% *} - ${drawing% *})) $((${whole% *} - ${taking% *})) ${whole#* }"
 }
 

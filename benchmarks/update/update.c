@@ -1,4 +1,4 @@
-/* Draws, takes and updates by ncurses again and again, as crates/bench_update does with ours.
+/* Draws, takes and updates by ncurses again and again, as crates/bench_screen does with ours.
    Usage: update draw|take|update character|lines ROWS COLUMNS LINES COUNT */
 #define _GNU_SOURCE
 #include <curses.h>

@@ -1,25 +1,14 @@
-//! Calls one part of a refresh again and again, so that the instructions of one time can be counted:
-//! `bench_refresh touch|take|take_new ROWS COLUMNS LINES COUNT` touches that many lines of a window over the whole screen, and takes
-//! it onto the virtual screen, which has its cells already or gets new ones; `bench_refresh update|scratch ROWS COLUMNS LINES COUNT`
-//! paints the whole screen, whatever is touched. A number is printed that is made of all results.
-#![tactic(auto)]
+//! One part of a refresh: `refresh touch|take|take_new ROWS COLUMNS LINES COUNT` touches that many lines of a window over the whole
+//! screen, and takes it onto the virtual screen, which has its cells already or gets new ones; `refresh update|scratch ROWS COLUMNS LINES
+//! COUNT` paints the whole screen, whatever is touched. The number is made of all results.
 
-use anyhow::{Context, Result, anyhow, bail};
+use crate::screens::{FIRST, fill, opened};
+use anyhow::{Result, bail};
 use curses::{Device, Screen};
-use scr_cells::{Attrs, Cell, Size};
 use scr_plan::scratch_bytes;
 use scr_term::Profile;
 use scr_windows::Win;
 use std::alloc::Global;
-use std::env;
-use ti_caps::bundled;
-
-const FIRST: Win = Win(0);
-
-// A screen on the bundled entry.
-fn opened(alloc: Global, size: Size) -> Result<Screen> {
-    Ok(Screen::open(alloc, &bundled(alloc)?, Some(size))?)
-}
 
 // Fills the first window, which is over all of the screen, with a plain character, and a second one over it with another.
 fn draw(alloc: Global, screen: &mut Screen) -> Result<Win> {
@@ -27,14 +16,6 @@ fn draw(alloc: Global, screen: &mut Screen) -> Result<Win> {
     fill(screen, FIRST, b'x')?;
     fill(screen, second, b'y')?;
     Ok(second)
-}
-
-// Fills a window with a plain character.
-fn fill(screen: &mut Screen, win: Win, byte: u8) -> Result<()> {
-    let cell = Cell::new(byte, Attrs(0)).ok_or_else(|| anyhow!("no character"))?;
-    screen.set_background(win, cell)?;
-    screen.erase(win)?;
-    Ok(())
 }
 
 // Touches lines of two windows in turn.
@@ -98,23 +79,9 @@ fn repeat(alloc: Global, screen: &mut Screen, action: &str, lines: u32, count: u
     }
 }
 
-fn measure(alloc: Global, action: &str, size: Size, lines: u32, count: u32) -> Result<u64> {
-    let mut screen = opened(alloc, size)?;
-    repeat(alloc, &mut screen, action, lines, count)
-}
-
-fn main(rt: HostRuntime) -> Result<()> {
-    let mut words = env::args(&rt)?;
-    let _program = words.next();
-    let action = words.next().ok_or_else(|| anyhow!("what to do"))?;
-    let mut numbers = [0; 4];
-    for number in &mut numbers {
-        let word = words.next().ok_or_else(|| anyhow!("a number is missing"))?;
-        *number = word.as_str().parse::<u32>().context("no number")?;
-    }
+/// Does one part of a refresh again and again on a new screen of this size.
+pub fn measure(alloc: Global, action: &str, numbers: [u32; 4]) -> Result<u64> {
     let [rows, columns, lines, count] = numbers;
-    let size = Size::new(rows, columns).ok_or_else(|| anyhow!("a size from 1 to 500"))?;
-    let result = measure(rt.alloc(), action.as_str(), size, lines, count)?;
-    println!(rt; "{result}")?;
-    Ok(())
+    let mut screen = opened(alloc, rows, columns)?;
+    repeat(alloc, &mut screen, action, lines, count)
 }

@@ -1,24 +1,17 @@
-//! Draws, takes and updates again and again, so that the instructions of one time can be counted:
-//! `bench_update draw|take|update character|lines ROWS COLUMNS LINES COUNT` writes another character in the middle of a window over
-//! the whole screen, or touches so many lines of two such windows in turn that differ everywhere; `take` takes the window onto the
-//! virtual screen each time, and `update` then brings the terminal to it. The bytes that were sent are printed.
-#![tactic(auto)]
+//! Draws, takes and updates: `update draw|take|update character|lines ROWS COLUMNS LINES COUNT` writes another character in the middle of
+//! a window over the whole screen, or touches so many lines of two such windows in turn that differ everywhere; `take` takes the window
+//! onto the virtual screen each time, and `update` then brings the terminal to it. The number is that of the bytes that were sent.
 
-use anyhow::{Context, Result, anyhow, bail};
+use crate::screens::{FIRST, fill, opened};
+use anyhow::{Result, bail};
 use curses::{Device, Screen};
-use scr_cells::{Attrs, Cell, Size};
+use scr_cells::Attrs;
 use scr_windows::Win;
 use std::alloc::Global;
-use std::env;
-use ti_caps::bundled;
-
-const FIRST: Win = Win(0);
 
 // Fills a window with a plain character, takes it, and updates.
 fn show(alloc: Global, screen: &mut Screen, win: Win, byte: u8) -> Result<()> {
-    let cell = Cell::new(byte, Attrs(0)).ok_or_else(|| anyhow!("no character"))?;
-    screen.set_background(win, cell)?;
-    screen.erase(win)?;
+    fill(screen, win, byte)?;
     screen.noutrefresh(win)?;
     update(alloc, screen, &mut Device::new(Vec::new(alloc)))?;
     Ok(())
@@ -90,30 +83,15 @@ fn repeat(alloc: Global, screen: &mut Screen, each: Work, count: u32) -> Result<
     Ok(bytes)
 }
 
-fn measure(alloc: Global, size: Size, each: Work, count: u32) -> Result<u64> {
-    let mut screen = Screen::open(alloc, &bundled(alloc)?, Some(size))?;
-    repeat(alloc, &mut screen, each, count)
-}
-
-fn main(rt: HostRuntime) -> Result<()> {
-    let mut words = env::args(&rt)?;
-    let _program = words.next();
-    let stage = words.next().ok_or_else(|| anyhow!("how far to go"))?;
-    let change = words.next().ok_or_else(|| anyhow!("what to change"))?;
-    let mut numbers = [0; 4];
-    for number in &mut numbers {
-        let word = words.next().ok_or_else(|| anyhow!("a number is missing"))?;
-        *number = word.as_str().parse::<u32>().context("no number")?;
-    }
+/// Does the work again and again on a new screen of this size.
+pub fn measure(alloc: Global, stage: &str, change: &str, numbers: [u32; 4]) -> Result<u64> {
     let [rows, columns, lines, count] = numbers;
-    let size = Size::new(rows, columns).ok_or_else(|| anyhow!("a size from 1 to 500"))?;
     let each = Work {
-        is_character: change.as_str() == "character",
+        is_character: change == "character",
         lines,
-        takes: stage.as_str() != "draw",
-        updates: stage.as_str() == "update",
+        takes: stage != "draw",
+        updates: stage == "update",
     };
-    let bytes = measure(rt.alloc(), size, each, count)?;
-    println!(rt; "{bytes}")?;
-    Ok(())
+    let mut screen = opened(alloc, rows, columns)?;
+    repeat(alloc, &mut screen, each, count)
 }

@@ -1,14 +1,11 @@
-//! Reads keys again and again, so that the instructions of one byte can be counted: `bench_keys text|keys|broken KEYS COUNT` gives a
-//! screen whose terminal has so many keys 720 bytes COUNT times, and takes each key when it comes. The bytes are letters, or the
-//! texts of keys, or texts whose last byte is another. A number is printed that is made of all keys.
-#![tactic(auto)]
+//! Reads keys: `keys text|keys|broken KEYS COUNT` gives a screen whose terminal has so many keys 720 bytes COUNT times, and takes each key
+//! when it comes. The bytes are letters, or the texts of keys, or texts whose last byte is another. The number is made of all keys.
 
-use anyhow::{Context, Result, anyhow, bail};
+use anyhow::{Result, bail};
 use curses::Screen;
 use scr_cells::Size;
 use scr_keys::Key;
 use std::alloc::Global;
-use std::env;
 use ti_caps::{Entry, Kind, MOST_TEXTS, Slot, bundled, name_of};
 
 // How many texts of keys, of six bytes each, are 720 bytes.
@@ -100,29 +97,9 @@ fn entry_of(alloc: Global, keys: u32) -> Result<Entry> {
     Ok(entry)
 }
 
-// A screen whose terminal has so many keys.
-fn opened(alloc: Global, keys: u32) -> Result<Screen> {
-    Ok(Screen::open(alloc, &entry_of(alloc, keys)?, Size::new(24, 80))?)
-}
-
-// Reads bytes so often by a screen whose terminal has so many keys.
-fn measure(alloc: Global, keys: u32, bytes: &[u8], count: u32) -> Result<u64> {
-    let mut screen = opened(alloc, keys)?;
-    read_often(&mut screen, bytes, count)
-}
-
-fn main(rt: HostRuntime) -> Result<()> {
-    let mut words = env::args(&rt)?;
-    let _program = words.next();
-    let action = words.next().ok_or_else(|| anyhow!("what to do"))?;
-    let mut numbers = [0; 2];
-    for number in &mut numbers {
-        let word = words.next().ok_or_else(|| anyhow!("a number is missing"))?;
-        *number = word.as_str().parse::<u32>().context("no number")?;
-    }
-    let [keys, count] = numbers;
-    let bytes = stream(rt.alloc(), action.as_str(), keys)?;
-    let sum = measure(rt.alloc(), keys, &bytes, count)?;
-    println!(rt; "{sum}")?;
-    Ok(())
+/// Reads bytes so often by a screen whose terminal has so many keys.
+pub fn measure(alloc: Global, action: &str, keys: u32, count: u32) -> Result<u64> {
+    let bytes = stream(alloc, action, keys)?;
+    let mut screen = Screen::open(alloc, &entry_of(alloc, keys)?, Size::new(24, 80))?;
+    read_often(&mut screen, &bytes, count)
 }
