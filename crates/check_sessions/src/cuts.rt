@@ -1,18 +1,20 @@
 //! An update that is cut at every byte, and the one behind it.
 
-use crate::answers::add_count;
+use crate::answers::{add_answer, add_count, ran_out};
 use crate::recorded::Recorded;
+use crate::shown::shows;
 use crate::writers::Fails;
 use check_scripts::answers::{add_number, add_word};
 use check_scripts::texts::read_text;
 use check_scripts::troubles::Trouble;
 use check_scripts::words::Words;
-use curses::Call;
+use curses::{Answer, Call, Device, Failure, Faulty, Report, UpdateFault};
 use scr_cells::{Picture, Size};
 use scr_plan::{Memory, plain, scratch};
-use scr_term::{Op, Ops, Profile};
+use scr_term::{EcmaScreen, Op, Ops, Profile};
 use scr_windows::Win;
 use std::alloc::Global;
+use std::io::ErrorKind;
 use ti_caps::Bytes;
 
 // What is sent, and where the text of each operation ends.
@@ -49,9 +51,16 @@ impl Whole {
     }
 }
 
-// How many operations of an update are begun that is cut, and how many bytes of it are sent by it and the next one first.
+// How an update is cut, and behind how many of its bytes.
 #[derive(Clone, Copy)]
 struct Cut {
+    failure: Failure,
+    behind: usize,
+}
+
+// How many operations of an update are begun that is cut, and how many bytes of it are sent by it and the next one first.
+#[derive(Clone, Copy)]
+struct Ended {
     begun: usize,
     end: usize,
 }
@@ -64,10 +73,11 @@ enum Verdict {
     NoMemory,
 }
 
-/// The line `cuts BEHIND`: two rows of five with `hi`, and an update into a writer that fails behind 0, 1 .. bytes, up to so
-/// many, by an error and by taking nothing, each on a new screen. The fault has to tell what was begun and sent; the next
-/// update is Ok, and sends what was owed and then what paints all; the terminal shows the picture. With `cuts BEHIND TEXT` one update
-/// ends well, and the one is cut that adds a text behind `hi`. Adds `agrees`, or the first that differs.
+/// The line `cuts BEHIND`: two rows of five with `hi`, an update and one behind it, by one session for each cut. The writer fails
+/// once, behind 0, 1 .. bytes, fewer than so many, by an error and by taking nothing, and where the update is flushed. The fault
+/// has to tell what was begun and sent; the next update is Ok, and sends what was owed and then what paints all; the terminal shows
+/// the picture. With `cuts BEHIND TEXT` one update ends well before, and the one is cut that adds a text behind `hi`. Adds `agrees`, or
+/// the first that differs.
 pub fn check_cuts(
     alloc: Global,
     tried: &mut Option<Recorded>,
@@ -79,151 +89,206 @@ pub fn check_cuts(
     if !matches!(words.peek(), b"" | b"=") {
         read_text(words.next(), &mut text)?;
     }
-    check_all(alloc, tried, count, &text, came)
+    let size = Size::new(2, 5).ok_or(Trouble::Bad("no size"))?;
+    if !Recorded::open_bundled(alloc, size, tried)? {
+        return add_word("NoMemory", came);
+    }
+    match tried {
+        Some(opened) => check_opened(alloc, opened, count as usize, &text, came),
+        None => Ok(()),
+    }
 }
 
-// Cuts behind 0, 1 .. bytes, up to so many.
-fn check_all(
+// Makes the calls with a writer that does not fail, and then cuts.
+fn check_opened(
     alloc: Global,
-    tried: &mut Option<Recorded>,
-    count: u32,
+    opened: &mut Recorded,
+    count: usize,
     text: &[u8],
     came: &mut Vec<u8>,
 ) -> Result<(), Trouble> {
     let mut whole = Whole::new(alloc);
-    if !make_whole(alloc, tried, text, &mut whole)? {
-        return add_word("NoMemory", came);
+    if make_whole(alloc, opened, text, &mut whole)? {
+        check_all(alloc, opened, &whole, count, came)
+    } else {
+        add_word("NoMemory", came)
     }
-    check_each(alloc, tried, count, text, &whole, came)
 }
 
-fn check_each(
+// Cuts behind 0, 1 .. bytes, fewer than so many, and at the flush.
+fn check_all(
     alloc: Global,
-    tried: &mut Option<Recorded>,
-    count: u32,
-    text: &[u8],
+    opened: &Recorded,
     whole: &Whole,
+    count: usize,
     came: &mut Vec<u8>,
 ) -> Result<(), Trouble> {
     for behind in 0..count {
-        match check_both(alloc, tried, text, whole, behind, came)? {
-            Verdict::Agrees => {}
-            Verdict::Differs => return add_number(i64::from(behind), came),
-            Verdict::NoMemory => return add_word("NoMemory", came),
+        if !check_both(alloc, opened, whole, behind, came)? {
+            return Ok(());
         }
     }
-    add_word("agrees", came)
+    let flush = Cut {
+        failure: Failure::Flush,
+        behind: whole.update.bytes.len(),
+    };
+    if check_cut(alloc, opened, whole, flush, came)? {
+        add_word("agrees", came)
+    } else {
+        Ok(())
+    }
 }
 
 // Cuts behind so many bytes by an error, and by taking nothing.
 fn check_both(
     alloc: Global,
-    tried: &mut Option<Recorded>,
-    text: &[u8],
+    opened: &Recorded,
     whole: &Whole,
-    behind: u32,
+    behind: usize,
     came: &mut Vec<u8>,
-) -> Result<Verdict, Trouble> {
-    match check_cut(alloc, tried, text, whole, behind, false, came)? {
-        Verdict::Agrees => check_cut(alloc, tried, text, whole, behind, true, came),
-        verdict => Ok(verdict),
-    }
+) -> Result<bool, Trouble> {
+    let error = Cut {
+        failure: Failure::Error,
+        behind,
+    };
+    let zero = Cut {
+        failure: Failure::Zero,
+        behind,
+    };
+    Ok(
+        check_cut(alloc, opened, whole, error, came)?
+            && check_cut(alloc, opened, whole, zero, came)?,
+    )
 }
 
-// Cuts once. Adds the answers where they differ from what is wanted.
+// Cuts once, and tells whether all is as it has to be. Adds what is not.
 fn check_cut(
     alloc: Global,
-    tried: &mut Option<Recorded>,
-    text: &[u8],
+    opened: &Recorded,
     whole: &Whole,
-    behind: u32,
-    stuck: bool,
+    cut: Cut,
     came: &mut Vec<u8>,
-) -> Result<Verdict, Trouble> {
-    let (fails, kind) = if stuck {
-        (Fails::StuckBehind(behind), "WriteZero")
-    } else {
-        (Fails::Behind(behind), "BrokenPipe")
-    };
-    let Some(opened) = open_example(alloc, tried, text)? else {
-        return Ok(Verdict::NoMemory);
+) -> Result<bool, Trouble> {
+    let limit = whole.before.bytes.len().saturating_add(cut.behind);
+    let mut device = Device::new(Faulty::new(alloc, limit, cut.failure, 1));
+    let Some(report) = opened.session(&mut device)? else {
+        add_word("NoMemory", came)?;
+        return Ok(false);
     };
     let mut answers = Vec::new(alloc);
-    if !update_twice(opened, fails, &mut answers)? {
+    match judge(
+        alloc,
+        opened,
+        whole,
+        cut,
+        &report,
+        device.writer.taken(),
+        &mut answers,
+    )? {
+        Verdict::Agrees => return Ok(true),
+        Verdict::Differs => {
+            add_number(i64::try_from(cut.behind).unwrap_or(-1), came)?;
+            came.extend_from_slice(&answers)?;
+        }
+        Verdict::NoMemory => add_word("NoMemory", came)?,
+    }
+    Ok(false)
+}
+
+// Whether the two updates answered what they have to, all that the writer took is wanted, and a terminal shows the picture by it. Adds the
+// answers.
+fn judge(
+    alloc: Global,
+    opened: &Recorded,
+    whole: &Whole,
+    cut: Cut,
+    report: &Report,
+    taken: &[u8],
+    answers: &mut Vec<u8>,
+) -> Result<Verdict, Trouble> {
+    if !add_last(report, answers)? {
         return Ok(Verdict::NoMemory);
     }
-    if is_wanted(alloc, &opened.sent, whole, behind, kind, &answers)? {
-        return Ok(Verdict::Agrees);
-    }
-    came.extend_from_slice(&answers)?;
-    Ok(Verdict::Differs)
-}
-
-// Whether the two updates sent and answered what they have to.
-fn is_wanted(
-    alloc: Global,
-    sent: &[u8],
-    whole: &Whole,
-    behind: u32,
-    kind: &str,
-    answers: &[u8],
-) -> Result<bool, Trouble> {
-    let cut = cut_at(&whole.update.ends, behind as usize);
+    let ended = ended_at(&whole.update, cut);
     let mut wanted = Vec::new(alloc);
-    add_wanted(whole, cut, behind, kind, &mut wanted)?;
-    Ok(answers == wanted.as_slice() && is_sent(sent, whole, cut.end))
-}
-
-// Updates with a writer that fails and then with one that doesn't, and tells whether there was memory for both.
-fn update_twice(
-    opened: &mut Recorded,
-    fails: Fails,
-    answers: &mut Vec<u8>,
-) -> Result<bool, Trouble> {
-    let _is_well = opened.update(fails, answers)?;
-    if answers.ends_with(b" NoMemory") {
-        return Ok(false);
+    add_wanted(whole, cut, ended, &mut wanted)?;
+    let is_same = answers.as_slice() == wanted.as_slice();
+    if !is_same || !report.last_ok || !is_taken(taken, whole, ended.end) {
+        return Ok(Verdict::Differs);
     }
-    let _is_well = opened.update(Fails::Never, answers)?;
-    Ok(!answers.ends_with(b" NoMemory"))
+    let Ok(mut emulated) = EcmaScreen::new(alloc, opened.profile.size()) else {
+        return Ok(Verdict::NoMemory);
+    };
+    let is_fed = emulated.feed(taken).is_ok();
+    if is_fed && shows(&emulated, &opened.profile, opened.screen.picture()) {
+        Ok(Verdict::Agrees)
+    } else {
+        Ok(Verdict::Differs)
+    }
 }
 
-// The operation in whose text a place is: those up to it are begun, and its text is sent to its end.
-fn cut_at(ends: &[usize], behind: usize) -> Cut {
-    let mut begun: usize = 0;
-    for end in ends {
-        begun = begun.saturating_add(1);
-        if behind < *end {
-            return Cut { begun, end: *end };
+// Adds the answers of the last two calls, and tells whether there was memory for all.
+fn add_last(report: &Report, answers: &mut Vec<u8>) -> Result<bool, Trouble> {
+    let all = &report.answers.0;
+    let first = all.len().saturating_sub(2);
+    for (place, answer) in all.iter().enumerate() {
+        if ran_out(answer) || is_writer_full(answer) {
+            return Ok(false);
+        }
+        if place >= first {
+            add_answer(answer, answers)?;
         }
     }
-    Cut { begun, end: 0 }
+    Ok(true)
+}
+
+// Whether the writer wanted memory and got none.
+fn is_writer_full(answer: &Answer) -> bool {
+    match answer {
+        Answer::Failed(UpdateFault::Write { kind, .. }) => *kind == ErrorKind::OutOfMemory,
+        _ => false,
+    }
+}
+
+// The operation in whose text a cut is: those up to it are begun, and its text is sent to its end. Behind all texts, all are.
+fn ended_at(update: &Text, cut: Cut) -> Ended {
+    let mut begun: usize = 0;
+    for end in &update.ends {
+        begun = begun.saturating_add(1);
+        if cut.behind < *end {
+            return Ended { begun, end: *end };
+        }
+    }
+    Ended {
+        begun,
+        end: update.bytes.len(),
+    }
 }
 
 // Adds what the two updates have to answer.
-fn add_wanted(
-    whole: &Whole,
-    cut: Cut,
-    behind: u32,
-    kind: &str,
-    wanted: &mut Vec<u8>,
-) -> Result<(), Trouble> {
-    add_word("Write", wanted)?;
-    add_word(kind, wanted)?;
-    add_count(cut.begun as u64, wanted)?;
-    add_number(i64::from(behind), wanted)?;
+fn add_wanted(whole: &Whole, cut: Cut, ended: Ended, wanted: &mut Vec<u8>) -> Result<(), Trouble> {
+    add_word(
+        match cut.failure {
+            Failure::Error => "Write Other",
+            Failure::Zero => "Write WriteZero",
+            Failure::Flush => "Flush Other",
+        },
+        wanted,
+    )?;
+    add_count(ended.begun as u64, wanted)?;
+    add_count(cut.behind as u64, wanted)?;
     add_word("Ok", wanted)?;
-    let owed = cut.end.saturating_sub(behind as usize);
+    let owed = ended.end.saturating_sub(cut.behind);
     add_count(
         owed.saturating_add(whole.repaint.bytes.len()) as u64,
         wanted,
     )
 }
 
-// Whether what was sent is what was sent before, the beginning of the update up to the end of the text that was cut, and then what
+// Whether a writer took what was sent before, the beginning of the update up to the end of the text that was cut, and then what
 // paints all.
-fn is_sent(sent: &[u8], whole: &Whole, end: usize) -> bool {
-    let Some(behind) = sent.strip_prefix(whole.before.bytes.as_slice()) else {
+fn is_taken(taken: &[u8], whole: &Whole, end: usize) -> bool {
+    let Some(behind) = taken.strip_prefix(whole.before.bytes.as_slice()) else {
         return false;
     };
     match (
@@ -237,44 +302,29 @@ fn is_sent(sent: &[u8], whole: &Whole, end: usize) -> bool {
     }
 }
 
-// Two rows of five with `hi`, to be shown by the next update, or, where a text is to be added, shown, and with the text to be
-// shown by the next; `None` where the library was refused memory.
-fn open_example<'a>(
+// Makes the calls up to the update that is cut, and the update behind it, none of which fails here. Adds what the update that is cut sends,
+// and what is sent before and behind it, and tells whether there was memory for it.
+fn make_whole(
     alloc: Global,
-    tried: &'a mut Option<Recorded>,
+    opened: &mut Recorded,
     text: &[u8],
-) -> Result<Option<&'a mut Recorded>, Trouble> {
-    let size = Size::new(2, 5).ok_or(Trouble::Bad("no size"))?;
-    if !Recorded::open_bundled(alloc, size, tried)? {
-        return Ok(None);
-    }
-    let Some(opened) = tried else {
-        return Ok(None);
+    whole: &mut Whole,
+) -> Result<bool, Trouble> {
+    let Ok(mut memory) = Memory::unknown(alloc, opened.profile.size()) else {
+        return Ok(false);
     };
-    if write_example(alloc, opened, text)? {
-        Ok(Some(opened))
-    } else {
-        Ok(None)
-    }
-}
-
-fn write_example(alloc: Global, opened: &mut Recorded, text: &[u8]) -> Result<bool, Trouble> {
     write(alloc, opened, b"hi")?;
-    if text.is_empty() {
-        return Ok(true);
+    if !text.is_empty() {
+        if !show(alloc, opened, &mut memory, &mut whole.before)? {
+            return Ok(false);
+        }
+        write(alloc, opened, text)?;
     }
-    if !show(alloc, opened)? {
+    if !show(alloc, opened, &mut memory, &mut whole.update)? {
         return Ok(false);
     }
-    write(alloc, opened, text)?;
-    Ok(true)
-}
-
-// Updates, and tells whether there was memory for it.
-fn show(alloc: Global, opened: &mut Recorded) -> Result<bool, Trouble> {
-    let mut answers = Vec::new(alloc);
-    let _is_well = opened.update(Fails::Never, &mut answers)?;
-    Ok(!answers.ends_with(b" NoMemory"))
+    memory.forget();
+    show(alloc, opened, &mut memory, &mut whole.repaint)
 }
 
 // Adds a text to the first window, and takes it onto the virtual screen.
@@ -286,50 +336,19 @@ fn write(alloc: Global, opened: &mut Recorded, text: &[u8]) -> Result<(), Troubl
     opened.call(Call::Noutrefresh(Win(0)), &mut answers)
 }
 
-// Adds what the uncut update sends, and what is sent before and behind it, and tells whether there was memory for it.
-fn make_whole(
-    alloc: Global,
-    tried: &mut Option<Recorded>,
-    text: &[u8],
-    whole: &mut Whole,
-) -> Result<bool, Trouble> {
-    let Some(opened) = open_example(alloc, tried, b"")? else {
-        return Ok(false);
-    };
-    let Ok(mut memory) = Memory::unknown(alloc, opened.profile.size()) else {
-        return Ok(false);
-    };
-    add_texts(alloc, opened, text, &mut memory, whole)
-}
-
-fn add_texts(
+// Updates, and adds what brings a terminal of which this is remembered to the picture, and is remembered then. Tells whether there was
+// memory for it.
+fn show(
     alloc: Global,
     opened: &mut Recorded,
-    text: &[u8],
-    memory: &mut Memory,
-    whole: &mut Whole,
-) -> Result<bool, Trouble> {
-    if !text.is_empty() {
-        if !add_next(alloc, opened, memory, &mut whole.before)? {
-            return Ok(false);
-        }
-        write(alloc, opened, text)?;
-    }
-    if !add_next(alloc, opened, memory, &mut whole.update)? {
-        return Ok(false);
-    }
-    memory.forget();
-    add_next(alloc, opened, memory, &mut whole.repaint)
-}
-
-// Adds what brings a terminal of which this is remembered to the picture of a screen, and is remembered then; tells whether there
-// was memory for it.
-fn add_next(
-    alloc: Global,
-    opened: &Recorded,
     memory: &mut Memory,
     text: &mut Text,
 ) -> Result<bool, Trouble> {
+    let mut answers = Vec::new(alloc);
+    let _is_well = opened.update(Fails::Never, &mut answers)?;
+    if answers.ends_with(b" NoMemory") {
+        return Ok(false);
+    }
     let profile = &opened.profile;
     match plan(alloc, profile, memory, opened.screen.picture())? {
         Some(ops) => render_all(profile, &ops, text),

@@ -6,7 +6,7 @@ use crate::shown::shows;
 use crate::writers::{Fails, Planned};
 use check_scripts::answers::add_word;
 use check_scripts::troubles::Trouble;
-use curses::{Answer, Call, Device, OpenFault, Report, Screen, session};
+use curses::{Answer, Call, Counted, Device, OpenFault, Report, Screen, session};
 use scr_cells::Size;
 use scr_term::{EcmaScreen, Profile, ProfileFault};
 use std::alloc::Global;
@@ -32,8 +32,8 @@ pub struct Recorded {
     device: Device<Planned>,
     calls: Vec<Call>,
     answers: Vec<u8>,
-    /// All bytes that the writer took.
-    pub sent: Vec<u8>,
+    // All bytes that the writer took.
+    sent: Vec<u8>,
     // Whether the last update ended well.
     last_ok: bool,
     // Room for one answer.
@@ -138,6 +138,15 @@ impl Recorded {
         }
     }
 
+    /// Makes the calls by one session into a writer; `None` where the library was refused memory.
+    pub fn session<W: Counted>(&self, out: &mut W) -> Result<Option<Report>, Trouble> {
+        match session(self.alloc, &self.entry, Some(self.size), &self.calls, out) {
+            Ok(report) => Ok(Some(report)),
+            Err(OpenFault::NoMemory) => Ok(None),
+            Err(_) => Err(Trouble::Bad("no profile")),
+        }
+    }
+
     fn add_agrees(
         &self,
         device: &Device<Planned>,
@@ -225,20 +234,6 @@ impl Recorded {
             Some("and the writer was called")
         } else {
             None
-        }
-    }
-
-    fn session(&self, device: &mut Device<Planned>) -> Result<Option<Report>, Trouble> {
-        match session(
-            self.alloc,
-            &self.entry,
-            Some(self.size),
-            &self.calls,
-            device,
-        ) {
-            Ok(report) => Ok(Some(report)),
-            Err(OpenFault::NoMemory) => Ok(None),
-            Err(_) => Err(Trouble::Bad("no profile")),
         }
     }
 
