@@ -1,42 +1,55 @@
-//! Entries of a screen: the bundled one, without some of its texts.
+//! Entries of a screen: the bundled one, without some of its texts and with other numbers.
 
 use check_scripts::troubles::Trouble;
 use check_scripts::words::Words;
 use std::alloc::Global;
-use ti_caps::{CapFault, Entry, Kind, bundled, find_name};
+use ti_caps::{CapFault, Entry, Kind, Slot, bundled, find_name};
 
 // How many names a line has at most.
 const MOST: usize = 64;
 
-/// The bundled entry without the texts that a line names, up to its `=`; `None` where the library was refused memory.
+/// The bundled entry without the texts that a line names, up to its `=`, and with the numbers that it names and gives; `None` where
+/// the library was refused memory.
 pub fn read_entry(alloc: Global, words: &mut Words<'_>) -> Result<Option<Entry>, Trouble> {
     let Ok(mut entry) = bundled(alloc) else {
         return Ok(None);
     };
-    if remove_all(&mut entry, words)? {
+    if change_all(&mut entry, words)? {
         Ok(Some(entry))
     } else {
         Ok(None)
     }
 }
 
-// Has an entry none of the texts that a line names, and tells whether there was memory for it.
-fn remove_all(entry: &mut Entry, words: &mut Words<'_>) -> Result<bool, Trouble> {
+// Changes an entry as a line says, and tells whether there was memory for it.
+fn change_all(entry: &mut Entry, words: &mut Words<'_>) -> Result<bool, Trouble> {
     for _ in 0..MOST {
         if matches!(words.peek(), b"" | b"=") {
             break;
         }
-        if remove(entry, words.next())?.is_err() {
+        if change(entry, words)?.is_err() {
             return Ok(false);
         }
     }
     Ok(true)
 }
 
-// Has an entry no text of this name.
-fn remove(entry: &mut Entry, name: &[u8]) -> Result<Result<(), CapFault>, Trouble> {
-    match find_name(name) {
+// Has an entry no text of the name that follows, or the number that stands behind the name.
+fn change(entry: &mut Entry, words: &mut Words<'_>) -> Result<Result<(), CapFault>, Trouble> {
+    match find_name(words.next()) {
         Some((Kind::Text, slot)) => Ok(entry.set_text(slot, None)),
-        _ => Err(Trouble::Bad("no such text")),
+        Some((Kind::Number, slot)) => set_number(entry, slot, words),
+        _ => Err(Trouble::Bad("no such text or number")),
+    }
+}
+
+fn set_number(
+    entry: &mut Entry,
+    slot: Slot,
+    words: &mut Words<'_>,
+) -> Result<Result<(), CapFault>, Trouble> {
+    match u16::try_from(words.number()?) {
+        Ok(number) if number <= 32767 => Ok(entry.set_number(slot, Some(number))),
+        _ => Err(Trouble::Bad("a number is out of range")),
     }
 }

@@ -32,8 +32,9 @@ pub struct Recorded {
     device: Device<Planned>,
     calls: Vec<Call>,
     answers: Vec<u8>,
-    // All bytes that the writer took.
+    // All bytes that the writer took, and how many of them before the last update.
     sent: Vec<u8>,
+    before: usize,
     // Whether the last update ended well.
     last_ok: bool,
     // Room for one answer.
@@ -86,6 +87,7 @@ impl Recorded {
             calls: Vec::new(alloc),
             answers: Vec::new(alloc),
             sent: Vec::new(alloc),
+            before: 0,
             last_ok: false,
             answer: Vec::new(alloc),
         }
@@ -147,6 +149,11 @@ impl Recorded {
         }
     }
 
+    /// What the last update sent.
+    pub fn last_sent(&self) -> &[u8] {
+        self.sent.get(self.before..).unwrap_or(&[])
+    }
+
     fn add_agrees(
         &self,
         device: &Device<Planned>,
@@ -205,6 +212,7 @@ impl Recorded {
     fn feed(&mut self) -> Result<bool, Trouble> {
         let taken = &mut self.device.writer.taken;
         let fed = self.emulated.feed(taken);
+        self.before = self.sent.len();
         self.sent.extend_from_slice(taken)?;
         taken.clear();
         Ok(fed.is_ok())

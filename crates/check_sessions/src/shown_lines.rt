@@ -2,16 +2,18 @@
 
 use crate::recorded::Recorded;
 use check_scripts::answers::{
-    add_cell, add_look, add_number, add_place, add_text, add_text_of, add_word,
+    add_cell, add_look, add_number, add_place, add_text, add_text_of, add_word, read_size,
 };
 use check_scripts::troubles::Trouble;
 use check_scripts::words::Words;
 use scr_cells::Picture;
 use scr_term::{EcmaScreen, Spot};
+use scr_virtual::Virtual;
+use scr_windows::{Desk, Win, WinFault};
 use std::alloc::Global;
 
-/// The lines `shown_rows`, `shown_cursor`, `shown R C` about the emulated screen, and `picture_rows`, `picture_at R C` and
-/// `wish` about the picture.
+/// The lines `shown_rows`, `shown_cursor`, `shown R C` about the emulated screen, `picture_rows`, `picture_at R C` and `wish`
+/// about the picture, and `first_sent N`, the first N bytes that the last update sent.
 pub fn answer_of_shown(
     alloc: Global,
     opened: &Recorded,
@@ -27,6 +29,7 @@ pub fn answer_of_shown(
         "picture_rows" => add_picture_rows(picture, came),
         "picture_at" => add_picture_at(picture, words, came),
         "wish" => add_wish(picture, came),
+        "first_sent" => add_first_sent(opened, words, came),
         _ => return Ok(false),
     };
     done?;
@@ -95,4 +98,61 @@ fn add_wish(picture: &Picture, came: &mut Vec<u8>) -> Result<(), Trouble> {
         Some((row, column)) => add_place(row, column, came),
         None => add_word("none", came),
     }
+}
+
+fn add_first_sent(
+    opened: &Recorded,
+    words: &mut Words<'_>,
+    came: &mut Vec<u8>,
+) -> Result<(), Trouble> {
+    let count = words.number()? as usize;
+    let sent = opened.last_sent();
+    add_text(sent.get(..count).unwrap_or(sent), came)
+}
+
+/// The line `changed R C ROWS COLUMNS ROW COLUMN`: a virtual screen of R rows and C columns onto which the first window is taken,
+/// and which is settled then, as by an update that ends well; then a new window is taken, of so many rows and columns at a row
+/// and a column. Adds for each row of the screen the first and the last column that may have changed since, or `none`.
+pub fn check_changed(
+    alloc: Global,
+    words: &mut Words<'_>,
+    came: &mut Vec<u8>,
+) -> Result<(), Trouble> {
+    let size = read_size(words)?;
+    let (rows, columns) = (words.number()?, words.number()?);
+    let (row, column) = (words.number()?, words.number()?);
+    let (Ok(mut desk), Ok(mut screen)) = (Desk::new(alloc, size), Virtual::new(alloc, size)) else {
+        return add_word("NoMemory", came);
+    };
+    take(&mut screen, &mut desk, Win(0))?;
+    screen.settle();
+    match desk.new_window(alloc, rows, columns, row, column) {
+        Ok(win) => {
+            take(&mut screen, &mut desk, win)?;
+            add_changed(&screen, came)
+        }
+        Err(WinFault::NoMemory) => add_word("NoMemory", came),
+        Err(_) => Err(Trouble::Bad("no such window")),
+    }
+}
+
+// Takes a window onto a screen of the same size.
+fn take(screen: &mut Virtual, desk: &mut Desk, win: Win) -> Result<(), Trouble> {
+    let (size, other) = (screen.size(), desk.screen());
+    if size.rows != other.rows || size.columns != other.columns {
+        return Err(Trouble::Bad("the screen has another size"));
+    }
+    screen
+        .take_window(desk, win)
+        .map_err(|_| Trouble::Bad("no such window"))
+}
+
+fn add_changed(screen: &Virtual, came: &mut Vec<u8>) -> Result<(), Trouble> {
+    for row in 0..screen.size().rows {
+        match screen.changed(row) {
+            Some((first, last)) => add_place(first, last, came)?,
+            None => add_word("none", came)?,
+        }
+    }
+    Ok(())
 }

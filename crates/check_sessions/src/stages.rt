@@ -6,7 +6,7 @@ use crate::dumps::dump_recorded;
 use crate::entries::read_entry;
 use crate::generated::check_generated;
 use crate::recorded::Recorded;
-use crate::shown_lines::answer_of_shown;
+use crate::shown_lines::{answer_of_shown, check_changed};
 use crate::writers::Fails;
 use check_scripts::answers::{add_word, read_size};
 use check_scripts::checking::Stage;
@@ -39,6 +39,7 @@ impl Stage for SessionStage {
             "screen" => open(self.alloc, &mut self.opened, words, came),
             "cuts" => check_cuts(self.alloc, &mut self.tried, words, came),
             "generated" => check_generated(self.alloc, &mut self.tried, words, came),
+            "changed" => check_changed(self.alloc, words, came),
             _ => answer_of_opened(self.alloc, ready(&mut self.opened)?, word, words, came),
         }
     }
@@ -51,12 +52,15 @@ impl Stage for SessionStage {
     }
 
     fn leaves_all(word: &[u8]) -> bool {
-        matches!(str::from_utf8(word), Ok("cuts" | "generated" | "session"))
+        matches!(
+            str::from_utf8(word),
+            Ok("changed" | "cuts" | "generated" | "session")
+        )
     }
 }
 
 // The line `screen R C NAME ..`, which opens a screen of so many rows and columns on the bundled entry without the texts of these
-// names.
+// names; a number's name has its value behind it.
 fn open(
     alloc: Global,
     opened: &mut Option<Recorded>,
