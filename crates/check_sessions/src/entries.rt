@@ -12,12 +12,24 @@ const MOST: usize = 64;
 /// the library was refused memory.
 pub fn read_entry(alloc: Global, words: &mut Words<'_>) -> Result<Option<Entry>, Trouble> {
     let Ok(mut entry) = bundled(alloc) else {
+        pass_names(words);
         return Ok(None);
     };
     if change_all(&mut entry, words)? {
         Ok(Some(entry))
     } else {
+        pass_names(words);
         Ok(None)
+    }
+}
+
+// Passes the names of a line that are left, since what is wanted of it stands behind them.
+fn pass_names(words: &mut Words<'_>) {
+    for _ in 0..MOST {
+        if matches!(words.peek(), b"" | b"=") {
+            break;
+        }
+        let _name = words.next();
     }
 }
 
