@@ -4,6 +4,7 @@
 
 mod answers;
 mod cell_lines;
+mod compared_rows;
 mod comparing;
 mod desk_calls;
 mod desk_lines;
@@ -14,6 +15,7 @@ mod generating;
 mod lent_lines;
 mod lent_windows;
 mod random;
+mod shown_rows;
 mod stages;
 
 use check_scripts::checking::check_input;

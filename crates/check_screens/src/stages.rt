@@ -2,9 +2,9 @@
 
 use crate::answers::add_answer;
 use crate::cell_lines::answer_of_cells;
+use crate::compared_rows::{check_rows, is_about_rows};
 use crate::desk_calls::call_desk;
 use crate::desk_lines::answer_of_desk;
-use crate::differences::check_differences;
 use crate::dumps::dump_desk;
 use crate::generated::check_generated;
 use check_scripts::checking::Stage;
@@ -39,8 +39,8 @@ impl Stage for DeskStage {
         if word == b"calls".as_slice() {
             return check_generated(self.alloc, words, came);
         }
-        if word == b"differences".as_slice() {
-            return check_differences(self.alloc, words, came);
+        if is_about_rows(word) {
+            return check_rows(self.alloc, word, words, came);
         }
         if let Some(form) = find(word) {
             return self.call(form, words, came);
@@ -61,7 +61,7 @@ impl Stage for DeskStage {
     }
 
     fn leaves_all(word: &[u8]) -> bool {
-        word == b"calls".as_slice() || word == b"differences".as_slice()
+        word == b"calls".as_slice() || is_about_rows(word)
     }
 }
 
