@@ -1,4 +1,5 @@
-//! Where two rows of cells, or of looks, differ: what an update has to write lies between the first and the last difference.
+//! Where two rows of cells, or of looks, differ: offered to callers that compare such rows. An update compares looks with cells, by
+//! what is in `showing.rt`.
 //!
 //! Both types are one `u32`, so that eight places are compared at a time. The lanes are a filter: where they find a difference
 //! among eight, or fewer than eight are left, the places are compared one by one.
