@@ -16,6 +16,7 @@ mod recorded;
 mod shown;
 mod shown_lines;
 mod stages;
+mod uncut;
 mod writers;
 
 use check_scripts::checking::check_input;
