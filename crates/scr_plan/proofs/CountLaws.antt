@@ -6,6 +6,7 @@ use Rattle.std.proofs.lemmas.List.FromFn.{length-range_with_len}
 use Rattle.std.proofs.Math.Nat.{mul-le-mul_right}
 use Rattle.scr_cells.specs.Attributes.{all_attributes, attributes_of}
 use Rattle.scr_cells.specs.LookViews.{LookView}
+use Rattle.scr_cells.specs.PenViews.{PenView}
 use Rattle.scr_cells.specs.PictureViews.{PictureView}
 use Rattle.scr_term.specs.declared.operations.operation.Op.{Op}
 use Rattle.scr_term.specs.declared.operations.operation.Op.TheVariants.{Clear, Move, Put, Reset}
@@ -45,12 +46,12 @@ entered_few set =
     let few : length (attributes_of set) ≤ 7 = fewer (λ a. bit_and set a == a) all_attributes in
     omega (arith, few, length-map (attributes_of set) enter)
 
-renders_few : (look : LookView) → length (renders look) ≤ 9
-renders_few look =
-    let a : List Op = map enter (attributes_of look.pen.attrs) in
-    let f : List Op = sets_foreground look.pen.foreground in
-    let b : List Op = sets_background look.pen.background in
-    omega (arith, entered_few look.pen.attrs, foreground_few look.pen.foreground, background_few look.pen.background, length-append (a ++ f) b, length-append a f)
+renders_few : (pen : PenView) → length (renders pen) ≤ 9
+renders_few pen =
+    let a : List Op = map enter (attributes_of pen.attrs) in
+    let f : List Op = sets_foreground pen.foreground in
+    let b : List Op = sets_background pen.background in
+    omega (arith, entered_few pen.attrs, foreground_few pen.foreground, background_few pen.background, length-append (a ++ f) b, length-append a f)
 
 goes_few : (profile : ProfileView) (place : ℕ × ℕ) → length (goes profile place) ≤ 2
 goes_few profile place = either profile.msgr
@@ -63,7 +64,7 @@ place_few : (profile : ProfileView) (picture : PictureView) (place : ℕ × ℕ)
 place_few profile picture place =
     let look : LookView = look_at profile picture place in
     let put : List Op = Put look.byte ∷ [] in
-    omega (arith, goes_few profile place, renders_few look, length-append (goes profile place ++ renders look) put, length-append (goes profile place) (renders look))
+    omega (arith, goes_few profile place, renders_few look.pen, length-append (goes profile place ++ renders look.pen) put, length-append (goes profile place) (renders look.pen))
 
 -- so many for each
 each_few : {A B : Type 0} → (f : A → List B) (k : ℕ) (xs : List A) → ((x : A) → length (f x) ≤ k) → length (flat_map f xs) ≤ length xs * k

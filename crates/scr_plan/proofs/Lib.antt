@@ -1,6 +1,8 @@
 pub mod ActLaws
+pub mod BriefLaws
 pub mod CountLaws
 pub mod FollowLaws
+pub mod JoinLaws
 pub mod MemoryRunLaws
 pub mod MemoryViewLaws
 pub mod PartLaws

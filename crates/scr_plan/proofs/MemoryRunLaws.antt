@@ -4,8 +4,7 @@ use Rattle.std.specs.List.{list_all}
 use Rattle.std.proofs.lemmas.List.{length-replicate}
 use Rattle.scr_cells.specs.Grids.{GridLaws}
 use Rattle.scr_cells.specs.LookViews.{LookView}
-use Rattle.scr_cells.specs.PictureViews.{PictureView, IsPicture}
-use Rattle.scr_virtual.specs.VirtualViews.{VirtualView}
+use Rattle.scr_cells.specs.PictureViews.{PictureView}
 use Rattle.scr_term.specs.declared.operations.capability.Capability.TheVariants.{Sgr0}
 use Rattle.scr_term.specs.declared.operations.operation.Op.{Op}
 use Rattle.scr_term.specs.declared.operations.operation.Op.TheVariants.{Clear, Reset}
@@ -20,8 +19,8 @@ use Rattle.scr_plan.proofs.MemoryViewLaws.{same_size}
 use Rattle.scr_plan.proofs.RememberedRowLaws.{all_true}
 use Rattle.scr_plan.specs.Memories.{Agrees, MemoryLaws, MemoryView, all_followed, followed, has_one_pen, is_known, remembered, stepped, unknown}
 use Rattle.scr_plan.specs.MemoryRuns.{KnownMemories, MayBe, MemoryRuns, PlansAreRemembered}
-use Rattle.scr_plan.specs.Repaints.{PlanShows, plain_of, plan_of}
-use Rattle.scr_plan.specs.Scratch.{Fits, RunsToShow, ScratchShows, paints_places, places_cursor, resets, scratch_of}
+use Rattle.scr_plan.specs.Repaints.{PlanShows, anew_of, brief_of, brief_places, cleared, plain_of, plan_of}
+use Rattle.scr_plan.specs.Scratch.{RunsToShow, ScratchShows, paints_places, places_cursor, resets, scratch_of}
 
 -- ---- runs
 
@@ -68,7 +67,7 @@ all_columns profile memory [] = refl
 all_columns profile memory (op ∷ ops) = all_columns profile (followed profile op memory) ops ∙ (same_size (abilities profile) op memory (step profile memory.state op)).1
 
 -- the remembered state agrees with what is remembered
-agrees_itself : (abilities : Abilities) (memory : MemoryView) → MayBe abilities memory → Agrees abilities memory memory.state
+pub agrees_itself : (abilities : Abilities) (memory : MemoryView) → MayBe abilities memory → Agrees abilities memory memory.state
 agrees_itself abilities memory may = record {
   is_state = may.state;
   may_be = may.state;
@@ -100,7 +99,7 @@ memory_runs blanks laws = record {
 -- ---- a plan
 
 -- a run that goes on was defined before
-run_before : RunLaws → (profile : ProfileView) (old new : TerminalState) (ops more : List Op) → runs profile old (ops ++ more) ≡ Some new
+pub run_before : RunLaws → (profile : ProfileView) (old new : TerminalState) (ops more : List Op) → runs profile old (ops ++ more) ≡ Some new
     → (next : TerminalState) × (runs profile old ops ≡ Some next) × (runs profile next more ≡ Some new)
 run_before laws profile old new ops more e = goes_on (runs profile old ops) (λ next. runs profile next more) new (sym (laws.after profile old ops more) ∙ e)
 
@@ -142,36 +141,37 @@ known_begun profile can memory new false there e =
     ap (λ next. is_known (stepped (abilities profile) Clear memory next)) first.1
     ∙ known_cleared (abilities profile) memory first.0 (ap (λ b. memory.known_pen || false || b) one ∙ or_true (memory.known_pen || false))
 
-scratch_known : RunLaws → ProfilesHave → MemoryLaws → ScratchShows → (profile : ProfileView) → IsProfile profile → (picture : PictureView) → IsPicture picture → Fits profile picture
-    → (memory : MemoryView) → MayBe (abilities profile) memory → is_known (all_followed profile (scratch_of profile picture) memory) ≡ true
-scratch_known laws have one shows profile p picture k fits memory may =
-    let run : RunsToShow profile memory.state (scratch_of profile picture) picture = shows profile p picture k fits memory.state may.state in
+-- whatever is painted on a screen that was cleared, if it is defined
+anew_known : RunLaws → ProfilesHave → MemoryLaws → (profile : ProfileView) → IsProfile profile → (memory : MemoryView) → MayBe (abilities profile) memory
+    → (new : TerminalState) (all cursor : List Op) → runs profile memory.state (resets profile ++ Clear ∷ [] ++ all ++ resets profile ++ cursor) ≡ Some new
+    → is_known (all_followed profile (resets profile ++ Clear ∷ [] ++ all ++ resets profile ++ cursor) memory) ≡ true
+anew_known laws have one profile p memory may new all cursor run =
     let begins : List Op = resets profile ++ Clear ∷ [] in
-    let all : List Op = paints_places profile picture in
-    let cursor : List Op = places_cursor picture.wish in
-    let third = run_before laws profile memory.state run.new (begins ++ all ++ resets profile) cursor run.run in
+    let third = run_before laws profile memory.state new (begins ++ all ++ resets profile) cursor run in
     let second = run_before laws profile memory.state third.0 (begins ++ all) (resets profile) third.1 in
     let first = run_before laws profile memory.state second.0 begins all second.1 in
-    known_more laws one profile p memory may run.new (begins ++ all ++ resets profile) cursor run.run
+    known_more laws one profile p memory may new (begins ++ all ++ resets profile) cursor run
     (known_more laws one profile p memory may third.0 (begins ++ all) (resets profile) third.1
     (known_more laws one profile p memory may second.0 begins all second.1
     (known_begun profile (have profile p) memory first.0 (is_there profile Sgr0) refl first.1)))
 
-known_by : RunLaws → ProfilesHave → MemoryLaws → ScratchShows → (profile : ProfileView) → IsProfile profile → (virtual : VirtualView) → IsPicture virtual.picture → Fits profile virtual.picture
-    → (memory : MemoryView) → MayBe (abilities profile) memory → (a b : Bool) → is_known memory ≡ a → virtual.repaint ≡ b
-    → (new : TerminalState) → runs profile memory.state (if a && not b then plain_of profile memory virtual.picture else scratch_of profile virtual.picture) ≡ Some new
-    → is_known (all_followed profile (if a && not b then plain_of profile memory virtual.picture else scratch_of profile virtual.picture) memory) ≡ true
-known_by laws have one scratch profile p virtual k fits memory may true false known calm new run =
-    runs_stay_known one profile p memory memory.state new (plain_of profile memory virtual.picture) (agrees_itself (abilities profile) memory may) run known
-known_by laws have one scratch profile p virtual k fits memory may true true known calm new run = scratch_known laws have one scratch profile p virtual.picture k fits memory may
-known_by laws have one scratch profile p virtual k fits memory may false b known calm new run = scratch_known laws have one scratch profile p virtual.picture k fits memory may
+known_by : RunLaws → ProfilesHave → MemoryLaws → (profile : ProfileView) → IsProfile profile → (picture : PictureView) → (memory : MemoryView) → MayBe (abilities profile) memory
+    → (a repaint : Bool) → is_known memory ≡ a → (new : TerminalState)
+    → runs profile memory.state (if a && not repaint then brief_of profile memory picture else anew_of profile picture) ≡ Some new
+    → is_known (all_followed profile (if a && not repaint then brief_of profile memory picture else anew_of profile picture) memory) ≡ true
+known_by laws have one profile p picture memory may true false known new run =
+    runs_stay_known one profile p memory memory.state new (brief_of profile memory picture) (agrees_itself (abilities profile) memory may) run known
+known_by laws have one profile p picture memory may true true known new run = anew_known laws have one profile p memory may new (brief_places profile picture (cleared picture)) (places_cursor picture.wish) run
+known_by laws have one profile p picture memory may false repaint known new run = anew_known laws have one profile p memory may new (brief_places profile picture (cleared picture)) (places_cursor picture.wish) run
 
 pub plans_are_remembered : RunLaws → ProfilesHave → MemoryLaws → ScratchShows → PlanShows → PlansAreRemembered
 plans_are_remembered laws have one scratch plan = record {
-  scratch_known = scratch_known laws have one scratch;
+  scratch_known = λ profile p picture k fits memory may.
+      let run : RunsToShow profile memory.state (scratch_of profile picture) picture = scratch profile p picture k fits memory.state may.state in
+      anew_known laws have one profile p memory may run.new (paints_places profile picture) (places_cursor picture.wish) run.run;
   known = λ profile p virtual k fits memory may.
       let run : RunsToShow profile memory.state (plan_of profile memory virtual) virtual.picture = plan.agreeing profile p virtual k fits memory memory.state (agrees_itself (abilities profile) memory may) in
-      known_by laws have one scratch profile p virtual k fits memory may (is_known memory) virtual.repaint refl refl run.new run.run;
+      known_by laws have one profile p virtual.picture memory may (is_known memory) virtual.repaint refl run.new run.run;
   shows = λ profile p virtual k fits memory may.
       let run : RunsToShow profile memory.state (plan_of profile memory virtual) virtual.picture = plan.agreeing profile p virtual k fits memory memory.state (agrees_itself (abilities profile) memory may) in
       subst (λ state. Shows (abilities profile) state virtual.picture) (sym (runs_state profile memory run.new (plan_of profile memory virtual) run.run)) run.shows;

@@ -170,3 +170,15 @@ row_changed profile memory virtual same size known r from last high order wide r
     ∙ row_in_part d from (last + 1 - from) (virtual.picture.columns - (last + 1)) r
     (λ c below. same_place profile memory virtual same size known r c high (omega (arith, below, order, wide)) (ap (λ range. in_range range c) range ∙ outside_below from last c below))
     (λ c low few. same_place profile memory virtual same size known r c high (omega (arith, few, order, wide)) (ap (λ range. in_range range c) range ∙ outside_above from last c (omega (arith, low, order))))
+
+-- right before the columns that have changed nothing differs
+pub before_changed : (profile : ProfileView) (memory : MemoryView) (virtual : VirtualView) → IsUpToDate profile memory virtual → IsSizeOf virtual.picture memory → is_known memory ≡ true
+    → (r from last c : ℕ) → r < virtual.picture.rows → from ≤ last → last < virtual.picture.columns → range_at virtual r ≡ Some (from, last) → c < from
+    → differs profile virtual.picture memory (r, c) ≡ false
+before_changed profile memory virtual same size known r from last c high order wide range below =
+    same_place profile memory virtual same size known r c high (omega (arith, below, order, wide)) (ap (λ range. in_range range c) range ∙ outside_below from last c below)
+
+-- a row of a memory that knows all
+pub row_known : (memory : MemoryView) → is_known memory ≡ true → (r : ℕ) → r < length memory.known_rows → is_known_row memory r ≡ true
+row_known memory known r high =
+    each_known memory.known_rows r (both (list_all (λ k. k) memory.known_rows) memory.known_spot (both (list_all (λ k. k) memory.known_rows && memory.known_spot) memory.known_pen known).0).0 high

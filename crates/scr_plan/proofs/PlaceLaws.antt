@@ -155,7 +155,7 @@ cell_of_row (cell ∷ cells) zero each = each.0
 cell_of_row (cell ∷ cells) (suc c) each = cell_of_row cells c each.1
 
 -- in every place of a picture there is a cell, and a blank outside
-cell_of : (lines : List (List CellView)) (r c : ℕ) → AllByRecursion (All IsCell) lines → IsCell (grid_at blank_cell lines r c)
+pub cell_of : (lines : List (List CellView)) (r c : ℕ) → AllByRecursion (All IsCell) lines → IsCell (grid_at blank_cell lines r c)
 cell_of [] r c each = blank_is_cell
 cell_of (line ∷ lines) zero c each = cell_of_row line c (recursion_from_All IsCell line each.0)
 cell_of (line ∷ lines) (suc r) c each = cell_of lines r c each.1
@@ -197,11 +197,11 @@ place_is_painted laws have profile p picture k place inside old s =
     let entered : runs profile there (map enter (attributes_of attrs)) ≡ Some lit =
     enters laws profile can cell.attrs all_attributes (refl, (refl, (refl, (refl, (refl, (refl, (refl, tt))))))) there
     ∙ ap (λ set. Some (with_pen old place set None None)) (all_of_set attrs small) in
-    let set : runs profile there (renders look) ≡ Some coloured =
+    let set : runs profile there (renders look.pen) ≡ Some coloured =
     then_runs laws profile there fore coloured (map enter (attributes_of attrs) ++ sets_foreground look.pen.foreground) (sets_background look.pen.background)
     (then_runs laws profile there lit fore (map enter (attributes_of attrs)) (sets_foreground look.pen.foreground) entered
     (foreground_set profile can old place attrs look.pen.foreground seen.0))
     (background_set profile can old place attrs look.pen.foreground look.pen.background seen.1) in
-    then_runs laws profile old coloured new (goes profile place ++ renders look) (Put look.byte ∷ [])
-    (then_runs laws profile old there coloured (goes profile place) (renders look) gone set)
+    then_runs laws profile old coloured new (goes profile place ++ renders look.pen) (Put look.byte ∷ [])
+    (then_runs laws profile old there coloured (goes profile place) (renders look.pen) gone set)
     (one_run profile coloured new (Put look.byte) (can.put look.byte is.character) refl)

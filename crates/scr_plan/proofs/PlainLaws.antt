@@ -30,12 +30,12 @@ option_same None (Some y) e = (cc)
 option_same (Some x) None e = (cc)
 option_same (Some x) (Some y) e = let same : x ≡ y = grind (arith, nat_tests) in ap (λ n. Some n) same
 
-both : (a b : Bool) → (a && b) ≡ true → (a ≡ true) × (b ≡ true)
+pub both : (a b : Bool) → (a && b) ≡ true → (a ≡ true) × (b ≡ true)
 both true true e = (refl, refl)
 both true false e = (cc)
 both false b e = (cc)
 
-pen_same : (a b : PenView) → pen_eq a b ≡ true → a ≡ b
+pub pen_same : (a b : PenView) → pen_eq a b ≡ true → a ≡ b
 pen_same a b e =
     let first = both (a.attrs == b.attrs) (option_eq ◌==◌ a.foreground b.foreground && option_eq ◌==◌ a.background b.background) e in
     let second = both (option_eq ◌==◌ a.foreground b.foreground) (option_eq ◌==◌ a.background b.background) first.1 in
@@ -97,7 +97,7 @@ shown_by : (b : Bool) (look before : LookView) → (b ≡ false → before ≡ l
 shown_by true look before same = refl
 shown_by false look before same = same refl
 
-repaint_shows : RunLaws → ProfilesHave → PlaceIsPainted → GridLaws LookView → (profile : ProfileView) → IsProfile profile → (picture : PictureView) → IsPicture picture → Fits profile picture
+pub repaint_shows : RunLaws → ProfilesHave → PlaceIsPainted → GridLaws LookView → (profile : ProfileView) → IsProfile profile → (picture : PictureView) → IsPicture picture → Fits profile picture
     → (memory : MemoryView) (old : TerminalState) → Agrees (abilities profile) memory old → RunsToShow profile old (paints profile picture (differing profile picture memory)) picture
 repaint_shows laws have place_law grids profile p picture k fits memory old agrees =
     let can : HasLaws profile = have profile p in

@@ -1,5 +1,5 @@
--- A repaint that is made row by row is the plain one.
-use Rattle.std.proofs.Common.{◌≡◌, ℕ, ◌+◌, ◌-◌, ◌<◌, ◌≤◌, ◌==◌, ◌&&◌, true, sym, ◌∙◌, ap, arith, append_assoc, List, [], ◌∷◌, ◌++◌, length, filter, None, Result, Ok, Err, IfOk, if◌then◌else◌}
+-- A repaint that is made row by row is that of all places that differ.
+use Rattle.std.proofs.Common.{◌≡◌, ℕ, ◌+◌, ◌-◌, ◌<◌, ◌≤◌, ◌==◌, ◌&&◌, Bool, true, sym, ◌∙◌, ap, arith, append_assoc, List, [], ◌∷◌, ◌++◌, length, filter, None, Result, Ok, Err, IfOk, if◌then◌else◌}
 use Rattle.std.specs.List.{flat_map}
 use Rattle.std.proofs.lemmas.Bool.Decides.{nat_tests}
 use Rattle.std.proofs.lemmas.List.{append-nil, length-append}
@@ -9,17 +9,21 @@ use Rattle.scr_term.specs.declared.operations.operation.Op.{Op}
 use Rattle.scr_term.specs.declared.operations.operation.Op.TheVariants.{Put}
 use Rattle.scr_term.specs.Operations.Profiles.{ProfileView}
 use Rattle.scr_plan.specs.declared.painting.Painter.{Painter}
-use Rattle.scr_plan.specs.Code.Painters.{painter_of, painter_paints_place, painter_differs, painter_resets, part_places}
+use Rattle.scr_plan.specs.Code.Painters.{painter_of, painter_resets}
 use Rattle.scr_plan.specs.Memories.{MemoryView, is_known}
-use Rattle.scr_plan.specs.Repaints.{IsSizeOf, IsUpToDate, differing, differs, is_none_left, is_placed, paints, plain_of}
+use Rattle.scr_plan.specs.Repaints.{IsSizeOf, IsUpToDate, begins_place, brief_of, brief_place, brief_places, differing, differs, is_none_left, is_placed}
 use Rattle.scr_plan.specs.Scratch.{goes, look_at, paints_place, places, places_cursor, renders, resets, row_places}
 use Rattle.scr_plan.proofs.PartLaws.{row_more, row_same, rows_same}
 
 -- ---- whether a place was painted
 
-painted_some : (profile : ProfileView) (picture : PictureView) (place : ℕ × ℕ) → 1 ≤ length (paints_place profile picture place)
-painted_some profile picture place =
-    omega (arith, length-append (goes profile place ++ renders (look_at profile picture place)) (Put (look_at profile picture place).byte ∷ []))
+pub plain_some : (profile : ProfileView) (picture : PictureView) (place : ℕ × ℕ) → 1 ≤ length (paints_place profile picture place)
+plain_some profile picture place =
+    omega (arith, length-append (goes profile place ++ renders (look_at profile picture place).pen) (Put (look_at profile picture place).byte ∷ []))
+
+pub brief_some : (profile : ProfileView) (picture : PictureView) (memory : MemoryView) (place : ℕ × ℕ) → 1 ≤ length (brief_place profile picture memory place)
+brief_some profile picture memory place =
+    omega (arith, length-append (begins_place profile picture memory place.0 place.1) (Put (look_at profile picture place).byte ∷ []))
 
 none_left : (first : List Op) (f : ℕ × ℕ → List Op) → ((place : ℕ × ℕ) → 1 ≤ length (f place)) → (xs : List (ℕ × ℕ)) → (length (first ++ flat_map f xs) == length first) ≡ is_none_left xs
 none_left first f some [] = let same : length (first ++ []) ≡ length first = ap length (append-nil first) in grind (arith, nat_tests)
@@ -27,59 +31,31 @@ none_left first f some (x ∷ xs) =
     let more : length first < length (first ++ (f x ++ flat_map f xs)) = omega (arith, some x, length-append first (f x ++ flat_map f xs), length-append (f x) (flat_map f xs)) in
     grind (arith, nat_tests)
 
--- the whole repaint, from its beginning
-pub ends : (profile : ProfileView) (memory : MemoryView) (picture : PictureView) (painter : Painter) (begun : ℕ) (items all : List Op)
-    → painter ≡ painter_of profile → begun ≡ length (resets profile) → items ≡ resets profile ++ flat_map (paints_place profile picture) (differing profile picture memory)
+-- the whole repaint, from its beginning, where this is added for a place
+pub ends : (profile : ProfileView) (memory : MemoryView) (picture : PictureView) (painter : Painter) (begun : ℕ) (items all : List Op) (f : ℕ × ℕ → List Op) → ((place : ℕ × ℕ) → 1 ≤ length (f place))
+    → painter ≡ painter_of profile → begun ≡ length (resets profile) → items ≡ resets profile ++ flat_map f (differing profile picture memory)
     → all ≡ (if length items == begun && is_placed memory picture.wish then [] else items ++ painter_resets painter ++ places_cursor picture.wish)
-    → all ≡ plain_of profile memory picture
-ends profile memory picture painter begun items all who start made whole =
+    → all ≡ (if is_none_left (differing profile picture memory) && is_placed memory picture.wish then [] else resets profile ++ flat_map f (differing profile picture memory) ++ resets profile ++ places_cursor picture.wish)
+ends profile memory picture painter begun items all f some who start made whole =
     whole
     ∙ ap (λ p. if length items == begun && is_placed memory picture.wish then [] else items ++ painter_resets p ++ places_cursor picture.wish) who
     ∙ ap (λ n. if length items == n && is_placed memory picture.wish then [] else items ++ resets profile ++ places_cursor picture.wish) start
     ∙ ap (λ ops. if length ops == length (resets profile) && is_placed memory picture.wish then [] else ops ++ resets profile ++ places_cursor picture.wish) made
-    ∙ ap (λ b. if b && is_placed memory picture.wish then [] else (resets profile ++ flat_map (paints_place profile picture) (differing profile picture memory)) ++ resets profile ++ places_cursor picture.wish)
-    (none_left (resets profile) (paints_place profile picture) (painted_some profile picture) (differing profile picture memory))
+    ∙ ap (λ b. if b && is_placed memory picture.wish then [] else (resets profile ++ flat_map f (differing profile picture memory)) ++ resets profile ++ places_cursor picture.wish)
+    (none_left (resets profile) f some (differing profile picture memory))
 
 -- ---- row by row
 
--- one row more, of which a part was painted
-pub more : (profile : ProfileView) (memory : MemoryView) (picture : PictureView) (painter : Painter) (row from n : ℕ) (items new : List Op)
-    → painter ≡ painter_of profile → items ≡ resets profile ++ flat_map (paints_place profile picture) (filter (differs profile picture memory) (places row picture.columns))
-    → new ≡ items ++ flat_map (painter_paints_place painter picture) (filter (painter_differs painter picture memory) (part_places from n row))
-    → filter (differs profile picture memory) (row_places picture.columns row) ≡ filter (differs profile picture memory) (part_places from n row)
-    → new ≡ resets profile ++ flat_map (paints_place profile picture) (filter (differs profile picture memory) (places (row + 1) picture.columns))
-more profile memory picture painter row from n items new who made painted part =
-    let f = paints_place profile picture in
-    let d = differs profile picture memory in
-    painted
-    ∙ ap (λ p. items ++ flat_map (painter_paints_place p picture) (filter (painter_differs p picture memory) (part_places from n row))) who
-    ∙ ap (λ ops. ops ++ flat_map f (filter d (part_places from n row))) made
-    ∙ append_assoc (resets profile) (flat_map f (filter d (places row picture.columns))) (flat_map f (filter d (part_places from n row)))
-    ∙ ap (λ ps. resets profile ++ (flat_map f (filter d (places row picture.columns)) ++ flat_map f ps)) (sym part)
-    ∙ ap (λ ops. resets profile ++ ops) (sym (row_more f d row picture.columns))
-
 -- one row more, of which all was painted that differs
-pub row_added : (profile : ProfileView) (memory : MemoryView) (picture : PictureView) (row : ℕ) (items new : List Op)
-    → items ≡ resets profile ++ flat_map (paints_place profile picture) (filter (differs profile picture memory) (places row picture.columns))
-    → new ≡ items ++ flat_map (paints_place profile picture) (filter (differs profile picture memory) (row_places picture.columns row))
-    → new ≡ resets profile ++ flat_map (paints_place profile picture) (filter (differs profile picture memory) (places (row + 1) picture.columns))
-row_added profile memory picture row items new made painted =
-    let f = paints_place profile picture in
-    let d = differs profile picture memory in
+pub row_added : (first : List Op) (f : ℕ × ℕ → List Op) (d : ℕ × ℕ → Bool) (row columns : ℕ) (items new : List Op)
+    → items ≡ first ++ flat_map f (filter d (places row columns))
+    → new ≡ items ++ flat_map f (filter d (row_places columns row))
+    → new ≡ first ++ flat_map f (filter d (places (row + 1) columns))
+row_added first f d row columns items new made painted =
     painted
-    ∙ ap (λ ops. ops ++ flat_map f (filter d (row_places picture.columns row))) made
-    ∙ append_assoc (resets profile) (flat_map f (filter d (places row picture.columns))) (flat_map f (filter d (row_places picture.columns row)))
-    ∙ ap (λ ops. resets profile ++ ops) (sym (row_more f d row picture.columns))
-
--- the part of a row that was painted has all that differs
-pub part_painted : (profile : ProfileView) (memory : MemoryView) (virtual : VirtualView) (picture : PictureView) (painter : Painter) (row from last : ℕ) → picture ≡ virtual.picture → painter ≡ painter_of profile
-    → filter (differs profile virtual.picture memory) (row_places virtual.picture.columns row) ≡ filter (differs profile virtual.picture memory) (part_places from (last + 1 - from) row)
-    → flat_map (painter_paints_place painter picture) (filter (painter_differs painter picture memory) (part_places from (last + 1 - from) row))
-    ≡ flat_map (paints_place profile virtual.picture) (filter (differs profile virtual.picture memory) (row_places virtual.picture.columns row))
-part_painted profile memory virtual picture painter row from last same who part =
-    ap (λ q. flat_map (painter_paints_place painter q) (filter (painter_differs painter q memory) (part_places from (last + 1 - from) row))) same
-    ∙ ap (λ p. flat_map (painter_paints_place p virtual.picture) (filter (painter_differs p virtual.picture memory) (part_places from (last + 1 - from) row))) who
-    ∙ ap (flat_map (paints_place profile virtual.picture)) (sym part)
+    ∙ ap (λ ops. ops ++ flat_map f (filter d (row_places columns row))) made
+    ∙ append_assoc first (flat_map f (filter d (places row columns))) (flat_map f (filter d (row_places columns row)))
+    ∙ ap (λ ops. first ++ ops) (sym (row_more f d row columns))
 
 -- ---- answers
 
@@ -111,7 +87,8 @@ rest profile memory virtual same size known end high none =
     (λ r low below. row_same profile memory virtual same size known r (omega (arith, below, high)) (none r low)))
 
 -- nothing is painted where nothing differs and the cursor is as wished
-pub shown_is_nothing : (profile : ProfileView) (memory : MemoryView) (picture : PictureView) → differing profile picture memory ≡ [] → is_placed memory picture.wish ≡ true → plain_of profile memory picture ≡ []
+pub shown_is_nothing : (profile : ProfileView) (memory : MemoryView) (picture : PictureView) → differing profile picture memory ≡ [] → is_placed memory picture.wish ≡ true → brief_of profile memory picture ≡ []
 shown_is_nothing profile memory picture none placed =
-    ap (λ ps. if is_none_left ps && is_placed memory picture.wish then [] else paints profile picture ps) none
-    ∙ ap (λ b. if b then [] else paints profile picture []) placed
+    let painted : List Op = resets profile ++ brief_places profile picture memory ++ resets profile ++ places_cursor picture.wish in
+    ap (λ ps. if is_none_left ps && is_placed memory picture.wish then [] else painted) none
+    ∙ ap (λ b. if b then [] else painted) placed

@@ -7,8 +7,7 @@ use Rattle.std.proofs.lemmas.Bool.Decides.{nat_tests}
 use Rattle.std.proofs.lemmas.List.{length-map}
 use Rattle.scr_cells.specs.CellViews.{CellView, blank_cell}
 use Rattle.scr_cells.specs.Grids.{GridLaws, IsGrid, grid_at, grid_of, grid_row, grid_with, is_in_run}
-use Rattle.scr_cells.specs.LookViews.{LookView, blank, blank_grid, negative_grid}
-use Rattle.scr_cells.specs.PenViews.{plain_pen}
+use Rattle.scr_cells.specs.LookViews.{LookView, blank, negative_grid}
 use Rattle.scr_cells.specs.PictureViews.{PictureView, IsPicture, IsPlace}
 use Rattle.scr_term.specs.declared.operations.operation.Op.{Op}
 use Rattle.scr_term.specs.declared.operations.operation.Op.TheVariants.{Clear}
@@ -17,7 +16,7 @@ use Rattle.scr_term.specs.Operations.Ecma48.{Ecma48Laws}
 use Rattle.scr_term.specs.Operations.Laws.{BytesActAsTheirOperations, HasLaws, ProfilesHave, RunLaws}
 use Rattle.scr_term.specs.Operations.Painted.{painted, seen_on}
 use Rattle.scr_term.specs.Operations.Profiles.{ProfileView, IsProfile, abilities}
-use Rattle.scr_term.specs.Operations.States.{TerminalState, IsState, spot_after}
+use Rattle.scr_term.specs.Operations.States.{TerminalState, IsShownPen, IsState, blank_state, spot_after}
 use Rattle.scr_term.specs.Operations.Steps.{runs}
 use Rattle.scr_plan.proofs.PlaceLaws.{at_place, move_run, one_run, plain, resets_run, then_runs}
 use Rattle.scr_plan.proofs.PlacesLaws.{among_places, is_among, is_here, places_inside}
@@ -123,14 +122,20 @@ cursor_placed profile can None inside old = (plain old, refl, refl, tt)
 cursor_placed profile can (Some place) inside old =
     (at_place (plain old) place, move_run profile can (plain old) place inside (or-true profile.msgr), refl, refl)
 
+-- no attribute and default colours, and then a blank screen
+pub cleared_run : RunLaws → (profile : ProfileView) → HasLaws profile → (old : TerminalState) → IsShownPen (abilities profile) old.pen
+    → runs profile old (resets profile ++ Clear ∷ []) ≡ Some (blank_state profile.rows profile.columns)
+cleared_run laws profile can old shown =
+    let blanks : TerminalState = blank_state profile.rows profile.columns in
+    then_runs laws profile old (plain old) blanks (resets profile) (Clear ∷ []) (resets_run profile can old shown)
+    (one_run profile (plain old) blanks Clear can.clear refl)
+
 pub scratch_shows : RunLaws → ProfilesHave → PlaceIsPainted → GridLaws LookView → ScratchShows
 scratch_shows laws have place_law grids profile p picture k fits old s =
     let can : HasLaws profile = have profile p in
-    let cleared : TerminalState = record { grid = blank_grid profile.rows profile.columns; spot = At 0 0; pen = plain_pen } in
+    let cleared : TerminalState = blank_state profile.rows profile.columns in
     let begins : List Op = resets profile ++ Clear ∷ [] in
-    let begun : runs profile old begins ≡ Some cleared =
-    then_runs laws profile old (plain old) cleared (resets profile) (Clear ∷ []) (resets_run profile can old s.pen)
-    (one_run profile (plain old) cleared Clear can.clear refl) in
+    let begun : runs profile old begins ≡ Some cleared = cleared_run laws profile can old s.pen in
     let cleared_is : IsState (abilities profile) cleared = laws.kept profile p old cleared s begins begun in
     let inside : AllByRecursion (IsPlace profile.rows profile.columns) (places picture.rows picture.columns) =
     rw (fits.rows, fits.columns) (places_inside profile.rows profile.columns) in

@@ -7,14 +7,14 @@ use Rattle.scr_cells.specs.PenViews.{is_plain_pen, pen_eq}
 use Rattle.scr_cells.specs.PictureViews.{PictureView, IsPicture}
 use Rattle.scr_virtual.specs.VirtualViews.{VirtualView, in_range, range_at}
 use Rattle.scr_term.specs.declared.operations.operation.Op.{Op}
-use Rattle.scr_term.specs.declared.operations.operation.Op.TheVariants.{EraseLine, Move, Put, Reset}
+use Rattle.scr_term.specs.declared.operations.operation.Op.TheVariants.{Clear, EraseLine, Move, Put, Reset}
 use Rattle.scr_term.specs.declared.operations.operation.Spot.{Spot}
 use Rattle.scr_term.specs.declared.operations.operation.Spot.TheVariants.{At, Margin}
 use Rattle.scr_term.specs.Operations.Profiles.{ProfileView, IsProfile, abilities}
-use Rattle.scr_term.specs.Operations.States.{TerminalState, IsState}
-use Rattle.scr_term.specs.Operations.Steps.{step}
+use Rattle.scr_term.specs.Operations.States.{TerminalState, IsState, blank_state}
+use Rattle.scr_term.specs.Operations.Steps.{runs, step}
 use Rattle.scr_term.specs.Operations.Texts.{all_bytes, bytes_of, has}
-use Rattle.scr_plan.specs.Memories.{Agrees, MemoryView, is_known, is_known_row}
+use Rattle.scr_plan.specs.Memories.{Agrees, MemoryView, is_known, is_known_row, remembered}
 use Rattle.scr_plan.specs.Scratch.{Fits, RunsToShow, goes, look_at, paints_place, places, places_cursor, renders, resets, scratch_of}
 
 -- ---- what differs
@@ -71,18 +71,47 @@ abbrev pub plain_of : ProfileView → MemoryView → PictureView → List Op
 plain_of profile memory picture =
     if is_none_left (differing profile picture memory) && is_placed memory picture.wish then [] else paints profile picture (differing profile picture memory)
 
--- what an update sends: only what differs where all is known, unless the whole screen is to be painted anew
-abbrev pub plan_of : ProfileView → MemoryView → VirtualView → List Op
-plan_of profile memory virtual =
-    if is_known memory && not virtual.repaint then plain_of profile memory virtual.picture else scratch_of profile virtual.picture
-
--- ---- the joined repaint: what a plan has to be no longer than
+-- ---- what an update sends
 
 -- the left neighbour of a place differs too and is seen with the same pen
 abbrev pub joins_left : ProfileView → PictureView → MemoryView → ℕ → ℕ → Bool
 joins_left profile picture memory r zero = false
 joins_left profile picture memory r (suc c) =
     differs profile picture memory (r, c) && pen_eq (look_at profile picture (r, c)).pen (look_at profile picture (r, suc c)).pen
+
+-- what leads to a place and to its pen; nothing behind a neighbour
+abbrev pub begins_place : ProfileView → PictureView → MemoryView → ℕ → ℕ → List Op
+begins_place profile picture memory r c =
+    if joins_left profile picture memory r c then [] else goes profile (r, c) ++ renders (look_at profile picture (r, c)).pen
+
+-- a place behind a neighbour of its pen is its character alone
+abbrev pub brief_place : ProfileView → PictureView → MemoryView → ℕ × ℕ → List Op
+brief_place profile picture memory place = begins_place profile picture memory place.0 place.1 ++ Put (look_at profile picture place).byte ∷ []
+
+abbrev pub brief_places : ProfileView → PictureView → MemoryView → List Op
+brief_places profile picture memory = flat_map (brief_place profile picture memory) (differing profile picture memory)
+
+-- the plain repaint, but for what leads to a place from the neighbour before it
+abbrev pub brief_of : ProfileView → MemoryView → PictureView → List Op
+brief_of profile memory picture =
+    if is_none_left (differing profile picture memory) && is_placed memory picture.wish then []
+    else resets profile ++ brief_places profile picture memory ++ resets profile ++ places_cursor picture.wish
+
+-- what is remembered of a screen of the picture's size that was cleared: blanks everywhere
+abbrev pub cleared : PictureView → MemoryView
+cleared picture = remembered picture.rows picture.columns (blank_state picture.rows picture.columns)
+
+-- the whole screen painted anew: it is cleared, and what differs from blanks is painted
+abbrev pub anew_of : ProfileView → PictureView → List Op
+anew_of profile picture =
+    resets profile ++ Clear ∷ [] ++ brief_places profile picture (cleared picture) ++ resets profile ++ places_cursor picture.wish
+
+-- what an update sends: only what differs where all is known, unless the whole screen is to be painted anew
+abbrev pub plan_of : ProfileView → MemoryView → VirtualView → List Op
+plan_of profile memory virtual =
+    if is_known memory && not virtual.repaint then brief_of profile memory virtual.picture else anew_of profile virtual.picture
+
+-- ---- the joined repaint: what a plan has to be no longer than
 
 -- all looks of a row from a column on are blanks
 abbrev pub is_blank_from : ProfileView → PictureView → ℕ → ℕ → Bool
@@ -108,17 +137,12 @@ erased_if_worth profile picture memory r (Some c) =
 abbrev pub erased_column : ProfileView → PictureView → MemoryView → ℕ → Option ℕ
 erased_column profile picture memory r = erased_if_worth profile picture memory r (blank_column profile picture memory r (range_with_len 0 picture.columns))
 
--- what leads to a place and to its pen; nothing behind a neighbour
-abbrev pub begins_place : ProfileView → PictureView → MemoryView → ℕ → ℕ → List Op
-begins_place profile picture memory r c =
-    if joins_left profile picture memory r c then [] else goes profile (r, c) ++ renders (look_at profile picture (r, c))
-
 -- a place that differs, in a row that is erased from some column on or nowhere
 abbrev pub joined_place : ProfileView → PictureView → MemoryView → Option ℕ → ℕ → ℕ → List Op
-joined_place profile picture memory None r c = begins_place profile picture memory r c ++ Put (look_at profile picture (r, c)).byte ∷ []
+joined_place profile picture memory None r c = brief_place profile picture memory (r, c)
 joined_place profile picture memory (Some erased) r c =
     if c == erased then begins_place profile picture memory r c ++ EraseLine ∷ []
-    else (if leb erased c then [] else begins_place profile picture memory r c ++ Put (look_at profile picture (r, c)).byte ∷ [])
+    else (if leb erased c then [] else brief_place profile picture memory (r, c))
 
 abbrev pub joined_places : ProfileView → PictureView → MemoryView → List Op
 joined_places profile picture memory =
@@ -157,6 +181,14 @@ PlainShows =
     → (memory : MemoryView) (old : TerminalState) → Agrees (abilities profile) memory old
     → RunsToShow profile old (plain_of profile memory picture) picture
 
+-- Painting places briefly leads from every state where painting them one by one leads.
+abbrev pub BriefActsAsPlain : Type 0
+BriefActsAsPlain =
+    (profile : ProfileView) → IsProfile profile
+    → (picture : PictureView) → IsPicture picture → Fits profile picture
+    → (memory : MemoryView) (old : TerminalState) → IsState (abilities profile) old
+    → runs profile old (brief_places profile picture memory) ≡ runs profile old (flat_map (paints_place profile picture) (differing profile picture memory))
+
 -- The same of a plan; and where the screen is to be painted anew, from every state.
 pub record PlanShows : Type 0 where
   pub agreeing : (profile : ProfileView) → IsProfile profile → (virtual : VirtualView) → IsPicture virtual.picture → Fits profile virtual.picture
@@ -164,9 +196,11 @@ pub record PlanShows : Type 0 where
   pub anew : (profile : ProfileView) → IsProfile profile → (virtual : VirtualView) → IsPicture virtual.picture → Fits profile virtual.picture
       → virtual.repaint ≡ true → (memory : MemoryView) (old : TerminalState) → IsState (abilities profile) old → RunsToShow profile old (plan_of profile memory virtual) virtual.picture
 
--- The bytes of a plan are no more than those of scratch; where all is known and the screen is not to be painted anew, they are
--- those of the plain repaint, and none where no place differs and the cursor is as wished.
+-- The bytes of a plan are no more than those of scratch; where all is known and the screen is not to be painted anew, they are no
+-- more than those of the plain repaint, and there are none where no place differs and the cursor is as wished.
 pub record PlanIsCheap : Type 0 where
   pub scratch : (profile : ProfileView) (memory : MemoryView) (virtual : VirtualView) → length (all_bytes profile (plan_of profile memory virtual)) ≤ length (all_bytes profile (scratch_of profile virtual.picture))
-  pub plain : (profile : ProfileView) (memory : MemoryView) (virtual : VirtualView) → is_known memory ≡ true → virtual.repaint ≡ false → plan_of profile memory virtual ≡ plain_of profile memory virtual.picture
-  pub none : (profile : ProfileView) (memory : MemoryView) (picture : PictureView) → is_none_left (differing profile picture memory) ≡ true → is_placed memory picture.wish ≡ true → plain_of profile memory picture ≡ []
+  pub plain : (profile : ProfileView) (memory : MemoryView) (virtual : VirtualView) → is_known memory ≡ true → virtual.repaint ≡ false
+      → length (all_bytes profile (plan_of profile memory virtual)) ≤ length (all_bytes profile (plain_of profile memory virtual.picture))
+  pub none : (profile : ProfileView) (memory : MemoryView) (virtual : VirtualView) → is_known memory ≡ true → virtual.repaint ≡ false → is_none_left (differing profile virtual.picture memory) ≡ true → is_placed memory virtual.picture.wish ≡ true
+      → plan_of profile memory virtual ≡ []

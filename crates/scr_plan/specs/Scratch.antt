@@ -5,6 +5,7 @@ use Rattle.scr_cells.specs.Attributes.{attributes_of}
 use Rattle.scr_cells.specs.CellViews.{blank_cell}
 use Rattle.scr_cells.specs.Grids.{grid_at, grid_with}
 use Rattle.scr_cells.specs.LookViews.{LookView}
+use Rattle.scr_cells.specs.PenViews.{PenView}
 use Rattle.scr_cells.specs.PictureViews.{PictureView, IsPicture, IsPlace}
 use Rattle.scr_term.specs.declared.operations.capability.Capability.TheVariants.{Sgr0}
 use Rattle.scr_term.specs.Operations.Admission.{IsEcma48}
@@ -40,9 +41,9 @@ look_at profile picture place = seen_on (abilities profile) picture.pairs (grid_
 abbrev pub resets : ProfileView → List Op
 resets profile = if is_there profile Sgr0 then Reset ∷ [] else []
 
--- each attribute of a look, and its colours
-abbrev pub renders : LookView → List Op
-renders look = map enter (attributes_of look.pen.attrs) ++ sets_foreground look.pen.foreground ++ sets_background look.pen.background
+-- each attribute of a pen, and its colours
+abbrev pub renders : PenView → List Op
+renders pen = map enter (attributes_of pen.attrs) ++ sets_foreground pen.foreground ++ sets_background pen.background
 
 -- the cursor to a place, with no attribute and default colours: where motions want these, they come first
 abbrev pub goes : ProfileView → ℕ × ℕ → List Op
@@ -51,7 +52,7 @@ goes profile place = if profile.msgr then Move place.0 place.1 ∷ resets profil
 -- one place: the cursor there, its attributes and colours, and its byte
 abbrev pub paints_place : ProfileView → PictureView → ℕ × ℕ → List Op
 paints_place profile picture place =
-    goes profile place ++ renders (look_at profile picture place) ++ Put (look_at profile picture place).byte ∷ []
+    goes profile place ++ renders (look_at profile picture place).pen ++ Put (look_at profile picture place).byte ∷ []
 
 -- the places of a row, and every place, row by row from the top
 abbrev pub row_places : ℕ → ℕ → List (ℕ × ℕ)

@@ -1,15 +1,13 @@
 //! The operations that paint a whole picture, row by row and place by place.
-ghost use Rattle.std.specs.Prelude.{ℕ, false, ◌≡◌, ◌<◌, ◌≤◌, ◌++◌, ◌==◌, ◌&&◌, [], IfOk, OnOk, Option, map, filter, bit_and, if◌then◌else◌};
+ghost use Rattle.std.specs.Prelude.{◌≡◌, ◌<◌, ◌++◌, ◌==◌, ◌&&◌, [], IfOk, OnOk, map, filter, bit_and, if◌then◌else◌};
 ghost use Rattle.std.specs.List.{flat_map};
 ghost use Rattle.scr_cells.specs.Attributes.{attributes_of};
-ghost use Rattle.scr_cells.specs.PenViews.{pair_colours};
 ghost use Rattle.scr_term.specs.declared.operations.operation.Op.TheVariants.{Enter};
-ghost use Rattle.scr_plan.specs.Repaints.{IsSizeOf, look_eq};
-ghost use Rattle.scr_plan.specs.Scratch.{scratch_of, row_places, enter, sets_background, sets_foreground, Fits};
-ghost use Rattle.scr_plan.specs.Code.Painters.{painter_differs, painter_goes, painter_of, painter_paints, painter_paints_place, painter_resets, painter_sees};
+ghost use Rattle.scr_plan.specs.Repaints.{look_eq};
+ghost use Rattle.scr_plan.specs.Scratch.{scratch_of, row_places, renders, enter, places_cursor, sets_background, sets_foreground, Fits};
+ghost use Rattle.scr_plan.specs.Code.Painters.{painter_goes, painter_of, painter_paints, painter_paints_place, painter_resets, painter_sees};
 
-use crate::memories::Memory;
-use scr_cells::{Attrs, Cell, Look, NoMemory, Pen, Picture, shown_before};
+use scr_cells::{Attrs, Cell, Look, NoMemory, Pen, Picture};
 use scr_term::{Op, Ops, Profile};
 use std::alloc::Global;
 
@@ -34,17 +32,14 @@ pub fn scratch(alloc: Global, profile: &Profile, picture: &Picture) -> Result<Op
     for row in 0..size.rows {
         painter.paint_row(picture, row, &mut ops)?;
     }
-    painter.reset(&mut ops)?;
-    if let Some((row, column)) = picture.wish() {
-        ops.push(Op::Move(row, column))?;
-    }
+    painter.finish(picture.wish(), &mut ops)?;
     Ok(Ops(ops))
 }
 
 // What painting asks of a profile, fetched once.
 #[derive(Clone, Copy)]
 pub(crate) struct Painter {
-    shown: Attrs,
+    pub(crate) shown: Attrs,
     colours: bool,
     can_reset: bool,
     moves_in_any_rendition: bool,
@@ -87,52 +82,24 @@ impl Painter {
     ) -> Result<(), NoMemory>
         ensures { OnOk result (ops.new.items ≡ ops.old.items ++ painter_paints self picture.now.pairs (row, column) cell) }
     {
-        self.go(row, column, ops)?;
-        enter_each(self.shown.0 & cell.attrs().0, ops)?;
-        let (foreground, background) = self.colours_of(picture, cell);
-        set_colours(foreground, background, ops)?;
+        self.begin(row, column, self.pen_of(picture, cell), ops)?;
         ops.push(Op::Put(cell.byte()))?;
         Ok(())
     }
 
-    // The colours that are seen of a cell.
-    pub(crate) fn colours_of(self, picture: &Picture, cell: Cell) -> (Option<u8>, Option<u8>)
-        ensures foreground { result.0 ≡ if self.colours then (pair_colours picture.now.pairs cell.pair).0 else Option.None }
-        ensures background { result.1 ≡ if self.colours then (pair_colours picture.now.pairs cell.pair).1 else Option.None }
-    {
-        let pair = cell.pair();
-        if !self.colours || pair == 0 {
-            return (None, None);
-        }
-        match picture.pair(pair) {
-            Some((foreground, background)) => (Some(foreground), Some(background)),
-            None => (None, None),
-        }
-    }
-
-    // A column of a part of a row before which nothing differs from what is remembered, found eight places at a time.
-    pub(crate) fn first_unlike(
+    // Adds what leads to a place with a pen.
+    pub(crate) fn begin(
         self,
-        picture: &Picture,
-        memory: &Memory,
         row: u32,
-        from: u32,
-        end: u32,
-    ) -> u32
-        requires size { IsSizeOf picture.now memory.now }
-        requires row { row < picture.now.rows }
-        requires from { from ≤ end }
-        requires end { end ≤ picture.now.columns }
-        ensures from { from ≤ result }
-        ensures end { result ≤ end }
-        ensures same { (c : ℕ) → from ≤ c → c < result → painter_differs self picture.now memory.now (row, c) ≡ false }
+        column: u32,
+        pen: Pen,
+        ops: &mut Vec<Op>,
+    ) -> Result<(), NoMemory>
+        ensures { OnOk result (ops.new.items ≡ ops.old.items ++ painter_goes self (row, column) ++ renders pen) }
     {
-        if !memory.is_known_row(row) {
-            return from;
-        }
-        let looks = &memory.looks(row)[from as usize..end as usize];
-        let cells = &picture.row(row)[from as usize..end as usize];
-        from + shown_before(looks, cells, self.shown) as u32
+        self.go(row, column, ops)?;
+        enter_each(pen.attrs().0, ops)?;
+        set_colours(pen.foreground(), pen.background(), ops)
     }
 
     // Adds the operations for a cell of a picture in a place, unless what the place shows is known and is what is seen of the cell.
@@ -165,7 +132,7 @@ impl Painter {
 
     // What a cell is seen with.
     #[inline(always)]
-    fn pen_of(self, picture: &Picture, cell: Cell) -> Pen
+    pub(crate) fn pen_of(self, picture: &Picture, cell: Cell) -> Pen
         ensures { result ≡ (painter_sees self picture.now.pairs cell).pen }
     {
         let pen = Pen::plain().with_attrs(Attrs(self.shown.0 & cell.attrs().0));
@@ -190,6 +157,17 @@ impl Painter {
         }
         self.reset(ops)?;
         ops.push(Op::Move(row, column))?;
+        Ok(())
+    }
+
+    // Adds what ends a repaint: no attribute and default colours, and the cursor where it is wished.
+    pub(crate) fn finish(self, wish: Option<(u32, u32)>, ops: &mut Vec<Op>) -> Result<(), NoMemory>
+        ensures { OnOk result (ops.new.items ≡ ops.old.items ++ painter_resets self ++ places_cursor wish) }
+    {
+        self.reset(ops)?;
+        if let Some((row, column)) = wish {
+            ops.push(Op::Move(row, column))?;
+        }
         Ok(())
     }
 

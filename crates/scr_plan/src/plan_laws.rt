@@ -1,10 +1,10 @@
 //! Laws of painting what differs: functions that do nothing, whose contracts are the laws.
 ghost use Rattle.scr_plan.specs.Memories.{MemoryLaws};
 ghost use Rattle.scr_plan.specs.Plans.{PlansAreMade, UpToDateLaws};
-ghost use Rattle.scr_plan.specs.Repaints.{PlainShows, PlanIsCheap, PlanShows};
+ghost use Rattle.scr_plan.specs.Repaints.{BriefActsAsPlain, PlainShows, PlanIsCheap, PlanShows};
 
 use crate::remembering_laws::{memory_runs, plans_are_remembered};
-use crate::scratch_laws::{place_is_painted, scratch_is_bounded, scratch_shows};
+use crate::scratch_laws::{place_is_painted, scratch_is_bounded};
 use scr_cells::{Look, grid_laws};
 use scr_term::{profiles_have, run_laws, steps_keep_states};
 
@@ -28,17 +28,31 @@ pub fn plain_shows()
     grid_laws::<Look>();
 }
 
+/// From every state, painting places briefly, each behind its neighbour where both have one pen, leads where painting them one by
+/// one does.
+pub fn brief_acts_as_plain()
+    ensures { BriefActsAsPlain }
+{
+    place_is_painted();
+    run_laws();
+    profiles_have();
+}
+
 /// From every state that agrees with what is remembered, a plan is defined and shows the picture; where the screen is to be
 /// painted anew, from every state of the profile (curs_refresh(3X)).
 pub fn plan_shows()
     ensures { PlanShows }
 {
+    brief_acts_as_plain();
     plain_shows();
-    scratch_shows();
+    place_is_painted();
+    run_laws();
+    profiles_have();
+    grid_laws::<Look>();
 }
 
-/// A plan has no more bytes than scratch; where all is known and the screen is not to be painted anew, it is the plain repaint,
-/// which is nothing where no place differs and the cursor is as wished.
+/// A plan has no more bytes than scratch; where all is known and the screen is not to be painted anew, it has no more than the
+/// plain repaint, and is nothing where no place differs and the cursor is as wished.
 pub fn plan_is_cheap()
     ensures { PlanIsCheap }
 {

@@ -1,9 +1,10 @@
 -- Painting a place by what is known of the terminal beforehand.
-use Rattle.std.specs.Prelude.{ℕ, Bool, ◌&&◌, not, List, [], ◌∷◌, ◌++◌, map, if◌then◌else◌}
+use Rattle.std.specs.Prelude.{ℕ, zero, suc, Bool, false, ◌&&◌, not, List, [], ◌∷◌, ◌++◌, map, slice_index_or, Option, Some, None, if◌then◌else◌}
 use Rattle.std.specs.List.{range_with_len}
 use Rattle.scr_cells.specs.CellViews.{CellView, blank_cell}
 use Rattle.scr_cells.specs.Grids.{grid_at}
-use Rattle.scr_cells.specs.LookViews.{LookView, seen}
+use Rattle.scr_cells.specs.LookViews.{LookView, blank, seen}
+use Rattle.scr_cells.specs.PenViews.{PenView, pen_eq}
 use Rattle.scr_cells.specs.PictureViews.{PictureView}
 use Rattle.scr_term.specs.declared.operations.capability.Capability.TheVariants.{Sgr0}
 use Rattle.scr_term.specs.declared.operations.operation.Op.{Op}
@@ -37,7 +38,7 @@ painter_sees painter pairs cell = seen painter.shown.0 painter.colours pairs cel
 -- one place with a cell of these pairs' colours, and with the cell that the picture has there
 abbrev pub painter_paints : Painter → List (ℕ × ℕ) → ℕ × ℕ → CellView → List Op
 painter_paints painter pairs place cell =
-    painter_goes painter place ++ renders (painter_sees painter pairs cell) ++ Put (painter_sees painter pairs cell).byte ∷ []
+    painter_goes painter place ++ renders (painter_sees painter pairs cell).pen ++ Put (painter_sees painter pairs cell).byte ∷ []
 
 abbrev pub painter_paints_place : Painter → PictureView → ℕ × ℕ → List Op
 painter_paints_place painter picture place = painter_paints painter picture.pairs place (grid_at blank_cell picture.lines place.0 place.1)
@@ -50,3 +51,35 @@ part_places from n r = map (λ c. (r, c)) (range_with_len from n)
 abbrev pub painter_differs : Painter → PictureView → MemoryView → ℕ × ℕ → Bool
 painter_differs painter picture memory place =
     not (is_known_row memory place.0 && look_eq (look_in memory place) (painter_sees painter picture.pairs (grid_at blank_cell picture.lines place.0 place.1)))
+
+-- ---- places painted behind their neighbours
+
+-- what a row is known to show in a column: these looks, or blanks
+abbrev pub shown_in : Option (List LookView) → ℕ → LookView
+shown_in None c = blank
+shown_in (Some looks) c = slice_index_or looks c blank
+
+-- what is seen of the picture in a place
+abbrev pub painter_look : Painter → PictureView → ℕ × ℕ → LookView
+painter_look painter picture place = painter_sees painter picture.pairs (grid_at blank_cell picture.lines place.0 place.1)
+
+-- a place of a row that is known to show this differs from what is seen of the picture
+abbrev pub row_differs : Painter → PictureView → Option (List LookView) → ℕ × ℕ → Bool
+row_differs painter picture before place = not (look_eq (shown_in before place.1) (painter_look painter picture place))
+
+-- the pen of the place before a column, where that is painted
+abbrev pub pen_before : Painter → PictureView → Option (List LookView) → ℕ → ℕ → Option PenView
+pen_before painter picture before r zero = None
+pen_before painter picture before r (suc c) = if row_differs painter picture before (r, c) then Some (painter_look painter picture (r, c)).pen else None
+
+abbrev pub is_that_pen : Option PenView → PenView → Bool
+is_that_pen None pen = false
+is_that_pen (Some left) pen = pen_eq left pen
+
+-- a character in a place, and what leads there with its pen, unless the place before it was painted with that pen
+abbrev pub painter_writes : Painter → Option PenView → ℕ × ℕ → LookView → List Op
+painter_writes painter left place look =
+    (if is_that_pen left look.pen then [] else painter_goes painter place ++ renders look.pen) ++ Put look.byte ∷ []
+
+abbrev pub row_paints : Painter → PictureView → Option (List LookView) → ℕ × ℕ → List Op
+row_paints painter picture before place = painter_writes painter (pen_before painter picture before place.0 place.1) place (painter_look painter picture place)

@@ -2,7 +2,7 @@ use Rattle.std.proofs.Common.{◌≡◌, ◌++◌, filter}
 use Rattle.std.specs.List.{flat_map}
 use Rattle.scr_plan.specs.Repaints.{differs}
 use Rattle.scr_plan.specs.Scratch.{paints_place, places, resets}
-use Rattle.scr_plan.proofs.planning.plain.Given as goal
+use Rattle.scr_plan.proofs.repainting.plain.Given as goal
 
 abbrev pub invariant-loop-row : goal.invariant-loop-row
 invariant-loop-row l =
