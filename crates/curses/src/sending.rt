@@ -1,5 +1,5 @@
 //! Sending: one text at a time goes to a writer, whole, and what a failed put did not take of it waits in a buffer.
-ghost use Rattle.std.specs.Prelude.{◌≡◌, ◌≢◌, ◌≤◌, ◌<◌, ◌^◌, [], All, None, true, length, take, drop, vec_capacity};
+ghost use Rattle.std.specs.Prelude.{◌≡◌, ◌≢◌, ◌≤◌, ◌<◌, ◌^◌, [], ◌∷◌, All, None, true, length, take, drop, vec_capacity};
 ghost use Rattle.std.specs.Option.{is_some};
 ghost use Rattle.std.specs.Io.KnownBytes.{Appends};
 ghost use Rattle.scr_term.specs.declared.operations.operation.Op.{Op};
@@ -119,12 +119,36 @@ fn send_operation<W: Counted>(
     ensures puts { (W.told out.new).failed_puts ≡ counted (is_some result.fault) (W.told out.old).failed_puts }
     ensures finishes { (W.told out.new).failed_finishes ≡ (W.told out.old).failed_finishes }
 {
+    if let Op::Put(byte) = op {
+        return send_character(byte, waiting, out);
+    }
     append(profile, op, waiting);
     send_waiting(waiting, out)
 }
 
-// Appends the text of an operation to an empty buffer that has room for it, so that this cannot fail. Most operations of a repaint
-// write a character, which is its own text.
+// Sends a character, which is its own text. Most operations of a repaint are characters, so it waits in the buffer only where a put
+// fails.
+#[inline(always)]
+fn send_character<W: Counted>(byte: u8, waiting: &mut Vec<u8>, out: &mut W) -> Taken
+    requires nothing { waiting.old.items ≡ [] }
+    requires room { 1 ≤ vec_capacity waiting.old }
+    ensures cut { IsCut [] (byte ∷ []) (W.told out.old).taken (W.told out.new).taken result.bytes waiting.new.items }
+    ensures nothing { result.fault ≡ None → waiting.new.items ≡ [] }
+    ensures fault { result.fault ≢ None → waiting.new.items ≢ [] }
+    ensures room { vec_capacity waiting.old ≤ vec_capacity waiting.new }
+    ensures few { result.bytes ≤ 1 }
+    ensures puts { (W.told out.new).failed_puts ≡ counted (is_some result.fault) (W.told out.old).failed_puts }
+    ensures finishes { (W.told out.new).failed_finishes ≡ (W.told out.old).failed_finishes }
+{
+    let taken = put_whole(&[byte], out);
+    if taken.fault.is_none() {
+        return taken;
+    }
+    let _pushed = waiting.push(byte);
+    taken
+}
+
+// Appends the text of an operation to an empty buffer that has room for it, so that this cannot fail.
 fn append(profile: &Profile, op: Op, waiting: &mut Vec<u8>)
     requires has { has profile.now op ≡ true }
     requires nothing { waiting.old.items ≡ [] }
@@ -132,10 +156,6 @@ fn append(profile: &Profile, op: Op, waiting: &mut Vec<u8>)
     ensures text { waiting.new.items ≡ bytes_of profile.now op }
     ensures room { vec_capacity waiting.old ≤ vec_capacity waiting.new }
 {
-    if let Op::Put(byte) = op {
-        let _pushed = waiting.push(byte);
-        return;
-    }
     let _rendered = profile.render(op, waiting);
 }
 
