@@ -2,6 +2,7 @@ pub mod ActLaws
 pub mod BriefLaws
 pub mod CountLaws
 pub mod FollowLaws
+pub mod FollowingLaws
 pub mod JoinLaws
 pub mod MemoryRunLaws
 pub mod MemoryViewLaws

@@ -54,15 +54,15 @@ runs_state profile memory new (op ∷ ops) e =
     let there : (followed profile op memory).state ≡ parts.0 = ap (λ next. (stepped (abilities profile) op memory next).state) parts.1 in
     runs_state profile (followed profile op memory) new ops (ap (λ state. runs profile state ops) there ∙ parts.2)
 
-all_joined : (profile : ProfileView) (memory : MemoryView) (ops more : List Op) → all_followed profile (ops ++ more) memory ≡ all_followed profile more (all_followed profile ops memory)
+pub all_joined : (profile : ProfileView) (memory : MemoryView) (ops more : List Op) → all_followed profile (ops ++ more) memory ≡ all_followed profile more (all_followed profile ops memory)
 all_joined profile memory [] more = refl
 all_joined profile memory (op ∷ ops) more = all_joined profile (followed profile op memory) ops more
 
-all_rows : (profile : ProfileView) (memory : MemoryView) (ops : List Op) → (all_followed profile ops memory).rows ≡ memory.rows
+pub all_rows : (profile : ProfileView) (memory : MemoryView) (ops : List Op) → (all_followed profile ops memory).rows ≡ memory.rows
 all_rows profile memory [] = refl
 all_rows profile memory (op ∷ ops) = all_rows profile (followed profile op memory) ops ∙ (same_size (abilities profile) op memory (step profile memory.state op)).0
 
-all_columns : (profile : ProfileView) (memory : MemoryView) (ops : List Op) → (all_followed profile ops memory).columns ≡ memory.columns
+pub all_columns : (profile : ProfileView) (memory : MemoryView) (ops : List Op) → (all_followed profile ops memory).columns ≡ memory.columns
 all_columns profile memory [] = refl
 all_columns profile memory (op ∷ ops) = all_columns profile (followed profile op memory) ops ∙ (same_size (abilities profile) op memory (step profile memory.state op)).1
 

@@ -44,26 +44,10 @@ disturbed_is memory view first n from end rows new is whole alike new_is =
     new_is ∙ without_alike first (first + n) from end memory.known_rows (λ r h. alike r (omega (arith, h, whole))) in
     ap (λ known. record memory { known_rows = known; known_spot = false; known_pen = false }) there ∙ ap (disturbed first n) is
 
--- ---- operations one after another
-
--- some operations were followed, and the rest is left
-pub record IsFollowed (profile : ProfileView) (ops rest : List Op) (old now : MemoryView) : Type 0 where
-  pub rows : now.rows ≡ old.rows
-  pub columns : now.columns ≡ old.columns
-  pub left : all_followed profile rest now ≡ all_followed profile ops old
+-- ---- sizes
 
 -- the size stays
 pub same_size : (abilities : Abilities) (op : Op) (memory : MemoryView) (next : Option TerminalState)
     → ((stepped abilities op memory next).rows ≡ memory.rows) × ((stepped abilities op memory next).columns ≡ memory.columns)
 same_size abilities op memory None = (refl, refl)
 same_size abilities op memory (Some next) = (refl, refl)
-
-pub followed_more : (profile : ProfileView) (ops rest more : List Op) (op : Op) (old memory now : MemoryView) → IsFollowed profile ops rest old memory → rest ≡ op ∷ more → now ≡ followed profile op memory
-    → IsFollowed profile ops more old now
-followed_more profile ops rest more op old memory now before rest_is now_is =
-    let sizes = same_size (abilities profile) op memory (step profile memory.state op) in
-    record {
-      rows = ap (λ (m : MemoryView). m.rows) now_is ∙ sizes.0 ∙ before.rows;
-      columns = ap (λ (m : MemoryView). m.columns) now_is ∙ sizes.1 ∙ before.columns;
-      left = ap (all_followed profile more) now_is ∙ ap (λ (r : List Op). all_followed profile r memory) (sym rest_is) ∙ before.left;
-    }

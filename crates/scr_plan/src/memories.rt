@@ -1,5 +1,5 @@
 //! What is remembered of a terminal between updates. What is true of it is in `specs/Memories.antt`.
-ghost use Rattle.std.specs.Prelude.{ℕ, ◌≡◌, ◌+◌, ◌≤◌, ◌<◌, ◌&&◌, leb, ltb, false, true, Some, IfOk, IfSome, length, option_map, replicate};
+ghost use Rattle.std.specs.Prelude.{ℕ, ◌≡◌, ◌+◌, ◌≤◌, ◌<◌, ◌&&◌, leb, ltb, false, true, Some, IfOk, IfSome, length, option_map, replicate, take};
 ghost use Rattle.std.specs.List.{list_all};
 ghost use Rattle.std.specs.Option.{is_some};
 ghost use Rattle.scr_term.specs.Operations.Profiles.{abilities};
@@ -8,7 +8,7 @@ ghost use Rattle.scr_term.specs.Operations.Steps.{step};
 ghost use Rattle.scr_plan.specs.Memories.{IsMemory, all_followed, changes_cells, clears, disturbed, followed, forgotten, has_one_pen, is_known, is_known_row, places_spot, row_looks, rows_followed, sets_pen, spot_if_known, stepped, unknown};
 ghost use Rattle.scr_plan.specs.Repaints.{is_placed};
 ghost use Rattle.scr_cells.specs.Grids.{grid_row};
-ghost use Rattle.scr_plan.specs.Code.Remembering.{gone_to, without_run};
+ghost use Rattle.scr_plan.specs.Code.Remembering.{gone_to, is_character_op, without_run};
 
 use scr_cells::{Look, NoMemory, Size};
 use scr_term::{Op, Profile, Spot, Terminal};
@@ -169,9 +169,65 @@ impl Memory {
         requires columns { profile.now.columns ≡ self.old.columns }
         ensures { self.new ≡ all_followed profile.now ops.now self.old }
     {
-        for op in ops {
-            self.follow(profile, *op);
+        let mut done = 0;
+        while done < ops.len() {
+            done += self.follow_next(profile, &ops[done..]);
         }
+    }
+
+    // Follows some operations from the first on, and says how many: the characters that they begin with, or one operation.
+    fn follow_next(&mut self, profile: &Profile, ops: &[Op]) -> usize
+        requires some { 0 < length ops.now }
+        requires rows { profile.now.rows ≡ self.old.rows }
+        requires columns { profile.now.columns ≡ self.old.columns }
+        ensures some { 0 < result }
+        ensures inside { result ≤ length ops.now }
+        ensures followed { self.new ≡ all_followed profile.now (take result ops.now) self.old }
+    {
+        if self.spot && self.pen {
+            let characters = self.follow_characters(profile, ops);
+            if characters > 0 {
+                return characters;
+            }
+        }
+        self.follow(profile, ops[0]);
+        1
+    }
+
+    // Follows the characters that operations begin with, as far as they are defined, and says how many. Where the cursor and the pen
+    // are known no character makes more known or less, and most operations of an update are characters.
+    fn follow_characters(&mut self, profile: &Profile, ops: &[Op]) -> usize
+        requires rows { profile.now.rows ≡ self.old.rows }
+        requires columns { profile.now.columns ≡ self.old.columns }
+        requires spot { self.old.known_spot ≡ true }
+        requires pen { self.old.known_pen ≡ true }
+        ensures inside { result ≤ length ops.now }
+        ensures followed { self.new ≡ all_followed profile.now (take result ops.now) self.old }
+    {
+        let mut done = 0;
+        while done < ops.len() && self.step_character(profile, ops[done]) {
+            done += 1;
+        }
+        done
+    }
+
+    // The remembered state goes on by a character; where an operation is another, or undefined there, this answers false and changes
+    // nothing.
+    #[inline(always)]
+    fn step_character(&mut self, profile: &Profile, op: Op) -> bool
+        requires rows { profile.now.rows ≡ self.old.rows }
+        requires columns { profile.now.columns ≡ self.old.columns }
+        ensures character { result ≡ true → is_character_op op ≡ true }
+        ensures answer { result ≡ true → is_some (step profile.now self.old.state op) ≡ true }
+        ensures state { result ≡ true → self.new ≡ gone_to self.old (step profile.now self.old.state op) }
+        ensures same { result ≡ false → self.new ≡ self.old }
+    {
+        let Op::Put(byte) = op else {
+            return false;
+        };
+        let is_defined = self.terminal.step_character(profile, byte).is_ok();
+        let _size = self.terminal.size();
+        is_defined
     }
 
     // The remembered state goes on by an operation; where it is undefined there, this answers false and changes nothing.

@@ -136,7 +136,7 @@ impl Painter {
         ensures { result ≡ (painter_sees self picture.now.pairs cell).pen }
     {
         let pen = Pen::plain().with_attrs(Attrs(self.shown.0 & cell.attrs().0));
-        if !self.colours || cell.pair() == 0 {
+        if cell.pair() == 0 || !self.colours {
             return pen;
         }
         match picture.pair(cell.pair()) {

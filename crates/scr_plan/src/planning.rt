@@ -8,7 +8,7 @@ ghost use Rattle.scr_plan.specs.Scratch.{Fits, row_places};
 
 use crate::memories::Memory;
 use crate::painting::Painter;
-use scr_cells::{NoMemory, Picture};
+use scr_cells::{NoMemory, Picture, Size};
 use scr_term::{Op, Ops, Profile};
 use scr_virtual::Virtual;
 use std::alloc::Global;
@@ -55,10 +55,10 @@ fn anew(alloc: Global, profile: &Profile, picture: &Picture) -> Result<Ops, NoMe
     ensures { IfOk result (λ ops. ops ≡ anew_of profile.now picture.now) }
 {
     let painter = Painter::of(profile);
-    let mut ops = Vec::new(alloc);
+    let size = picture.size();
+    let mut ops = Vec::with_capacity(alloc, room_of(size))?;
     painter.reset(&mut ops)?;
     ops.push(Op::Clear)?;
-    let size = picture.size();
     for row in 0..size.rows {
         painter.paint_runs(picture, row, None, 0, size.columns, &mut ops)?;
     }
@@ -90,7 +90,7 @@ fn changes(
     ensures { IfOk result (λ ops. ops ≡ brief_of profile.now memory.now wanted.now.picture) }
 {
     let painter = Painter::of(profile);
-    let mut ops = Vec::new(alloc);
+    let mut ops = Vec::with_capacity(alloc, room_of(wanted.size()))?;
     painter.reset(&mut ops)?;
     let begun = ops.len();
     let (first, end) = wanted.changed_rows();
@@ -98,6 +98,12 @@ fn changes(
         painter.paint_changes(profile, memory, wanted, row, &mut ops)?;
     }
     painter.end(wanted.picture(), memory, begun, ops)
+}
+
+// How many operations a line mostly takes: each of its characters, and what leads to them. Room for them spares the lists of most
+// updates from growing.
+fn room_of(size: Size) -> usize {
+    size.columns as usize + 12
 }
 
 impl Painter {

@@ -15,7 +15,7 @@ ghost use Rattle.scr_term.specs.declared.operations.operation.Op.TheVariants.{Pu
 use crate::displays::{Change, Display};
 use crate::operations::change_of;
 use crate::{Op, Profile, Spot, Undefined};
-use scr_cells::{Attrs, Look, NoMemory, Size};
+use scr_cells::{Attrs, Look, NoMemory, Size, is_character};
 use std::alloc::Global;
 use std::marker::Model;
 
@@ -64,6 +64,21 @@ impl Terminal {
             _ => self.change(profile, op),
         };
         if is_defined { Ok(()) } else { Err(Undefined) }
+    }
+
+    /// Does what a character means, as `step` does: for callers that write many of them. `Undefined`: its byte is not 32 to 126, or the
+    /// cursor is at the margin. Nothing changes then.
+    #[inline(always)]
+    pub fn step_character(&mut self, profile: &Profile, byte: u8) -> Result<(), Undefined>
+        requires columns { profile.now.columns ≡ self.old.columns }
+        ensures answer { IsOk result ↔ IsTrue (is_some (step profile.now self.old.state (Put byte))) }
+        ensures state { self.new ≡ gone_on self.old (step profile.now self.old.state (Put byte)) }
+    {
+        if has_character(profile, byte) && self.write(profile, byte) {
+            Ok(())
+        } else {
+            Err(Undefined)
+        }
     }
 
     /// How many rows and columns there are.
@@ -160,4 +175,14 @@ impl Terminal {
         let _size = self.display.size();
         is_defined
     }
+}
+
+// Whether a terminal can write a byte: each writes the characters.
+#[inline(always)]
+#[tactic(auto, unfolding(crate::specs::Operations::Texts::has))]
+fn has_character(profile: &Profile, byte: u8) -> bool
+    ensures { result ≡ has profile.now (Put byte) }
+{
+    let _size = profile.size();
+    is_character(byte)
 }

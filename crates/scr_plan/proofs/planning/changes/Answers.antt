@@ -11,7 +11,7 @@ use Rattle.scr_plan.proofs.planning.changes.Goals as goal
 
 pub loop-row-init : goal.loop-row-init
 loop-row-init c =
-    c.in_ok-reset.ensures ∙ ap (λ ops. ops ++ painter_resets c.of-painter.result) c.new-ops.ensures.items ∙ ap painter_resets c.of-painter.ensures ∙ sym (append-nil (resets c.args.profile.now))
+    c.in_ok-reset.ensures ∙ ap (λ ops. ops ++ painter_resets c.of-painter.result) c.in_ok-ops.ensures.items ∙ ap painter_resets c.of-painter.ensures ∙ sym (append-nil (resets c.args.profile.now))
     ∙ ap (λ ps. resets c.args.profile.now ++ flat_map (brief_place c.args.profile.now c.args.wanted.now.picture c.args.memory.now) ps)
     (sym (begins c.args.profile.now c.args.memory.now c.args.wanted.now c.requires.same c.requires.size c.requires.known c.changed_rows-first.result.0 (omega (arith, c.changed_rows-first.ensures.order, c.changed_rows-first.ensures.end))
     (λ r below. c.changed_rows-first.ensures.others r (inl below))))
@@ -27,7 +27,7 @@ returns c =
     (rest c.args.profile.now c.args.memory.now c.args.wanted.now c.requires.same c.requires.size c.requires.known c.loop-row.row (omega (arith, end, c.changed_rows-first.ensures.end))
     (λ r above. c.changed_rows-first.ensures.others r (inr (omega (arith, end, above))))) in
     let count : length c.reset.new.ops.items ≡ vec_len c.reset.new.ops = search rules in
-    let begun = c.len-begun.ensures ∙ sym count ∙ ap length (c.in_ok-reset.ensures ∙ ap (λ ops. ops ++ painter_resets c.of-painter.result) c.new-ops.ensures.items ∙ ap painter_resets c.of-painter.ensures) in
+    let begun = c.len-begun.ensures ∙ sym count ∙ ap length (c.in_ok-reset.ensures ∙ ap (λ ops. ops ++ painter_resets c.of-painter.result) c.in_ok-ops.ensures.items ∙ ap painter_resets c.of-painter.ensures) in
     let ended : PictureView → Ops → Type 0 = λ picture ops. ops ≡ (if length c.loop-row.ops.items == c.len-begun.result && is_placed c.args.memory.now picture.wish then [] else c.loop-row.ops.items ++ painter_resets c.of-painter.result ++ places_cursor picture.wish) in
     ok_map c.end.result (ended c.args.wanted.now.picture) (λ ops. ops ≡ brief_of c.args.profile.now c.args.memory.now c.args.wanted.now.picture)
     (λ ops made. ends c.args.profile.now c.args.memory.now c.args.wanted.now.picture c.of-painter.result c.len-begun.result c.loop-row.ops.items ops

@@ -1,9 +1,12 @@
-use Rattle.std.proofs.Common.{◌+◌, arith, drop}
-use Rattle.std.proofs.lemmas.List.{drop_more}
-use Rattle.scr_plan.proofs.MemoryViewLaws.{followed_more}
+use Rattle.std.proofs.Common.{arith, drop, length, take, ◌∙◌, ◌-◌}
+use Rattle.scr_plan.proofs.FollowingLaws.{followed_on, same_columns, same_rows}
 use Rattle.scr_plan.proofs.memories.Memory.follow_all.Goals as goal
 
-pub loop-op-preserved : goal.loop-op-preserved
-loop-op-preserved c =
-    let ops = c.args.ops.now in
-    followed_more c.args.profile.now ops _ (drop (c.loop-op.op-index + 1) ops) _ c.args.self.now c.loop-op.self c.follow.new.self c.loop-op.invariant (drop_more ops c.loop-op.op-index _ (omega arith)) c.follow.ensures
+pub loop-done-preserved : goal.loop-done-preserved
+loop-done-preserved c = record {
+  inside = omega arith;
+  rows = same_rows c.args.profile.now (take c.follow_next-done.result (take (length c.args.ops.now - c.loop-done.done) (drop c.loop-done.done c.args.ops.now))) c.loop-done.self c.follow_next-done.new.self c.follow_next-done.ensures.followed ∙ c.loop-done.invariant.rows;
+  columns = same_columns c.args.profile.now (take c.follow_next-done.result (take (length c.args.ops.now - c.loop-done.done) (drop c.loop-done.done c.args.ops.now))) c.loop-done.self c.follow_next-done.new.self c.follow_next-done.ensures.followed ∙ c.loop-done.invariant.columns;
+  followed =
+      followed_on c.args.profile.now c.args.ops.now c.loop-done.done c.follow_next-done.result c.args.self.now c.loop-done.self c.follow_next-done.new.self c.loop-done.invariant.followed c.follow_next-done.ensures.followed;
+}

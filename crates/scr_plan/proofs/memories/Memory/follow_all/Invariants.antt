@@ -1,7 +1,15 @@
-use Rattle.std.proofs.Common.{drop}
-use Rattle.scr_plan.proofs.MemoryViewLaws.{IsFollowed}
+use Rattle.std.proofs.Common.{◌≡◌, ◌≤◌, ◌-◌, length, take}
+use Rattle.scr_plan.specs.Memories.{all_followed}
 use Rattle.scr_plan.proofs.memories.Memory.follow_all.Given as goal
 
 -- the operations before one were followed
-abbrev pub invariant-loop-op : goal.invariant-loop-op
-invariant-loop-op l = IsFollowed l.profile l.ops (drop l.op-index l.ops) l.fn.self l.self
+abbrev pub invariant-loop-done : goal.invariant-loop-done
+invariant-loop-done l = record {
+  inside : l.done ≤ length l.ops;
+  rows : l.self.rows ≡ l.fn.self.rows;
+  columns : l.self.columns ≡ l.fn.self.columns;
+  followed : l.self ≡ all_followed l.profile (take l.done l.ops) l.fn.self;
+}
+
+abbrev pub decreases-loop-done : goal.decreases-loop-done
+decreases-loop-done l = length l.ops - l.done

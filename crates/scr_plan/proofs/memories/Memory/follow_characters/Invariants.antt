@@ -1,0 +1,17 @@
+use Rattle.std.proofs.Common.{◌≡◌, ◌≤◌, ◌-◌, length, take, true}
+use Rattle.scr_plan.specs.Memories.{all_followed}
+use Rattle.scr_plan.proofs.memories.Memory.follow_characters.Given as goal
+
+-- the characters before one were followed
+abbrev pub invariant-loop-done : goal.invariant-loop-done
+invariant-loop-done l = record {
+  inside : l.done ≤ length l.ops;
+  rows : l.self.rows ≡ l.fn.self.rows;
+  columns : l.self.columns ≡ l.fn.self.columns;
+  spot : l.self.known_spot ≡ true;
+  pen : l.self.known_pen ≡ true;
+  followed : l.self ≡ all_followed l.profile (take l.done l.ops) l.fn.self;
+}
+
+abbrev pub decreases-loop-done : goal.decreases-loop-done
+decreases-loop-done l = length l.ops - l.done
