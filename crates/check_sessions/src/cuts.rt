@@ -3,7 +3,7 @@
 use crate::answers::{add_answer, add_count, ran_out};
 use crate::recorded::Recorded;
 use crate::shown::shows;
-use crate::uncut::{Text, Whole, make_whole};
+use crate::uncut::{Text, Whole, make_repaint, make_whole};
 use check_scripts::answers::{add_number, add_word};
 use check_scripts::texts::read_text;
 use check_scripts::troubles::Trouble;
@@ -52,13 +52,35 @@ pub fn check_cuts(
     if !matches!(words.peek(), b"" | b"=") {
         read_text(words.next(), &mut text)?;
     }
-    let size = Size::new(2, 5).ok_or(Trouble::Bad("no size"))?;
-    if !Recorded::open_bundled(alloc, size, tried)? {
+    let mut whole = Whole::new(alloc);
+    if !add_repaint(alloc, tried, &text, &mut whole)? || !open(alloc, tried)? {
         return add_word("NoMemory", came);
     }
     match tried {
-        Some(opened) => check_opened(alloc, opened, count as usize, &text, came),
+        Some(opened) => check_opened(alloc, opened, count as usize, &text, &mut whole, came),
         None => Ok(()),
+    }
+}
+
+// Opens a screen of two rows of five, and tells whether there was memory for it.
+fn open(alloc: Global, tried: &mut Option<Recorded>) -> Result<bool, Trouble> {
+    let size = Size::new(2, 5).ok_or(Trouble::Bad("no size"))?;
+    Recorded::open_bundled(alloc, size, tried)
+}
+
+// Adds what paints all, by a screen of its own, and tells whether there was memory for it.
+fn add_repaint(
+    alloc: Global,
+    tried: &mut Option<Recorded>,
+    text: &[u8],
+    whole: &mut Whole,
+) -> Result<bool, Trouble> {
+    if !open(alloc, tried)? {
+        return Ok(false);
+    }
+    match tried {
+        Some(opened) => make_repaint(alloc, opened, text, &mut whole.repaint),
+        None => Ok(false),
     }
 }
 
@@ -68,11 +90,11 @@ fn check_opened(
     opened: &mut Recorded,
     count: usize,
     text: &[u8],
+    whole: &mut Whole,
     came: &mut Vec<u8>,
 ) -> Result<(), Trouble> {
-    let mut whole = Whole::new(alloc);
-    if make_whole(alloc, opened, text, &mut whole)? {
-        check_all(alloc, opened, &whole, count, came)
+    if make_whole(alloc, opened, text, whole)? {
+        check_all(alloc, opened, whole, count, came)
     } else {
         add_word("NoMemory", came)
     }

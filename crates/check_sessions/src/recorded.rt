@@ -8,7 +8,7 @@ use check_scripts::answers::add_word;
 use check_scripts::troubles::Trouble;
 use curses::{Answer, Call, Counted, Device, OpenFault, Report, Screen, session};
 use scr_cells::Size;
-use scr_term::{EcmaScreen, Profile, ProfileFault};
+use scr_term::{EcmaScreen, Ops, Profile, ProfileFault};
 use std::alloc::Global;
 use ti_caps::{Entry, bundled};
 
@@ -37,6 +37,8 @@ pub struct Recorded {
     before: usize,
     // Whether the last update ended well.
     last_ok: bool,
+    /// The operations of the last update that ended well.
+    pub last: Ops,
     // Room for one answer.
     answer: Vec<u8>,
 }
@@ -89,6 +91,7 @@ impl Recorded {
             sent: Vec::new(alloc),
             before: 0,
             last_ok: false,
+            last: Ops(Vec::new(alloc)),
             answer: Vec::new(alloc),
         }
     }
@@ -173,7 +176,11 @@ impl Recorded {
 
     fn make_update(&mut self, came: &mut Vec<u8>) -> Result<Ended, Trouble> {
         let answer = self.make(Call::Doupdate, came)?;
-        Ok(end_of(&answer))
+        let ended = end_of(&answer);
+        if let Answer::Sent(sent) = answer {
+            self.last = sent.begun;
+        }
+        Ok(ended)
     }
 
     // Makes the call, keeps it with its answer unless memory ran out, and adds the answer.

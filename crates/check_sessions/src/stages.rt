@@ -1,5 +1,6 @@
 //! What the lines of a script work on: one screen with its terminal, from the line that opens it on.
 
+use crate::answers::add_count;
 use crate::call_lines::read_call;
 use crate::cuts::check_cuts;
 use crate::dumps::dump_recorded;
@@ -90,6 +91,7 @@ fn answer_of_opened(
     match word {
         "session" => return opened.add_session(came),
         "others" => return write_as_others(alloc, opened, words, came),
+        "update_within" => return update_within(alloc, opened, words, came),
         _ => {}
     }
     if let Some(fails) = read_update(word, words)? {
@@ -116,6 +118,26 @@ fn write_as_others(
     let mut text = Vec::new(alloc);
     read_text(words.next(), &mut text)?;
     opened.others(&text, came)
+}
+
+// The line `update_within N`, an update that answers `Ok` alone where it ends well and sends at most N bytes.
+fn update_within(
+    alloc: Global,
+    opened: &mut Recorded,
+    words: &mut Words<'_>,
+    came: &mut Vec<u8>,
+) -> Result<(), Trouble> {
+    let most = words.number()? as usize;
+    let _is_well = opened.update(Fails::Never, came)?;
+    let sent = opened.last_sent().len();
+    let mut well = Vec::new(alloc);
+    add_word("Ok", &mut well)?;
+    add_count(sent as u64, &mut well)?;
+    if sent <= most && came.as_slice() == well.as_slice() {
+        came.clear();
+        add_word("Ok", came)?;
+    }
+    Ok(())
 }
 
 // How the writer fails in the lines `update`, `update_writing K`, `update_stuck K`, `update_flushing` and `update_failing`.

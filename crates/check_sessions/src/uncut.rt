@@ -4,8 +4,6 @@ use crate::recorded::Recorded;
 use crate::writers::Fails;
 use check_scripts::troubles::Trouble;
 use curses::Call;
-use scr_cells::Picture;
-use scr_plan::{Memory, plain, scratch};
 use scr_term::{Op, Ops, Profile};
 use scr_windows::Win;
 use std::alloc::Global;
@@ -51,29 +49,36 @@ impl Whole {
     }
 }
 
+/// Makes the calls on a new screen, and the first update. Adds what that sends, which paints all, and tells whether there was memory
+/// for it.
+pub fn make_repaint(
+    alloc: Global,
+    opened: &mut Recorded,
+    text: &[u8],
+    repaint: &mut Text,
+) -> Result<bool, Trouble> {
+    write(alloc, opened, b"hi")?;
+    write(alloc, opened, text)?;
+    show(alloc, opened, repaint)
+}
+
 /// Makes the calls up to the update that is cut, and the update behind it, none of which fails here. Adds what the update that is cut
-/// sends, and what is sent before and behind it, and tells whether there was memory for it.
+/// sends, and what is sent before it, and tells whether there was memory for it.
 pub fn make_whole(
     alloc: Global,
     opened: &mut Recorded,
     text: &[u8],
     whole: &mut Whole,
 ) -> Result<bool, Trouble> {
-    let Ok(mut memory) = Memory::unknown(alloc, opened.profile.size()) else {
-        return Ok(false);
-    };
     write(alloc, opened, b"hi")?;
     if !text.is_empty() {
-        if !show(alloc, opened, &mut memory, &mut whole.before)? {
+        if !show(alloc, opened, &mut whole.before)? {
             return Ok(false);
         }
         write(alloc, opened, text)?;
     }
-    if !show(alloc, opened, &mut memory, &mut whole.update)? {
-        return Ok(false);
-    }
-    memory.forget();
-    show(alloc, opened, &mut memory, &mut whole.repaint)
+    let is_well = show(alloc, opened, &mut whole.update)?;
+    Ok(is_well && update(alloc, opened)?)
 }
 
 // Adds a text to the first window, and takes it onto the virtual screen.
@@ -85,49 +90,16 @@ fn write(alloc: Global, opened: &mut Recorded, text: &[u8]) -> Result<(), Troubl
     opened.call(Call::Noutrefresh(Win(0)), &mut answers)
 }
 
-// Updates, and adds what brings a terminal of which this is remembered to the picture, and is remembered then. Tells whether there was
-// memory for it.
-fn show(
-    alloc: Global,
-    opened: &mut Recorded,
-    memory: &mut Memory,
-    text: &mut Text,
-) -> Result<bool, Trouble> {
+// Updates, and tells whether there was memory for it.
+fn update(alloc: Global, opened: &mut Recorded) -> Result<bool, Trouble> {
     let mut answers = Vec::new(alloc);
     let _is_well = opened.update(Fails::Never, &mut answers)?;
-    if answers.ends_with(b" NoMemory") {
-        return Ok(false);
-    }
-    let profile = &opened.profile;
-    match plan(alloc, profile, memory, opened.screen.picture())? {
-        Some(ops) => render_all(profile, &ops, text),
-        None => Ok(false),
-    }
+    Ok(!answers.ends_with(b" NoMemory"))
 }
 
-// The operations that bring a terminal to a picture: those for the places that differ where all is known, else those for all. They
-// are remembered.
-fn plan(
-    alloc: Global,
-    profile: &Profile,
-    memory: &mut Memory,
-    picture: &Picture,
-) -> Result<Option<Ops>, Trouble> {
-    let (size, other, remembered) = (picture.size(), profile.size(), memory.size());
-    let is_same = size.rows == other.rows && size.columns == other.columns;
-    if !is_same || remembered.rows != other.rows || remembered.columns != other.columns {
-        return Err(Trouble::Bad("the profile has another size"));
-    }
-    let planned = if memory.known() {
-        plain(alloc, profile, memory, picture)
-    } else {
-        scratch(alloc, profile, picture)
-    };
-    let Ok(ops) = planned else {
-        return Ok(None);
-    };
-    memory.follow_all(profile, &ops.0);
-    Ok(Some(ops))
+// Updates, and adds what that sends. Tells whether there was memory for it.
+fn show(alloc: Global, opened: &mut Recorded, text: &mut Text) -> Result<bool, Trouble> {
+    Ok(update(alloc, opened)? && render_all(&opened.profile, &opened.last, text)?)
 }
 
 // Adds the texts of operations, and tells whether there was memory for them.
