@@ -8,7 +8,7 @@ use check_scripts::answers::add_word;
 use check_scripts::troubles::Trouble;
 use curses::{Answer, Call, Counted, Device, OpenFault, Report, Screen, session};
 use scr_cells::Size;
-use scr_term::{EcmaScreen, Ops, Profile, ProfileFault};
+use scr_term::{EcmaScreen, Op, Ops, Profile, ProfileFault};
 use std::alloc::Global;
 use ti_caps::{Entry, bundled};
 
@@ -176,11 +176,16 @@ impl Recorded {
 
     fn make_update(&mut self, came: &mut Vec<u8>) -> Result<Ended, Trouble> {
         let answer = self.make(Call::Doupdate, came)?;
-        let ended = end_of(&answer);
-        if let Answer::Sent(sent) = answer {
-            self.last = sent.begun;
+        if let Answer::Sent(sent) = &answer {
+            self.keep_last(&sent.begun.0)?;
         }
-        Ok(ended)
+        Ok(end_of(&answer))
+    }
+
+    fn keep_last(&mut self, ops: &[Op]) -> Result<(), Trouble> {
+        self.last.0.clear();
+        self.last.0.extend_from_slice(ops)?;
+        Ok(())
     }
 
     // Makes the call, keeps it with its answer unless memory ran out, and adds the answer.
