@@ -1,7 +1,7 @@
 #!/bin/sh
 # Counts the processor instructions of window calls, beside those of ncurses: a byte of an added text, and a cell of a
 # window that is erased, copied, scrolled or given another background, at two sizes.
-# It needs valgrind, a C compiler, libncurses-dev, and the program crates/bench_windows, which `rt run` builds.
+# It needs valgrind, a C compiler, libncurses-dev, and the program crates/bench_screen, which `rt run` builds.
 # Usage: benchmarks/windows/run.sh PROGRAM, from the top of the repository.
 set -e
 program=$1
@@ -23,7 +23,7 @@ ten() {
 
 # ratio ACTION ROWS COLUMNS PARTS: instructions for each of the parts (bytes or cells) of a call, in hundredths
 ratio() {
-    ours=$(ten "$program" "$1" "$2" "$3")
+    ours=$(ten "$program" windows "$1" "$2" "$3")
     theirs=$(ten "$folder/windows" "$1" "$2" "$3")
     echo "$1 ${2}x$3: $((10 * ours / $4)) hundredths of an instruction, ncurses $((10 * theirs / $4)), ratio $((100 * ours / theirs)) percent"
 }

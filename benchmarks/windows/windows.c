@@ -1,4 +1,4 @@
-/* Calls one of ncurses' window calls again and again, as crates/bench_windows does with ours.
+/* Calls one of ncurses' window calls again and again, as crates/bench_screen does with ours.
    Usage: windows add|feed|erase|copy|scroll|background ROWS COLUMNS COUNT */
 #include <curses.h>
 #include <stdio.h>

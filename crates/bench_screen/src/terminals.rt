@@ -1,16 +1,14 @@
-//! Does one thing again and again, so that the instructions of one time can be counted, and prints a number that is made of
-//! all results. `bench_terminals read|run|length cup|sgr|clear|status COUNT` reads, runs or measures a parameter string;
-//! `bench_terminals admit|feed|place|paint|scratch|address|price bundled COUNT` makes a profile of the bundled entry, feeds the
-//! emulated screen a cursor address with a line of 79 graphic characters behind it or alone, renders the operations for one place
-//! of a screen, makes the bytes that paint a whole one of 24 rows and 80 columns, renders a cursor address, or asks for its price.
-#![tactic(auto)]
+//! Uses a terminal's parameter strings, profile and emulated screen: `terminals read|run|length cup|sgr|clear|status COUNT` reads, runs or
+//! measures a parameter string; `terminals admit|feed|place|paint|scratch|address|price bundled COUNT` makes a profile of the bundled
+//! entry, feeds the emulated screen a cursor address with a line of 79 graphic characters behind it or alone, renders the operations
+//! for one place of a screen, makes the bytes that paint a whole one of 24 rows and 80 columns, renders a cursor address, or asks for
+//! its price. The number is made of all results.
 
-use anyhow::{Context, Result, anyhow, bail};
+use anyhow::{Result, anyhow, bail};
 use scr_cells::{Attrs, Picture, Size};
 use scr_plan::scratch_bytes;
 use scr_term::{EcmaScreen, Op, Profile};
 use std::alloc::Global;
-use std::env;
 use ti_param::{Program, Vars};
 
 const CUP: &[u8] = b"\x1b[%i%p1%d;%p2%dH";
@@ -154,17 +152,23 @@ fn render(profile: &Profile, ops: &[Op], out: &mut Vec<u8>) -> Result<()> {
     Ok(())
 }
 
-fn measure(alloc: Global, action: &str, name: &str, count: u32) -> Result<usize> {
-    match action {
-        "admit" => return admit_again(alloc, count),
-        "feed" => return feed_again(alloc, 79, count),
-        "place" => return feed_again(alloc, 0, count),
-        "scratch" => return scratch_again(alloc, count),
-        "paint" => return paint_again(alloc, count),
-        "price" => return price_again(alloc, count),
-        "address" => return render_again(alloc, &[Op::Move(23, 78)], count),
-        _ => {}
-    }
+/// The sum of all results.
+pub fn measure(alloc: Global, action: &str, name: &str, count: u32) -> Result<u64> {
+    let sum = match action {
+        "admit" => admit_again(alloc, count)?,
+        "feed" => feed_again(alloc, 79, count)?,
+        "place" => feed_again(alloc, 0, count)?,
+        "scratch" => scratch_again(alloc, count)?,
+        "paint" => paint_again(alloc, count)?,
+        "price" => price_again(alloc, count)?,
+        "address" => render_again(alloc, &[Op::Move(23, 78)], count)?,
+        _ => measure_text(alloc, action, name, count)?,
+    };
+    Ok(sum as u64)
+}
+
+// The same of a parameter string.
+fn measure_text(alloc: Global, action: &str, name: &str, count: u32) -> Result<usize> {
     let (text, params) = text_of(name)?;
     match action {
         "run" => run_again(alloc, text, params, count),
@@ -183,16 +187,4 @@ fn text_of(name: &str) -> Result<(&'static [u8], [i32; 9])> {
         "status" => Ok((STATUS, [0; 9])),
         _ => bail!("no such text"),
     }
-}
-
-fn main(rt: HostRuntime) -> Result<()> {
-    let mut words = env::args(&rt)?;
-    let _program = words.next();
-    let action = words.next().ok_or_else(|| anyhow!("what to do"))?;
-    let name = words.next().ok_or_else(|| anyhow!("a text, or bundled"))?;
-    let count = words.next().ok_or_else(|| anyhow!("how often"))?;
-    let count = count.as_str().parse::<u32>().context("how often")?;
-    let sum = measure(rt.alloc(), action.as_str(), name.as_str(), count)?;
-    println!(rt; "{sum}")?;
-    Ok(())
 }

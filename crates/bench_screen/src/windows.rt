@@ -1,14 +1,11 @@
-//! Calls one window call again and again, so that the instructions of one time can be counted:
-//! `bench_windows add|feed|erase|copy|scroll|background ROWS COLUMNS COUNT` prints the row of the cursor at the end.
-#![tactic(auto)]
+//! Calls one window call again and again: `windows add|feed|erase|copy|scroll|background ROWS COLUMNS COUNT` on a window of so many
+//! rows and columns. The number is the row of the cursor at the end.
 
-use anyhow::{Context, Result, anyhow, bail};
+use crate::screens::FIRST;
+use anyhow::{Result, anyhow, bail};
 use scr_cells::{Attrs, Cell, Size};
-use scr_windows::{Desk, Win};
+use scr_windows::Desk;
 use std::alloc::Global;
-use std::env;
-
-const FIRST: Win = Win(0);
 
 // One line of 80 columns.
 const LINE: &[u8] =
@@ -70,7 +67,8 @@ fn background(desk: &mut Desk, count: u32) -> Result<()> {
     Ok(())
 }
 
-fn measure(alloc: Global, action: &str, rows: u32, columns: u32, count: u32) -> Result<u32> {
+/// The row of the cursor at the end.
+pub fn measure(alloc: Global, action: &str, [rows, columns, count]: [u32; 3]) -> Result<u64> {
     let size = Size::new(rows, columns).ok_or_else(|| anyhow!("a size from 1 to 500"))?;
     let last = (rows.saturating_sub(1), columns.saturating_sub(1));
     let mut desk = Desk::new(alloc, size)?;
@@ -83,20 +81,5 @@ fn measure(alloc: Global, action: &str, rows: u32, columns: u32, count: u32) -> 
         "background" => background(&mut desk, count)?,
         _ => bail!("no such action"),
     }
-    Ok(desk.cursor(FIRST)?.0)
-}
-
-fn main(rt: HostRuntime) -> Result<()> {
-    let mut words = env::args(&rt)?;
-    let _program = words.next();
-    let action = words.next().ok_or_else(|| anyhow!("what to do"))?;
-    let rows = words.next().ok_or_else(|| anyhow!("how many rows"))?;
-    let rows = rows.as_str().parse::<u32>().context("how many rows")?;
-    let columns = words.next().ok_or_else(|| anyhow!("how many columns"))?;
-    let columns = columns.as_str().parse::<u32>().context("how many columns")?;
-    let count = words.next().ok_or_else(|| anyhow!("how often"))?;
-    let count = count.as_str().parse::<u32>().context("how often")?;
-    let row = measure(rt.alloc(), action.as_str(), rows, columns, count)?;
-    println!(rt; "{row}")?;
-    Ok(())
+    Ok(u64::from(desk.cursor(FIRST)?.0))
 }
