@@ -1,5 +1,5 @@
-//! Runs a script of calls on windows, each with the answer or the state that is wanted, which it reads from the standard input.
-//! It prints how many lines agree, or the first that does not with what was wanted and what came (status 1).
+//! Runs a script of calls on windows and of keys, each with the answer or the state that is wanted, which it reads from the standard
+//! input. It prints how many lines agree, or the first that does not with what was wanted and what came (status 1).
 #![tactic(auto)]
 
 mod answers;
@@ -12,6 +12,8 @@ mod differences;
 mod dumps;
 mod generated;
 mod generating;
+mod keys;
+mod kinds;
 mod lent_lines;
 mod lent_windows;
 mod random;
@@ -19,9 +21,9 @@ mod shown_rows;
 mod stages;
 
 use check_scripts::checking::check_input;
-use stages::DeskStage;
+use kinds::KindStage;
 use std::process::ExitCode;
 
 fn main(rt: HostRuntime) -> ExitCode {
-    check_input::<DeskStage>(&rt)
+    check_input::<KindStage>(&rt)
 }

@@ -1,7 +1,7 @@
 //! A stream of all keys of a terminal, with an idle at each place in turn.
 
-use crate::keyboards::{Keyboard, open_into};
-use crate::plain::PlainKeys;
+use crate::keys::keyboards::{Keyboard, open_into};
+use crate::keys::plain::PlainKeys;
 use check_scripts::answers::{add_number, add_word};
 use check_scripts::troubles::Trouble;
 use check_scripts::words::Words;

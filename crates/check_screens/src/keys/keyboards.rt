@@ -1,6 +1,6 @@
 //! What keys are read from: a reader by itself, or a screen.
 
-use crate::answers::add_fault;
+use crate::keys::answers::add_fault;
 use check_scripts::answers::add_word;
 use check_scripts::troubles::Trouble;
 use curses::{OpenFault, Screen};

@@ -1,6 +1,6 @@
 //! A plain decoder of keys, which looks at each key of the terminal: the longest text that some bytes begin with, or else a byte.
 
-use crate::entries::key_text;
+use crate::keys::entries::key_text;
 use check_scripts::troubles::Trouble;
 use scr_keys::Key;
 use std::alloc::Global;

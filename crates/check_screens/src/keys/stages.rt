@@ -1,10 +1,10 @@
 //! What the lines of a script work on: an entry, and a keyboard of its keys.
 
-use crate::answers::{add_came, add_key};
-use crate::entries::{dump_entry, make_entry, set_text};
-use crate::generated::check_generated;
-use crate::keyboards::{Keyboard, open_into};
-use crate::streams::{check_cuts, take_all};
+use crate::keys::answers::{add_came, add_key};
+use crate::keys::entries::{dump_entry, make_entry, set_text};
+use crate::keys::generated::check_generated;
+use crate::keys::keyboards::{Keyboard, open_into};
+use crate::keys::streams::{check_cuts, take_all};
 use check_scripts::answers::add_word;
 use check_scripts::checking::Stage;
 use check_scripts::texts::read_text;

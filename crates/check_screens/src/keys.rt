@@ -1,0 +1,10 @@
+//! Lines about keys, which come from a reader by itself, or from a screen. What they are is compared with a plain decoder too, which
+//! looks at each key of the terminal.
+
+mod answers;
+mod entries;
+mod generated;
+mod keyboards;
+mod plain;
+pub mod stages;
+mod streams;
