@@ -30,22 +30,29 @@ pub fn check_rows(
     came: &mut Vec<u8>,
 ) -> Result<(), Trouble> {
     let (from, end) = (words.number()?, words.number()?);
-    let shown = if word == b"shown_before".as_slice() {
-        Some(Attrs(words.byte()?))
-    } else {
-        None
-    };
+    let shown = read_shown(word, words)?;
     let mut count: u32 = 0;
     for length in from..end.saturating_add(1) {
-        match agreed_at(alloc, length as usize, shown)? {
-            Some(agreed) => count = count.saturating_add(agreed),
-            None => {
-                add_word("length", came)?;
-                return add_number(i64::from(length), came);
-            }
-        }
+        let Some(agreed) = agreed_at(alloc, length as usize, shown)? else {
+            return add_length(length, came);
+        };
+        count = count.saturating_add(agreed);
     }
     add_number(i64::from(count), came)
+}
+
+// The attributes that are shown, of a line `shown_before`.
+fn read_shown(word: &[u8], words: &mut Words<'_>) -> Result<Option<Attrs>, Trouble> {
+    if word == b"shown_before".as_slice() {
+        return Ok(Some(Attrs(words.byte()?)));
+    }
+    Ok(None)
+}
+
+// Adds the length at which some rows do not agree.
+fn add_length(length: u32, came: &mut Vec<u8>) -> Result<(), Trouble> {
+    add_word("length", came)?;
+    add_number(i64::from(length), came)
 }
 
 /// Whether the lines of a name are those that `check_rows` answers.

@@ -52,18 +52,14 @@ pub fn add_difference(
 ) -> Result<(), Trouble> {
     match what {
         What::Screen => {
-            add_word("screen", came)?;
-            add_both(screen_wanted(plain), screen_of(desk.screen()), came)
+            let screen = screen_of(desk.screen());
+            add_named("screen", screen_wanted(plain), screen, came)
         }
         What::Count => {
-            add_word("count", came)?;
-            add_both(counted(plain.windows.len()), counted(desk.count()), came)
+            let count = counted(desk.count());
+            add_named("count", counted(plain.windows.len()), count, came)
         }
-        What::Nth(index) => {
-            add_word("nth", came)?;
-            add_number(i64::try_from(index).unwrap_or(0), came)?;
-            add_both(plain_nth(plain, index), desk_nth(desk, index), came)
-        }
+        What::Nth(index) => add_nth(desk, plain, index, came),
         What::Field(index, ..) | What::Row(index, _) | What::Touched(index, _) => {
             add_within(desk, plain, index, what, came)
         }
@@ -92,7 +88,7 @@ fn line_difference(
     window: &Window,
 ) -> Option<What> {
     for row in 0..window.rows {
-        let (touched, line) = lent_line(lent, narrow(row)).unwrap_or((false, &[]));
+        let (touched, line) = line_of(lent, row);
         if line != plain.line(window, row) {
             return Some(What::Row(index, row));
         }
@@ -125,25 +121,50 @@ fn add_within(
     let Ok(lent) = desk.window(win(window.number)) else {
         return Ok(());
     };
-    add_word("window", came)?;
-    add_number(i64::from(narrow(window.number)), came)?;
+    add_numbered("window", window.number, came)?;
+    add_of_window(&lent, plain, window, what, came)
+}
+
+// Adds what differs in a window.
+fn add_of_window(
+    lent: &WindowRef<'_>,
+    plain: &Plain,
+    window: &Window,
+    what: What,
+    came: &mut Vec<u8>,
+) -> Result<(), Trouble> {
     match what {
         What::Field(_, name, field) => {
-            add_word(name, came)?;
-            add_both(plain_field(window, field), lent_field(&lent, field), came)
+            let answer = lent_field(lent, field);
+            add_named(name, plain_field(window, field), answer, came)
         }
         What::Row(_, row) => {
-            let (_, line) = lent_line(&lent, narrow(row)).unwrap_or((false, &[]));
+            let (_, line) = line_of(lent, row);
             add_rows(row, plain.line(window, row), line, came)
         }
         What::Touched(_, row) => {
-            let (touched, _) = lent_line(&lent, narrow(row)).unwrap_or((false, &[]));
-            add_word("touched", came)?;
-            add_number(i64::from(narrow(row)), came)?;
-            add_both(Answer::Flag(!touched), Answer::Flag(touched), came)
+            let (touched, _) = line_of(lent, row);
+            add_touched(row, touched, came)
         }
         What::Screen | What::Count | What::Nth(_) => Ok(()),
     }
+}
+
+// Adds whether a row is touched, which is not as it was wanted.
+fn add_touched(row: u64, touched: bool, came: &mut Vec<u8>) -> Result<(), Trouble> {
+    add_numbered("touched", row, came)?;
+    add_both(Answer::Flag(!touched), Answer::Flag(touched), came)
+}
+
+// Whether a row of a window is touched, and its cells.
+fn line_of<'a>(lent: &WindowRef<'a>, row: u64) -> (bool, &'a [Cell]) {
+    lent_line(lent, narrow(row)).unwrap_or((false, &[]))
+}
+
+// Adds a word with a number.
+fn add_numbered(word: &str, number: u64, came: &mut Vec<u8>) -> Result<(), Trouble> {
+    add_word(word, came)?;
+    add_number(i64::from(narrow(number)), came)
 }
 
 fn counted(count: usize) -> Answer {
@@ -164,6 +185,23 @@ fn desk_nth(desk: &Desk, index: usize) -> Answer {
     }
 }
 
+// Adds which window stands at an index.
+fn add_nth(desk: &Desk, plain: &Plain, index: usize, came: &mut Vec<u8>) -> Result<(), Trouble> {
+    add_numbered("nth", index as u64, came)?;
+    add_both(plain_nth(plain, index), desk_nth(desk, index), came)
+}
+
+// Adds what was wanted and what came, behind its name.
+fn add_named(
+    name: &str,
+    wanted: Answer,
+    answer: Answer,
+    came: &mut Vec<u8>,
+) -> Result<(), Trouble> {
+    add_word(name, came)?;
+    add_both(wanted, answer, came)
+}
+
 fn add_both(wanted: Answer, answer: Answer, came: &mut Vec<u8>) -> Result<(), Trouble> {
     add_word("wanted", came)?;
     add_answer(Ok(wanted), came)?;
@@ -172,8 +210,7 @@ fn add_both(wanted: Answer, answer: Answer, came: &mut Vec<u8>) -> Result<(), Tr
 }
 
 fn add_rows(row: u64, wanted: &[Cell], line: &[Cell], came: &mut Vec<u8>) -> Result<(), Trouble> {
-    add_word("line", came)?;
-    add_number(i64::from(narrow(row)), came)?;
+    add_numbered("line", row, came)?;
     add_word("wanted", came)?;
     add_cells(wanted, came)?;
     add_word("came", came)?;

@@ -39,19 +39,29 @@ pub fn check_generated(
 ) -> Result<(), Trouble> {
     let (count, seed) = (words.number()?, words.number()?);
     let mut random = Random::new(seed);
-    let mut desks = None;
-    for number in 0..count {
-        if number % CALLS == 0 {
-            desks = new_desks(alloc)?;
-        }
-        let Some(both) = desks.as_mut() else {
-            return add_word("NoMemory", came);
-        };
-        if !both.step(u64::from(number), &mut random, came)? {
+    for done in 0..count.div_ceil(CALLS) {
+        let first = done.saturating_mul(CALLS);
+        let end = count.min(first.saturating_add(CALLS));
+        if !make_some(alloc, first, end, &mut random, came)? {
             return Ok(());
         }
     }
     add_word("agree", came)
+}
+
+// Makes the calls of some numbers on blank desks, and tells whether they agree.
+fn make_some(
+    alloc: Global,
+    first: u32,
+    end: u32,
+    random: &mut Random,
+    came: &mut Vec<u8>,
+) -> Result<bool, Trouble> {
+    let Some(mut both) = new_desks(alloc)? else {
+        add_word("NoMemory", came)?;
+        return Ok(false);
+    };
+    both.steps(first, end, random, came)
 }
 
 // Blank desks, or none where the library's was refused memory.
@@ -67,6 +77,22 @@ fn new_desks(alloc: Global) -> Result<Option<Both>, Trouble> {
 }
 
 impl Both {
+    // Makes the calls of some numbers, up to the first after which the desks differ.
+    fn steps(
+        &mut self,
+        first: u32,
+        end: u32,
+        random: &mut Random,
+        came: &mut Vec<u8>,
+    ) -> Result<bool, Trouble> {
+        for number in first..end {
+            if !self.step(u64::from(number), random, came)? {
+                return Ok(false);
+            }
+        }
+        Ok(true)
+    }
+
     // Makes the next call.
     fn step(
         &mut self,
@@ -141,11 +167,16 @@ fn add_call(number: u64, call: &Call, came: &mut Vec<u8>) -> Result<(), Trouble>
     add_number(i64::try_from(number).unwrap_or(0), came)?;
     add_word(call.form.0, came)?;
     for (letter, number) in call.form.1.as_bytes().iter().zip(call.numbers.iter()) {
-        match *letter {
-            b't' => add_text(call.text, came)?,
-            _ => add_number(*number, came)?,
-        }
+        add_argument(*letter, *number, call.text, came)?;
     }
     came.push(b':')?;
     Ok(())
+}
+
+// Adds an argument: the call's text, or a number.
+fn add_argument(letter: u8, number: i64, text: &[u8], came: &mut Vec<u8>) -> Result<(), Trouble> {
+    if letter == b't' {
+        return add_text(text, came);
+    }
+    add_number(number, came)
 }

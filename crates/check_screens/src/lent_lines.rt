@@ -42,17 +42,32 @@ fn add_nth(desk: &Desk, index: usize, came: &mut Vec<u8>) -> Result<(), Trouble>
 fn add_lent(desk: &Desk, words: &mut Words<'_>, came: &mut Vec<u8>) -> Result<(), Trouble> {
     let win = Win(words.number()?);
     let word = str::from_utf8(words.next()).unwrap_or("");
-    let asked = match word {
-        "is_touched" | "line" => Some(words.number()?),
-        _ => None,
-    };
+    let asked = read_row(word, words)?;
     match desk.window(win) {
-        Ok(window) => match asked {
-            Some(row) => add_lent_line(&window, row, word == "line", came),
-            None => add_answer(Ok(lent_field(&window, field_of(word)?)), came),
-        },
+        Ok(window) => add_asked(&window, word, asked, came),
         Err(fault) => add_word(fault_name(fault), came),
     }
+}
+
+// The row that a line asks about, where it does.
+fn read_row(word: &str, words: &mut Words<'_>) -> Result<Option<u32>, Trouble> {
+    if word == "is_touched" || word == "line" {
+        return Ok(Some(words.number()?));
+    }
+    Ok(None)
+}
+
+// Adds a field, or what is asked of a row.
+fn add_asked(
+    window: &WindowRef<'_>,
+    word: &str,
+    asked: Option<u32>,
+    came: &mut Vec<u8>,
+) -> Result<(), Trouble> {
+    let Some(row) = asked else {
+        return add_answer(Ok(lent_field(window, field_of(word)?)), came);
+    };
+    add_lent_line(window, row, word == "line", came)
 }
 
 // Adds the cells of a line, or whether it is touched.

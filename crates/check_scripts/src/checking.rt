@@ -127,25 +127,47 @@ impl<'a, S: Stage + Drop> Checker<'a, S> {
     // Whether the state is the one that the lines before this call make anew.
     fn is_as_before(&self, words: Words<'_>, done: u32) -> Result<bool, Trouble> {
         let mut anew = S::new(self.alloc);
+        self.make_before(words, done, &mut anew)?;
+        self.looks_like(&anew)
+    }
+
+    // Makes the calls of all lines before this one, and this one so often.
+    fn make_before(&self, words: Words<'_>, done: u32, anew: &mut S) -> Result<(), Trouble> {
         let mut came = Vec::new(self.alloc);
+        self.make_lines(anew, &mut came)?;
+        make_again(anew, words, done, &mut came)
+    }
+
+    // Makes the calls of all lines before this one.
+    fn make_lines(&self, anew: &mut S, came: &mut Vec<u8>) -> Result<(), Trouble> {
         let mut number: u32 = 0;
         for line in self.script.split(|byte| *byte == b'\n') {
             number = number.saturating_add(1);
             if number >= self.line {
                 break;
             }
-            if is_call(line) {
-                let (times, words) = repeated(line)?;
-                make_again(&mut anew, words, times, &mut came)?;
-            }
+            make_line(anew, line, came)?;
         }
-        make_again(&mut anew, words, done, &mut came)?;
+        Ok(())
+    }
+
+    // Whether all that can be seen of another stage is as it is here.
+    fn looks_like(&self, anew: &S) -> Result<bool, Trouble> {
         let mut before = Vec::new(self.alloc);
         let mut after = Vec::new(self.alloc);
         anew.dump(&mut before)?;
         self.stage.dump(&mut after)?;
         Ok(before.as_slice() == after.as_slice())
     }
+}
+
+// Makes the call of a line, where it is one, as often as it says.
+fn make_line<S: Stage>(stage: &mut S, line: &[u8], came: &mut Vec<u8>) -> Result<(), Trouble> {
+    if !is_call(line) {
+        return Ok(());
+    }
+    let (times, words) = repeated(line)?;
+    make_again(stage, words, times, came)
 }
 
 // Makes the call of a line so often, whatever it answers.
@@ -159,11 +181,16 @@ fn make_again<S: Stage>(
         return Ok(());
     }
     for _ in 0..times {
-        let mut words = line;
-        came.clear();
-        stage.answer(&mut words, came)?;
+        make_once(stage, line, came)?;
     }
     Ok(())
+}
+
+// Makes the call of a line, whatever it answers.
+fn make_once<S: Stage>(stage: &mut S, line: Words<'_>, came: &mut Vec<u8>) -> Result<(), Trouble> {
+    let mut words = line;
+    came.clear();
+    stage.answer(&mut words, came)
 }
 
 // Whether a line is a call: it is not empty, and no comment.
@@ -191,17 +218,26 @@ fn agrees(wanted: &[u8], came: &[u8]) -> bool {
     if !wanted.is_empty() {
         return wanted == came;
     }
-    match came {
-        b" Ok" | b" Done" => true,
-        [_, first, ..] => first.is_ascii_digit(),
-        _ => false,
+    came == b" Ok".as_slice() || came == b" Done".as_slice() || begins_with_digit(came)
+}
+
+// Whether an answer begins with a digit, behind its blank.
+fn begins_with_digit(answer: &[u8]) -> bool {
+    match answer.get(1) {
+        Some(first) => first.is_ascii_digit(),
+        None => false,
     }
 }
 
 /// Checks the script that the standard input has, and prints how many lines agree, or the first that does not with what
 /// was wanted and what came.
 pub fn check_input<S: Stage + Drop>(rt: &HostRuntime) -> ExitCode {
-    match check_script::<S>(rt) {
+    status(rt, check_script::<S>(rt))
+}
+
+// How the program ends.
+fn status(rt: &HostRuntime, ended: Result<bool, Trouble>) -> ExitCode {
+    match ended {
         Ok(true) => ExitCode::SUCCESS,
         Ok(false) => ExitCode::from(1),
         Err(trouble) => {
@@ -213,32 +249,41 @@ pub fn check_input<S: Stage + Drop>(rt: &HostRuntime) -> ExitCode {
 
 // Reads the script and checks it.
 fn check_script<S: Stage + Drop>(rt: &HostRuntime) -> Result<bool, Trouble> {
-    let script = match read_input(rt.alloc(), &mut rt.reader()) {
-        Ok(script) => script,
-        Err(InputFault::NoMemory) => return Err(Trouble::NoMemory),
-        Err(InputFault::Failed) => return Err(Trouble::Bad("read failed")),
-    };
+    let script = read_script(rt)?;
     let mut checker = Checker::<S>::new(rt.alloc(), &script);
-    let ended = checker.check();
-    let line = checker.line;
-    match ended {
-        Ok(true) => {
-            let agree = checker.agree();
-            let written = println!(rt; "{agree} lines agree");
-            Ok(written.is_ok())
-        }
-        Ok(false) => {
-            let _ = print!(rt; "line {line}: wanted");
-            let _ = io::writer(rt).write_all(checker.wanted());
-            let _ = print!(rt; ", came");
-            let _ = io::writer(rt).write_all(checker.came());
-            let _ = println!(rt; "");
-            Ok(false)
-        }
-        Err(Trouble::Bad(cause)) => {
-            let _ = println!(rt; "line {line}: {cause}");
-            Ok(false)
-        }
-        Err(Trouble::NoMemory) => Err(Trouble::NoMemory),
+    match checker.check() {
+        Ok(true) => return Ok(print_agreed(rt, checker.agree())),
+        Ok(false) => print_difference(rt, checker.line, checker.wanted(), checker.came()),
+        Err(Trouble::Bad(cause)) => print_bad(rt, checker.line, cause),
+        Err(Trouble::NoMemory) => return Err(Trouble::NoMemory),
     }
+    Ok(false)
+}
+
+// The whole standard input.
+fn read_script(rt: &HostRuntime) -> Result<Vec<u8>, Trouble> {
+    match read_input(rt.alloc(), &mut rt.reader()) {
+        Ok(script) => Ok(script),
+        Err(InputFault::NoMemory) => Err(Trouble::NoMemory),
+        Err(InputFault::Failed) => Err(Trouble::Bad("read failed")),
+    }
+}
+
+// Prints how many lines agree, and tells whether that could be written.
+fn print_agreed(rt: &HostRuntime, agree: u32) -> bool {
+    println!(rt; "{agree} lines agree").is_ok()
+}
+
+// Prints what was wanted of a line, and what came.
+fn print_difference(rt: &HostRuntime, line: u32, wanted: &[u8], came: &[u8]) {
+    let _ = print!(rt; "line {line}: wanted");
+    let _ = io::writer(rt).write_all(wanted);
+    let _ = print!(rt; ", came");
+    let _ = io::writer(rt).write_all(came);
+    let _ = println!(rt; "");
+}
+
+// Prints why a line is none.
+fn print_bad(rt: &HostRuntime, line: u32, cause: &str) {
+    let _ = println!(rt; "line {line}: {cause}");
 }

@@ -160,24 +160,49 @@ fn check_cut(
         add_word("NoMemory", came)?;
         return Ok(false);
     };
-    let mut answers = Vec::new(alloc);
-    match judge(
+    check_report(
         alloc,
         opened,
         whole,
         cut,
         &report,
         device.writer.taken(),
-        &mut answers,
-    )? {
-        Verdict::Agrees => return Ok(true),
+        came,
+    )
+}
+
+// The same of the report and what the writer took.
+fn check_report(
+    alloc: Global,
+    opened: &Recorded,
+    whole: &Whole,
+    cut: Cut,
+    report: &Report,
+    taken: &[u8],
+    came: &mut Vec<u8>,
+) -> Result<bool, Trouble> {
+    let mut answers = Vec::new(alloc);
+    let verdict = judge(alloc, opened, whole, cut, report, taken, &mut answers)?;
+    add_verdict(verdict, cut, &answers, came)?;
+    Ok(matches!(verdict, Verdict::Agrees))
+}
+
+// Adds what is not as it has to be.
+fn add_verdict(
+    verdict: Verdict,
+    cut: Cut,
+    answers: &[u8],
+    came: &mut Vec<u8>,
+) -> Result<(), Trouble> {
+    match verdict {
+        Verdict::Agrees => Ok(()),
         Verdict::Differs => {
             add_number(i64::try_from(cut.behind).unwrap_or(-1), came)?;
-            came.extend_from_slice(&answers)?;
+            came.extend_from_slice(answers)?;
+            Ok(())
         }
-        Verdict::NoMemory => add_word("NoMemory", came)?,
+        Verdict::NoMemory => add_word("NoMemory", came),
     }
-    Ok(false)
 }
 
 // Whether the two updates answered what they have to, all that the writer took is wanted, and a terminal shows the picture by it. Adds the
@@ -195,20 +220,36 @@ fn judge(
         return Ok(Verdict::NoMemory);
     }
     let ended = ended_at(&whole.update, cut);
-    let mut wanted = Vec::new(alloc);
-    add_wanted(whole, cut, ended, &mut wanted)?;
-    let is_same = answers.as_slice() == wanted.as_slice();
+    let is_same = is_wanted(alloc, whole, cut, ended, answers)?;
     if !is_same || !report.last_ok || !is_taken(taken, whole, ended.end) {
         return Ok(Verdict::Differs);
     }
+    Ok(judge_shown(alloc, opened, taken))
+}
+
+// Whether the two updates answered what they have to.
+fn is_wanted(
+    alloc: Global,
+    whole: &Whole,
+    cut: Cut,
+    ended: Ended,
+    answers: &[u8],
+) -> Result<bool, Trouble> {
+    let mut wanted = Vec::new(alloc);
+    add_wanted(whole, cut, ended, &mut wanted)?;
+    Ok(answers == wanted.as_slice())
+}
+
+// Whether a terminal shows the picture by what the writer took.
+fn judge_shown(alloc: Global, opened: &Recorded, taken: &[u8]) -> Verdict {
     let Ok(mut emulated) = EcmaScreen::new(alloc, opened.profile.size()) else {
-        return Ok(Verdict::NoMemory);
+        return Verdict::NoMemory;
     };
     let is_fed = emulated.feed(taken).is_ok();
     if is_fed && shows(&emulated, &opened.profile, opened.screen.picture()) {
-        Ok(Verdict::Agrees)
+        Verdict::Agrees
     } else {
-        Ok(Verdict::Differs)
+        Verdict::Differs
     }
 }
 

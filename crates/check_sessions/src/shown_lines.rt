@@ -121,15 +121,28 @@ pub fn check_changed(
     let size = read_size(words)?;
     let (rows, columns) = (words.number()?, words.number()?);
     let (row, column) = (words.number()?, words.number()?);
+    let area = [rows, columns, row, column];
     let (Ok(mut desk), Ok(mut screen)) = (Desk::new(alloc, size), Virtual::new(alloc, size)) else {
         return add_word("NoMemory", came);
     };
-    take(&mut screen, &mut desk, Win(0))?;
+    add_changed_by(alloc, &mut desk, &mut screen, area, came)
+}
+
+// Takes the first window, settles, takes a new window of so many rows and columns at a row and a column, and adds what may have
+// changed since.
+fn add_changed_by(
+    alloc: Global,
+    desk: &mut Desk,
+    screen: &mut Virtual,
+    [rows, columns, row, column]: [u32; 4],
+    came: &mut Vec<u8>,
+) -> Result<(), Trouble> {
+    take(screen, desk, Win(0))?;
     screen.settle();
     match desk.new_window(alloc, rows, columns, row, column) {
         Ok(win) => {
-            take(&mut screen, &mut desk, win)?;
-            add_changed(&screen, came)
+            take(screen, desk, win)?;
+            add_changed(screen, came)
         }
         Err(WinFault::NoMemory) => add_word("NoMemory", came),
         Err(_) => Err(Trouble::Bad("no such window")),

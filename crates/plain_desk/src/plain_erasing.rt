@@ -5,6 +5,7 @@ use crate::calls::Call;
 use crate::formulas::Formula;
 use crate::names::Erasing;
 use crate::plain::Plain;
+use scr_cells::Cell;
 use scr_windows::WinFault;
 
 impl Plain {
@@ -12,44 +13,73 @@ impl Plain {
     pub fn erase_places(&mut self, call: &Call, name: Erasing) -> Result<(), WinFault> {
         let number = u64::from(call.number(0));
         let n = call.signed();
+        match name {
+            Erasing::ClearToEol => self.clear_to_eol(number),
+            Erasing::ClearToBottom => self.clear_to_bottom(number),
+            Erasing::Erase => self.erase(number),
+            Erasing::Clear => self.clear(number),
+            Erasing::InsertDeleteLines => self.insert_delete_lines(number, n),
+            Erasing::Scroll => self.scroll(number, n),
+            Erasing::ChangeBackground => self.change_background(number, call.cell()),
+        }
+    }
+
+    fn clear_to_eol(&mut self, number: u64) -> Result<(), WinFault> {
         let window = self.window(number)?;
         let (row, column) = window.cursor;
-        let (rows, columns) = (window.rows, window.columns);
-        let (old, new) = (window.background, call.cell());
-        let (region, scroll_ok) = (window.region, window.scroll_ok);
-        match name {
-            Erasing::ClearToEol => {
-                let run = Formula::Run(row, column, columns, old);
-                self.write(number, row, row.saturating_add(1), &run)
-            }
-            Erasing::ClearToBottom => {
-                self.write(number, row, rows, &Formula::Below(row, column, old))
-            }
-            Erasing::Erase => self.erase(number),
-            Erasing::Clear => {
-                self.erase(number)?;
-                self.window_mut(number)?.clear_ok = true;
-                Ok(())
-            }
-            Erasing::InsertDeleteLines => self.move_lines(number, (row, rows), n > 0, n),
-            Erasing::Scroll if !scroll_ok => Err(WinFault::NoScroll),
-            Erasing::Scroll => {
-                let lines = (region.0, region.1.saturating_add(1));
-                self.move_lines(number, lines, n < 0, n)
-            }
-            Erasing::ChangeBackground => {
-                self.write(number, 0, rows, &Formula::Exchanged(old, new))?;
-                self.window_mut(number)?.background = new;
-                Ok(())
-            }
-        }
+        let run = Formula::Run(row, column, window.columns, window.background);
+        self.write(number, row, row.saturating_add(1), &run)
+    }
+
+    fn clear_to_bottom(&mut self, number: u64) -> Result<(), WinFault> {
+        let window = self.window(number)?;
+        let ((row, column), rows) = (window.cursor, window.rows);
+        let below = Formula::Below(row, column, window.background);
+        self.write(number, row, rows, &below)
     }
 
     fn erase(&mut self, number: u64) -> Result<(), WinFault> {
         let window = self.window(number)?;
         let (rows, background) = (window.rows, window.background);
         self.write(number, 0, rows, &Formula::Rows(0, rows, background))?;
-        self.window_mut(number)?.cursor = (0, 0);
+        self.home(number)
+    }
+
+    // The cursor goes to the first place.
+    fn home(&mut self, number: u64) -> Result<(), WinFault> {
+        let window = self.window_mut(number)?;
+        window.cursor = (0, 0);
+        Ok(())
+    }
+
+    fn clear(&mut self, number: u64) -> Result<(), WinFault> {
+        self.erase(number)?;
+        let window = self.window_mut(number)?;
+        window.clear_ok = true;
+        Ok(())
+    }
+
+    fn insert_delete_lines(&mut self, number: u64, n: i32) -> Result<(), WinFault> {
+        let window = self.window(number)?;
+        let lines = (window.cursor.0, window.rows);
+        self.move_lines(number, lines, n > 0, n)
+    }
+
+    fn scroll(&mut self, number: u64, n: i32) -> Result<(), WinFault> {
+        let window = self.window(number)?;
+        if !window.scroll_ok {
+            return Err(WinFault::NoScroll);
+        }
+        let lines = (window.region.0, window.region.1.saturating_add(1));
+        self.move_lines(number, lines, n < 0, n)
+    }
+
+    fn change_background(&mut self, number: u64, new: Cell) -> Result<(), WinFault> {
+        let window = self.window(number)?;
+        let (rows, old) = (window.rows, window.background);
+        self.write(number, 0, rows, &Formula::Exchanged(old, new))?;
+        let window = self.window_mut(number)?;
+        window.background = new;
         Ok(())
     }
 
