@@ -1,13 +1,14 @@
--- Calls that write in a window and then set something in it.
-use Rattle.std.proofs.Common.{◌≡◌, ℕ, ◌∙◌, sym, ap, Result, Ok}
+-- Calls that set something in a window, and those that write in it before.
+use Rattle.std.proofs.Common.{◌≡◌, ℕ, ◌∙◌, sym, ap, Result, Ok, Err, Bool, true, cond}
 use Rattle.scr_cells.specs.CellViews.{CellView}
+use Rattle.scr_surfaces.specs.declared.areas.Area.{Area}
 use Rattle.scr_windows.specs.declared.frames.WindowState.{WindowState}
 use Rattle.scr_windows.specs.declared.frames.Pen.{Pen}
 use Rattle.scr_windows.specs.declared.faults.WinFault.{WinFault}
 use Rattle.scr_windows.specs.DeskViews.{DeskView, window_at}
 use Rattle.scr_windows.specs.Code.Pens.{IsPen}
 use Rattle.scr_windows.specs.Changes.{on_window, index_of, with_window, write}
-use Rattle.scr_windows.specs.Calls.Settings.{with_state}
+use Rattle.scr_windows.specs.Calls.Settings.{setting, with_state}
 
 -- a call on a window that is there
 pub on_index : {A : Type 0} (d : DeskView) (win i : ℕ) (f : ℕ → DeskView × Result A WinFault) → index_of d win ≡ Ok i → f i ≡ on_window d (index_of d win) f
@@ -23,3 +24,25 @@ rewritten d put new win pen f g h put_is new_is =
     = new_is ∙ ap (λ v. with_state v i (g pen.state)) put_is ∙ (λ j. with_state (write d i 0 (h.area_is j).rows (f (h.state_is j) (h.area_is j).rows)) i (g (h.state_is j))) in
     let one : ◌≡◌ {A = DeskView × Result (Unit {0}) WinFault} (new, Ok tt) (with_state (write d i 0 (window_at d i).frame.area.rows (f (window_at d i).state (window_at d i).frame.area.rows)) i (g (window_at d i).state), Ok tt) = (λ j. (here j, Ok tt)) in
     one ∙ on_index {A = Unit {0}} d win i (λ i. (with_state (write d i 0 (window_at d i).frame.area.rows (f (window_at d i).state (window_at d i).frame.area.rows)) i (g (window_at d i).state), Ok tt)) h.index_is
+
+-- another state is set
+pub set_in : (d new : DeskView) (win : ℕ) (pen : Pen) (state : WindowState) (g : WindowState → WindowState) → IsPen d win pen → new ≡ with_window d pen.index (record (window_at d pen.index) { state = state })
+    → state ≡ g pen.state → ◌≡◌ {A = DeskView × Result (Unit {0}) WinFault} (new, Ok tt) (setting d win g)
+set_in d new win pen state g h new_is state_is =
+    let i : ℕ = pen.index in
+    let here : new ≡ with_state d i (g (window_at d i).state) = new_is ∙ ap (λ s. with_state d i s) (state_is ∙ ap g h.state_is) in
+    let one : ◌≡◌ {A = DeskView × Result (Unit {0}) WinFault} (new, Ok tt) (with_state d i (g (window_at d i).state), Ok tt) = (λ j. (here j, Ok tt)) in
+    one ∙ on_index {A = Unit {0}} d win i (λ i. (with_state d i (g (window_at d i).state), Ok tt)) h.index_is
+
+-- the same where a test of the window's area has to hold
+pub set_where : (d new : DeskView) (win : ℕ) (pen : Pen) (state : WindowState) (test : Area → Bool) (g : WindowState → WindowState) (fault : WinFault) → IsPen d win pen → test pen.area ≡ true
+    → new ≡ with_window d pen.index (record (window_at d pen.index) { state = state }) → state ≡ g pen.state
+    → ◌≡◌ {A = DeskView × Result (Unit {0}) WinFault} (new, Ok tt) (on_window d (index_of d win) (λ i. cond (test (window_at d i).frame.area) (with_state d i (g (window_at d i).state), Ok tt) (d, Err fault)))
+set_where d new win pen state test g fault h holds new_is state_is =
+    let i : ℕ = pen.index in
+    let Answer : Type 0 = DeskView × Result (Unit {0}) WinFault in
+    let here : new ≡ with_state d i (g (window_at d i).state) = new_is ∙ ap (λ s. with_state d i s) (state_is ∙ ap g h.state_is) in
+    let one : ◌≡◌ {A = Answer} (new, Ok tt) (with_state d i (g (window_at d i).state), Ok tt) = (λ j. (here j, Ok tt)) in
+    let two : ◌≡◌ {A = Answer} (with_state d i (g (window_at d i).state), Ok tt) (cond (test (window_at d i).frame.area) (with_state d i (g (window_at d i).state), Ok tt) (d, Err fault))
+    = ap (λ t. cond t (with_state d i (g (window_at d i).state), Ok tt) (d, Err fault)) (sym holds ∙ ap test h.area_is) in
+    one ∙ two ∙ on_index {A = Unit {0}} d win i (λ i. cond (test (window_at d i).frame.area) (with_state d i (g (window_at d i).state), Ok tt) (d, Err fault)) h.index_is

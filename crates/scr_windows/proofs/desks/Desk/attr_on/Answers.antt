@@ -1,0 +1,10 @@
+use Rattle.std.specs.Prelude.{bit_or}
+use Rattle.scr_windows.specs.Calls.Settings.{attr_on_call}
+use Rattle.scr_windows.proofs.WrittenLaws.{set_in}
+use Rattle.scr_windows.proofs.desks.Desk.attr_on.Goals as goal
+
+pub returns : goal.returns
+unfolding attr_on_call
+returns c =
+    let pen = c.in_ok-pen.pen in
+    set_in c.args.self.now _ c.args.win.0 pen _ (λ s. record s { attrs = record { 0 = bit_or s.attrs.0 c.args.attrs.0 } }) c.in_ok-pen.ensures c.set_state.ensures (λ j. record pen.state { attrs = record { 0 = c.union-pen.ensures tt j } })

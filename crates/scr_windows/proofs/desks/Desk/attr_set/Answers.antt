@@ -1,0 +1,8 @@
+use Rattle.std.proofs.Common.{refl}
+use Rattle.scr_windows.specs.Calls.Settings.{attr_set_call}
+use Rattle.scr_windows.proofs.WrittenLaws.{set_in}
+use Rattle.scr_windows.proofs.desks.Desk.attr_set.Goals as goal
+
+pub returns : goal.returns
+unfolding attr_set_call
+returns c = set_in c.args.self.now _ c.args.win.0 c.in_ok-pen.pen _ (λ s. record s { attrs = c.args.attrs }) c.in_ok-pen.ensures c.set_state.ensures refl
