@@ -46,3 +46,15 @@ set_where d new win pen state test g fault h holds new_is state_is =
     let two : ◌≡◌ {A = Answer} (with_state d i (g (window_at d i).state), Ok tt) (cond (test (window_at d i).frame.area) (with_state d i (g (window_at d i).state), Ok tt) (d, Err fault))
     = ap (λ t. cond t (with_state d i (g (window_at d i).state), Ok tt) (d, Err fault)) (sym holds ∙ ap test h.area_is) in
     one ∙ two ∙ on_index {A = Unit {0}} d win i (λ i. cond (test (window_at d i).frame.area) (with_state d i (g (window_at d i).state), Ok tt) (d, Err fault)) h.index_is
+
+-- a change of a window that is there, and an answer about its state, where a test of its area has to hold
+pub changed_where : {A : Type 0} (d new : DeskView) (win : ℕ) (pen : Pen) (test : Area → Bool) (f : ℕ → WindowState → DeskView) (answer : WindowState → A) (fault : WinFault) → IsPen d win pen → test pen.area ≡ true
+    → new ≡ f pen.index pen.state
+    → ◌≡◌ {A = DeskView × Result A WinFault} (new, Ok (answer pen.state)) (on_window d (index_of d win) (λ i. cond (test (window_at d i).frame.area) (f i (window_at d i).state, Ok (answer (window_at d i).state)) (d, Err fault)))
+changed_where {A} d new win pen test f answer fault h holds new_is =
+    let i : ℕ = pen.index in
+    let Answer : Type 0 = DeskView × Result A WinFault in
+    let one : ◌≡◌ {A = Answer} (new, Ok (answer pen.state)) (f i (window_at d i).state, Ok (answer (window_at d i).state)) = (λ j. ((new_is ∙ ap (f i) h.state_is) j, Ok (answer (h.state_is j)))) in
+    let two : ◌≡◌ {A = Answer} (f i (window_at d i).state, Ok (answer (window_at d i).state)) (cond (test (window_at d i).frame.area) (f i (window_at d i).state, Ok (answer (window_at d i).state)) (d, Err fault))
+    = ap (λ t. cond t (f i (window_at d i).state, Ok (answer (window_at d i).state)) (d, Err fault)) (sym holds ∙ ap test h.area_is) in
+    one ∙ two ∙ on_index {A = A} d win i (λ i. cond (test (window_at d i).frame.area) (f i (window_at d i).state, Ok (answer (window_at d i).state)) (d, Err fault)) h.index_is

@@ -1,0 +1,18 @@
+use Rattle.std.proofs.Common.{◌≡◌, ◌+◌, ◌∙◌, ap, true, arith}
+use Rattle.std.specs.Prelude.{leb, false}
+use Rattle.std.proofs.lemmas.Bool.Decides.{nat_tests}
+use Rattle.scr_windows.specs.declared.faults.WinFault.TheVariants.{OutOfWindow}
+use Rattle.scr_windows.specs.DeskViews.{window_at}
+use Rattle.scr_windows.specs.Changes.{with_window, marked}
+use Rattle.scr_windows.specs.Calls.Settings.{with_state}
+use Rattle.scr_windows.specs.Calls.Touching.{take_lines_call}
+use Rattle.scr_windows.proofs.WrittenLaws.{changed_where}
+use Rattle.scr_windows.proofs.desks.Desk.take_lines.Goals as goal
+
+pub returns : goal.returns
+unfolding take_lines_call
+returns c =
+    let pen = c.in_ok-pen.pen in
+    let inside : leb (c.args.first + c.args.n) pen.area.rows ≡ true = grind (arith, nat_tests) in
+    changed_where c.args.self.now _ c.args.win.0 pen (λ area. leb (c.args.first + c.args.n) area.rows) (λ i s. with_state (with_window c.args.self.now i (marked c.args.first (c.args.first + c.args.n) false (window_at c.args.self.now i))) i (record s { clear_ok = false })) (λ s. s.clear_ok) OutOfWindow c.in_ok-pen.ensures inside
+    (c.set_state.ensures ∙ ap (λ v. with_state v pen.index (record pen.state { clear_ok = false })) c.mark.ensures)
