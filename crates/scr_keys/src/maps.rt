@@ -14,8 +14,24 @@ pub(crate) fn position_of(map: &IndexMap<Vec<u8>, u16>, text: &[u8]) -> Option<u
     map.get(text).copied()
 }
 
+// Gives a position to a text that has none, and to each of its beginnings that has none.
+pub(crate) fn add_with_beginnings(
+    alloc: Global,
+    texts: &mut IndexMap<Vec<u8>, u16>,
+    beginnings: &mut IndexMap<Vec<u8>, u16>,
+    text: &[u8],
+    slot: u16,
+) -> Result<(), NoMemory>
+    requires { key_of (seen (λ k. k.items) texts.old.entries) text.now ≡ None }
+    ensures texts { OnOk result (seen (λ k. k.items) texts.new.entries ≡ seen (λ k. k.items) texts.old.entries ++ (text.now, slot) ∷ []) }
+    ensures beginnings { OnOk result ((bytes : List ℕ) → is_some (key_of (seen (λ k. k.items) beginnings.new.entries) bytes) ≡ (is_some (key_of (seen (λ k. k.items) beginnings.old.entries) bytes) || is_beginning bytes text.now)) }
+{
+    put_beginnings(alloc, beginnings, text, slot)?;
+    add(alloc, texts, text, slot)
+}
+
 // Gives a position to a text that has none.
-pub(crate) fn add(
+fn add(
     alloc: Global,
     map: &mut IndexMap<Vec<u8>, u16>,
     text: &[u8],
@@ -29,7 +45,7 @@ pub(crate) fn add(
 }
 
 // Gives a position to a text, unless it has one.
-pub(crate) fn put(
+fn put(
     alloc: Global,
     map: &mut IndexMap<Vec<u8>, u16>,
     text: &[u8],
@@ -44,7 +60,7 @@ pub(crate) fn put(
 }
 
 // Gives a position to each beginning of a text that has none.
-pub(crate) fn put_beginnings(
+fn put_beginnings(
     alloc: Global,
     map: &mut IndexMap<Vec<u8>, u16>,
     text: &[u8],

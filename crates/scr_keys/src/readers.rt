@@ -7,6 +7,7 @@ ghost use Rattle.scr_keys.specs.Readers.{byte_read, idle_read, key_taken};
 use crate::faults::KeyFault;
 use crate::keys::Key;
 use crate::tables::KeyTable;
+use out_of_memory::NoMemory;
 use std::alloc::Global;
 use std::marker::Model;
 
@@ -40,8 +41,7 @@ impl KeyReader {
         ensures ok { IfOk result (λ reader. reader ≡ record { keys = table; queue = []; waiting = [] }) }
         ensures err { IfErr result (λ fault. fault ≡ KeyFault.NoMemory) }
     {
-        let queue = Vec::with_capacity(alloc, 16 + table.longest())?;
-        let waiting = Vec::with_capacity(alloc, 64)?;
+        let (queue, waiting) = rooms(alloc, 16 + table.longest())?;
         Ok(KeyReader {
             table,
             queue,
@@ -96,6 +96,17 @@ impl KeyReader {
         }
         Some(self.queue.remove(0))
     }
+}
+
+// Room for so many keys, and for 64 bytes that wait, as many as the longest text of a key has.
+fn rooms(alloc: Global, keys: usize) -> Result<(Vec<Key>, Vec<u8>), NoMemory>
+    ensures empty { IfOk result (λ both. (both.0.items ≡ []) × (both.1.items ≡ [])) }
+    ensures keys { IfOk result (λ both. keys ≤ vec_capacity both.0) }
+    ensures bytes { IfOk result (λ both. 64 ≤ vec_capacity both.1) }
+{
+    let queue = Vec::with_capacity(alloc, keys)?;
+    let waiting = Vec::with_capacity(alloc, 64)?;
+    Ok((queue, waiting))
 }
 
 // Adds the keys of bytes to those that wait, up to where the rest could become a key where more may follow, and answers how many

@@ -7,7 +7,7 @@ ghost use Rattle.scr_keys.specs.Keys.{first_of, goes_on, key_of, longest, longes
 use crate::faults::KeyFault;
 use crate::firsts::{add_text, no_texts};
 use crate::keys::Key;
-use crate::maps::{add, position_of, put_beginnings};
+use crate::maps::{add_with_beginnings, position_of};
 use indexmap::IndexMap;
 use out_of_memory::NoMemory;
 use std::alloc::Global;
@@ -85,8 +85,7 @@ impl KeyTable {
             longest,
             mut firsts,
         } = self;
-        put_beginnings(alloc, &mut beginnings, text, slot)?;
-        add(alloc, &mut texts, text, slot)?;
+        add_with_beginnings(alloc, &mut texts, &mut beginnings, text, slot)?;
         add_text(&mut firsts, text);
         Ok(KeyTable {
             texts,
