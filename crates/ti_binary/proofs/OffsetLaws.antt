@@ -1,9 +1,9 @@
--- Where the texts of a string table begin.
-use Rattle.std.proofs.Common.{◌≡◌, ℕ, ◌+◌, ◌<◌, ◌≤◌, refl, ◌∙◌, ap, arith, zero, suc, List, [], ◌∷◌, ◌++◌, length, length-append, take, get_or, Option, None}
-use Rattle.std.proofs.lemmas.List.{take_more, append-nil, length-take, get_or-take}
+-- Where the texts of a string table begin, and one more number or text.
+use Rattle.std.proofs.Common.{◌≡◌, ℕ, ◌+◌, ◌<◌, ◌≤◌, refl, ◌∙◌, ap, arith, zero, suc, map, List, [], ◌∷◌, ◌++◌, length, length-append, take, get_or, Option, None}
+use Rattle.std.proofs.lemmas.List.{take_more, map-append, append-nil, length-take, get_or-take}
 use Rattle.std.proofs.lemmas.List.Folds.{length-flat_map-take}
 use Rattle.std.proofs.lemmas.List.Concat.{flat_map-append}
-use Rattle.ti_binary.specs.Canonical.{ended, offset_of, offsets_from, table_of, word, words}
+use Rattle.ti_binary.specs.Canonical.{ended, number_word, offset_of, offsets_from, table_of, word, words}
 
 take-shorter : {A : Type 0} (i n : ℕ) (xs : List A) → i ≤ n → take i (take n xs) ≡ take i xs
 take-shorter zero n xs le = refl
@@ -32,6 +32,14 @@ pub table_more : (texts : List (Option (List ℕ))) (i : ℕ) → i < length tex
 table_more texts i lt =
     ap table_of (take_more texts i None lt) ∙ flat_map-append ended (take i texts) (get_or texts i None ∷ [])
     ∙ ap (λ t. table_of (take i texts) ++ t) (append-nil (ended (get_or texts i None)))
+
+pub numbers_more : (numbers : List (Option ℕ)) (i : ℕ) → i < length numbers
+    → words (map number_word (take (i + 1) numbers)) ≡ words (map number_word (take i numbers)) ++ word (number_word (get_or numbers i None))
+numbers_more numbers i lt =
+    ap (λ ns. words (map number_word ns)) (take_more numbers i None lt)
+    ∙ ap words (map-append number_word (take i numbers) (get_or numbers i None ∷ []))
+    ∙ flat_map-append word (map number_word (take i numbers)) (number_word (get_or numbers i None) ∷ [])
+    ∙ ap (λ w. words (map number_word (take i numbers)) ++ w) (append-nil (word (number_word (get_or numbers i None))))
 
 -- in a table that is small, what stands before a text and the text with its NUL are small together
 pub text_fits : (texts : List (Option (List ℕ))) (count i : ℕ) → i < count → count ≤ length texts → length (table_of (take count texts)) ≤ 4096

@@ -6,7 +6,7 @@ ghost use Rattle.ti_binary.specs.Files.{Reads, has_bad_names, is_nul, is_outside
 
 use crate::faults::BinFault;
 use crate::filler::{set_flags, set_numbers, set_texts, want_of_memory};
-use crate::parts::{check_header, cut, word};
+use crate::parts::{check_header, check_room, cut, word};
 use crate::texts::{before_nul, has_nul, rest_from};
 use std::alloc::Global;
 use ti_caps::{Entry, MOST_NUMBER, are_names};
@@ -23,7 +23,8 @@ pub fn decode(alloc: Global, bytes: &[u8]) -> Result<(Entry, usize), BinFault>
     ensures ok { IfOk result (λ read. Reads bytes.now read.0 read.1) }
 {
     check_header(bytes)?;
-    let parts = cut(bytes)?;
+    check_room(bytes)?;
+    let parts = cut(bytes);
     let names = names_in(parts.names)?;
     if any_outside(parts.table, parts.offsets, parts.offset_count) {
         return Err(BinFault::BadOffset);

@@ -1,7 +1,7 @@
 //! Writing an entry in its one form. The definition is in `specs/Canonical.antt`.
-ghost use Rattle.std.specs.Prelude.{◌≡◌, ◌≤◌, ◌<◌, ◌+◌, ◌↔◌, ◌++◌, length, nat_lt, IfOk, OnOk, IsErrOf, IsOkUnless};
+ghost use Rattle.std.specs.Prelude.{◌≡◌, ◌≤◌, ◌<◌, ◌+◌, ◌↔◌, ◌∷◌, ◌++◌, length, map, nat_lt, IfOk, OnOk, IsErrOf, IsOkUnless};
 ghost use Rattle.ti_caps.specs.Description.{IsDescription};
-ghost use Rattle.ti_binary.specs.Canonical.{canonical, words};
+ghost use Rattle.ti_binary.specs.Canonical.{canonical, flag_byte, header_of, kept_flags, padding, words};
 ghost use Rattle.ti_binary.specs.Shapes.{IsShape};
 
 use crate::sections::{put_flags, put_numbers, put_offsets, put_texts, put_word};
@@ -93,7 +93,36 @@ fn file(alloc: Global, entry: &Entry, shape: &Shape) -> Result<Vec<u8>, AllocErr
     requires small { length (canonical entry.now) ≤ 4096 }
     ensures { IfOk result (λ out. out.items ≡ canonical entry.now) }
 {
+    let mut out = front(alloc, entry, shape)?;
+    put_numbers(entry, shape.numbers, &mut out)?;
+    put_offsets(entry, shape.texts, &mut out)?;
+    put_texts(entry, shape.texts, &mut out)?;
+    Ok(out)
+}
+
+// What stands before the numbers: header, names and NUL, flags, and the odd byte.
+fn front(alloc: Global, entry: &Entry, shape: &Shape) -> Result<Vec<u8>, AllocError>
+    requires described { IsDescription entry.now }
+    requires shape { IsShape entry.now shape.now }
+    requires small { length (canonical entry.now) ≤ 4096 }
+    ensures { IfOk result (λ out. out.items ≡ words (header_of entry.now) ++ entry.now.names ++ 0 ∷ map flag_byte (kept_flags entry.now) ++ padding (length entry.now.names + 1 + length (kept_flags entry.now))) }
+{
     let mut out = Vec::with_capacity(alloc, usize::from(shape.file_size()))?;
+    put_header(entry, shape, &mut out)?;
+    out.extend_from_slice(entry.names())?;
+    out.push(0)?;
+    put_flags(entry, shape.flags, &mut out)?;
+    put_odd_byte(shape, &mut out)?;
+    Ok(out)
+}
+
+// Appends the header.
+fn put_header(entry: &Entry, shape: &Shape, out: &mut Vec<u8>) -> Result<(), AllocError>
+    requires described { IsDescription entry.now }
+    requires shape { IsShape entry.now shape.now }
+    requires small { length (canonical entry.now) ≤ 4096 }
+    ensures { OnOk result (out.new.items ≡ out.old.items ++ words (header_of entry.now)) }
+{
     let header = [
         MAGIC,
         shape.names,
@@ -102,17 +131,7 @@ fn file(alloc: Global, entry: &Entry, shape: &Shape) -> Result<Vec<u8>, AllocErr
         shape.texts,
         shape.table,
     ];
-    put_words(&header, &mut out)?;
-    out.extend_from_slice(entry.names())?;
-    out.push(0)?;
-    put_flags(entry, shape.flags, &mut out)?;
-    if shape.is_odd() {
-        out.push(0)?;
-    }
-    put_numbers(entry, shape.numbers, &mut out)?;
-    put_offsets(entry, shape.texts, &mut out)?;
-    put_texts(entry, shape.texts, &mut out)?;
-    Ok(out)
+    put_words(&header, out)
 }
 
 // Appends numbers, one after another.
@@ -121,6 +140,18 @@ fn put_words(numbers: &[u16], out: &mut Vec<u8>) -> Result<(), AllocError>
 {
     for n in numbers {
         put_word(*n, out)?;
+    }
+    Ok(())
+}
+
+// Appends a byte where names and flags have an odd length together.
+fn put_odd_byte(shape: &Shape, out: &mut Vec<u8>) -> Result<(), AllocError>
+    requires names { shape.now.names ≤ 128 }
+    requires flags { shape.now.flags ≤ 64 }
+    ensures { OnOk result (out.new.items ≡ out.old.items ++ padding (shape.now.names + shape.now.flags)) }
+{
+    if shape.is_odd() {
+        out.push(0)?;
     }
     Ok(())
 }

@@ -1,5 +1,5 @@
 //! The header of a compiled file, and where its sections begin and end.
-ghost use Rattle.std.specs.Prelude.{◌≡◌, ◌≤◌, ◌+◌, ◌*◌, length, drop, IfOk, IfErr, IsErrOf, OnOk, None, Some};
+ghost use Rattle.std.specs.Prelude.{◌≡◌, ◌≤◌, ◌+◌, ◌*◌, length, drop, IfErr, IsErrOf, OnOk, None, Some};
 ghost use Rattle.ti_binary.specs.Files.{end_place, flags_of, flags_place, header_refusal, names_of, numbers_of, numbers_place, offsets_of, offsets_place, part, room_refusal, table_of, table_place, word_at};
 ghost use Rattle.ti_binary.specs.Shapes.{HasRoom};
 
@@ -69,24 +69,15 @@ pub(crate) struct Parts<'a> {
     pub(crate) rest: usize,
 }
 
-/// The sections by the numbers of the header; `BadCount` where one of those is negative or past its
-/// limit, `Truncated` where the bytes end before the sections do.
-pub(crate) fn cut(bytes: &[u8]) -> Result<Parts<'_>, BinFault>
+/// Refuses a header with a number that is negative or past its limit (`BadCount`), and bytes that end before
+/// the sections do (`Truncated`).
+pub(crate) fn check_room(bytes: &[u8]) -> Result<(), BinFault>
     requires room { 12 ≤ length bytes.now }
     requires short { length bytes.now ≤ 32768 }
     ensures refused { IfErr result (λ fault. room_refusal bytes.now ≡ Some fault) }
     ensures plain { IsErrOf result BinFault.NoMemory → ⊥ }
     ensures good { OnOk result (room_refusal bytes.now ≡ None) }
     ensures fits { OnOk result (HasRoom bytes.now) }
-    ensures names { IfOk result (λ parts. parts.names.now ≡ part bytes.now 12 (names_of bytes.now)) }
-    ensures flags { IfOk result (λ parts. parts.flags.now ≡ part bytes.now (flags_place bytes.now) (flags_of bytes.now)) }
-    ensures numbers { IfOk result (λ parts. parts.numbers.now ≡ part bytes.now (numbers_place bytes.now) (2 * numbers_of bytes.now)) }
-    ensures offsets { IfOk result (λ parts. parts.offsets.now ≡ part bytes.now (offsets_place bytes.now) (2 * offsets_of bytes.now)) }
-    ensures number_count { IfOk result (λ parts. (parts.number_count ≡ numbers_of bytes.now) × (length parts.numbers.now ≡ 2 * parts.number_count) × (parts.number_count ≤ 64)) }
-    ensures offset_count { IfOk result (λ parts. (parts.offset_count ≡ offsets_of bytes.now) × (length parts.offsets.now ≡ 2 * parts.offset_count) × (parts.offset_count ≤ 512)) }
-    ensures flag_count { IfOk result (λ parts. length parts.flags.now ≤ 64) }
-    ensures table { IfOk result (λ parts. parts.table.now ≡ part bytes.now (table_place bytes.now) (table_of bytes.now)) }
-    ensures rest { IfOk result (λ parts. parts.rest ≡ length (drop (end_place bytes.now) bytes.now)) }
 {
     let (names, flags) = (word(bytes, 2), word(bytes, 4));
     let (numbers, offsets, table) = (word(bytes, 6), word(bytes, 8), word(bytes, 10));
@@ -97,15 +88,36 @@ pub(crate) fn cut(bytes: &[u8]) -> Result<Parts<'_>, BinFault>
         return Err(BinFault::BadCount);
     }
     let (names, flags, table) = (usize::from(names), usize::from(flags), usize::from(table));
+    let front = 12 + names + flags + (names + flags) % 2;
+    if bytes.len() < front + 2 * usize::from(numbers) + 2 * usize::from(offsets) + table {
+        return Err(BinFault::Truncated);
+    }
+    Ok(())
+}
+
+/// The sections by the numbers of the header.
+pub(crate) fn cut(bytes: &[u8]) -> Parts<'_>
+    requires room { 12 ≤ length bytes.now }
+    requires short { length bytes.now ≤ 32768 }
+    requires fits { HasRoom bytes.now }
+    ensures names { result.names.now ≡ part bytes.now 12 (names_of bytes.now) }
+    ensures flags { result.flags.now ≡ part bytes.now (flags_place bytes.now) (flags_of bytes.now) }
+    ensures numbers { result.numbers.now ≡ part bytes.now (numbers_place bytes.now) (2 * numbers_of bytes.now) }
+    ensures offsets { result.offsets.now ≡ part bytes.now (offsets_place bytes.now) (2 * offsets_of bytes.now) }
+    ensures number_count { (result.number_count ≡ numbers_of bytes.now) × (length result.numbers.now ≡ 2 * result.number_count) × (result.number_count ≤ 64) }
+    ensures offset_count { (result.offset_count ≡ offsets_of bytes.now) × (length result.offsets.now ≡ 2 * result.offset_count) × (result.offset_count ≤ 512) }
+    ensures flag_count { length result.flags.now ≤ 64 }
+    ensures table { result.table.now ≡ part bytes.now (table_place bytes.now) (table_of bytes.now) }
+    ensures rest { result.rest ≡ length (drop (end_place bytes.now) bytes.now) }
+{
+    let (names, flags) = (usize::from(word(bytes, 2)), usize::from(word(bytes, 4)));
+    let (numbers, offsets, table) = (word(bytes, 6), word(bytes, 8), word(bytes, 10));
     let flags_place = 12 + names;
     let numbers_place = flags_place + flags + (names + flags) % 2;
     let offsets_place = numbers_place + 2 * usize::from(numbers);
     let table_place = offsets_place + 2 * usize::from(offsets);
-    let end = table_place + table;
-    if bytes.len() < end {
-        return Err(BinFault::Truncated);
-    }
-    Ok(Parts {
+    let end = table_place + usize::from(table);
+    Parts {
         names: &bytes[12..flags_place],
         flags: &bytes[flags_place..flags_place + flags],
         number_count: numbers,
@@ -114,5 +126,5 @@ pub(crate) fn cut(bytes: &[u8]) -> Result<Parts<'_>, BinFault>
         offsets: &bytes[offsets_place..table_place],
         table: &bytes[table_place..end],
         rest: bytes.len() - end,
-    })
+    }
 }

@@ -1,6 +1,6 @@
 //! Writing the sections of a file: flags, numbers, offsets and texts.
 ghost use Rattle.std.specs.Prelude.{◌≡◌, ◌≤◌, ◌++◌, length, take, map, option_map, OnOk};
-ghost use Rattle.ti_caps.specs.Description.{IsDescription};
+ghost use Rattle.ti_caps.specs.Description.{IsDescription, number_at, text_at};
 ghost use Rattle.ti_binary.specs.Canonical.{ended, flag_byte, number_word, offset_of, offsets_from, table_of, word, words};
 
 use byteorder::{ByteOrder, LittleEndian};
@@ -40,7 +40,7 @@ pub(crate) fn put_numbers(entry: &Entry, count: u16, out: &mut Vec<u8>) -> Resul
     ensures { OnOk result (out.new.items ≡ out.old.items ++ words (map number_word (take count entry.now.numbers))) }
 {
     for slot in 0..count {
-        put_word(entry.number(Slot(slot)).unwrap_or(ABSENT), out)?;
+        put_number(entry, slot, out)?;
     }
     Ok(())
 }
@@ -68,10 +68,25 @@ pub(crate) fn put_texts(entry: &Entry, count: u16, out: &mut Vec<u8>) -> Result<
     ensures { OnOk result (out.new.items ≡ out.old.items ++ table_of (take count entry.now.texts)) }
 {
     for slot in 0..count {
-        if let Some(text) = entry.text(Slot(slot)) {
-            out.extend_from_slice(text)?;
-            out.push(0)?;
-        }
+        put_text(entry, slot, out)?;
+    }
+    Ok(())
+}
+
+// Appends a number of an entry, or what stands for its absence.
+fn put_number(entry: &Entry, slot: u16, out: &mut Vec<u8>) -> Result<(), AllocError>
+    ensures { OnOk result (out.new.items ≡ out.old.items ++ word (number_word (number_at entry.now slot))) }
+{
+    put_word(entry.number(Slot(slot)).unwrap_or(ABSENT), out)
+}
+
+// Appends a text of an entry with its NUL, or nothing where it is absent.
+fn put_text(entry: &Entry, slot: u16, out: &mut Vec<u8>) -> Result<(), AllocError>
+    ensures { OnOk result (out.new.items ≡ out.old.items ++ ended (text_at entry.now slot)) }
+{
+    if let Some(text) = entry.text(Slot(slot)) {
+        out.extend_from_slice(text)?;
+        out.push(0)?;
     }
     Ok(())
 }

@@ -15,7 +15,7 @@ set_texts-requires-clause-bare c =
 pub returns-clause-ok : goal.returns-clause-ok
 returns-clause-ok c =
     let bytes = c.args.bytes.now in
-    let cut = c.in_ok-parts.ensures in
+    let cut = c.cut-parts.ensures in
     let last = c.in_ok-set_texts.ensures.ok in
     let names : c.set_texts.new.entry.names ≡ c.in_ok-names.names.now =
     ap (λ (e : Description). e.names) last
@@ -27,7 +27,7 @@ returns-clause-ok c =
         header = c.in_ok-check_header.ensures.room;
         short = c.in_ok-check_header.ensures.short;
         is_magic = c.in_ok-check_header.ensures.magic;
-        fits = cut.fits;
+        fits = c.in_ok-check_room.ensures.fits;
         names_end = ap (list_any is_nul) (sym cut.names) ∙ c.in_ok-names.ensures.ended;
         names_say = names ∙ c.in_ok-names.ensures.names ∙ ap (before_first is_nul) cut.names;
         named = ap are_names names ∙ c.in_ok-names.ensures.named;
