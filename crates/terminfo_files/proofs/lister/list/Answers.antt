@@ -5,3 +5,6 @@ pub returns-in_err-printed-clause-memory : goal.returns-in_err-printed-clause-me
 returns-in_err-printed-clause-memory c =
     let read = c.in_ok-entry.ensures.ok in
     λ h. c.files_are_not_refused.ensures c.args.bytes.now read.0 c.in_ok-entry.entry read.1
+
+pub returns-clause-ok : goal.returns-clause-ok
+returns-clause-ok c = (c.in_ok-entry.entry, c.in_ok-entry.ensures.ok, c.in_ok-printed.ensures.text, c.in_ok-printed.ensures.unnamed, c.in_ok-printed.ensures.reads)
