@@ -88,6 +88,7 @@ impl Painter {
     }
 
     // Adds what leads to a place with a pen.
+    #[inline(always)]
     pub(crate) fn begin(
         self,
         row: u32,

@@ -3,6 +3,7 @@
 #![tactic(auto)]
 
 mod builder;
+mod counts;
 mod directives;
 mod faults;
 mod laws;
