@@ -1,4 +1,4 @@
-use Rattle.std.proofs.Common.{arith}
+use Rattle.std.proofs.Common.{arith, rules}
 use Rattle.scr_cells.proofs.DifferenceLaws.{more_before, only_place, other_numbers, same_numbers}
 use Rattle.scr_cells.proofs.differences.first_place.Goals as goal
 
@@ -14,3 +14,6 @@ loop-place-preserved g c =
     more_before c.args.a.now c.args.b.now c.loop-place.place 1 c.loop-place.invariant
     (only_place c.args.a.now c.args.b.now c.loop-place.place
     (same_numbers g.T.Packed.coded c.args.a.now c.args.b.now c.loop-place.place _ _ _ _ (omega arith) c.requires c.packed.ensures.back c.index-a-place.is c.packed-in-loop-place.ensures.back c.index-b-place.is c.if-packed.false))
+
+pub returns : goal.returns
+returns g c = search rules

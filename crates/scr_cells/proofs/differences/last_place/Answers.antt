@@ -1,4 +1,4 @@
-use Rattle.std.proofs.Common.{◌+◌, ◌-◌, ◌≡◌, arith}
+use Rattle.std.proofs.Common.{◌+◌, ◌-◌, ◌≡◌, arith, rules}
 use Rattle.scr_cells.proofs.DifferenceLaws.{more_behind, only_place, other_numbers, same_numbers}
 use Rattle.scr_cells.proofs.differences.last_place.Goals as goal
 
@@ -18,3 +18,6 @@ loop-end-preserved g c =
           (only_place c.args.a.now c.args.b.now (c.loop-end.end - 1)
           (same_numbers g.T.Packed.coded c.args.a.now c.args.b.now (c.loop-end.end - 1) _ _ _ _ (omega arith) c.requires c.packed.ensures.back c.index-a-end.is c.packed-in-loop-end.ensures.back c.index-b-end.is c.if-packed.false));
     }
+
+pub returns : goal.returns
+returns g c = search rules
