@@ -149,6 +149,7 @@ impl Painter {
     }
 
     // Adds what moves the cursor to a place, with no attribute and default colours there.
+    #[inline(always)]
     fn go(self, row: u32, column: u32, ops: &mut Vec<Op>) -> Result<(), NoMemory>
         ensures { OnOk result (ops.new.items ≡ ops.old.items ++ painter_goes self (row, column)) }
     {
