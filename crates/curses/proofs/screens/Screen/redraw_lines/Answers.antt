@@ -1,4 +1,4 @@
-use Rattle.std.proofs.Common.{ap, subst, sym, ◌∙◌}
+use Rattle.std.proofs.Common.{ap, subst, sym, ◌∙◌, rules}
 use Rattle.scr_virtual.specs.Laws.{HoldsChanges}
 use Rattle.curses.specs.ScreenStates.{IsRemembered}
 use Rattle.curses.proofs.MakingLaws.{remembers_disturbed, remembers_held}
@@ -18,3 +18,6 @@ invariant_of-self c =
       },
       c.self.invariant.1,
     )
+
+pub returns : goal.returns
+returns c = search rules

@@ -1,4 +1,5 @@
-use Rattle.std.proofs.Common.{◌∙◌, ap, arith, drop, length, sym}
+use Rattle.std.proofs.lemmas.Grind.{common_steps}
+use Rattle.std.proofs.Common.{◌∙◌, ap, arith, drop, length, sym, rules}
 use Rattle.scr_keys.proofs.DecideLaws.{left_short}
 use Rattle.scr_keys.proofs.readers.KeyReader.byte.Goals as goal
 
@@ -10,3 +11,9 @@ invariant_of-self c = record {
   waiting = omega (arith, c.self.invariant.waiting, c.push_reserved.ensures.capacity, c.drop_front.ensures.capacity);
   texts = c.self.invariant.texts;
 }
+
+pub returns-in-None : goal.returns-in-None
+returns-in-None c = grind (arith, common_steps)
+
+pub invariant_of-self-in-None : goal.invariant_of-self-in-None
+invariant_of-self-in-None c = search rules

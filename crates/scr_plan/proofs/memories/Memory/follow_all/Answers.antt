@@ -1,3 +1,4 @@
+use Rattle.std.proofs.lemmas.Grind.{common_steps}
 use Rattle.std.proofs.Common.{arith, drop, length, take, ◌∙◌, ◌-◌}
 use Rattle.scr_plan.proofs.FollowingLaws.{followed_on, same_columns, same_rows}
 use Rattle.scr_plan.proofs.memories.Memory.follow_all.Goals as goal
@@ -10,3 +11,6 @@ loop-done-preserved c = record {
   followed =
       followed_on c.args.profile.now c.args.ops.now c.loop-done.done c.follow_next-done.result c.args.self.now c.loop-done.self c.follow_next-done.new.self c.loop-done.invariant.followed c.follow_next-done.ensures.followed;
 }
+
+pub returns : goal.returns
+returns c = grind (arith, common_steps)

@@ -1,3 +1,4 @@
+use Rattle.std.proofs.lemmas.Grind.{common_steps}
 use Rattle.std.proofs.Common.{◌≡◌, ap, arith, rules, length, vec_len}
 use Rattle.scr_term.specs.Operations.Texts.{piece_bytes}
 use Rattle.scr_term.specs.Code.Sent.{piece_of}
@@ -19,3 +20,6 @@ returns-in-Err-clause-room c =
 pub returns-in_default-clause-ok : goal.returns-in_default-clause-ok
 returns-in_default-clause-ok c =
     both_appended c.args.self.now c.args.op (piece_of c.text.result) c.args.out.now.items c.render_piece.new.out.items _ (search rules) (search rules) (search rules) (search rules)
+
+pub returns-in-Err-clause-err : goal.returns-in-Err-clause-err
+returns-in-Err-clause-err c = grind (arith, common_steps)
