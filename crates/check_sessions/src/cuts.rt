@@ -47,17 +47,36 @@ pub fn check_cuts(
     words: &mut Words<'_>,
     came: &mut Vec<u8>,
 ) -> Result<(), Trouble> {
-    let count = words.number()?;
+    let count = words.number()? as usize;
     let mut text = Vec::new(alloc);
-    if !matches!(words.peek(), b"" | b"=") {
-        read_text(words.next(), &mut text)?;
-    }
+    read_text_if_any(words, &mut text)?;
     let mut whole = Whole::new(alloc);
-    if !add_repaint(alloc, tried, &text, &mut whole)? || !open(alloc, tried)? {
+    check_counted(alloc, tried, count, &text, &mut whole, came)
+}
+
+// Reads a text, if there is one in front of what is wanted.
+fn read_text_if_any(words: &mut Words<'_>, text: &mut Vec<u8>) -> Result<(), Trouble> {
+    if matches!(words.peek(), b"" | b"=") {
+        Ok(())
+    } else {
+        read_text(words.next(), text)
+    }
+}
+
+// The same with so many cuts, and a text or none.
+fn check_counted(
+    alloc: Global,
+    tried: &mut Option<Recorded>,
+    count: usize,
+    text: &[u8],
+    whole: &mut Whole,
+    came: &mut Vec<u8>,
+) -> Result<(), Trouble> {
+    if !add_repaint(alloc, tried, text, whole)? || !open(alloc, tried)? {
         return add_word("NoMemory", came);
     }
     match tried {
-        Some(opened) => check_opened(alloc, opened, count as usize, &text, &mut whole, came),
+        Some(opened) => check_opened(alloc, opened, count, text, whole, came),
         None => Ok(()),
     }
 }
@@ -156,19 +175,19 @@ fn check_cut(
 ) -> Result<bool, Trouble> {
     let limit = whole.before.bytes.len().saturating_add(cut.behind);
     let mut device = Device::new(Faulty::new(alloc, limit, cut.failure, 1));
-    let Some(report) = opened.session(&mut device)? else {
-        add_word("NoMemory", came)?;
-        return Ok(false);
-    };
-    check_report(
-        alloc,
-        opened,
-        whole,
-        cut,
-        &report,
-        device.writer.taken(),
-        came,
-    )
+    match opened.session(&mut device)? {
+        Some(report) => {
+            let taken = device.writer.taken();
+            check_report(alloc, opened, whole, cut, &report, taken, came)
+        }
+        None => add_no_memory(came),
+    }
+}
+
+// Adds that there was no memory for a cut, which then does not agree.
+fn add_no_memory(came: &mut Vec<u8>) -> Result<bool, Trouble> {
+    add_word("NoMemory", came)?;
+    Ok(false)
 }
 
 // The same of the report and what the writer took.

@@ -35,23 +35,40 @@ fn make_all(
     alloc: Global,
     opened: &mut Recorded,
     count: u32,
-    mut random: Random,
+    random: Random,
     came: &mut Vec<u8>,
 ) -> Result<(), Trouble> {
     let mut answer = Vec::new(alloc);
+    if make_each(alloc, opened, count, random, &mut answer, came)? {
+        opened.add_session(came)
+    } else {
+        Ok(())
+    }
+}
+
+// Makes so many calls, and tells whether all are as they have to be. Adds what is not.
+fn make_each(
+    alloc: Global,
+    opened: &mut Recorded,
+    count: u32,
+    mut random: Random,
+    answer: &mut Vec<u8>,
+    came: &mut Vec<u8>,
+) -> Result<bool, Trouble> {
     for number in 0..count {
         answer.clear();
-        let is_well = step(alloc, opened, &mut random, &mut answer)?;
+        let is_well = step(alloc, opened, &mut random, answer)?;
         if answer.ends_with(b" NoMemory") {
-            return add_word("NoMemory", came);
+            add_word("NoMemory", came)?;
+            return Ok(false);
         }
         if !is_well {
             add_number(i64::from(number), came)?;
-            came.extend_from_slice(&answer)?;
-            return Ok(());
+            came.extend_from_slice(answer)?;
+            return Ok(false);
         }
     }
-    opened.add_session(came)
+    Ok(true)
 }
 
 // Makes the next call, where it is an update behind the taking of a window, and tells whether it is as it has to be.

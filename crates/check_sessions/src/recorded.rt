@@ -164,11 +164,8 @@ impl Recorded {
         came: &mut Vec<u8>,
     ) -> Result<(), Trouble> {
         let mut answers = Vec::new(self.alloc);
-        for answer in &report.answers.0 {
-            if ran_out(answer) {
-                return add_word("NoMemory", came);
-            }
-            add_answer(answer, &mut answers)?;
+        if !add_answers(report, &mut answers)? {
+            return add_word("NoMemory", came);
         }
         let same = self.agrees(device, &answers) && report.last_ok == self.last_ok;
         add_word(if same { "agrees" } else { "differs" }, came)
@@ -263,6 +260,17 @@ impl Recorded {
             && device.failed_puts == self.device.failed_puts
             && device.failed_finishes == self.device.failed_finishes
     }
+}
+
+// Adds the answers of a session, and tells whether there was memory for all calls.
+fn add_answers(report: &Report, answers: &mut Vec<u8>) -> Result<bool, Trouble> {
+    for answer in &report.answers.0 {
+        if ran_out(answer) {
+            return Ok(false);
+        }
+        add_answer(answer, answers)?;
+    }
+    Ok(true)
 }
 
 // How an update ended.

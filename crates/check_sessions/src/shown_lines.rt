@@ -6,7 +6,7 @@ use check_scripts::answers::{
 };
 use check_scripts::troubles::Trouble;
 use check_scripts::words::Words;
-use scr_cells::Picture;
+use scr_cells::{Picture, Size};
 use scr_term::{EcmaScreen, Spot};
 use scr_virtual::Virtual;
 use scr_windows::{Desk, Win, WinFault};
@@ -122,10 +122,24 @@ pub fn check_changed(
     let (rows, columns) = (words.number()?, words.number()?);
     let (row, column) = (words.number()?, words.number()?);
     let area = [rows, columns, row, column];
-    let (Ok(mut desk), Ok(mut screen)) = (Desk::new(alloc, size), Virtual::new(alloc, size)) else {
-        return add_word("NoMemory", came);
-    };
-    add_changed_by(alloc, &mut desk, &mut screen, area, came)
+    match Desk::new(alloc, size) {
+        Ok(mut desk) => add_changed_on(alloc, &mut desk, size, area, came),
+        Err(_) => add_word("NoMemory", came),
+    }
+}
+
+// The same with windows of a desk, and a virtual screen of its size.
+fn add_changed_on(
+    alloc: Global,
+    desk: &mut Desk,
+    size: Size,
+    area: [u32; 4],
+    came: &mut Vec<u8>,
+) -> Result<(), Trouble> {
+    match Virtual::new(alloc, size) {
+        Ok(mut screen) => add_changed_by(alloc, desk, &mut screen, area, came),
+        Err(_) => add_word("NoMemory", came),
+    }
 }
 
 // Takes the first window, settles, takes a new window of so many rows and columns at a row and a column, and adds what may have

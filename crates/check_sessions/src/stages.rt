@@ -130,14 +130,23 @@ fn update_within(
     let most = words.number()? as usize;
     let _is_well = opened.update(Fails::Never, came)?;
     let sent = opened.last_sent().len();
-    let mut well = Vec::new(alloc);
-    add_word("Ok", &mut well)?;
-    add_count(sent as u64, &mut well)?;
-    if sent <= most && came.as_slice() == well.as_slice() {
+    if sent <= most && is_well(alloc, sent, came)? {
         came.clear();
-        add_word("Ok", came)?;
+        return add_word("Ok", came);
     }
     Ok(())
+}
+
+// Whether an update answered that it sent so many bytes.
+fn is_well(alloc: Global, sent: usize, came: &[u8]) -> Result<bool, Trouble> {
+    let mut well = Vec::new(alloc);
+    add_well(sent, &mut well)?;
+    Ok(came == well.as_slice())
+}
+
+fn add_well(sent: usize, well: &mut Vec<u8>) -> Result<(), Trouble> {
+    add_word("Ok", well)?;
+    add_count(sent as u64, well)
 }
 
 // How the writer fails in the lines `update`, `update_writing K`, `update_stuck K`, `update_flushing` and `update_failing`.

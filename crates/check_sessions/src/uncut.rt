@@ -83,11 +83,15 @@ pub fn make_whole(
 
 // Adds a text to the first window, and takes it onto the virtual screen.
 fn write(alloc: Global, opened: &mut Recorded, text: &[u8]) -> Result<(), Trouble> {
-    let mut bytes = Vec::new(alloc);
-    bytes.extend_from_slice(text)?;
+    let bytes = Bytes(Vec::from_slice(alloc, text)?);
     let mut answers = Vec::new(alloc);
-    opened.call(Call::AddText(Win(0), Bytes(bytes)), &mut answers)?;
-    opened.call(Call::Noutrefresh(Win(0)), &mut answers)
+    make(opened, Call::AddText(Win(0), bytes), &mut answers)
+}
+
+// Makes a call, and takes the first window onto the virtual screen.
+fn make(opened: &mut Recorded, call: Call, answers: &mut Vec<u8>) -> Result<(), Trouble> {
+    opened.call(call, answers)?;
+    opened.call(Call::Noutrefresh(Win(0)), answers)
 }
 
 // Updates, and tells whether there was memory for it.

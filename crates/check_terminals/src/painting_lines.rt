@@ -67,11 +67,21 @@ fn add_painted(
     came: &mut Vec<u8>,
 ) -> Result<(), Trouble> {
     let mut bytes = Vec::new(alloc);
+    add_each(profile, ops, &mut bytes, came)
+}
+
+// The same, with room for the bytes of one.
+fn add_each(
+    profile: &Profile,
+    ops: &Ops,
+    bytes: &mut Vec<u8>,
+    came: &mut Vec<u8>,
+) -> Result<(), Trouble> {
     let mut count: u32 = 0;
     for op in &ops.0 {
         bytes.clear();
-        match render(profile, *op, &mut bytes)? {
-            Ok(()) => add_text(&bytes, came)?,
+        match render(profile, *op, bytes)? {
+            Ok(()) => add_text(bytes, came)?,
             refused => return add_done(refused, came),
         }
         count = count.saturating_add(u32::try_from(bytes.len()).unwrap_or(0));

@@ -193,21 +193,32 @@ fn add_cuts(
     read_text(words.next(), text)?;
     let mut whole = Vec::new(alloc);
     let mut state = Vec::new(alloc);
+    add_cuts_of(alloc, size, text, &mut whole, &mut state, came)
+}
+
+// The same of a text, with room for the state after the first cut and after another.
+fn add_cuts_of(
+    alloc: Global,
+    size: Size,
+    text: &[u8],
+    whole: &mut Vec<u8>,
+    state: &mut Vec<u8>,
+    came: &mut Vec<u8>,
+) -> Result<(), Trouble> {
     for cut in 0..=text.len() {
         state.clear();
         let (head, tail) = text.split_at(cut);
-        let done = feed_two(alloc, size, head, tail, &mut state);
-        if done.is_err() {
+        if feed_two(alloc, size, head, tail, state).is_err() {
             return add_word("NoMemory", came);
         }
         if cut == 0 {
-            whole.extend_from_slice(&state)?;
+            whole.extend_from_slice(state)?;
         } else if whole.as_slice() != state.as_slice() {
             add_word("cut", came)?;
             return add_number(i64::try_from(cut).unwrap_or(0), came);
         }
     }
-    add_text(&whole, came)
+    add_text(whole, came)
 }
 
 // Whether a text that is fed behind another, which is defined, to a blank screen of the same size is undefined, and
@@ -258,8 +269,18 @@ fn feed_two(
     state: &mut Vec<u8>,
 ) -> Result<(), NoMemory> {
     let mut screen = EcmaScreen::new(alloc, size)?;
+    feed_both(&mut screen, head, tail, state)
+}
+
+// Feeds a screen a text in two pieces, and adds its state.
+fn feed_both(
+    screen: &mut EcmaScreen,
+    head: &[u8],
+    tail: &[u8],
+    state: &mut Vec<u8>,
+) -> Result<(), NoMemory> {
     let both = screen.feed(head).and(screen.feed(tail));
-    print_state(&screen, state)?;
+    print_state(screen, state)?;
     if both.is_err() {
         state.extend_from_slice(b"undefined\n")?;
     }
@@ -270,9 +291,20 @@ fn stays_after(alloc: Global, size: Size, head: &[u8], tail: &[u8]) -> Result<bo
     let mut screen = EcmaScreen::new(alloc, size)?;
     let mut before = Vec::new(alloc);
     let mut after = Vec::new(alloc);
+    stays(&mut screen, head, tail, &mut before, &mut after)
+}
+
+// The same of a screen, with room for its state before and after the second text.
+fn stays(
+    screen: &mut EcmaScreen,
+    head: &[u8],
+    tail: &[u8],
+    before: &mut Vec<u8>,
+    after: &mut Vec<u8>,
+) -> Result<bool, NoMemory> {
     let first = screen.feed(head);
-    print_state(&screen, &mut before)?;
+    print_state(screen, before)?;
     let second = screen.feed(tail);
-    print_state(&screen, &mut after)?;
+    print_state(screen, after)?;
     Ok(first.is_ok() && second.is_err() && before.as_slice() == after.as_slice())
 }

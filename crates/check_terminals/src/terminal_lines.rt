@@ -107,14 +107,24 @@ fn add_rendered(
     }
     let mut bytes = Vec::new(alloc);
     let done = profile.render(op, &mut bytes);
+    add_bytes(done, profile.cost(op), &bytes, came)
+}
+
+// Adds the bytes of an operation of this price, or that there was no memory for them.
+fn add_bytes(
+    done: Result<(), NoMemory>,
+    cost: Option<usize>,
+    bytes: &[u8],
+    came: &mut Vec<u8>,
+) -> Result<(), Trouble> {
     if done.is_err() {
         if !bytes.is_empty() {
             return add_word("refused with bytes", came);
         }
         return add_done(done, came);
     }
-    if profile.cost(op) != Some(bytes.len()) {
+    if cost != Some(bytes.len()) {
         add_word("with another price", came)?;
     }
-    add_text(&bytes, came)
+    add_text(bytes, came)
 }

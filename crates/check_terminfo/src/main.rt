@@ -133,7 +133,20 @@ fn difference(
 }
 
 fn told(alloc: Global, wanted: &[Vec<u8>], came: &[Vec<u8>]) -> Result<String, CheckFault> {
-    let wanted = words::shown(alloc, wanted)?;
-    let came = words::shown(alloc, came)?;
-    Ok(format!(in alloc; "wanted {wanted}, came {came}")?)
+    let mut line = String::new(alloc);
+    tell(alloc, wanted, came, &mut line)?;
+    Ok(line)
+}
+
+fn tell(
+    alloc: Global,
+    wanted: &[Vec<u8>],
+    came: &[Vec<u8>],
+    line: &mut String,
+) -> Result<(), CheckFault> {
+    line.push_str("wanted")?;
+    words::show(alloc, wanted, line)?;
+    line.push_str(", came")?;
+    words::show(alloc, came, line)?;
+    Ok(())
 }

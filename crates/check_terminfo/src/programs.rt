@@ -36,12 +36,15 @@ pub fn read(alloc: Global, words: &[Vec<u8>], answer: &mut Answer) -> Result<(),
 /// `measure TEXT`.
 pub fn measure(alloc: Global, words: &[Vec<u8>], answer: &mut Answer) -> Result<(), CheckFault> {
     match again::read_program(alloc, text(words, 1)?) {
-        Ok(program) => {
-            answer.say_number(program.bound())?;
-            answer.say_number(program.depth())
-        }
+        Ok(program) => say_measures(&program, answer),
         Err(fault) => answer.refused(&fault),
     }
+}
+
+// Answers the bound and the depth of a program.
+fn say_measures(program: &Program, answer: &mut Answer) -> Result<(), CheckFault> {
+    answer.say_number(program.bound())?;
+    answer.say_number(program.depth())
 }
 
 /// `program TEXT PARAMETER..`.
@@ -78,22 +81,37 @@ fn write(
 ) -> Result<(), CheckFault> {
     let mut out = Vec::from_slice(current.alloc, BEFORE)?;
     let length = program.length(params, &current.vars);
-    let ran = again::run_program(program, params, &mut current.vars, &mut out)?;
-    match ran {
-        Ok(()) => {
-            let Some(written) = out.as_slice().strip_prefix(BEFORE) else {
-                return Err(CheckFault::Line("a run changes what stood before it"));
-            };
-            if length != Ok(written.len()) || written.len() > program.bound() {
-                return Err(CheckFault::Line("length or bound is wrong"));
-            }
-            answer.say(written)
-        }
-        Err(fault) => {
-            if length != Err(RunFault::StackFull) || program.depth() <= 20 {
-                return Err(CheckFault::Line("length or depth is wrong"));
-            }
-            answer.refused(&fault)
-        }
+    match again::run_program(program, params, &mut current.vars, &mut out)? {
+        Ok(()) => say_written(program, length, &out, answer),
+        Err(fault) => say_full(program, length, fault, answer),
     }
+}
+
+// Answers what a program wrote behind a text, which stays.
+fn say_written(
+    program: &Program,
+    length: Result<usize, RunFault>,
+    out: &[u8],
+    answer: &mut Answer,
+) -> Result<(), CheckFault> {
+    let Some(written) = out.strip_prefix(BEFORE) else {
+        return Err(CheckFault::Line("a run changes what stood before it"));
+    };
+    if length != Ok(written.len()) || written.len() > program.bound() {
+        return Err(CheckFault::Line("length or bound is wrong"));
+    }
+    answer.say(written)
+}
+
+// Answers why a program wrote nothing: it wants more places than the stack has, which its length and its depth say too.
+fn say_full(
+    program: &Program,
+    length: Result<usize, RunFault>,
+    fault: RunFault,
+    answer: &mut Answer,
+) -> Result<(), CheckFault> {
+    if length != Err(RunFault::StackFull) || program.depth() <= 20 {
+        return Err(CheckFault::Line("length or depth is wrong"));
+    }
+    answer.refused(&fault)
 }

@@ -102,10 +102,20 @@ pub fn resolve_all(
 ) -> Result<(), CheckFault> {
     let mut resolver = Resolver::new(current.source()?);
     for name in words.iter().skip(1) {
-        let resolved = again::resolve_next(current.alloc, &mut resolver, name.as_slice());
-        say_resolved(current.alloc, &resolved, answer)?;
+        say_next(current.alloc, &mut resolver, name.as_slice(), answer)?;
     }
     Ok(())
+}
+
+// Answers what a name resolves to by a resolver.
+fn say_next(
+    alloc: Global,
+    resolver: &mut Resolver<'_>,
+    name: &[u8],
+    answer: &mut Answer,
+) -> Result<(), CheckFault> {
+    let resolved = again::resolve_next(alloc, resolver, name);
+    say_resolved(alloc, &resolved, answer)
 }
 
 /// `string TEXT`.

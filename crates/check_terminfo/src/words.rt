@@ -59,21 +59,21 @@ pub fn is_yes(words: &[Vec<u8>], place: usize) -> Result<bool, CheckFault> {
     }
 }
 
-/// Words as a script writes them, each in quotes.
-pub fn shown(alloc: Global, words: &[Vec<u8>]) -> Result<String, AllocError> {
-    let mut line = String::new(alloc);
+/// Adds words as a script writes them, each in quotes behind a blank.
+pub fn show(alloc: Global, words: &[Vec<u8>], line: &mut String) -> Result<(), AllocError> {
     for word in words {
-        if !line.is_empty() {
-            line.push_str(" ")?;
-        }
-        line.push_str("\"")?;
-        show_bytes(alloc, &mut line, word.as_slice())?;
-        line.push_str("\"")?;
+        show_word(alloc, line, word.as_slice())?;
     }
-    if line.is_empty() {
-        line.push_str("nothing")?;
+    if words.is_empty() {
+        return line.push_str(" nothing");
     }
-    Ok(line)
+    Ok(())
+}
+
+fn show_word(alloc: Global, line: &mut String, word: &[u8]) -> Result<(), AllocError> {
+    line.push_str(" \"")?;
+    show_bytes(alloc, line, word)?;
+    line.push_str("\"")
 }
 
 fn show_bytes(alloc: Global, line: &mut String, bytes: &[u8]) -> Result<(), AllocError> {
