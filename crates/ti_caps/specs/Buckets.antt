@@ -1,5 +1,5 @@
 -- How the code finds a name: nothing that a reader has to believe.
-use Rattle.std.specs.Prelude.{ℕ, ◌+◌, ◌*◌, ◌%◌, List, [], ◌∷◌, Option, Some, None, map, slice_get, slice_index_or, if◌then◌else◌}
+use Rattle.std.specs.Prelude.{ℕ, ◌+◌, ◌*◌, ◌%◌, List, [], ◌∷◌, Option, Some, None, slice_get, slice_index_or, if◌then◌else◌}
 use Rattle.std.specs.Str.{bytes_eq}
 use Rattle.ti_caps.specs.declared.table.Kind.{Kind}
 use Rattle.ti_caps.specs.declared.buckets.TheConstants.{BUCKETS}
@@ -12,7 +12,7 @@ bucket_number h (b ∷ bs) = bucket_number ((h * 53 + b) % 128) bs
 
 -- the addresses of the names of a number: a run's index, and the name's index there
 unfoldable pub bucket : ℕ → List (ℕ × ℕ)
-bucket number = slice_index_or (map (λ s. s.now) BUCKETS) number []
+bucket number = slice_index_or BUCKETS number []
 
 abbrev pub if_same : List ℕ → Kind → ℕ → Option (List ℕ) → Option (Kind × ℕ)
 if_same name kind position None = None
