@@ -44,18 +44,20 @@ fn set_keys(entry: &mut Entry, keys: u32) -> Result<()> {
 fn stream(alloc: Global, action: &str, keys: u32) -> Result<Vec<u8>> {
     let mut bytes = Vec::new(alloc);
     for number in 0..TEXTS {
-        let text = key_text(number % keys.max(1));
-        match action {
-            "text" => bytes.extend_from_slice(b"letter")?,
-            "keys" => bytes.extend_from_slice(&text)?,
-            "broken" => {
-                bytes.extend_from_slice(&text[..5])?;
-                bytes.push(b'x')?;
-            }
-            _ => bail!("no such action"),
-        }
+        bytes.extend_from_slice(&piece(action, number % keys.max(1))?)?;
     }
     Ok(bytes)
+}
+
+// Six letters, the text of a key, or that with another last byte.
+fn piece(action: &str, key: u32) -> Result<[u8; 6]> {
+    let [a, b, c, d, e, last] = key_text(key);
+    match action {
+        "text" => Ok(*b"letter"),
+        "keys" => Ok([a, b, c, d, e, last]),
+        "broken" => Ok([a, b, c, d, e, b'x']),
+        _ => bail!("no such action"),
+    }
 }
 
 // Reads bytes so often, and adds up what comes.
@@ -100,6 +102,17 @@ fn entry_of(alloc: Global, keys: u32) -> Result<Entry> {
 /// Reads bytes so often by a screen whose terminal has so many keys.
 pub fn measure(alloc: Global, action: &str, keys: u32, count: u32) -> Result<u64> {
     let bytes = stream(alloc, action, keys)?;
-    let mut screen = Screen::open(alloc, &entry_of(alloc, keys)?, Size::new(24, 80))?;
-    read_often(&mut screen, &bytes, count)
+    measure_bytes(alloc, &bytes, keys, count)
+}
+
+// The same of bytes.
+fn measure_bytes(alloc: Global, bytes: &[u8], keys: u32, count: u32) -> Result<u64> {
+    let mut screen = opened_with(alloc, keys)?;
+    read_often(&mut screen, bytes, count)
+}
+
+// A screen whose terminal has so many keys.
+fn opened_with(alloc: Global, keys: u32) -> Result<Screen> {
+    let entry = entry_of(alloc, keys)?;
+    Ok(Screen::open(alloc, &entry, Size::new(24, 80))?)
 }

@@ -10,7 +10,7 @@ mod terminals;
 mod updating;
 mod windows;
 
-use anyhow::{Context, Result, anyhow, bail};
+use anyhow::{Context, Result, bail};
 use std::alloc::Global;
 use std::env;
 
@@ -30,33 +30,51 @@ fn measured(alloc: Global, words: [&str; 3], numbers: [u32; 4]) -> Result<u64> {
 
 // A small case of each.
 fn measure_each(rt: &HostRuntime) -> Result<()> {
-    let refresh = measured(rt.alloc(), ["refresh", "update", ""], [3, 80, 0, 2])?;
-    let update = measured(rt.alloc(), ["update", "update", "lines"], [3, 80, 1, 3])?;
-    let keys = measured(rt.alloc(), ["keys", "keys", ""], [120, 2, 0, 0])?;
-    let windows = measured(rt.alloc(), ["windows", "feed", ""], [3, 80, 5, 0])?;
-    let terminals = measured(rt.alloc(), ["terminals", "admit", "bundled"], [3, 0, 0, 0])?;
-    println!(rt; "{refresh} {update} {keys} {windows} {terminals}")?;
-    Ok(())
+    print(rt, ["refresh", "update", ""], [3, 80, 0, 2])?;
+    print(rt, ["update", "update", "lines"], [3, 80, 1, 3])?;
+    print(rt, ["keys", "keys", ""], [120, 2, 0, 0])?;
+    print(rt, ["windows", "feed", ""], [3, 80, 5, 0])?;
+    print(rt, ["terminals", "admit", "bundled"], [3, 0, 0, 0])
+}
+
+// Prints what words and numbers give.
+fn print(rt: &HostRuntime, words: [&str; 3], numbers: [u32; 4]) -> Result<()> {
+    let result = measured(rt.alloc(), words, numbers)?;
+    Ok(println!(rt; "{result}")?)
+}
+
+// Up to four numbers.
+fn numbers_of(words: &[String]) -> Result<[u32; 4]> {
+    let mut numbers = [0; 4];
+    for (number, word) in numbers.iter_mut().zip(words.iter()) {
+        *number = word.as_str().parse::<u32>().context("no number")?;
+    }
+    Ok(numbers)
+}
+
+// Does what the words of the command line say: a benchmark, an action, what it is done to where that is asked for, and numbers.
+fn measure(rt: &HostRuntime, words: &[String]) -> Result<()> {
+    let benchmark = word(words, 1);
+    let named = matches!(benchmark, "update" | "terminals");
+    let name = if named { word(words, 3) } else { "" };
+    let begin = if named { 4 } else { 3 };
+    let numbers = numbers_of(words.get(begin..).unwrap_or(&[]))?;
+    print(rt, [benchmark, word(words, 2), name], numbers)
+}
+
+// A word, empty where there is none.
+fn word(words: &[String], place: usize) -> &str {
+    match words.get(place) {
+        Some(word) => word.as_str(),
+        None => "",
+    }
 }
 
 fn main(rt: HostRuntime) -> Result<()> {
-    let mut words = env::args(&rt)?;
-    let _program = words.next();
-    let Some(benchmark) = words.next() else {
-        return measure_each(&rt);
-    };
-    let action = words.next().ok_or_else(|| anyhow!("what to do"))?;
-    let mut name = String::new(rt.alloc());
-    if matches!(benchmark.as_str(), "update" | "terminals") {
-        name = words.next().ok_or_else(|| anyhow!("what it is done to"))?;
+    let words: Vec<String> = env::args(&rt)?.collect(rt.alloc())?;
+    if words.len() > 1 {
+        measure(&rt, &words)
+    } else {
+        measure_each(&rt)
     }
-    let mut numbers = [0; 4];
-    for number in &mut numbers {
-        let Some(word) = words.next() else { break };
-        *number = word.as_str().parse::<u32>().context("no number")?;
-    }
-    let said = [benchmark.as_str(), action.as_str(), name.as_str()];
-    let result = measured(rt.alloc(), said, numbers)?;
-    println!(rt; "{result}")?;
-    Ok(())
 }

@@ -43,13 +43,18 @@ fn update(alloc: Global, screen: &mut Screen, count: u32) -> Result<u64> {
     let mut bytes = 0u64;
     for _ in 0..count {
         screen.redraw_window(FIRST)?;
-        let mut device = Device::new(Vec::new(alloc));
-        let Ok(sent) = screen.doupdate(alloc, &mut device) else {
-            bail!("the update ended early");
-        };
-        bytes = bytes.wrapping_add(sent.bytes);
+        bytes = bytes.wrapping_add(update_once(alloc, screen)?);
     }
     Ok(bytes)
+}
+
+// Updates into a new buffer.
+fn update_once(alloc: Global, screen: &mut Screen) -> Result<u64> {
+    let mut device = Device::new(Vec::new(alloc));
+    match screen.doupdate(alloc, &mut device) {
+        Ok(sent) => Ok(sent.bytes),
+        Err(_) => bail!("the update ended early"),
+    }
 }
 
 // Makes the bytes that paint the picture of the same screen, and adds up how many they are.

@@ -72,14 +72,25 @@ pub fn measure(alloc: Global, action: &str, [rows, columns, count]: [u32; 3]) ->
     let size = Size::new(rows, columns).ok_or_else(|| anyhow!("a size from 1 to 500"))?;
     let last = (rows.saturating_sub(1), columns.saturating_sub(1));
     let mut desk = Desk::new(alloc, size)?;
+    repeat(alloc, &mut desk, action, last, count)
+}
+
+// The same on a desk.
+fn repeat(
+    alloc: Global,
+    desk: &mut Desk,
+    action: &str,
+    last: (u32, u32),
+    count: u32,
+) -> Result<u64> {
     match action {
-        "add" => add(&mut desk, count)?,
-        "feed" => feed(&mut desk, last.0, count)?,
-        "erase" => erase(&mut desk, count)?,
-        "copy" => copy(alloc, &mut desk, last, count)?,
-        "scroll" => scroll(&mut desk, count)?,
-        "background" => background(&mut desk, count)?,
+        "add" => add(desk, count),
+        "feed" => feed(desk, last.0, count),
+        "erase" => erase(desk, count),
+        "copy" => copy(alloc, desk, last, count),
+        "scroll" => scroll(desk, count),
+        "background" => background(desk, count),
         _ => bail!("no such action"),
-    }
+    }?;
     Ok(u64::from(desk.cursor(FIRST)?.0))
 }

@@ -1,12 +1,12 @@
 //! Answers of calls on windows, in words.
 
 use check_scripts::answers::{add_flag, add_held, add_number, add_place, add_word};
-use check_scripts::troubles::Trouble;
+use check_scripts::buffers::Buffer;
 use plain_desk::calls::{Answer, Answered};
 use scr_windows::{Added, WinFault};
 
 /// Adds what a call on windows answered.
-pub fn add_answer(answered: Answered, words: &mut Vec<u8>) -> Result<(), Trouble> {
+pub fn add_answer(answered: Answered, words: &mut Buffer) {
     match answered {
         Ok(Answer::Ok) => add_word("Ok", words),
         Ok(Answer::Added(Added::Done)) => add_word("Done", words),

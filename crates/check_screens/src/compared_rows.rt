@@ -3,6 +3,7 @@
 use crate::differences::new_rows;
 use crate::shown_rows::new_shown_rows;
 use check_scripts::answers::{add_number, add_word};
+use check_scripts::buffers::Buffer;
 use check_scripts::troubles::Trouble;
 use check_scripts::words::Words;
 use scr_cells::Attrs;
@@ -27,32 +28,34 @@ pub fn check_rows(
     alloc: Global,
     word: &[u8],
     words: &mut Words<'_>,
-    came: &mut Vec<u8>,
+    came: &mut Buffer,
 ) -> Result<(), Trouble> {
-    let (from, end) = (words.number()?, words.number()?);
-    let shown = read_shown(word, words)?;
+    let (from, end) = (words.number(), words.number());
+    let shown = read_shown(word, words);
     let mut count: u32 = 0;
     for length in from..end.saturating_add(1) {
         let Some(agreed) = agreed_at(alloc, length as usize, shown)? else {
-            return add_length(length, came);
+            add_length(length, came);
+            return Ok(());
         };
         count = count.saturating_add(agreed);
     }
-    add_number(i64::from(count), came)
+    add_number(i64::from(count), came);
+    Ok(())
 }
 
 // The attributes that are shown, of a line `shown_before`.
-fn read_shown(word: &[u8], words: &mut Words<'_>) -> Result<Option<Attrs>, Trouble> {
+fn read_shown(word: &[u8], words: &mut Words<'_>) -> Option<Attrs> {
     if word == b"shown_before".as_slice() {
-        return Ok(Some(Attrs(words.byte()?)));
+        return Some(Attrs(words.byte()));
     }
-    Ok(None)
+    None
 }
 
 // Adds the length at which some rows do not agree.
-fn add_length(length: u32, came: &mut Vec<u8>) -> Result<(), Trouble> {
-    add_word("length", came)?;
-    add_number(i64::from(length), came)
+fn add_length(length: u32, came: &mut Buffer) {
+    add_word("length", came);
+    add_number(i64::from(length), came);
 }
 
 /// Whether the lines of a name are those that `check_rows` answers.

@@ -3,7 +3,7 @@
 use crate::answers::add_answer;
 use crate::lent_windows::{FIELDS, Field, lent_field, lent_line, narrow, plain_field, win};
 use check_scripts::answers::{add_number, add_text_of, add_word};
-use check_scripts::troubles::Trouble;
+use check_scripts::buffers::Buffer;
 use plain_desk::calls::Answer;
 use plain_desk::plain::{Plain, Window};
 use scr_cells::{Cell, Size};
@@ -44,12 +44,7 @@ pub fn first_difference(desk: &Desk, plain: &Plain) -> Option<What> {
 }
 
 /// Adds what differs, what was wanted and what came.
-pub fn add_difference(
-    desk: &Desk,
-    plain: &Plain,
-    what: What,
-    came: &mut Vec<u8>,
-) -> Result<(), Trouble> {
+pub fn add_difference(desk: &Desk, plain: &Plain, what: What, came: &mut Buffer) {
     match what {
         What::Screen => {
             let screen = screen_of(desk.screen());
@@ -108,21 +103,15 @@ fn screen_wanted(plain: &Plain) -> Answer {
 }
 
 // Adds what differs in the window at an index, which both desks have.
-fn add_within(
-    desk: &Desk,
-    plain: &Plain,
-    index: usize,
-    what: What,
-    came: &mut Vec<u8>,
-) -> Result<(), Trouble> {
+fn add_within(desk: &Desk, plain: &Plain, index: usize, what: What, came: &mut Buffer) {
     let Some(window) = plain.windows.get(index) else {
-        return Ok(());
+        return;
     };
     let Ok(lent) = desk.window(win(window.number)) else {
-        return Ok(());
+        return;
     };
-    add_numbered("window", window.number, came)?;
-    add_of_window(&lent, plain, window, what, came)
+    add_numbered("window", window.number, came);
+    add_of_window(&lent, plain, window, what, came);
 }
 
 // Adds what differs in a window.
@@ -131,8 +120,8 @@ fn add_of_window(
     plain: &Plain,
     window: &Window,
     what: What,
-    came: &mut Vec<u8>,
-) -> Result<(), Trouble> {
+    came: &mut Buffer,
+) {
     match what {
         What::Field(_, name, field) => {
             let answer = lent_field(lent, field);
@@ -146,14 +135,14 @@ fn add_of_window(
             let (touched, _) = line_of(lent, row);
             add_touched(row, touched, came)
         }
-        What::Screen | What::Count | What::Nth(_) => Ok(()),
+        What::Screen | What::Count | What::Nth(_) => {}
     }
 }
 
 // Adds whether a row is touched, which is not as it was wanted.
-fn add_touched(row: u64, touched: bool, came: &mut Vec<u8>) -> Result<(), Trouble> {
-    add_numbered("touched", row, came)?;
-    add_both(Answer::Flag(!touched), Answer::Flag(touched), came)
+fn add_touched(row: u64, touched: bool, came: &mut Buffer) {
+    add_numbered("touched", row, came);
+    add_both(Answer::Flag(!touched), Answer::Flag(touched), came);
 }
 
 // Whether a row of a window is touched, and its cells.
@@ -162,9 +151,9 @@ fn line_of<'a>(lent: &WindowRef<'a>, row: u64) -> (bool, &'a [Cell]) {
 }
 
 // Adds a word with a number.
-fn add_numbered(word: &str, number: u64, came: &mut Vec<u8>) -> Result<(), Trouble> {
-    add_word(word, came)?;
-    add_number(i64::from(narrow(number)), came)
+fn add_numbered(word: &str, number: u64, came: &mut Buffer) {
+    add_word(word, came);
+    add_number(i64::from(narrow(number)), came);
 }
 
 fn counted(count: usize) -> Answer {
@@ -186,43 +175,37 @@ fn desk_nth(desk: &Desk, index: usize) -> Answer {
 }
 
 // Adds which window stands at an index.
-fn add_nth(desk: &Desk, plain: &Plain, index: usize, came: &mut Vec<u8>) -> Result<(), Trouble> {
-    add_numbered("nth", index as u64, came)?;
-    add_both(plain_nth(plain, index), desk_nth(desk, index), came)
+fn add_nth(desk: &Desk, plain: &Plain, index: usize, came: &mut Buffer) {
+    add_numbered("nth", index as u64, came);
+    add_both(plain_nth(plain, index), desk_nth(desk, index), came);
 }
 
 // Adds what was wanted and what came, behind its name.
-fn add_named(
-    name: &str,
-    wanted: Answer,
-    answer: Answer,
-    came: &mut Vec<u8>,
-) -> Result<(), Trouble> {
-    add_word(name, came)?;
-    add_both(wanted, answer, came)
+fn add_named(name: &str, wanted: Answer, answer: Answer, came: &mut Buffer) {
+    add_word(name, came);
+    add_both(wanted, answer, came);
 }
 
-fn add_both(wanted: Answer, answer: Answer, came: &mut Vec<u8>) -> Result<(), Trouble> {
-    add_word("wanted", came)?;
-    add_answer(Ok(wanted), came)?;
-    add_word("came", came)?;
-    add_answer(Ok(answer), came)
+fn add_both(wanted: Answer, answer: Answer, came: &mut Buffer) {
+    add_word("wanted", came);
+    add_answer(Ok(wanted), came);
+    add_word("came", came);
+    add_answer(Ok(answer), came);
 }
 
-fn add_rows(row: u64, wanted: &[Cell], line: &[Cell], came: &mut Vec<u8>) -> Result<(), Trouble> {
-    add_numbered("line", row, came)?;
-    add_word("wanted", came)?;
-    add_cells(wanted, came)?;
-    add_word("came", came)?;
-    add_cells(line, came)
+fn add_rows(row: u64, wanted: &[Cell], line: &[Cell], came: &mut Buffer) {
+    add_numbered("line", row, came);
+    add_word("wanted", came);
+    add_cells(wanted, came);
+    add_word("came", came);
+    add_cells(line, came);
 }
 
 // Adds the bytes of cells, and the attributes and the colour pair of each.
-fn add_cells(cells: &[Cell], came: &mut Vec<u8>) -> Result<(), Trouble> {
-    add_text_of(cells, came)?;
+fn add_cells(cells: &[Cell], came: &mut Buffer) {
+    add_text_of(cells, came);
     for cell in cells {
-        add_number(i64::from(cell.attrs().0), came)?;
-        add_number(i64::from(cell.pair()), came)?;
+        add_number(i64::from(cell.attrs().0), came);
+        add_number(i64::from(cell.pair()), came);
     }
-    Ok(())
 }

@@ -3,37 +3,35 @@
 use crate::answers::fault_name;
 use crate::lent_lines::answer_of_lent;
 use check_scripts::answers::{add_number, add_text_of, add_word};
-use check_scripts::texts::read_text;
-use check_scripts::troubles::Trouble;
+use check_scripts::buffers::Buffer;
 use check_scripts::words::Words;
 use scr_cells::{Cell, Size};
 use scr_windows::{Desk, Win, WinFault};
 use std::alloc::Global;
 
 /// The lines `desk R C`, `drawn R C TEXT`, `line W R`, `rows W`, `attributes W R`, `pairs W R` and `touched W`, and
-/// those about which windows there are and what one tells.
+/// those about which windows there are and what one tells. Tells whether a line is one of them.
 pub fn answer_of_desk(
     alloc: Global,
     desk: &mut Option<Desk>,
-    text: &mut Vec<u8>,
+    text: &mut Buffer,
     word: &str,
     words: &mut Words<'_>,
-    came: &mut Vec<u8>,
-) -> Result<bool, Trouble> {
+    came: &mut Buffer,
+) -> bool {
     match word {
         "desk" => {
-            let size = (words.number()?, words.number()?);
-            make_desk(alloc, desk, size, None, came)?;
+            let size = (words.number(), words.number());
+            make_desk(alloc, desk, size, None, came);
         }
         "drawn" => {
-            let size = (words.number()?, words.number()?);
-            text.clear();
-            read_text(words.next(), text)?;
-            make_desk(alloc, desk, size, Some(text.as_slice()), came)?;
+            let size = (words.number(), words.number());
+            words.text(text);
+            make_desk(alloc, desk, size, Some(text.bytes()), came);
         }
         _ => return answer_of_made_desk(desk.as_ref(), word, words, came),
     }
-    Ok(true)
+    true
 }
 
 // The lines that say what a desk holds.
@@ -41,20 +39,20 @@ fn answer_of_made_desk(
     desk: Option<&Desk>,
     word: &str,
     words: &mut Words<'_>,
-    came: &mut Vec<u8>,
-) -> Result<bool, Trouble> {
+    came: &mut Buffer,
+) -> bool {
     let Some(desk) = desk else {
-        return Ok(false);
+        return false;
     };
     match word {
-        "line" => add_line(desk, words, came)?,
-        "rows" => add_rows(desk, words, came)?,
-        "attributes" => add_of_each(desk, words, false, came)?,
-        "pairs" => add_of_each(desk, words, true, came)?,
-        "touched" => add_touched(desk, words, came)?,
+        "line" => add_line(desk, words, came),
+        "rows" => add_rows(desk, words, came),
+        "attributes" => add_of_each(desk, words, false, came),
+        "pairs" => add_of_each(desk, words, true, came),
+        "touched" => add_touched(desk, words, came),
         _ => return answer_of_lent(desk, word, words, came),
     }
-    Ok(true)
+    true
 }
 
 // Makes a desk; if it is drawn, with a text in its first window.
@@ -63,10 +61,11 @@ fn make_desk(
     desk: &mut Option<Desk>,
     size: (u32, u32),
     text: Option<&[u8]>,
-    came: &mut Vec<u8>,
-) -> Result<(), Trouble> {
+    came: &mut Buffer,
+) {
     let Some(size) = Size::new(size.0, size.1) else {
-        return add_word("none", came);
+        add_word("none", came);
+        return;
     };
     match new_desk(alloc, size, text) {
         Ok(made) => {
@@ -77,55 +76,47 @@ fn make_desk(
     }
 }
 
-fn add_line(desk: &Desk, words: &mut Words<'_>, came: &mut Vec<u8>) -> Result<(), Trouble> {
-    let win = Win(words.number()?);
-    add_cells(desk.line(win, words.number()?), came)
+fn add_line(desk: &Desk, words: &mut Words<'_>, came: &mut Buffer) {
+    let win = Win(words.number());
+    add_cells(desk.line(win, words.number()), came);
 }
 
-fn add_rows(desk: &Desk, words: &mut Words<'_>, came: &mut Vec<u8>) -> Result<(), Trouble> {
-    let win = Win(words.number()?);
+fn add_rows(desk: &Desk, words: &mut Words<'_>, came: &mut Buffer) {
+    let win = Win(words.number());
     match desk.size(win) {
         Ok((rows, _)) => {
             for row in 0..rows {
-                add_cells(desk.line(win, row), came)?;
+                add_cells(desk.line(win, row), came);
             }
-            Ok(())
         }
         Err(fault) => add_word(fault_name(fault), came),
     }
 }
 
 // Adds the colour pair of each cell of a line, or the attributes.
-fn add_of_each(
-    desk: &Desk,
-    words: &mut Words<'_>,
-    pairs: bool,
-    came: &mut Vec<u8>,
-) -> Result<(), Trouble> {
-    let win = Win(words.number()?);
-    match desk.line(win, words.number()?) {
+fn add_of_each(desk: &Desk, words: &mut Words<'_>, pairs: bool, came: &mut Buffer) {
+    let win = Win(words.number());
+    match desk.line(win, words.number()) {
         Ok(cells) => {
             for cell in cells {
                 let attrs = u32::from(cell.attrs().0);
                 let number = if pairs { cell.pair() } else { attrs };
-                add_number(i64::from(number), came)?;
+                add_number(i64::from(number), came);
             }
-            Ok(())
         }
         Err(fault) => add_word(fault_name(fault), came),
     }
 }
 
-fn add_touched(desk: &Desk, words: &mut Words<'_>, came: &mut Vec<u8>) -> Result<(), Trouble> {
-    let win = Win(words.number()?);
+fn add_touched(desk: &Desk, words: &mut Words<'_>, came: &mut Buffer) {
+    let win = Win(words.number());
     match desk.size(win) {
         Ok((rows, _)) => {
-            came.push(b' ')?;
+            came.push(b' ');
             for row in 0..rows {
                 let touched = desk.line_touched(win, row) == Ok(true);
-                came.push(if touched { b'x' } else { b'.' })?;
+                came.push(if touched { b'x' } else { b'.' });
             }
-            Ok(())
         }
         Err(fault) => add_word(fault_name(fault), came),
     }
@@ -144,7 +135,7 @@ fn new_desk(alloc: Global, size: Size, text: Option<&[u8]>) -> Result<Desk, WinF
 }
 
 // Adds the bytes of cells as a text.
-fn add_cells(cells: Result<&[Cell], WinFault>, came: &mut Vec<u8>) -> Result<(), Trouble> {
+fn add_cells(cells: Result<&[Cell], WinFault>, came: &mut Buffer) {
     match cells {
         Ok(cells) => add_text_of(cells, came),
         Err(fault) => add_word(fault_name(fault), came),

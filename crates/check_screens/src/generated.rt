@@ -6,6 +6,7 @@ use crate::desk_calls::call_desk;
 use crate::generating::{TEXT, next_call, next_form};
 use crate::random::Random;
 use check_scripts::answers::{add_number, add_text, add_word};
+use check_scripts::buffers::Buffer;
 use check_scripts::troubles::Trouble;
 use check_scripts::words::Words;
 use plain_desk::calls::{Answered, Call};
@@ -35,9 +36,9 @@ struct Both {
 pub fn check_generated(
     alloc: Global,
     words: &mut Words<'_>,
-    came: &mut Vec<u8>,
+    came: &mut Buffer,
 ) -> Result<(), Trouble> {
-    let (count, seed) = (words.number()?, words.number()?);
+    let (count, seed) = (words.number(), words.number());
     let mut random = Random::new(seed);
     for done in 0..count.div_ceil(CALLS) {
         let first = done.saturating_mul(CALLS);
@@ -46,7 +47,8 @@ pub fn check_generated(
             return Ok(());
         }
     }
-    add_word("agree", came)
+    add_word("agree", came);
+    Ok(())
 }
 
 // Makes the calls of some numbers on blank desks, and tells whether they agree.
@@ -55,10 +57,10 @@ fn make_some(
     first: u32,
     end: u32,
     random: &mut Random,
-    came: &mut Vec<u8>,
+    came: &mut Buffer,
 ) -> Result<bool, Trouble> {
     let Some(mut both) = new_desks(alloc)? else {
-        add_word("NoMemory", came)?;
+        add_word("NoMemory", came);
         return Ok(false);
     };
     both.steps(first, end, random, came)
@@ -83,7 +85,7 @@ impl Both {
         first: u32,
         end: u32,
         random: &mut Random,
-        came: &mut Vec<u8>,
+        came: &mut Buffer,
     ) -> Result<bool, Trouble> {
         for number in first..end {
             if !self.step(u64::from(number), random, came)? {
@@ -98,7 +100,7 @@ impl Both {
         &mut self,
         number: u64,
         random: &mut Random,
-        came: &mut Vec<u8>,
+        came: &mut Buffer,
     ) -> Result<bool, Trouble> {
         let mut text = [0; TEXT];
         let form = next_form(random).ok_or(Trouble::Bad("no form"))?;
@@ -108,11 +110,11 @@ impl Both {
 
     // Makes a call on both and compares them. Where memory runs out on the library's desk, nothing may have changed,
     // and the call is made again.
-    fn make(&mut self, number: u64, call: &Call, came: &mut Vec<u8>) -> Result<bool, Trouble> {
+    fn make(&mut self, number: u64, call: &Call, came: &mut Buffer) -> Result<bool, Trouble> {
         let mut answered = call_desk(self.alloc, &mut self.desk, call);
         if answered == Err(WinFault::NoMemory) {
             if let Some(difference) = first_difference(&self.desk, &self.plain) {
-                self.tell(number, call, difference, came)?;
+                self.tell(number, call, difference, came);
                 return Ok(false);
             }
             answered = call_desk(self.alloc, &mut self.desk, call);
@@ -122,12 +124,12 @@ impl Both {
             return Err(Trouble::NoMemory);
         }
         if answered != wanted {
-            tell_answers(number, call, wanted, answered, came)?;
+            tell_answers(number, call, wanted, answered, came);
             return Ok(false);
         }
         match first_difference(&self.desk, &self.plain) {
             Some(difference) => {
-                self.tell(number, call, difference, came)?;
+                self.tell(number, call, difference, came);
                 Ok(false)
             }
             None => Ok(true),
@@ -135,48 +137,36 @@ impl Both {
     }
 
     // Says after which call the desks differ, and where.
-    fn tell(
-        &self,
-        number: u64,
-        call: &Call,
-        difference: What,
-        came: &mut Vec<u8>,
-    ) -> Result<(), Trouble> {
-        add_call(number, call, came)?;
-        add_difference(&self.desk, &self.plain, difference, came)
+    fn tell(&self, number: u64, call: &Call, difference: What, came: &mut Buffer) {
+        add_call(number, call, came);
+        add_difference(&self.desk, &self.plain, difference, came);
     }
 }
 
-fn tell_answers(
-    number: u64,
-    call: &Call,
-    wanted: Answered,
-    answered: Answered,
-    came: &mut Vec<u8>,
-) -> Result<(), Trouble> {
-    add_call(number, call, came)?;
-    add_word("answer wanted", came)?;
-    add_answer(wanted, came)?;
-    add_word("came", came)?;
-    add_answer(answered, came)
+fn tell_answers(number: u64, call: &Call, wanted: Answered, answered: Answered, came: &mut Buffer) {
+    add_call(number, call, came);
+    add_word("answer wanted", came);
+    add_answer(wanted, came);
+    add_word("came", came);
+    add_answer(answered, came);
 }
 
 // Adds a call as a line of a script says it, with its number.
-fn add_call(number: u64, call: &Call, came: &mut Vec<u8>) -> Result<(), Trouble> {
-    add_word("call", came)?;
-    add_number(i64::try_from(number).unwrap_or(0), came)?;
-    add_word(call.form.0, came)?;
+fn add_call(number: u64, call: &Call, came: &mut Buffer) {
+    add_word("call", came);
+    add_number(i64::try_from(number).unwrap_or(0), came);
+    add_word(call.form.0, came);
     for (letter, number) in call.form.1.as_bytes().iter().zip(call.numbers.iter()) {
-        add_argument(*letter, *number, call.text, came)?;
+        add_argument(*letter, *number, call.text, came);
     }
-    came.push(b':')?;
-    Ok(())
+    came.push(b':');
 }
 
 // Adds an argument: the call's text, or a number.
-fn add_argument(letter: u8, number: i64, text: &[u8], came: &mut Vec<u8>) -> Result<(), Trouble> {
+fn add_argument(letter: u8, number: i64, text: &[u8], came: &mut Buffer) {
     if letter == b't' {
-        return add_text(text, came);
+        add_text(text, came);
+        return;
     }
-    add_number(number, came)
+    add_number(number, came);
 }

@@ -3,7 +3,8 @@
 use crate::keys::stages::KeyStage;
 use crate::stages::DeskStage;
 use check_scripts::answers::add_word;
-use check_scripts::checking::Stage;
+use check_scripts::buffers::Buffer;
+use check_scripts::checking::{Stage, put};
 use check_scripts::troubles::Trouble;
 use check_scripts::words::Words;
 use std::alloc::Global;
@@ -25,10 +26,11 @@ impl Stage for KindStage {
         }
     }
 
-    fn answer(&mut self, words: &mut Words<'_>, came: &mut Vec<u8>) -> Result<(), Trouble> {
+    fn answer(&mut self, words: &mut Words<'_>, came: &mut Buffer) {
         if words.peek() == b"about".as_slice() {
             let _about = words.next();
-            return self.begin(words.next(), came);
+            self.begin(words, came);
+            return;
         }
         match &mut self.keys {
             Some(keys) => keys.answer(words, came),
@@ -36,7 +38,7 @@ impl Stage for KindStage {
         }
     }
 
-    fn dump(&self, bytes: &mut Vec<u8>) -> Result<(), Trouble> {
+    fn dump(&self, bytes: &mut Buffer) {
         match &self.keys {
             Some(keys) => keys.dump(bytes),
             None => self.windows.dump(bytes),
@@ -48,15 +50,21 @@ impl Stage for KindStage {
     }
 }
 
+// What lines about keys work on, where those behind a line are about keys.
+fn keys_of(alloc: Global, words: &mut Words<'_>) -> Option<KeyStage> {
+    match words.next() {
+        b"keys" => return Some(KeyStage::new(alloc)),
+        b"windows" => {}
+        _ => words.fail(Trouble::Bad("no such kind of lines")),
+    }
+    None
+}
+
 impl KindStage {
     // The line `about windows` or `about keys`: nothing is there yet for the lines behind it.
-    fn begin(&mut self, kind: &[u8], came: &mut Vec<u8>) -> Result<(), Trouble> {
-        self.windows = DeskStage::new(self.alloc);
-        self.keys = match kind {
-            b"windows" => None,
-            b"keys" => Some(KeyStage::new(self.alloc)),
-            _ => return Err(Trouble::Bad("no such kind of lines")),
-        };
-        add_word("Ok", came)
+    fn begin(&mut self, words: &mut Words<'_>, came: &mut Buffer) {
+        put(&mut self.windows, DeskStage::new(self.alloc));
+        put(&mut self.keys, keys_of(self.alloc, words));
+        add_word("Ok", came);
     }
 }

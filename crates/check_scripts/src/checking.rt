@@ -1,6 +1,7 @@
 //! A script of calls with the answers that are wanted, line by line.
 
 use crate::answers::{add_wanted, add_word};
+use crate::buffers::{Buffer, are_same};
 use crate::troubles::Trouble;
 use crate::words::Words;
 use program_input::{InputFault, read_input};
@@ -14,14 +15,20 @@ pub trait Stage: Sized {
     /// Nothing is there yet.
     fn new(alloc: Global) -> Self;
 
-    /// Makes the call of a line, and adds what it answers, in words.
-    fn answer(&mut self, words: &mut Words<'_>, came: &mut Vec<u8>) -> Result<(), Trouble>;
+    /// Makes the call of a line, and adds what it answers, in words. A line that is none fails.
+    fn answer(&mut self, words: &mut Words<'_>, came: &mut Buffer);
 
     /// Adds all that can be seen.
-    fn dump(&self, bytes: &mut Vec<u8>) -> Result<(), Trouble>;
+    fn dump(&self, bytes: &mut Buffer);
 
     /// Whether a call of this name leaves all as it is, so that it need not be made to have the state behind it.
     fn leaves_all(word: &[u8]) -> bool;
+}
+
+/// Puts a value in the place of another. A function that would drop a large value, as a screen, takes long to prove; this one is proved once
+/// for all values.
+pub fn put<T: Drop>(place: &mut T, value: T) {
+    *place = value;
 }
 
 /// A script, and how far it was checked.
@@ -31,9 +38,9 @@ pub struct Checker<'a, S: Stage + Drop> {
     script: &'a [u8],
     stage: S,
     // Room for texts of what is wanted.
-    text: Vec<u8>,
-    wanted: Vec<u8>,
-    came: Vec<u8>,
+    text: Buffer,
+    wanted: Buffer,
+    came: Buffer,
     /// The number of the line, from 1 on.
     pub line: u32,
     agree: u32,
@@ -46,9 +53,9 @@ impl<'a, S: Stage + Drop> Checker<'a, S> {
             alloc,
             script,
             stage: S::new(alloc),
-            text: Vec::new(alloc),
-            wanted: Vec::new(alloc),
-            came: Vec::new(alloc),
+            text: Buffer::new(alloc),
+            wanted: Buffer::new(alloc),
+            came: Buffer::new(alloc),
             line: 0,
             agree: 0,
         }
@@ -75,12 +82,12 @@ impl<'a, S: Stage + Drop> Checker<'a, S> {
 
     /// What was wanted of the last line.
     pub fn wanted(&self) -> &[u8] {
-        &self.wanted
+        self.wanted.bytes()
     }
 
     /// What came of it.
     pub fn came(&self) -> &[u8] {
-        &self.came
+        self.came.bytes()
     }
 
     // Makes the call of a line, as often as it says, and compares.
@@ -97,18 +104,29 @@ impl<'a, S: Stage + Drop> Checker<'a, S> {
     // Makes a call and compares. Where memory ran out, nothing may have changed, and the call is made again.
     fn check_call(&mut self, words: Words<'_>, done: u32) -> Result<bool, Trouble> {
         self.call(words)?;
-        if ran_out(&self.came) && !ran_out(&self.wanted) {
-            if !self.is_as_before(words, done)? {
-                add_word("after which something is changed", &mut self.came)?;
-                return Ok(false);
-            }
-            self.call(words)?;
+        if ran_out(self.came.bytes()) && !ran_out(self.wanted.bytes()) {
+            return self.check_again(words, done);
         }
-        let agree = agrees(&self.wanted, &self.came);
-        if !agree && self.wanted.is_empty() {
-            add_word("no refusal", &mut self.wanted)?;
+        Ok(self.compare())
+    }
+
+    // Looks whether all is as before a call, and makes it again and compares.
+    fn check_again(&mut self, words: Words<'_>, done: u32) -> Result<bool, Trouble> {
+        if !self.is_as_before(words, done)? {
+            add_word("after which something is changed", &mut self.came);
+            return Ok(false);
         }
-        Ok(agree)
+        self.call(words)?;
+        Ok(self.compare())
+    }
+
+    // Whether what came is wanted.
+    fn compare(&mut self) -> bool {
+        let agree = agrees(self.wanted.bytes(), self.came.bytes());
+        if !agree && self.wanted.bytes().is_empty() {
+            add_word("no refusal", &mut self.wanted);
+        }
+        agree
     }
 
     // Makes a call, and reads what is wanted of it.
@@ -116,12 +134,15 @@ impl<'a, S: Stage + Drop> Checker<'a, S> {
         let mut words = line;
         self.came.clear();
         self.wanted.clear();
-        self.stage.answer(&mut words, &mut self.came)?;
+        self.stage.answer(&mut words, &mut self.came);
         match words.next() {
-            b"" => Ok(()),
+            b"" => {}
             b"=" => add_wanted(&mut words, &mut self.text, &mut self.wanted),
-            _ => Err(Trouble::Bad("too many arguments")),
+            _ => words.fail(Trouble::Bad("too many arguments")),
         }
+        words.check(self.came.done());
+        words.check(self.wanted.done());
+        words.done()
     }
 
     // Whether the state is the one that the lines before this call make anew.
@@ -133,13 +154,13 @@ impl<'a, S: Stage + Drop> Checker<'a, S> {
 
     // Makes the calls of all lines before this one, and this one so often.
     fn make_before(&self, words: Words<'_>, done: u32, anew: &mut S) -> Result<(), Trouble> {
-        let mut came = Vec::new(self.alloc);
+        let mut came = Buffer::new(self.alloc);
         self.make_lines(anew, &mut came)?;
         make_again(anew, words, done, &mut came)
     }
 
     // Makes the calls of all lines before this one.
-    fn make_lines(&self, anew: &mut S, came: &mut Vec<u8>) -> Result<(), Trouble> {
+    fn make_lines(&self, anew: &mut S, came: &mut Buffer) -> Result<(), Trouble> {
         let mut number: u32 = 0;
         for line in self.script.split(|byte| *byte == b'\n') {
             number = number.saturating_add(1);
@@ -153,16 +174,16 @@ impl<'a, S: Stage + Drop> Checker<'a, S> {
 
     // Whether all that can be seen of another stage is as it is here.
     fn looks_like(&self, anew: &S) -> Result<bool, Trouble> {
-        let mut before = Vec::new(self.alloc);
-        let mut after = Vec::new(self.alloc);
-        anew.dump(&mut before)?;
-        self.stage.dump(&mut after)?;
-        Ok(before.as_slice() == after.as_slice())
+        let mut before = Buffer::new(self.alloc);
+        let mut after = Buffer::new(self.alloc);
+        anew.dump(&mut before);
+        self.stage.dump(&mut after);
+        are_same(&before, &after)
     }
 }
 
 // Makes the call of a line, where it is one, as often as it says.
-fn make_line<S: Stage>(stage: &mut S, line: &[u8], came: &mut Vec<u8>) -> Result<(), Trouble> {
+fn make_line<S: Stage>(stage: &mut S, line: &[u8], came: &mut Buffer) -> Result<(), Trouble> {
     if !is_call(line) {
         return Ok(());
     }
@@ -175,7 +196,7 @@ fn make_again<S: Stage>(
     stage: &mut S,
     line: Words<'_>,
     times: u32,
-    came: &mut Vec<u8>,
+    came: &mut Buffer,
 ) -> Result<(), Trouble> {
     if S::leaves_all(line.peek()) {
         return Ok(());
@@ -187,10 +208,11 @@ fn make_again<S: Stage>(
 }
 
 // Makes the call of a line, whatever it answers.
-fn make_once<S: Stage>(stage: &mut S, line: Words<'_>, came: &mut Vec<u8>) -> Result<(), Trouble> {
+fn make_once<S: Stage>(stage: &mut S, line: Words<'_>, came: &mut Buffer) -> Result<(), Trouble> {
     let mut words = line;
     came.clear();
-    stage.answer(&mut words, came)
+    stage.answer(&mut words, came);
+    words.done()
 }
 
 // Whether a line is a call: it is not empty, and no comment.
@@ -205,7 +227,8 @@ fn repeated(line: &[u8]) -> Result<(u32, Words<'_>), Trouble> {
         return Ok((1, words));
     }
     let _times = words.next();
-    let times = words.number()?;
+    let times = words.number();
+    words.done()?;
     Ok((times, words))
 }
 

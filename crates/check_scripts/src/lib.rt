@@ -3,6 +3,7 @@
 #![tactic(auto)]
 
 pub mod answers;
+pub mod buffers;
 pub mod checking;
 pub mod dumps;
 pub mod random;

@@ -1,5 +1,6 @@
 //! Texts in quotation marks: how they are read, and how bytes are written as one.
 
+use crate::buffers::Buffer;
 use crate::troubles::Trouble;
 use scr_cells::is_character;
 
@@ -12,161 +13,168 @@ enum Part {
     FirstDigit,
     SecondDigit(u8),
     Times(usize),
+    // It is no text.
+    Bad(&'static str),
 }
 
 // What was read of a text, and where its last piece begins.
 #[derive(Drop)]
 struct Reader<'a> {
-    bytes: &'a mut Vec<u8>,
+    bytes: &'a mut Buffer,
     part: Part,
     begin: usize,
 }
 
 /// Adds the bytes of a text: pieces in quotation marks with `+` between, and `*N` behind one that is repeated.
 /// `\n`, `\t`, `\e`, `\"`, `\\` and `\xHH` stand for bytes.
-pub fn read_text(word: &[u8], bytes: &mut Vec<u8>) -> Result<(), Trouble> {
-    let begin = bytes.len();
+pub fn read_text(word: &[u8], bytes: &mut Buffer) -> Result<(), Trouble> {
+    let begin = bytes.bytes().len();
     let mut reader = Reader {
         bytes,
-        part: Part::Outside,
+        part: first_part(word),
         begin,
     };
-    if !word.starts_with(b"\"") {
-        return Err(Trouble::Bad("no text"));
-    }
     for byte in word {
-        reader.take(*byte)?;
+        reader.take(*byte);
     }
     reader.end()
 }
 
 /// Adds bytes as a text in quotation marks.
-pub fn write_text(bytes: &[u8], text: &mut Vec<u8>) -> Result<(), Trouble> {
-    text.push(b'"')?;
+pub fn write_text(bytes: &[u8], text: &mut Buffer) {
+    text.push(b'"');
     for byte in bytes {
-        write_byte(*byte, text)?;
+        write_byte(*byte, text);
     }
-    text.push(b'"')?;
-    Ok(())
+    text.push(b'"');
 }
 
 /// Adds a byte as it stands within a text.
-pub fn write_byte(byte: u8, text: &mut Vec<u8>) -> Result<(), Trouble> {
+pub fn write_byte(byte: u8, text: &mut Buffer) {
     match byte {
-        b'\n' => text.extend_from_slice(b"\\n")?,
-        b'\t' => text.extend_from_slice(b"\\t")?,
-        27 => text.extend_from_slice(b"\\e")?,
-        b'"' | b'\\' => text.extend_from_slice(&[b'\\', byte])?,
-        _ if is_character(byte) => text.push(byte)?,
-        _ => text.extend_from_slice(&[
-            b'\\',
-            b'x',
-            hexadecimal(byte / 16),
-            hexadecimal(byte % 16),
-        ])?,
+        b'\n' => text.extend(b"\\n"),
+        b'\t' => text.extend(b"\\t"),
+        27 => text.extend(b"\\e"),
+        b'"' | b'\\' => text.extend(&[b'\\', byte]),
+        _ if is_character(byte) => text.push(byte),
+        _ => text.extend(&[b'\\', b'x', hexadecimal(byte / 16), hexadecimal(byte % 16)]),
     }
-    Ok(())
+}
+
+fn first_part(word: &[u8]) -> Part {
+    if word.starts_with(b"\"") {
+        Part::Outside
+    } else {
+        Part::Bad("no text")
+    }
 }
 
 impl Reader<'_> {
-    fn take(&mut self, byte: u8) -> Result<(), Trouble> {
+    fn take(&mut self, byte: u8) {
         match self.part {
             Part::Outside => self.take_outside(byte),
             Part::Inside => self.take_inside(byte),
             Part::Escaped => self.take_escaped(byte),
-            Part::FirstDigit => {
-                self.part = Part::SecondDigit(digit(byte)?);
-                Ok(())
-            }
-            Part::SecondDigit(high) => {
-                let low = digit(byte)?;
-                self.add(high.wrapping_mul(16) | low)
-            }
-            Part::Times(count) => self.take_digit(count, byte),
+            Part::FirstDigit => self.part = first_digit(byte),
+            Part::SecondDigit(high) => self.take_second_digit(high, byte),
+            Part::Times(count) => self.take_count(count, byte),
+            Part::Bad(_) => {}
         }
     }
 
-    fn take_outside(&mut self, byte: u8) -> Result<(), Trouble> {
+    fn take_outside(&mut self, byte: u8) {
         match byte {
             b'"' => {
-                self.begin = self.bytes.len();
+                self.begin = self.bytes.bytes().len();
                 self.part = Part::Inside;
             }
             b'*' => self.part = Part::Times(0),
             b'+' => {}
-            _ => return Err(Trouble::Bad("a text goes on behind its end")),
+            _ => self.part = Part::Bad("a text goes on behind its end"),
         }
-        Ok(())
     }
 
-    fn take_inside(&mut self, byte: u8) -> Result<(), Trouble> {
+    fn take_inside(&mut self, byte: u8) {
         match byte {
             b'"' => self.part = Part::Outside,
             b'\\' => self.part = Part::Escaped,
-            _ => self.bytes.push(byte)?,
+            _ => self.bytes.push(byte),
         }
-        Ok(())
     }
 
-    fn take_escaped(&mut self, byte: u8) -> Result<(), Trouble> {
+    fn take_escaped(&mut self, byte: u8) {
         match byte {
             b'n' => self.add(b'\n'),
             b't' => self.add(b'\t'),
             b'e' => self.add(27),
             b'"' | b'\\' => self.add(byte),
-            b'x' => {
-                self.part = Part::FirstDigit;
-                Ok(())
-            }
-            _ => Err(Trouble::Bad("no such escape")),
+            b'x' => self.part = Part::FirstDigit,
+            _ => self.part = Part::Bad("no such escape"),
+        }
+    }
+
+    fn take_second_digit(&mut self, high: u8, byte: u8) {
+        match digit(byte) {
+            Some(low) => self.add(high.wrapping_mul(16) | low),
+            None => self.part = Part::Bad("no digit"),
         }
     }
 
     // Adds a byte that was escaped.
-    fn add(&mut self, byte: u8) -> Result<(), Trouble> {
+    fn add(&mut self, byte: u8) {
         self.part = Part::Inside;
-        self.bytes.push(byte)?;
-        Ok(())
+        self.bytes.push(byte);
     }
 
     // Takes a digit of how often a piece is there, or what follows the last.
-    fn take_digit(&mut self, count: usize, byte: u8) -> Result<(), Trouble> {
+    fn take_count(&mut self, count: usize, byte: u8) {
         if byte == b'+' {
             self.part = Part::Outside;
-            return self.repeat(count);
+            self.repeat(count);
+            return;
         }
-        let value = usize::from(digit(byte)?);
-        self.part = Part::Times(count.saturating_mul(10).saturating_add(value));
-        Ok(())
+        self.part = match digit(byte) {
+            Some(digit) => Part::Times(count.saturating_mul(10).saturating_add(usize::from(digit))),
+            None => Part::Bad("no digit"),
+        };
     }
 
     fn end(&mut self) -> Result<(), Trouble> {
         match self.part {
-            Part::Outside => Ok(()),
+            Part::Outside => {}
             Part::Times(count) => self.repeat(count),
-            _ => Err(Trouble::Bad("a text has no end")),
+            Part::Bad(cause) => return Err(Trouble::Bad(cause)),
+            _ => return Err(Trouble::Bad("a text has no end")),
         }
+        self.bytes.done()
     }
 
     // Has the last piece stand so often.
-    fn repeat(&mut self, count: usize) -> Result<(), Trouble> {
-        let end = self.bytes.len();
+    fn repeat(&mut self, count: usize) {
+        let end = self.bytes.bytes().len();
         for _ in 1..count {
             for place in self.begin..end {
-                let byte = self.bytes.get(place).copied().unwrap_or(0);
-                self.bytes.push(byte)?;
+                let byte = self.bytes.bytes().get(place).copied().unwrap_or(0);
+                self.bytes.push(byte);
             }
         }
-        Ok(())
+    }
+}
+
+// What follows the first hexadecimal digit of a byte.
+fn first_digit(byte: u8) -> Part {
+    match digit(byte) {
+        Some(high) => Part::SecondDigit(high),
+        None => Part::Bad("no digit"),
     }
 }
 
 // The number that a hexadecimal digit stands for.
-fn digit(byte: u8) -> Result<u8, Trouble> {
+fn digit(byte: u8) -> Option<u8> {
     match byte {
-        b'0'..=b'9' => Ok(byte - b'0'),
-        b'a'..=b'f' => Ok(byte - b'a' + 10),
-        _ => Err(Trouble::Bad("no digit")),
+        b'0'..=b'9' => Some(byte - b'0'),
+        b'a'..=b'f' => Some(byte - b'a' + 10),
+        _ => None,
     }
 }
 

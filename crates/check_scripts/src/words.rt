@@ -1,17 +1,44 @@
 //! A line as words, divided by blanks outside of quotation marks.
 
+use crate::buffers::Buffer;
+use crate::texts::read_text;
 use crate::troubles::Trouble;
 
-/// What is left of a line.
+/// What is left of a line, and the first trouble with what was taken of it. A word that is not what it is taken as is taken as 0, and
+/// those who take words need not ask each time.
 #[derive(Clone, Copy)]
 pub struct Words<'a> {
     rest: &'a [u8],
+    trouble: Option<Trouble>,
 }
 
 impl<'a> Words<'a> {
     /// The words of a line, none of them taken yet.
     pub fn new(line: &'a [u8]) -> Words<'a> {
-        Words { rest: line }
+        Words {
+            rest: line,
+            trouble: None,
+        }
+    }
+
+    /// Refuses a line that there was trouble with.
+    pub fn done(&self) -> Result<(), Trouble> {
+        match self.trouble {
+            Some(trouble) => Err(trouble),
+            None => Ok(()),
+        }
+    }
+
+    /// There is trouble with the line.
+    pub fn fail(&mut self, trouble: Trouble) {
+        self.trouble = self.trouble.or(Some(trouble));
+    }
+
+    /// There is trouble with the line, unless something went well.
+    pub fn check(&mut self, done: Result<(), Trouble>) {
+        if let Err(trouble) = done {
+            self.fail(trouble);
+        }
     }
 
     /// The next word, empty where there is none.
@@ -28,43 +55,78 @@ impl<'a> Words<'a> {
     }
 
     /// The next word as a number with a sign.
-    pub fn integer(&mut self) -> Result<i64, Trouble> {
-        integer(self.next())
+    pub fn integer(&mut self) -> i64 {
+        let word = self.next();
+        match integer(word) {
+            Ok(number) => number,
+            Err(trouble) => {
+                self.fail(trouble);
+                0
+            }
+        }
     }
 
     /// The next word as a number.
-    pub fn number(&mut self) -> Result<u32, Trouble> {
-        u32::try_from(self.integer()?).map_err(|_| Trouble::Bad("a number is out of range"))
+    pub fn number(&mut self) -> u32 {
+        let number = self.integer();
+        match u32::try_from(number) {
+            Ok(number) => number,
+            Err(_) => {
+                self.fail(Trouble::Bad("a number is out of range"));
+                0
+            }
+        }
     }
 
     /// The next word as a number if one comes before a `=`, else 0.
-    pub fn number_if_any(&mut self) -> Result<u32, Trouble> {
+    pub fn number_if_any(&mut self) -> u32 {
         match self.peek() {
-            b"" | b"=" => Ok(0),
+            b"" | b"=" => 0,
             _ => self.number(),
         }
     }
 
     /// The next word as a byte, which may be written as a text of one character.
-    pub fn byte(&mut self) -> Result<u8, Trouble> {
-        byte(self.next())
+    pub fn byte(&mut self) -> u8 {
+        let word = self.next();
+        match byte(word) {
+            Ok(byte) => byte,
+            Err(trouble) => {
+                self.fail(trouble);
+                0
+            }
+        }
+    }
+
+    /// The next word as a text, in place of what is in the buffer.
+    pub fn text(&mut self, text: &mut Buffer) {
+        text.clear();
+        let read = read_text(self.next(), text);
+        self.check(read);
     }
 }
 
-/// A word as a number with a sign.
-pub fn integer(word: &[u8]) -> Result<i64, Trouble> {
-    let bad = Trouble::Bad("no number");
-    let Ok(text) = str::from_utf8(word) else {
-        return Err(bad);
-    };
-    text.parse::<i64>().map_err(|_| bad)
+// A word as a number with a sign.
+fn integer(word: &[u8]) -> Result<i64, Trouble> {
+    match str::from_utf8(word).unwrap_or("").parse::<i64>() {
+        Ok(number) => Ok(number),
+        Err(_) => Err(Trouble::Bad("no number")),
+    }
 }
 
-/// A word as a byte, which may be written as a text of one character.
-pub fn byte(word: &[u8]) -> Result<u8, Trouble> {
+// A word as a byte, which may be written as a text of one character.
+fn byte(word: &[u8]) -> Result<u8, Trouble> {
     match word {
         [b'"', byte, b'"'] => Ok(*byte),
-        _ => u8::try_from(integer(word)?).map_err(|_| Trouble::Bad("no byte")),
+        _ => byte_of(integer(word)),
+    }
+}
+
+// A number as a byte.
+fn byte_of(number: Result<i64, Trouble>) -> Result<u8, Trouble> {
+    match u8::try_from(number?) {
+        Ok(byte) => Ok(byte),
+        Err(_) => Err(Trouble::Bad("no byte")),
     }
 }
 

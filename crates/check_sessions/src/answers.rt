@@ -1,13 +1,13 @@
 //! Answers of calls on a screen, in words.
 
 use check_scripts::answers::{add_cell, add_flag, add_number, add_place, add_word};
-use check_scripts::troubles::Trouble;
+use check_scripts::buffers::Buffer;
 use curses::{Answer, UpdateFault};
 use scr_windows::{Added, WinFault};
 use std::io::ErrorKind;
 
 /// Adds what a call answered: `Ok` and what it gives, an update the number of its bytes; `Refused` and why; or `NoMemory`.
-pub fn add_answer(answer: &Answer, words: &mut Vec<u8>) -> Result<(), Trouble> {
+pub fn add_answer(answer: &Answer, words: &mut Buffer) {
     match answer {
         Answer::Nothing => add_word("Ok", words),
         Answer::Made(win) => add_number(i64::from(win.0), words),
@@ -18,7 +18,7 @@ pub fn add_answer(answer: &Answer, words: &mut Vec<u8>) -> Result<(), Trouble> {
         Answer::Touched(touched) => add_flag(*touched, words),
         Answer::Refused(fault) => add_refusal(*fault, words),
         Answer::Sent(sent) => {
-            add_word("Ok", words)?;
+            add_word("Ok", words);
             add_count(sent.bytes, words)
         }
         Answer::Failed(fault) => add_fault(fault, words),
@@ -33,38 +33,39 @@ pub fn ran_out(answer: &Answer) -> bool {
     )
 }
 
-fn add_refusal(fault: WinFault, words: &mut Vec<u8>) -> Result<(), Trouble> {
+fn add_refusal(fault: WinFault, words: &mut Buffer) {
     if fault == WinFault::NoMemory {
-        return add_word("NoMemory", words);
+        add_word("NoMemory", words);
+        return;
     }
-    add_word("Refused", words)?;
-    add_word(fault_name(fault), words)
+    add_word("Refused", words);
+    add_word(fault_name(fault), words);
 }
 
 // Adds why an update ended early, how many operations it began, and how many bytes it sent.
-fn add_fault(fault: &UpdateFault, words: &mut Vec<u8>) -> Result<(), Trouble> {
+fn add_fault(fault: &UpdateFault, words: &mut Buffer) {
     match fault {
         UpdateFault::NoMemory => add_word("NoMemory", words),
         UpdateFault::Write { begun, sent, kind } => {
-            add_word("Write", words)?;
+            add_word("Write", words);
             add_ended(*kind, begun.0.len(), *sent, words)
         }
         UpdateFault::Flush { begun, sent, kind } => {
-            add_word("Flush", words)?;
+            add_word("Flush", words);
             add_ended(*kind, begun.0.len(), *sent, words)
         }
     }
 }
 
-fn add_ended(kind: ErrorKind, begun: usize, sent: u64, words: &mut Vec<u8>) -> Result<(), Trouble> {
-    add_word(kind_name(kind), words)?;
-    add_count(begun as u64, words)?;
-    add_count(sent, words)
+fn add_ended(kind: ErrorKind, begun: usize, sent: u64, words: &mut Buffer) {
+    add_word(kind_name(kind), words);
+    add_count(begun as u64, words);
+    add_count(sent, words);
 }
 
 /// Adds a count.
-pub fn add_count(count: u64, words: &mut Vec<u8>) -> Result<(), Trouble> {
-    add_number(i64::try_from(count).unwrap_or(-1), words)
+pub fn add_count(count: u64, words: &mut Buffer) {
+    add_number(i64::try_from(count).unwrap_or(-1), words);
 }
 
 fn kind_name(kind: ErrorKind) -> &'static str {

@@ -1,7 +1,7 @@
 //! Lines that are calls on a screen, by the names of its methods.
 
 use check_scripts::answers::read_parts;
-use check_scripts::texts::read_text;
+use check_scripts::buffers::Buffer;
 use check_scripts::troubles::Trouble;
 use check_scripts::words::Words;
 use curses::Call;
@@ -60,91 +60,92 @@ static COUNTS: [(&str, usize); 41] = [
 
 /// Reads the call of a line, its arguments in the order of the method's; a flag is 0 or 1. `None` where the word names none,
 /// or an update.
-pub fn read_call(
-    alloc: Global,
-    word: &str,
-    words: &mut Words<'_>,
-) -> Result<Option<Call>, Trouble> {
+pub fn read_call(alloc: Global, word: &str, words: &mut Words<'_>) -> Option<Call> {
     match word {
-        "add_text" => read_add_text(alloc, words),
-        "add_byte" | "insert_byte" | "line_across" | "line_down" => read_byte(word, words),
-        "border" => read_border(words),
-        "scroll" | "insert_delete_lines" => read_signed(word, words),
+        "add_text" => Some(read_add_text(alloc, words)),
+        "add_byte" | "insert_byte" | "line_across" | "line_down" => Some(read_byte(word, words)),
+        "border" => Some(read_border(words)),
+        "scroll" | "insert_delete_lines" => Some(read_signed(word, words)),
         "set_background" | "change_background" => read_background(word, words),
         _ => read_numbered(word, words),
     }
 }
 
-fn read_win(words: &mut Words<'_>) -> Result<Win, Trouble> {
-    Ok(Win(words.number()?))
+fn read_add_text(alloc: Global, words: &mut Words<'_>) -> Call {
+    let win = Win(words.number());
+    let mut text = Buffer::new(alloc);
+    words.text(&mut text);
+    Call::AddText(win, Bytes(text.into_bytes()))
 }
 
-fn read_add_text(alloc: Global, words: &mut Words<'_>) -> Result<Option<Call>, Trouble> {
-    let win = read_win(words)?;
-    let mut text = Vec::new(alloc);
-    read_text(words.next(), &mut text)?;
-    Ok(Some(Call::AddText(win, Bytes(text))))
-}
-
-fn read_byte(word: &str, words: &mut Words<'_>) -> Result<Option<Call>, Trouble> {
-    let (win, byte, number) = (read_win(words)?, words.byte()?, words.number()?);
+fn read_byte(word: &str, words: &mut Words<'_>) -> Call {
+    let (win, byte, number) = (Win(words.number()), words.byte(), words.number());
     let attrs = Attrs(u8::try_from(number).unwrap_or(u8::MAX));
-    Ok(Some(match word {
+    match word {
         "add_byte" => Call::AddByte(win, byte, attrs),
         "insert_byte" => Call::InsertByte(win, byte, attrs),
         "line_across" => Call::LineAcross(win, byte, number),
         _ => Call::LineDown(win, byte, number),
-    }))
+    }
 }
 
-fn read_border(words: &mut Words<'_>) -> Result<Option<Call>, Trouble> {
-    let win = read_win(words)?;
+fn read_border(words: &mut Words<'_>) -> Call {
+    let win = Win(words.number());
     let mut bytes = [0; 8];
     for byte in bytes.iter_mut() {
-        *byte = words.byte()?;
+        *byte = words.byte();
     }
-    Ok(Some(Call::Border(win, bytes)))
+    Call::Border(win, bytes)
 }
 
-fn read_signed(word: &str, words: &mut Words<'_>) -> Result<Option<Call>, Trouble> {
-    let win = read_win(words)?;
-    let Ok(number) = i32::try_from(words.integer()?) else {
-        return Err(Trouble::Bad("a number is out of range"));
-    };
-    Ok(Some(if word == "scroll" {
+fn read_signed(word: &str, words: &mut Words<'_>) -> Call {
+    let win = Win(words.number());
+    let number = read_count(words);
+    if word == "scroll" {
         Call::Scroll(win, number)
     } else {
         Call::InsertDeleteLines(win, number)
-    }))
+    }
 }
 
-fn read_background(word: &str, words: &mut Words<'_>) -> Result<Option<Call>, Trouble> {
-    let win = read_win(words)?;
-    let (byte, attrs, pair) = read_parts(words)?;
+// Reads a count with a sign.
+fn read_count(words: &mut Words<'_>) -> i32 {
+    let number = words.integer();
+    match i32::try_from(number) {
+        Ok(count) => count,
+        Err(_) => {
+            words.fail(Trouble::Bad("a number is out of range"));
+            0
+        }
+    }
+}
+
+fn read_background(word: &str, words: &mut Words<'_>) -> Option<Call> {
+    let win = Win(words.number());
+    let (byte, attrs, pair) = read_parts(words);
     let Some(cell) = Cell::paired(byte, attrs, pair) else {
-        return Err(Trouble::Bad("no cell"));
+        words.fail(Trouble::Bad("no cell"));
+        return None;
     };
-    Ok(Some(if word == "set_background" {
+    Some(if word == "set_background" {
         Call::SetBackground(win, cell)
     } else {
         Call::ChangeBackground(win, cell)
-    }))
+    })
 }
 
 // Reads a call whose arguments are numbers.
-fn read_numbered(word: &str, words: &mut Words<'_>) -> Result<Option<Call>, Trouble> {
+fn read_numbered(word: &str, words: &mut Words<'_>) -> Option<Call> {
     let count = count_in(&COUNTS, word);
     if count == 0 {
-        return Ok(None);
+        return None;
     }
-    let numbers = read_numbers(words, count)?;
-    Ok(
-        making(word, numbers)
-            .or(placing(word, numbers))
-            .or(setting(word, numbers))
-            .or(plain(word, numbers))
-            .or(taking(word, numbers)),
-    )
+    let numbers = read_numbers(words, count);
+    making(word, numbers)
+        .or(placing(word, numbers))
+        .or(setting(word, numbers))
+        .or(plain(word, numbers))
+        .or(taking(word, numbers))
 }
 
 // How many numbers a call has; 0 where no such call has numbers alone.
@@ -158,12 +159,12 @@ fn count_in(counts: &[(&str, usize)], word: &str) -> usize {
 }
 
 // Reads so many numbers; those behind them are 0.
-fn read_numbers(words: &mut Words<'_>, count: usize) -> Result<[u32; MOST], Trouble> {
+fn read_numbers(words: &mut Words<'_>, count: usize) -> [u32; MOST] {
     let mut numbers = [0; MOST];
     for number in numbers.iter_mut().take(count) {
-        *number = words.number()?;
+        *number = words.number();
     }
-    Ok(numbers)
+    numbers
 }
 
 // Calls that take memory.

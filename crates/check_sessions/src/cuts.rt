@@ -5,7 +5,7 @@ use crate::recorded::Recorded;
 use crate::shown::shows;
 use crate::uncut::{Text, Whole, make_repaint, make_whole};
 use check_scripts::answers::{add_number, add_word};
-use check_scripts::texts::read_text;
+use check_scripts::buffers::{Buffer, are_same};
 use check_scripts::troubles::Trouble;
 use check_scripts::words::Words;
 use curses::{Answer, Device, Failure, Faulty, Report, UpdateFault};
@@ -45,21 +45,19 @@ pub fn check_cuts(
     alloc: Global,
     tried: &mut Option<Recorded>,
     words: &mut Words<'_>,
-    came: &mut Vec<u8>,
+    came: &mut Buffer,
 ) -> Result<(), Trouble> {
-    let count = words.number()? as usize;
-    let mut text = Vec::new(alloc);
-    read_text_if_any(words, &mut text)?;
+    let count = words.number() as usize;
+    let mut text = Buffer::new(alloc);
+    read_text_if_any(words, &mut text);
     let mut whole = Whole::new(alloc);
-    check_counted(alloc, tried, count, &text, &mut whole, came)
+    check_counted(alloc, tried, count, text.bytes(), &mut whole, came)
 }
 
 // Reads a text, if there is one in front of what is wanted.
-fn read_text_if_any(words: &mut Words<'_>, text: &mut Vec<u8>) -> Result<(), Trouble> {
-    if matches!(words.peek(), b"" | b"=") {
-        Ok(())
-    } else {
-        read_text(words.next(), text)
+fn read_text_if_any(words: &mut Words<'_>, text: &mut Buffer) {
+    if !matches!(words.peek(), b"" | b"=") {
+        words.text(text);
     }
 }
 
@@ -70,10 +68,11 @@ fn check_counted(
     count: usize,
     text: &[u8],
     whole: &mut Whole,
-    came: &mut Vec<u8>,
+    came: &mut Buffer,
 ) -> Result<(), Trouble> {
     if !add_repaint(alloc, tried, text, whole)? || !open(alloc, tried)? {
-        return add_word("NoMemory", came);
+        add_word("NoMemory", came);
+        return Ok(());
     }
     match tried {
         Some(opened) => check_opened(alloc, opened, count, text, whole, came),
@@ -110,13 +109,13 @@ fn check_opened(
     count: usize,
     text: &[u8],
     whole: &mut Whole,
-    came: &mut Vec<u8>,
+    came: &mut Buffer,
 ) -> Result<(), Trouble> {
     if make_whole(alloc, opened, text, whole)? {
-        check_all(alloc, opened, whole, count, came)
-    } else {
-        add_word("NoMemory", came)
+        return check_all(alloc, opened, whole, count, came);
     }
+    add_word("NoMemory", came);
+    Ok(())
 }
 
 // Cuts behind 0, 1 .. bytes, fewer than so many, and at the flush.
@@ -125,7 +124,7 @@ fn check_all(
     opened: &Recorded,
     whole: &Whole,
     count: usize,
-    came: &mut Vec<u8>,
+    came: &mut Buffer,
 ) -> Result<(), Trouble> {
     for behind in 0..count {
         if !check_both(alloc, opened, whole, behind, came)? {
@@ -137,10 +136,9 @@ fn check_all(
         behind: whole.update.bytes.len(),
     };
     if check_cut(alloc, opened, whole, flush, came)? {
-        add_word("agrees", came)
-    } else {
-        Ok(())
+        add_word("agrees", came);
     }
+    Ok(())
 }
 
 // Cuts behind so many bytes by an error, and by taking nothing.
@@ -149,7 +147,7 @@ fn check_both(
     opened: &Recorded,
     whole: &Whole,
     behind: usize,
-    came: &mut Vec<u8>,
+    came: &mut Buffer,
 ) -> Result<bool, Trouble> {
     let error = Cut {
         failure: Failure::Error,
@@ -171,7 +169,7 @@ fn check_cut(
     opened: &Recorded,
     whole: &Whole,
     cut: Cut,
-    came: &mut Vec<u8>,
+    came: &mut Buffer,
 ) -> Result<bool, Trouble> {
     let limit = whole.before.bytes.len().saturating_add(cut.behind);
     let mut device = Device::new(Faulty::new(alloc, limit, cut.failure, 1));
@@ -180,14 +178,11 @@ fn check_cut(
             let taken = device.writer.taken();
             check_report(alloc, opened, whole, cut, &report, taken, came)
         }
-        None => add_no_memory(came),
+        None => {
+            add_word("NoMemory", came);
+            Ok(false)
+        }
     }
-}
-
-// Adds that there was no memory for a cut, which then does not agree.
-fn add_no_memory(came: &mut Vec<u8>) -> Result<bool, Trouble> {
-    add_word("NoMemory", came)?;
-    Ok(false)
 }
 
 // The same of the report and what the writer took.
@@ -198,27 +193,21 @@ fn check_report(
     cut: Cut,
     report: &Report,
     taken: &[u8],
-    came: &mut Vec<u8>,
+    came: &mut Buffer,
 ) -> Result<bool, Trouble> {
-    let mut answers = Vec::new(alloc);
+    let mut answers = Buffer::new(alloc);
     let verdict = judge(alloc, opened, whole, cut, report, taken, &mut answers)?;
-    add_verdict(verdict, cut, &answers, came)?;
+    add_verdict(verdict, cut, answers.bytes(), came);
     Ok(matches!(verdict, Verdict::Agrees))
 }
 
 // Adds what is not as it has to be.
-fn add_verdict(
-    verdict: Verdict,
-    cut: Cut,
-    answers: &[u8],
-    came: &mut Vec<u8>,
-) -> Result<(), Trouble> {
+fn add_verdict(verdict: Verdict, cut: Cut, answers: &[u8], came: &mut Buffer) {
     match verdict {
-        Verdict::Agrees => Ok(()),
+        Verdict::Agrees => {}
         Verdict::Differs => {
-            add_number(i64::try_from(cut.behind).unwrap_or(-1), came)?;
-            came.extend_from_slice(answers)?;
-            Ok(())
+            add_number(i64::try_from(cut.behind).unwrap_or(-1), came);
+            came.extend(answers);
         }
         Verdict::NoMemory => add_word("NoMemory", came),
     }
@@ -233,9 +222,9 @@ fn judge(
     cut: Cut,
     report: &Report,
     taken: &[u8],
-    answers: &mut Vec<u8>,
+    answers: &mut Buffer,
 ) -> Result<Verdict, Trouble> {
-    if !add_last(report, answers)? {
+    if !add_last(report, answers) {
         return Ok(Verdict::NoMemory);
     }
     let ended = ended_at(&whole.update, cut);
@@ -252,11 +241,11 @@ fn is_wanted(
     whole: &Whole,
     cut: Cut,
     ended: Ended,
-    answers: &[u8],
+    answers: &Buffer,
 ) -> Result<bool, Trouble> {
-    let mut wanted = Vec::new(alloc);
-    add_wanted(whole, cut, ended, &mut wanted)?;
-    Ok(answers == wanted.as_slice())
+    let mut wanted = Buffer::new(alloc);
+    add_wanted(whole, cut, ended, &mut wanted);
+    are_same(answers, &wanted)
 }
 
 // Whether a terminal shows the picture by what the writer took.
@@ -273,18 +262,18 @@ fn judge_shown(alloc: Global, opened: &Recorded, taken: &[u8]) -> Verdict {
 }
 
 // Adds the answers of the last two calls, and tells whether there was memory for all.
-fn add_last(report: &Report, answers: &mut Vec<u8>) -> Result<bool, Trouble> {
+fn add_last(report: &Report, answers: &mut Buffer) -> bool {
     let all = &report.answers.0;
     let first = all.len().saturating_sub(2);
     for (place, answer) in all.iter().enumerate() {
         if ran_out(answer) || is_writer_full(answer) {
-            return Ok(false);
+            return false;
         }
         if place >= first {
-            add_answer(answer, answers)?;
+            add_answer(answer, answers);
         }
     }
-    Ok(true)
+    true
 }
 
 // Whether the writer wanted memory and got none.
@@ -311,7 +300,7 @@ fn ended_at(update: &Text, cut: Cut) -> Ended {
 }
 
 // Adds what the two updates have to answer.
-fn add_wanted(whole: &Whole, cut: Cut, ended: Ended, wanted: &mut Vec<u8>) -> Result<(), Trouble> {
+fn add_wanted(whole: &Whole, cut: Cut, ended: Ended, wanted: &mut Buffer) {
     add_word(
         match cut.failure {
             Failure::Error => "Write Other",
@@ -319,15 +308,15 @@ fn add_wanted(whole: &Whole, cut: Cut, ended: Ended, wanted: &mut Vec<u8>) -> Re
             Failure::Flush => "Flush Other",
         },
         wanted,
-    )?;
-    add_count(ended.begun as u64, wanted)?;
-    add_count(cut.behind as u64, wanted)?;
-    add_word("Ok", wanted)?;
+    );
+    add_count(ended.begun as u64, wanted);
+    add_count(cut.behind as u64, wanted);
+    add_word("Ok", wanted);
     let owed = ended.end.saturating_sub(cut.behind);
     add_count(
         owed.saturating_add(whole.repaint.bytes.len()) as u64,
         wanted,
-    )
+    );
 }
 
 // Whether a writer took what was sent before, the beginning of the update up to the end of the text that was cut, and then what

@@ -10,16 +10,16 @@ const MOST: usize = 64;
 
 /// The bundled entry without the texts that a line names, up to its `=`, and with the numbers that it names and gives; `None` where
 /// the library was refused memory.
-pub fn read_entry(alloc: Global, words: &mut Words<'_>) -> Result<Option<Entry>, Trouble> {
+pub fn read_entry(alloc: Global, words: &mut Words<'_>) -> Option<Entry> {
     let Ok(mut entry) = bundled(alloc) else {
         pass_names(words);
-        return Ok(None);
+        return None;
     };
-    if change_all(&mut entry, words)? {
-        Ok(Some(entry))
+    if change_all(&mut entry, words) {
+        Some(entry)
     } else {
         pass_names(words);
-        Ok(None)
+        None
     }
 }
 
@@ -34,34 +34,36 @@ fn pass_names(words: &mut Words<'_>) {
 }
 
 // Changes an entry as a line says, and tells whether there was memory for it.
-fn change_all(entry: &mut Entry, words: &mut Words<'_>) -> Result<bool, Trouble> {
+fn change_all(entry: &mut Entry, words: &mut Words<'_>) -> bool {
     for _ in 0..MOST {
         if matches!(words.peek(), b"" | b"=") {
             break;
         }
-        if change(entry, words)?.is_err() {
-            return Ok(false);
+        if change(entry, words).is_err() {
+            return false;
         }
     }
-    Ok(true)
+    true
 }
 
 // Has an entry no text of the name that follows, or the number that stands behind the name.
-fn change(entry: &mut Entry, words: &mut Words<'_>) -> Result<Result<(), CapFault>, Trouble> {
+fn change(entry: &mut Entry, words: &mut Words<'_>) -> Result<(), CapFault> {
     match find_name(words.next()) {
-        Some((Kind::Text, slot)) => Ok(entry.set_text(slot, None)),
+        Some((Kind::Text, slot)) => entry.set_text(slot, None),
         Some((Kind::Number, slot)) => set_number(entry, slot, words),
-        _ => Err(Trouble::Bad("no such text or number")),
+        _ => {
+            words.fail(Trouble::Bad("no such text or number"));
+            Ok(())
+        }
     }
 }
 
-fn set_number(
-    entry: &mut Entry,
-    slot: Slot,
-    words: &mut Words<'_>,
-) -> Result<Result<(), CapFault>, Trouble> {
-    match u16::try_from(words.number()?) {
-        Ok(number) if number <= 32767 => Ok(entry.set_number(slot, Some(number))),
-        _ => Err(Trouble::Bad("a number is out of range")),
+fn set_number(entry: &mut Entry, slot: Slot, words: &mut Words<'_>) -> Result<(), CapFault> {
+    match u16::try_from(words.number()) {
+        Ok(number) if number <= 32767 => entry.set_number(slot, Some(number)),
+        _ => {
+            words.fail(Trouble::Bad("a number is out of range"));
+            Ok(())
+        }
     }
 }

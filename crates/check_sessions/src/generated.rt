@@ -3,6 +3,7 @@
 use crate::generating::{COLUMNS, ROWS, next_call, next_fails, next_window};
 use crate::recorded::Recorded;
 use check_scripts::answers::{add_number, add_word};
+use check_scripts::buffers::Buffer;
 use check_scripts::random::Random;
 use check_scripts::troubles::Trouble;
 use check_scripts::words::Words;
@@ -17,12 +18,13 @@ pub fn check_generated(
     alloc: Global,
     tried: &mut Option<Recorded>,
     words: &mut Words<'_>,
-    came: &mut Vec<u8>,
+    came: &mut Buffer,
 ) -> Result<(), Trouble> {
-    let (count, seed) = (words.number()?, words.number()?);
+    let (count, seed) = (words.number(), words.number());
     let size = Size::new(ROWS, COLUMNS).ok_or(Trouble::Bad("no size"))?;
     if !Recorded::open_bundled(alloc, size, tried)? {
-        return add_word("NoMemory", came);
+        add_word("NoMemory", came);
+        return Ok(());
     }
     match tried {
         Some(opened) => make_all(alloc, opened, count, Random::new(seed), came),
@@ -36,9 +38,9 @@ fn make_all(
     opened: &mut Recorded,
     count: u32,
     random: Random,
-    came: &mut Vec<u8>,
+    came: &mut Buffer,
 ) -> Result<(), Trouble> {
-    let mut answer = Vec::new(alloc);
+    let mut answer = Buffer::new(alloc);
     if make_each(alloc, opened, count, random, &mut answer, came)? {
         opened.add_session(came)
     } else {
@@ -52,19 +54,19 @@ fn make_each(
     opened: &mut Recorded,
     count: u32,
     mut random: Random,
-    answer: &mut Vec<u8>,
-    came: &mut Vec<u8>,
+    answer: &mut Buffer,
+    came: &mut Buffer,
 ) -> Result<bool, Trouble> {
     for number in 0..count {
         answer.clear();
         let is_well = step(alloc, opened, &mut random, answer)?;
-        if answer.ends_with(b" NoMemory") {
-            add_word("NoMemory", came)?;
+        if answer.bytes().ends_with(b" NoMemory") {
+            add_word("NoMemory", came);
             return Ok(false);
         }
         if !is_well {
-            add_number(i64::from(number), came)?;
-            came.extend_from_slice(answer)?;
+            add_number(i64::from(number), came);
+            came.extend(answer.bytes());
             return Ok(false);
         }
     }
@@ -76,13 +78,13 @@ fn step(
     alloc: Global,
     opened: &mut Recorded,
     random: &mut Random,
-    answer: &mut Vec<u8>,
+    answer: &mut Buffer,
 ) -> Result<bool, Trouble> {
     if random.below(5) == 0 {
         opened.call(Call::Noutrefresh(next_window(random)), answer)?;
         return opened.update(next_fails(random), answer);
     }
-    let call = next_call(alloc, random)?;
-    opened.call(call, answer)?;
+    opened.call(next_call(alloc, random)?, answer)?;
+    answer.done()?;
     Ok(true)
 }

@@ -5,6 +5,8 @@ use crate::bounds::Left;
 use crate::shown::shows;
 use crate::writers::{Fails, Planned};
 use check_scripts::answers::add_word;
+use check_scripts::buffers::{Buffer, are_same};
+use check_scripts::checking::put;
 use check_scripts::troubles::Trouble;
 use curses::{Answer, Call, Counted, Device, OpenFault, Report, Screen, session};
 use scr_cells::Size;
@@ -31,7 +33,7 @@ pub struct Recorded {
     left: Left,
     device: Device<Planned>,
     calls: Vec<Call>,
-    answers: Vec<u8>,
+    answers: Buffer,
     // All bytes that the writer took, and how many of them before the last update.
     sent: Vec<u8>,
     before: usize,
@@ -39,8 +41,6 @@ pub struct Recorded {
     last_ok: bool,
     /// The operations of the last update that ended well.
     pub last: Ops,
-    // Room for one answer.
-    answer: Vec<u8>,
 }
 
 impl Recorded {
@@ -87,17 +87,16 @@ impl Recorded {
             left: display.left,
             device: Device::new(display.writer),
             calls: Vec::new(alloc),
-            answers: Vec::new(alloc),
+            answers: Buffer::new(alloc),
             sent: Vec::new(alloc),
             before: 0,
             last_ok: false,
             last: Ops(Vec::new(alloc)),
-            answer: Vec::new(alloc),
         }
     }
 
     /// Makes a call other than an update, and adds what it answers.
-    pub fn call(&mut self, call: Call, came: &mut Vec<u8>) -> Result<(), Trouble> {
+    pub fn call(&mut self, call: Call, came: &mut Buffer) -> Result<(), Trouble> {
         if may_paint_all(&self.screen, &call) {
             self.left.forget();
         }
@@ -108,12 +107,12 @@ impl Recorded {
     /// Updates with a writer that fails so, adds what the update answers, and tells whether all is as it has to be. Where that
     /// is Ok, the terminal has to show the picture, what was sent may not be more than what differs, and where that is nothing, the writer
     /// may not be called; adds what is not so.
-    pub fn update(&mut self, fails: Fails, came: &mut Vec<u8>) -> Result<bool, Trouble> {
+    pub fn update(&mut self, fails: Fails, came: &mut Buffer) -> Result<bool, Trouble> {
         self.device.writer.plan(fails)?;
         self.device.writer.calls = 0;
         let ended = self.make_update(came)?;
         if !self.feed()? {
-            add_word("and an undefined text", came)?;
+            add_word("and an undefined text", came);
             return Ok(false);
         }
         match ended {
@@ -128,18 +127,21 @@ impl Recorded {
     }
 
     /// Feeds the terminal what others write.
-    pub fn others(&mut self, text: &[u8], came: &mut Vec<u8>) -> Result<(), Trouble> {
+    pub fn others(&mut self, text: &[u8], came: &mut Buffer) {
         let fed = self.emulated.feed(text);
-        add_word(if fed.is_ok() { "Ok" } else { "Undefined" }, came)
+        add_word(if fed.is_ok() { "Ok" } else { "Undefined" }, came);
     }
 
     /// Makes the calls by one session with a writer that fails so, and adds `agrees` where its answers, its bytes and whether
     /// its last update ended well are the same.
-    pub fn add_session(&self, came: &mut Vec<u8>) -> Result<(), Trouble> {
+    pub fn add_session(&self, came: &mut Buffer) -> Result<(), Trouble> {
         let mut device = Device::new(self.device.writer.again(self.alloc, self.sent.len())?);
         match self.session(&mut device)? {
             Some(report) => self.add_agrees(&device, &report, came),
-            None => add_word("NoMemory", came),
+            None => {
+                add_word("NoMemory", came);
+                Ok(())
+            }
         }
     }
 
@@ -161,17 +163,21 @@ impl Recorded {
         &self,
         device: &Device<Planned>,
         report: &Report,
-        came: &mut Vec<u8>,
+        came: &mut Buffer,
     ) -> Result<(), Trouble> {
-        let mut answers = Vec::new(self.alloc);
-        if !add_answers(report, &mut answers)? {
-            return add_word("NoMemory", came);
+        let mut answers = Buffer::new(self.alloc);
+        if !add_answers(report, &mut answers) {
+            add_word("NoMemory", came);
+            return Ok(());
         }
-        let same = self.agrees(device, &answers) && report.last_ok == self.last_ok;
-        add_word(if same { "agrees" } else { "differs" }, came)
+        let same = are_same(&self.answers, &answers)?
+            && self.has_sent(device)
+            && report.last_ok == self.last_ok;
+        add_word(if same { "agrees" } else { "differs" }, came);
+        Ok(())
     }
 
-    fn make_update(&mut self, came: &mut Vec<u8>) -> Result<Ended, Trouble> {
+    fn make_update(&mut self, came: &mut Buffer) -> Result<Ended, Trouble> {
         let answer = self.make(Call::Doupdate, came)?;
         if let Answer::Sent(sent) = &answer {
             self.keep_last(&sent.begun.0)?;
@@ -186,33 +192,17 @@ impl Recorded {
     }
 
     // Makes the call, keeps it with its answer unless memory ran out, and adds the answer.
-    fn make(&mut self, call: Call, came: &mut Vec<u8>) -> Result<Answer, Trouble> {
+    fn make(&mut self, call: Call, came: &mut Buffer) -> Result<Answer, Trouble> {
         let answer = self.screen.make(self.alloc, &call, &mut self.device);
         self.keep(call, &answer, came)?;
         Ok(answer)
     }
 
-    fn keep(&mut self, call: Call, answer: &Answer, came: &mut Vec<u8>) -> Result<(), Trouble> {
-        let ran_out = ran_out(answer);
-        self.add_kept(answer, ran_out, came)?;
-        if !ran_out {
+    fn keep(&mut self, call: Call, answer: &Answer, came: &mut Buffer) -> Result<(), Trouble> {
+        add_answer(answer, came);
+        if !ran_out(answer) {
+            add_answer(answer, &mut self.answers);
             self.calls.push(call)?;
-        }
-        Ok(())
-    }
-
-    // Adds an answer, here too unless memory ran out.
-    fn add_kept(
-        &mut self,
-        answer: &Answer,
-        ran_out: bool,
-        came: &mut Vec<u8>,
-    ) -> Result<(), Trouble> {
-        self.answer.clear();
-        add_answer(answer, &mut self.answer)?;
-        came.extend_from_slice(&self.answer)?;
-        if !ran_out {
-            self.answers.extend_from_slice(&self.answer)?;
         }
         Ok(())
     }
@@ -228,13 +218,13 @@ impl Recorded {
     }
 
     // Adds what is wrong with an update that ended well, and tells whether nothing is.
-    fn end_well(&mut self, bytes: u64, came: &mut Vec<u8>) -> Result<bool, Trouble> {
+    fn end_well(&mut self, bytes: u64, came: &mut Buffer) -> Result<bool, Trouble> {
         let trouble = self.trouble_of(bytes);
         let spot = self.emulated.spot();
         self.last_ok = true;
         self.left.learn(&self.profile, self.screen.picture(), spot)?;
         if let Some(words) = trouble {
-            add_word(words, came)?;
+            add_word(words, came);
         }
         Ok(trouble.is_none())
     }
@@ -254,23 +244,23 @@ impl Recorded {
         }
     }
 
-    fn agrees(&self, device: &Device<Planned>, answers: &[u8]) -> bool {
-        answers == self.answers.as_slice()
-            && device.writer.taken.as_slice() == self.sent.as_slice()
+    // Whether another device has taken the same.
+    fn has_sent(&self, device: &Device<Planned>) -> bool {
+        device.writer.taken.as_slice() == self.sent.as_slice()
             && device.failed_puts == self.device.failed_puts
             && device.failed_finishes == self.device.failed_finishes
     }
 }
 
 // Adds the answers of a session, and tells whether there was memory for all calls.
-fn add_answers(report: &Report, answers: &mut Vec<u8>) -> Result<bool, Trouble> {
+fn add_answers(report: &Report, answers: &mut Buffer) -> bool {
     for answer in &report.answers.0 {
         if ran_out(answer) {
-            return Ok(false);
+            return false;
         }
-        add_answer(answer, answers)?;
+        add_answer(answer, answers);
     }
-    Ok(true)
+    true
 }
 
 // How an update ended.
@@ -348,7 +338,10 @@ fn add_screen(
 ) -> Result<bool, Trouble> {
     match Screen::open(alloc, &entry, Some(size)) {
         Ok(screen) => {
-            *opened = Some(Recorded::begun(alloc, entry, size, display, screen));
+            put(
+                opened,
+                Some(Recorded::begun(alloc, entry, size, display, screen)),
+            );
             Ok(true)
         }
         Err(OpenFault::NoMemory) => Ok(false),

@@ -2,8 +2,10 @@
 
 use crate::recorded::Recorded;
 use check_scripts::answers::{
-    add_cell, add_look, add_number, add_place, add_text, add_text_of, add_word, read_size,
+    add_cell, add_look, add_number, add_place, add_text, add_text_of, add_text_shown, add_word,
+    read_size,
 };
+use check_scripts::buffers::Buffer;
 use check_scripts::troubles::Trouble;
 use check_scripts::words::Words;
 use scr_cells::{Picture, Size};
@@ -13,101 +15,82 @@ use scr_windows::{Desk, Win, WinFault};
 use std::alloc::Global;
 
 /// The lines `shown_rows`, `shown_cursor`, `shown R C` about the emulated screen, `picture_rows`, `picture_at R C` and `wish`
-/// about the picture, and `first_sent N`, the first N bytes that the last update sent.
+/// about the picture, and `first_sent N`, the first N bytes that the last update sent. Tells whether a line is one of them.
 pub fn answer_of_shown(
-    alloc: Global,
     opened: &Recorded,
     word: &str,
     words: &mut Words<'_>,
-    came: &mut Vec<u8>,
-) -> Result<bool, Trouble> {
+    came: &mut Buffer,
+) -> bool {
     let (emulated, picture) = (&opened.emulated, opened.screen.picture());
-    let done = match word {
-        "shown_rows" => add_rows(alloc, emulated, came),
+    match word {
+        "shown_rows" => add_rows(emulated, came),
         "shown_cursor" => add_spot(emulated.spot(), came),
         "shown" => add_shown(emulated, words, came),
         "picture_rows" => add_picture_rows(picture, came),
         "picture_at" => add_picture_at(picture, words, came),
         "wish" => add_wish(picture, came),
         "first_sent" => add_first_sent(opened, words, came),
-        _ => return Ok(false),
-    };
-    done?;
-    Ok(true)
+        _ => return false,
+    }
+    true
 }
 
 /// Adds where the cursor of a terminal is.
-pub fn add_spot(spot: Spot, came: &mut Vec<u8>) -> Result<(), Trouble> {
+pub fn add_spot(spot: Spot, came: &mut Buffer) {
     match spot {
         Spot::At(row, column) => add_place(row, column, came),
         Spot::Margin(row) => {
-            add_number(i64::from(row), came)?;
+            add_number(i64::from(row), came);
             add_word("margin", came)
         }
     }
 }
 
 // Adds the bytes of each row.
-fn add_rows(alloc: Global, emulated: &EcmaScreen, came: &mut Vec<u8>) -> Result<(), Trouble> {
-    let mut bytes = Vec::new(alloc);
+fn add_rows(emulated: &EcmaScreen, came: &mut Buffer) {
     for row in 0..emulated.size().rows {
-        bytes.clear();
-        for look in emulated.row(row) {
-            bytes.push(look.byte())?;
-        }
-        add_text(&bytes, came)?;
+        add_text_shown(emulated.row(row), came);
     }
-    Ok(())
 }
 
-fn add_shown(
-    emulated: &EcmaScreen,
-    words: &mut Words<'_>,
-    came: &mut Vec<u8>,
-) -> Result<(), Trouble> {
-    let (row, column) = (words.number()?, words.number()?);
+fn add_shown(emulated: &EcmaScreen, words: &mut Words<'_>, came: &mut Buffer) {
+    let (row, column) = (words.number(), words.number());
     let size = emulated.size();
     if row >= size.rows || column >= size.columns {
-        return Err(Trouble::Bad("no place of the screen"));
+        words.fail(Trouble::Bad("no place of the screen"));
+        return;
     }
-    add_look(emulated.cell(row, column), came)
+    add_look(emulated.cell(row, column), came);
 }
 
-fn add_picture_rows(picture: &Picture, came: &mut Vec<u8>) -> Result<(), Trouble> {
+fn add_picture_rows(picture: &Picture, came: &mut Buffer) {
     for row in 0..picture.size().rows {
-        add_text_of(picture.row(row), came)?;
+        add_text_of(picture.row(row), came);
     }
-    Ok(())
 }
 
-fn add_picture_at(
-    picture: &Picture,
-    words: &mut Words<'_>,
-    came: &mut Vec<u8>,
-) -> Result<(), Trouble> {
-    let (row, column) = (words.number()?, words.number()?);
+fn add_picture_at(picture: &Picture, words: &mut Words<'_>, came: &mut Buffer) {
+    let (row, column) = (words.number(), words.number());
     let size = picture.size();
     if row >= size.rows || column >= size.columns {
-        return Err(Trouble::Bad("no place of the picture"));
+        words.fail(Trouble::Bad("no place of the picture"));
+        return;
     }
-    add_cell(picture.row(row)[column as usize], came)
+    add_cell(picture.row(row)[column as usize], came);
 }
 
-fn add_wish(picture: &Picture, came: &mut Vec<u8>) -> Result<(), Trouble> {
+fn add_wish(picture: &Picture, came: &mut Buffer) {
     match picture.wish() {
         Some((row, column)) => add_place(row, column, came),
         None => add_word("none", came),
     }
 }
 
-fn add_first_sent(
-    opened: &Recorded,
-    words: &mut Words<'_>,
-    came: &mut Vec<u8>,
-) -> Result<(), Trouble> {
-    let count = words.number()? as usize;
+fn add_first_sent(opened: &Recorded, words: &mut Words<'_>, came: &mut Buffer) {
+    let count = words.number() as usize;
     let sent = opened.last_sent();
-    add_text(sent.get(..count).unwrap_or(sent), came)
+    add_text(sent.get(..count).unwrap_or(sent), came);
 }
 
 /// The line `changed R C ROWS COLUMNS ROW COLUMN`: a virtual screen of R rows and C columns onto which the first window is taken,
@@ -116,16 +99,23 @@ fn add_first_sent(
 pub fn check_changed(
     alloc: Global,
     words: &mut Words<'_>,
-    came: &mut Vec<u8>,
+    came: &mut Buffer,
 ) -> Result<(), Trouble> {
-    let size = read_size(words)?;
-    let (rows, columns) = (words.number()?, words.number()?);
-    let (row, column) = (words.number()?, words.number()?);
+    let Some(size) = read_size(words) else {
+        return Ok(());
+    };
+    let (rows, columns) = (words.number(), words.number());
+    let (row, column) = (words.number(), words.number());
     let area = [rows, columns, row, column];
     match Desk::new(alloc, size) {
         Ok(mut desk) => add_changed_on(alloc, &mut desk, size, area, came),
-        Err(_) => add_word("NoMemory", came),
+        Err(_) => add_no_memory(came),
     }
+}
+
+fn add_no_memory(came: &mut Buffer) -> Result<(), Trouble> {
+    add_word("NoMemory", came);
+    Ok(())
 }
 
 // The same with windows of a desk, and a virtual screen of its size.
@@ -134,11 +124,11 @@ fn add_changed_on(
     desk: &mut Desk,
     size: Size,
     area: [u32; 4],
-    came: &mut Vec<u8>,
+    came: &mut Buffer,
 ) -> Result<(), Trouble> {
     match Virtual::new(alloc, size) {
         Ok(mut screen) => add_changed_by(alloc, desk, &mut screen, area, came),
-        Err(_) => add_word("NoMemory", came),
+        Err(_) => add_no_memory(came),
     }
 }
 
@@ -149,16 +139,17 @@ fn add_changed_by(
     desk: &mut Desk,
     screen: &mut Virtual,
     [rows, columns, row, column]: [u32; 4],
-    came: &mut Vec<u8>,
+    came: &mut Buffer,
 ) -> Result<(), Trouble> {
     take(screen, desk, Win(0))?;
     screen.settle();
     match desk.new_window(alloc, rows, columns, row, column) {
         Ok(win) => {
             take(screen, desk, win)?;
-            add_changed(screen, came)
+            add_changed(screen, came);
+            Ok(())
         }
-        Err(WinFault::NoMemory) => add_word("NoMemory", came),
+        Err(WinFault::NoMemory) => add_no_memory(came),
         Err(_) => Err(Trouble::Bad("no such window")),
     }
 }
@@ -174,12 +165,11 @@ fn take(screen: &mut Virtual, desk: &mut Desk, win: Win) -> Result<(), Trouble> 
         .map_err(|_| Trouble::Bad("no such window"))
 }
 
-fn add_changed(screen: &Virtual, came: &mut Vec<u8>) -> Result<(), Trouble> {
+fn add_changed(screen: &Virtual, came: &mut Buffer) {
     for row in 0..screen.size().rows {
         match screen.changed(row) {
-            Some((first, last)) => add_place(first, last, came)?,
-            None => add_word("none", came)?,
+            Some((first, last)) => add_place(first, last, came),
+            None => add_word("none", came),
         }
     }
-    Ok(())
 }

@@ -10,8 +10,8 @@ use crate::recorded::Recorded;
 use crate::shown_lines::{answer_of_shown, check_changed};
 use crate::writers::Fails;
 use check_scripts::answers::{add_word, read_size};
+use check_scripts::buffers::{Buffer, are_same};
 use check_scripts::checking::Stage;
-use check_scripts::texts::read_text;
 use check_scripts::troubles::Trouble;
 use check_scripts::words::Words;
 use std::alloc::Global;
@@ -34,21 +34,25 @@ impl Stage for SessionStage {
         }
     }
 
-    fn answer(&mut self, words: &mut Words<'_>, came: &mut Vec<u8>) -> Result<(), Trouble> {
-        let word = str::from_utf8(words.next()).unwrap_or("");
-        match word {
-            "screen" => open(self.alloc, &mut self.opened, words, came),
-            "cuts" => check_cuts(self.alloc, &mut self.tried, words, came),
-            "generated" => check_generated(self.alloc, &mut self.tried, words, came),
-            "changed" => check_changed(self.alloc, words, came),
-            _ => answer_of_opened(self.alloc, ready(&mut self.opened)?, word, words, came),
-        }
+    fn answer(&mut self, words: &mut Words<'_>, came: &mut Buffer) {
+        let (alloc, word) = (self.alloc, str::from_utf8(words.next()).unwrap_or(""));
+        let done = match word {
+            "screen" => open(alloc, &mut self.opened, words, came),
+            "cuts" => check_cuts(alloc, &mut self.tried, words, came),
+            "generated" => check_generated(alloc, &mut self.tried, words, came),
+            "changed" => check_changed(alloc, words, came),
+            _ => match &mut self.opened {
+                Some(opened) => answer_of_opened(alloc, opened, word, words, came),
+                None => Err(Trouble::Bad("no screen")),
+            },
+        };
+        words.check(done);
     }
 
-    fn dump(&self, bytes: &mut Vec<u8>) -> Result<(), Trouble> {
+    fn dump(&self, bytes: &mut Buffer) {
         match &self.opened {
             Some(opened) => dump_recorded(opened, bytes),
-            None => Ok(()),
+            None => {}
         }
     }
 
@@ -66,18 +70,17 @@ fn open(
     alloc: Global,
     opened: &mut Option<Recorded>,
     words: &mut Words<'_>,
-    came: &mut Vec<u8>,
+    came: &mut Buffer,
 ) -> Result<(), Trouble> {
-    let size = read_size(words)?;
-    let is_open = match read_entry(alloc, words)? {
+    let Some(size) = read_size(words) else {
+        return Ok(());
+    };
+    let is_open = match read_entry(alloc, words) {
         Some(entry) => Recorded::open_into(alloc, entry, size, opened)?,
         None => false,
     };
-    add_word(if is_open { "Ok" } else { "NoMemory" }, came)
-}
-
-fn ready(opened: &mut Option<Recorded>) -> Result<&mut Recorded, Trouble> {
-    opened.as_mut().ok_or(Trouble::Bad("no screen"))
+    add_word(if is_open { "Ok" } else { "NoMemory" }, came);
+    Ok(())
 }
 
 // Makes the call of a line about a screen.
@@ -86,38 +89,44 @@ fn answer_of_opened(
     opened: &mut Recorded,
     word: &str,
     words: &mut Words<'_>,
-    came: &mut Vec<u8>,
+    came: &mut Buffer,
 ) -> Result<(), Trouble> {
     match word {
-        "session" => return opened.add_session(came),
-        "others" => return write_as_others(alloc, opened, words, came),
-        "update_within" => return update_within(alloc, opened, words, came),
-        _ => {}
-    }
-    if let Some(fails) = read_update(word, words)? {
-        let _is_well = opened.update(fails, came)?;
-        return Ok(());
-    }
-    if let Some(call) = read_call(alloc, word, words)? {
-        return opened.call(call, came);
-    }
-    if answer_of_shown(alloc, opened, word, words, came)? {
-        Ok(())
-    } else {
-        Err(Trouble::Bad("no such call"))
+        "session" => opened.add_session(came),
+        "others" => {
+            write_as_others(alloc, opened, words, came);
+            Ok(())
+        }
+        "update_within" => update_within(alloc, opened, words, came),
+        _ => call(alloc, opened, word, words, came),
     }
 }
 
-// The line `others TEXT`, a text that others write on the terminal.
-fn write_as_others(
+// Makes an update or a call, or adds what is shown.
+fn call(
     alloc: Global,
     opened: &mut Recorded,
+    word: &str,
     words: &mut Words<'_>,
-    came: &mut Vec<u8>,
+    came: &mut Buffer,
 ) -> Result<(), Trouble> {
-    let mut text = Vec::new(alloc);
-    read_text(words.next(), &mut text)?;
-    opened.others(&text, came)
+    if let Some(fails) = read_update(word, words) {
+        return opened.update(fails, came).map(|_is_well| ());
+    }
+    if let Some(call) = read_call(alloc, word, words) {
+        return opened.call(call, came);
+    }
+    if !answer_of_shown(opened, word, words, came) {
+        words.fail(Trouble::Bad("no such call"));
+    }
+    Ok(())
+}
+
+// The line `others TEXT`, a text that others write on the terminal.
+fn write_as_others(alloc: Global, opened: &mut Recorded, words: &mut Words<'_>, came: &mut Buffer) {
+    let mut text = Buffer::new(alloc);
+    words.text(&mut text);
+    opened.others(text.bytes(), came);
 }
 
 // The line `update_within N`, an update that answers `Ok` alone where it ends well and sends at most N bytes.
@@ -125,38 +134,34 @@ fn update_within(
     alloc: Global,
     opened: &mut Recorded,
     words: &mut Words<'_>,
-    came: &mut Vec<u8>,
+    came: &mut Buffer,
 ) -> Result<(), Trouble> {
-    let most = words.number()? as usize;
+    let most = words.number() as usize;
     let _is_well = opened.update(Fails::Never, came)?;
     let sent = opened.last_sent().len();
     if sent <= most && is_well(alloc, sent, came)? {
         came.clear();
-        return add_word("Ok", came);
+        add_word("Ok", came);
     }
     Ok(())
 }
 
 // Whether an update answered that it sent so many bytes.
-fn is_well(alloc: Global, sent: usize, came: &[u8]) -> Result<bool, Trouble> {
-    let mut well = Vec::new(alloc);
-    add_well(sent, &mut well)?;
-    Ok(came == well.as_slice())
-}
-
-fn add_well(sent: usize, well: &mut Vec<u8>) -> Result<(), Trouble> {
-    add_word("Ok", well)?;
-    add_count(sent as u64, well)
+fn is_well(alloc: Global, sent: usize, came: &Buffer) -> Result<bool, Trouble> {
+    let mut well = Buffer::new(alloc);
+    add_word("Ok", &mut well);
+    add_count(sent as u64, &mut well);
+    are_same(came, &well)
 }
 
 // How the writer fails in the lines `update`, `update_writing K`, `update_stuck K`, `update_flushing` and `update_failing`.
-fn read_update(word: &str, words: &mut Words<'_>) -> Result<Option<Fails>, Trouble> {
-    Ok(Some(match word {
+fn read_update(word: &str, words: &mut Words<'_>) -> Option<Fails> {
+    Some(match word {
         "update" => Fails::Never,
-        "update_writing" => Fails::Behind(words.number()?),
-        "update_stuck" => Fails::StuckBehind(words.number()?),
+        "update_writing" => Fails::Behind(words.number()),
+        "update_stuck" => Fails::StuckBehind(words.number()),
         "update_flushing" => Fails::Flushed,
         "update_failing" => Fails::Always,
-        _ => return Ok(None),
-    }))
+        _ => return None,
+    })
 }

@@ -2,6 +2,7 @@
 
 use crate::recorded::Recorded;
 use crate::writers::Fails;
+use check_scripts::buffers::Buffer;
 use check_scripts::troubles::Trouble;
 use curses::Call;
 use scr_term::{Op, Ops, Profile};
@@ -84,21 +85,21 @@ pub fn make_whole(
 // Adds a text to the first window, and takes it onto the virtual screen.
 fn write(alloc: Global, opened: &mut Recorded, text: &[u8]) -> Result<(), Trouble> {
     let bytes = Bytes(Vec::from_slice(alloc, text)?);
-    let mut answers = Vec::new(alloc);
+    let mut answers = Buffer::new(alloc);
     make(opened, Call::AddText(Win(0), bytes), &mut answers)
 }
 
 // Makes a call, and takes the first window onto the virtual screen.
-fn make(opened: &mut Recorded, call: Call, answers: &mut Vec<u8>) -> Result<(), Trouble> {
+fn make(opened: &mut Recorded, call: Call, answers: &mut Buffer) -> Result<(), Trouble> {
     opened.call(call, answers)?;
     opened.call(Call::Noutrefresh(Win(0)), answers)
 }
 
 // Updates, and tells whether there was memory for it.
 fn update(alloc: Global, opened: &mut Recorded) -> Result<bool, Trouble> {
-    let mut answers = Vec::new(alloc);
+    let mut answers = Buffer::new(alloc);
     let _is_well = opened.update(Fails::Never, &mut answers)?;
-    Ok(!answers.ends_with(b" NoMemory"))
+    Ok(!answers.bytes().ends_with(b" NoMemory"))
 }
 
 // Updates, and adds what that sends. Tells whether there was memory for it.

@@ -1,8 +1,8 @@
 //! All that can be seen of an entry, a profile and a picture.
 
 use check_scripts::answers::{add_flag, add_number, add_text};
+use check_scripts::buffers::Buffer;
 use check_scripts::dumps::{dump_cells, dump_place};
-use check_scripts::troubles::Trouble;
 use scr_cells::{Attrs, Picture};
 use scr_term::{Op, Profile};
 use ti_caps::{Entry, Slot};
@@ -44,67 +44,64 @@ const OPS: [Op; 32] = [
 ];
 
 /// Adds its names and what is present, each kind by position.
-pub fn dump_entry(entry: &Entry, bytes: &mut Vec<u8>) -> Result<(), Trouble> {
-    add_text(entry.names(), bytes)?;
+pub fn dump_entry(entry: &Entry, bytes: &mut Buffer) {
+    add_text(entry.names(), bytes);
     for position in 0..512u16 {
-        dump_slot(entry, Slot(position), bytes)?;
+        dump_slot(entry, Slot(position), bytes);
     }
-    Ok(())
 }
 
 // Adds what stands at a position of each kind, where something is present.
-fn dump_slot(entry: &Entry, slot: Slot, bytes: &mut Vec<u8>) -> Result<(), Trouble> {
+fn dump_slot(entry: &Entry, slot: Slot, bytes: &mut Buffer) {
     if entry.flag(slot) {
-        add_number(i64::from(slot.0), bytes)?;
-        add_flag(true, bytes)?;
+        add_number(i64::from(slot.0), bytes);
+        add_flag(true, bytes);
     }
     if let Some(number) = entry.number(slot) {
-        add_number(i64::from(slot.0), bytes)?;
-        add_number(i64::from(number), bytes)?;
+        add_number(i64::from(slot.0), bytes);
+        add_number(i64::from(number), bytes);
     }
     if let Some(text) = entry.text(slot) {
-        add_number(i64::from(slot.0), bytes)?;
-        add_text(text, bytes)?;
+        add_number(i64::from(slot.0), bytes);
+        add_text(text, bytes);
     }
-    Ok(())
 }
 
 /// Adds its size, what it shows, how it moves, and the texts of its operations.
-pub fn dump_profile(profile: &Profile, bytes: &mut Vec<u8>) -> Result<(), Trouble> {
+pub fn dump_profile(profile: &Profile, bytes: &mut Buffer) {
     let size = profile.size();
-    dump_place(size.rows, size.columns, bytes)?;
-    add_number(i64::from(profile.shows().0), bytes)?;
-    add_flag(profile.colours(), bytes)?;
-    add_flag(profile.can_reset(), bytes)?;
-    add_flag(profile.moves_in_any_rendition(), bytes)?;
-    add_number(i64::try_from(profile.longest()).unwrap_or(-1), bytes)?;
+    dump_place(size.rows, size.columns, bytes);
+    add_number(i64::from(profile.shows().0), bytes);
+    add_flag(profile.colours(), bytes);
+    add_flag(profile.can_reset(), bytes);
+    add_flag(profile.moves_in_any_rendition(), bytes);
+    add_number(i64::try_from(profile.longest()).unwrap_or(-1), bytes);
     for op in &OPS {
-        add_flag(profile.has(*op), bytes)?;
+        add_flag(profile.has(*op), bytes);
         if profile.has(*op) {
-            profile.render(*op, bytes)?;
+            let done = profile.render(*op, bytes.vector());
+            bytes.check(done.is_ok());
         }
     }
-    Ok(())
 }
 
-fn dump_pairs(picture: &Picture, bytes: &mut Vec<u8>) -> Result<(), Trouble> {
+fn dump_pairs(picture: &Picture, bytes: &mut Buffer) {
     for pair in 1..64 {
         if let Some((foreground, background)) = picture.pair(pair) {
-            bytes.push(foreground)?;
-            bytes.push(background)?;
+            bytes.push(foreground);
+            bytes.push(background);
         }
     }
-    Ok(())
 }
 
 /// Adds its cells, its pairs and its wish.
-pub fn dump_picture(picture: &Picture, bytes: &mut Vec<u8>) -> Result<(), Trouble> {
+pub fn dump_picture(picture: &Picture, bytes: &mut Buffer) {
     for row in 0..picture.size().rows {
-        dump_cells(picture.row(row), bytes)?;
+        dump_cells(picture.row(row), bytes);
     }
-    dump_pairs(picture, bytes)?;
+    dump_pairs(picture, bytes);
     match picture.wish() {
         Some((row, column)) => dump_place(row, column, bytes),
-        None => Ok(()),
+        None => {}
     }
 }

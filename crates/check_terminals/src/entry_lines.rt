@@ -1,7 +1,7 @@
 //! Lines about a terminfo entry: what it says, and whether it makes a profile.
 
 use check_scripts::answers::{add_word, read_size};
-use check_scripts::texts::read_text;
+use check_scripts::buffers::Buffer;
 use check_scripts::troubles::Trouble;
 use check_scripts::words::Words;
 use scr_term::{Profile, ProfileFault};
@@ -9,38 +9,38 @@ use std::alloc::Global;
 use ti_caps::{CapFault, Entry, Kind, Slot, find_name, name_of};
 
 /// The lines `entry TEXT`, `flag NAME`, `number NAME N`, `string NAME TEXT` and `absent NAME`, which make an entry and have it
-/// say something, and `admit` and `admit R C`, which make a profile of it.
+/// say something, and `admit` and `admit R C`, which make a profile of it. Tells whether a line is one of them.
 pub fn answer_of_entry(
     alloc: Global,
     entry: &mut Option<Entry>,
     profile: &mut Option<Profile>,
-    text: &mut Vec<u8>,
+    text: &mut Buffer,
     word: &str,
     words: &mut Words<'_>,
-    came: &mut Vec<u8>,
-) -> Result<bool, Trouble> {
-    let done = match word {
+    came: &mut Buffer,
+) -> bool {
+    match word {
         "entry" => make_entry(alloc, entry, text, words, came),
         "flag" | "number" | "string" | "absent" => {
             change_entry(entry, word != "absent", text, words, came)
         }
         "admit" => admit(alloc, entry, profile, words, came),
-        _ => return Ok(false),
-    };
-    done?;
-    Ok(true)
+        _ => return false,
+    }
+    true
 }
 
 fn change_entry(
     entry: &mut Option<Entry>,
     present: bool,
-    text: &mut Vec<u8>,
+    text: &mut Buffer,
     words: &mut Words<'_>,
-    came: &mut Vec<u8>,
-) -> Result<(), Trouble> {
-    let entry = entry.as_mut().ok_or(Trouble::Bad("no entry"))?;
-    let set = set_capability(entry, present, text, words)?;
-    add_set(set, came)
+    came: &mut Buffer,
+) {
+    match entry {
+        Some(entry) => add_set(set_capability(entry, present, text, words), came),
+        None => words.fail(Trouble::Bad("no entry")),
+    }
 }
 
 fn admit(
@@ -48,22 +48,24 @@ fn admit(
     entry: &Option<Entry>,
     profile: &mut Option<Profile>,
     words: &mut Words<'_>,
-    came: &mut Vec<u8>,
-) -> Result<(), Trouble> {
-    let entry = entry.as_ref().ok_or(Trouble::Bad("no entry"))?;
+    came: &mut Buffer,
+) {
     let size = match words.peek() {
         b"" | b"=" => None,
-        _ => Some(read_size(words)?),
+        _ => read_size(words),
     };
-    add_admission(Profile::admit(alloc, entry, size), profile, came)
+    match entry {
+        Some(entry) => add_admission(Profile::admit(alloc, entry, size), profile, came),
+        None => words.fail(Trouble::Bad("no entry")),
+    }
 }
 
 /// Keeps a profile, or adds why there is none.
 pub fn add_admission(
     admitted: Result<Profile, ProfileFault>,
     profile: &mut Option<Profile>,
-    came: &mut Vec<u8>,
-) -> Result<(), Trouble> {
+    came: &mut Buffer,
+) {
     match admitted {
         Ok(made) => {
             *profile = Some(made);
@@ -74,7 +76,7 @@ pub fn add_admission(
 }
 
 /// Adds why there is no profile, or a text of an entry cannot be run.
-pub fn add_profile_fault(fault: ProfileFault, came: &mut Vec<u8>) -> Result<(), Trouble> {
+pub fn add_profile_fault(fault: ProfileFault, came: &mut Buffer) {
     match fault {
         ProfileFault::Unsuitable(capability) => add_named("Unsuitable", capability, came),
         ProfileFault::AutoMargin => add_word("AutoMargin", came),
@@ -90,16 +92,15 @@ pub fn add_profile_fault(fault: ProfileFault, came: &mut Vec<u8>) -> Result<(), 
 fn make_entry(
     alloc: Global,
     entry: &mut Option<Entry>,
-    text: &mut Vec<u8>,
+    text: &mut Buffer,
     words: &mut Words<'_>,
-    came: &mut Vec<u8>,
-) -> Result<(), Trouble> {
-    text.clear();
-    read_text(words.next(), text)?;
-    match Entry::new(alloc, text) {
+    came: &mut Buffer,
+) {
+    words.text(text);
+    match Entry::new(alloc, text.bytes()) {
         Ok(made) => {
             *entry = Some(made);
-            add_word("Ok", came)
+            add_word("Ok", came);
         }
         Err(fault) => add_set(Err(fault), came),
     }
@@ -109,37 +110,36 @@ fn make_entry(
 fn set_capability(
     entry: &mut Entry,
     present: bool,
-    text: &mut Vec<u8>,
+    text: &mut Buffer,
     words: &mut Words<'_>,
-) -> Result<Result<(), CapFault>, Trouble> {
+) -> Result<(), CapFault> {
     let Some((kind, slot)) = find_name(words.next()) else {
-        return Err(Trouble::Bad("no such capability"));
+        words.fail(Trouble::Bad("no such capability"));
+        return Ok(());
     };
     match kind {
-        Kind::Flag => Ok(entry.set_flag(slot, present)),
-        Kind::Number if !present => Ok(entry.set_number(slot, None)),
-        Kind::Text if !present => Ok(entry.set_text(slot, None)),
+        Kind::Flag => entry.set_flag(slot, present),
+        Kind::Number if !present => entry.set_number(slot, None),
+        Kind::Text if !present => entry.set_text(slot, None),
         Kind::Number => set_number(entry, slot, words),
         Kind::Text => {
-            text.clear();
-            read_text(words.next(), text)?;
-            Ok(entry.set_text(slot, Some(text)))
+            words.text(text);
+            entry.set_text(slot, Some(text.bytes()))
         }
     }
 }
 
-fn set_number(
-    entry: &mut Entry,
-    slot: Slot,
-    words: &mut Words<'_>,
-) -> Result<Result<(), CapFault>, Trouble> {
-    match u16::try_from(words.number()?) {
-        Ok(number) if number <= 32767 => Ok(entry.set_number(slot, Some(number))),
-        _ => Err(Trouble::Bad("a number is out of range")),
+fn set_number(entry: &mut Entry, slot: Slot, words: &mut Words<'_>) -> Result<(), CapFault> {
+    match u16::try_from(words.number()) {
+        Ok(number) if number <= 32767 => entry.set_number(slot, Some(number)),
+        _ => {
+            words.fail(Trouble::Bad("a number is out of range"));
+            Ok(())
+        }
     }
 }
 
-fn add_set(set: Result<(), CapFault>, came: &mut Vec<u8>) -> Result<(), Trouble> {
+fn add_set(set: Result<(), CapFault>, came: &mut Buffer) {
     match set {
         Ok(()) => add_word("Ok", came),
         Err(CapFault::NoMemory) => add_word("NoMemory", came),
@@ -148,7 +148,7 @@ fn add_set(set: Result<(), CapFault>, came: &mut Vec<u8>) -> Result<(), Trouble>
 }
 
 // Adds a fault and the capability that it is about.
-fn add_named(fault: &str, capability: (Kind, Slot), came: &mut Vec<u8>) -> Result<(), Trouble> {
-    add_word(fault, came)?;
-    add_word(name_of(capability.0, capability.1).unwrap_or("?"), came)
+fn add_named(fault: &str, capability: (Kind, Slot), came: &mut Buffer) {
+    add_word(fault, came);
+    add_word(name_of(capability.0, capability.1).unwrap_or("?"), came);
 }

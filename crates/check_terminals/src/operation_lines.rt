@@ -1,6 +1,7 @@
 //! Operations of a terminal, as words.
 
 use check_scripts::answers::{add_number, add_place, add_text, add_word};
+use check_scripts::buffers::Buffer;
 use check_scripts::troubles::Trouble;
 use check_scripts::words::Words;
 use scr_cells::Attrs;
@@ -8,28 +9,28 @@ use scr_term::Op;
 
 /// Reads an operation: `home`, `move R C`, `column C`, `line R`, `up N`, `down N`, `left N`, `right N`, `return`, `clear`,
 /// `erase_line`, `erase_below`, `erase_chars N`, `reset`, `enter A`, `set A`, `fore N`, `back N` or `put B`.
-pub fn read_op(words: &mut Words<'_>) -> Result<Op, Trouble> {
+pub fn read_op(words: &mut Words<'_>) -> Option<Op> {
     let word = str::from_utf8(words.next()).unwrap_or("");
-    match word {
-        "reset" => Ok(Op::Reset),
-        "enter" => Ok(Op::Enter(Attrs(words.byte()?))),
-        "set" => Ok(Op::Set(Attrs(words.byte()?))),
-        "fore" => Ok(Op::Fore(words.byte()?)),
-        "back" => Ok(Op::Back(words.byte()?)),
-        "put" => Ok(Op::Put(words.byte()?)),
-        "clear" => Ok(Op::Clear),
-        "erase_line" => Ok(Op::EraseLine),
-        "erase_below" => Ok(Op::EraseBelow),
-        "erase_chars" => Ok(Op::EraseChars(words.number()?)),
-        _ => read_motion(word, words),
-    }
+    Some(match word {
+        "reset" => Op::Reset,
+        "enter" => Op::Enter(Attrs(words.byte())),
+        "set" => Op::Set(Attrs(words.byte())),
+        "fore" => Op::Fore(words.byte()),
+        "back" => Op::Back(words.byte()),
+        "put" => Op::Put(words.byte()),
+        "clear" => Op::Clear,
+        "erase_line" => Op::EraseLine,
+        "erase_below" => Op::EraseBelow,
+        "erase_chars" => Op::EraseChars(words.number()),
+        _ => return read_motion(word, words),
+    })
 }
 
 /// Adds an operation.
-pub fn add_op(op: Op, came: &mut Vec<u8>) -> Result<(), Trouble> {
+pub fn add_op(op: Op, came: &mut Buffer) {
     match op {
         Op::Move(row, column) => {
-            add_word("move", came)?;
+            add_word("move", came);
             add_place(row, column, came)
         }
         Op::Enter(attrs) => add_op_of("enter", i64::from(attrs.0), came),
@@ -37,7 +38,7 @@ pub fn add_op(op: Op, came: &mut Vec<u8>) -> Result<(), Trouble> {
         Op::Fore(colour) => add_op_of("fore", i64::from(colour), came),
         Op::Back(colour) => add_op_of("back", i64::from(colour), came),
         Op::Put(byte) => {
-            add_word("put", came)?;
+            add_word("put", came);
             add_text(&[byte], came)
         }
         Op::EraseChars(count) => add_op_of("erase_chars", i64::from(count), came),
@@ -45,28 +46,31 @@ pub fn add_op(op: Op, came: &mut Vec<u8>) -> Result<(), Trouble> {
     }
 }
 
-fn read_motion(word: &str, words: &mut Words<'_>) -> Result<Op, Trouble> {
-    match word {
-        "home" => Ok(Op::Home),
-        "return" => Ok(Op::Return),
-        "move" => Ok(Op::Move(words.number()?, words.number()?)),
-        "column" => Ok(Op::Column(words.number()?)),
-        "line" => Ok(Op::Line(words.number()?)),
-        "up" => Ok(Op::Up(words.number()?)),
-        "down" => Ok(Op::Down(words.number()?)),
-        "left" => Ok(Op::Left(words.number()?)),
-        "right" => Ok(Op::Right(words.number()?)),
-        _ => Err(Trouble::Bad("no operation")),
-    }
+fn read_motion(word: &str, words: &mut Words<'_>) -> Option<Op> {
+    Some(match word {
+        "home" => Op::Home,
+        "return" => Op::Return,
+        "move" => Op::Move(words.number(), words.number()),
+        "column" => Op::Column(words.number()),
+        "line" => Op::Line(words.number()),
+        "up" => Op::Up(words.number()),
+        "down" => Op::Down(words.number()),
+        "left" => Op::Left(words.number()),
+        "right" => Op::Right(words.number()),
+        _ => {
+            words.fail(Trouble::Bad("no operation"));
+            return None;
+        }
+    })
 }
 
-fn add_op_of(name: &str, number: i64, came: &mut Vec<u8>) -> Result<(), Trouble> {
-    add_word(name, came)?;
-    add_number(number, came)
+fn add_op_of(name: &str, number: i64, came: &mut Buffer) {
+    add_word(name, came);
+    add_number(number, came);
 }
 
 // Adds an operation that is a motion by a number, or has none.
-fn add_bare_op(op: Op, came: &mut Vec<u8>) -> Result<(), Trouble> {
+fn add_bare_op(op: Op, came: &mut Buffer) {
     match op {
         Op::Column(column) => add_op_of("column", i64::from(column), came),
         Op::Line(row) => add_op_of("line", i64::from(row), came),
@@ -80,6 +84,6 @@ fn add_bare_op(op: Op, came: &mut Vec<u8>) -> Result<(), Trouble> {
         Op::EraseLine => add_word("erase_line", came),
         Op::EraseBelow => add_word("erase_below", came),
         Op::Reset => add_word("reset", came),
-        _ => Err(Trouble::Bad("an operation without a word")),
+        _ => add_word("?", came),
     }
 }

@@ -2,37 +2,56 @@
 
 use crate::operation_lines::add_op;
 use crate::picture_lines::ready;
-use crate::screen_lines::ready_mut;
-use crate::terminal_lines::{ready as ready_profile, render};
-use check_scripts::answers::{add_done, add_number, add_text, add_word};
+use crate::terminal_lines::ready as ready_profile;
+use check_scripts::answers::{add_number, add_text, add_word};
+use check_scripts::buffers::Buffer;
 use check_scripts::troubles::Trouble;
+use check_scripts::words::Words;
 use scr_cells::{NoMemory, Picture};
 use scr_plan::scratch;
-use scr_term::{EcmaScreen, Ops, Profile};
+use scr_term::{EcmaScreen, Op, Ops, Profile};
 use std::alloc::Global;
 
-/// The lines `scratch`, `painted`, `painted_count` and `feed_painted`, which feeds the screen what paints the picture.
+/// The lines `scratch`, `painted`, `painted_count` and `feed_painted`, which feeds the screen what paints the picture. Tells whether a line
+/// is one of them.
 pub fn answer_of_painting(
     alloc: Global,
     picture: &Option<Picture>,
     profile: &Option<Profile>,
     screen: &mut Option<EcmaScreen>,
     word: &str,
-    came: &mut Vec<u8>,
-) -> Result<bool, Trouble> {
+    words: &mut Words<'_>,
+    came: &mut Buffer,
+) -> bool {
     if !matches!(
         word,
         "scratch" | "painted" | "painted_count" | "feed_painted"
     ) {
-        return Ok(false);
+        return false;
     }
-    let profile = ready_profile(profile)?;
-    let done = match painting(alloc, profile, ready(picture)?)? {
+    words.check(add_painting(alloc, picture, profile, screen, word, came));
+    true
+}
+
+// The same of a profile and a picture of one size.
+fn add_painting(
+    alloc: Global,
+    picture: &Option<Picture>,
+    profile: &Option<Profile>,
+    screen: &mut Option<EcmaScreen>,
+    word: &str,
+    came: &mut Buffer,
+) -> Result<(), Trouble> {
+    let (profile, picture) = (ready_profile(profile)?, ready(picture)?);
+    let (size, other) = (picture.size(), profile.size());
+    if size.rows != other.rows || size.columns != other.columns {
+        return Err(Trouble::Bad("the profile has another size"));
+    }
+    match scratch(alloc, profile, picture) {
         Ok(ops) => add_of_ops(alloc, profile, &ops, screen, word, came),
         Err(NoMemory) => add_word("NoMemory", came),
-    };
-    done?;
-    Ok(true)
+    }
+    Ok(())
 }
 
 fn add_of_ops(
@@ -41,67 +60,56 @@ fn add_of_ops(
     ops: &Ops,
     screen: &mut Option<EcmaScreen>,
     word: &str,
-    came: &mut Vec<u8>,
-) -> Result<(), Trouble> {
+    came: &mut Buffer,
+) {
     match word {
         "scratch" => add_scratch(ops, came),
         "painted" => add_painted(alloc, profile, ops, came),
         "painted_count" => add_painted_count(alloc, profile, ops, came),
-        _ => feed_painted(alloc, profile, ops, ready_mut(screen)?, came),
+        _ => match screen {
+            Some(screen) => feed_painted(alloc, profile, ops, screen, came),
+            None => add_word("no screen", came),
+        },
     }
 }
 
 /// Adds the operations.
-pub fn add_scratch(ops: &Ops, came: &mut Vec<u8>) -> Result<(), Trouble> {
+pub fn add_scratch(ops: &Ops, came: &mut Buffer) {
     for op in &ops.0 {
-        add_op(*op, came)?;
+        add_op(*op, came);
     }
-    Ok(())
 }
 
 // Adds the bytes of each of them, and how many there are in all.
-fn add_painted(
-    alloc: Global,
-    profile: &Profile,
-    ops: &Ops,
-    came: &mut Vec<u8>,
-) -> Result<(), Trouble> {
+fn add_painted(alloc: Global, profile: &Profile, ops: &Ops, came: &mut Buffer) {
     let mut bytes = Vec::new(alloc);
-    add_each(profile, ops, &mut bytes, came)
+    add_each(profile, ops, &mut bytes, came);
 }
 
 // The same, with room for the bytes of one.
-fn add_each(
-    profile: &Profile,
-    ops: &Ops,
-    bytes: &mut Vec<u8>,
-    came: &mut Vec<u8>,
-) -> Result<(), Trouble> {
+fn add_each(profile: &Profile, ops: &Ops, bytes: &mut Vec<u8>, came: &mut Buffer) {
     let mut count: u32 = 0;
     for op in &ops.0 {
         bytes.clear();
-        match render(profile, *op, bytes)? {
-            Ok(()) => add_text(bytes, came)?,
-            refused => return add_done(refused, came),
+        if render(profile, *op, bytes).is_err() {
+            add_word("NoMemory", came);
+            return;
         }
+        add_text(bytes, came);
         count = count.saturating_add(u32::try_from(bytes.len()).unwrap_or(0));
     }
-    add_number(i64::from(count), came)
+    add_number(i64::from(count), came);
 }
 
 // Adds how many operations there are, and how many bytes in all.
-fn add_painted_count(
-    alloc: Global,
-    profile: &Profile,
-    ops: &Ops,
-    came: &mut Vec<u8>,
-) -> Result<(), Trouble> {
+fn add_painted_count(alloc: Global, profile: &Profile, ops: &Ops, came: &mut Buffer) {
     let mut bytes = Vec::new(alloc);
-    if render_all(profile, ops, &mut bytes)?.is_err() {
-        return add_word("NoMemory", came);
+    if render_all(profile, ops, &mut bytes).is_err() {
+        add_word("NoMemory", came);
+    } else {
+        add_number(i64::try_from(ops.0.len()).unwrap_or(-1), came);
+        add_number(i64::try_from(bytes.len()).unwrap_or(-1), came);
     }
-    add_number(i64::try_from(ops.0.len()).unwrap_or(-1), came)?;
-    add_number(i64::try_from(bytes.len()).unwrap_or(-1), came)
 }
 
 // Feeds the screen the bytes, and adds whether all of them are defined.
@@ -110,39 +118,30 @@ fn feed_painted(
     profile: &Profile,
     ops: &Ops,
     screen: &mut EcmaScreen,
-    came: &mut Vec<u8>,
-) -> Result<(), Trouble> {
+    came: &mut Buffer,
+) {
     let mut bytes = Vec::new(alloc);
-    if render_all(profile, ops, &mut bytes)?.is_err() {
-        return add_word("NoMemory", came);
+    if render_all(profile, ops, &mut bytes).is_err() {
+        add_word("NoMemory", came);
+    } else {
+        let fed = screen.feed(&bytes);
+        add_word(if fed.is_ok() { "Ok" } else { "Undefined" }, came);
     }
-    let fed = screen.feed(&bytes);
-    add_word(if fed.is_ok() { "Ok" } else { "Undefined" }, came)
 }
 
 // Adds the bytes of the operations.
-fn render_all(
-    profile: &Profile,
-    ops: &Ops,
-    bytes: &mut Vec<u8>,
-) -> Result<Result<(), NoMemory>, Trouble> {
+fn render_all(profile: &Profile, ops: &Ops, bytes: &mut Vec<u8>) -> Result<(), NoMemory> {
     for op in &ops.0 {
-        if render(profile, *op, bytes)?.is_err() {
-            return Ok(Err(NoMemory));
-        }
+        render(profile, *op, bytes)?;
     }
-    Ok(Ok(()))
+    Ok(())
 }
 
-// The operations that paint a picture on a profile, whose size is the picture's.
-fn painting(
-    alloc: Global,
-    profile: &Profile,
-    picture: &Picture,
-) -> Result<Result<Ops, NoMemory>, Trouble> {
-    let (size, other) = (picture.size(), profile.size());
-    if size.rows != other.rows || size.columns != other.columns {
-        return Err(Trouble::Bad("the profile has another size"));
+// Adds the bytes of an operation; none of one that the profile has not.
+fn render(profile: &Profile, op: Op, bytes: &mut Vec<u8>) -> Result<(), NoMemory> {
+    if profile.has(op) {
+        profile.render(op, bytes)
+    } else {
+        Ok(())
     }
-    Ok(scratch(alloc, profile, picture))
 }

@@ -1,6 +1,7 @@
 //! Lines about a picture.
 
 use check_scripts::answers::{add_cell, add_place, add_text_of, add_word, read_parts, read_size};
+use check_scripts::buffers::Buffer;
 use check_scripts::troubles::Trouble;
 use check_scripts::words::Words;
 use scr_cells::{Cell, NoMemory, Picture};
@@ -8,21 +9,21 @@ use std::alloc::Global;
 
 /// The lines `picture R C`, `put R C B A P`, `put_row R C B A P`, `fill R C E B A P`, `wish R C`, `wish none`, `wished`, `picture_size`,
 /// `picture_rows`, `picture_at R C`, `pair P` and `set_pair P F G`, where a foreground and a background are set. `fill` puts a cell in
-/// the columns from C up to E.
+/// the columns from C up to E. Tells whether a line is one of them.
 pub fn answer_of_picture(
     alloc: Global,
     picture: &mut Option<Picture>,
     word: &str,
     words: &mut Words<'_>,
-    came: &mut Vec<u8>,
-) -> Result<bool, Trouble> {
+    came: &mut Buffer,
+) -> bool {
     if word == "picture" {
-        make_picture(alloc, picture, words, came)?;
-        return Ok(true);
+        make_picture(alloc, picture, words, came);
+        return true;
     }
     match picture {
         Some(picture) => answer_of_changes(picture, word, words, came),
-        None => Ok(false),
+        None => false,
     }
 }
 
@@ -31,37 +32,32 @@ fn answer_of_changes(
     picture: &mut Picture,
     word: &str,
     words: &mut Words<'_>,
-    came: &mut Vec<u8>,
-) -> Result<bool, Trouble> {
+    came: &mut Buffer,
+) -> bool {
     let done = match word {
-        "put" => put(picture, words, came),
-        "put_row" => put_row(picture, words, came),
-        "fill" => fill(picture, words, came),
-        "wish" => wish(picture, words, came),
-        "set_pair" => set_pair(picture, words, came),
+        "put" => put(picture, words),
+        "put_row" => put_row(picture, words),
+        "fill" => fill(picture, words),
+        "wish" => wish(picture, words),
+        "set_pair" => set_pair(picture, words),
         _ => return answer_of_made(picture, word, words, came),
     };
-    done?;
-    Ok(true)
+    words.check(done);
+    add_word("Ok", came);
+    true
 }
 
 // The lines that say what a picture holds.
-fn answer_of_made(
-    picture: &Picture,
-    word: &str,
-    words: &mut Words<'_>,
-    came: &mut Vec<u8>,
-) -> Result<bool, Trouble> {
-    let done = match word {
+fn answer_of_made(picture: &Picture, word: &str, words: &mut Words<'_>, came: &mut Buffer) -> bool {
+    match word {
         "wished" => add_wish(picture, came),
         "picture_size" => add_size(picture, came),
         "picture_rows" => add_picture_rows(picture, came),
         "picture_at" => add_picture_at(picture, words, came),
         "pair" => add_pair(picture, words, came),
-        _ => return Ok(false),
-    };
-    done?;
-    Ok(true)
+        _ => return false,
+    }
+    true
 }
 
 /// The picture, which a line asks for.
@@ -73,9 +69,11 @@ fn make_picture(
     alloc: Global,
     picture: &mut Option<Picture>,
     words: &mut Words<'_>,
-    came: &mut Vec<u8>,
-) -> Result<(), Trouble> {
-    let size = read_size(words)?;
+    came: &mut Buffer,
+) {
+    let Some(size) = read_size(words) else {
+        return;
+    };
     match Picture::new(alloc, size) {
         Ok(made) => {
             *picture = Some(made);
@@ -85,52 +83,50 @@ fn make_picture(
     }
 }
 
-fn put(picture: &mut Picture, words: &mut Words<'_>, came: &mut Vec<u8>) -> Result<(), Trouble> {
-    let (row, column) = (words.number()?, words.number()?);
-    let (byte, attrs, pair) = read_parts(words)?;
-    let Some(cell) = Cell::paired(byte, attrs, pair) else {
-        return Err(Trouble::Bad("no cell"));
-    };
+fn read_cell(words: &mut Words<'_>) -> Cell {
+    let (byte, attrs, pair) = read_parts(words);
+    match Cell::paired(byte, attrs, pair) {
+        Some(cell) => cell,
+        None => {
+            words.fail(Trouble::Bad("no cell"));
+            Cell::blank()
+        }
+    }
+}
+
+fn put(picture: &mut Picture, words: &mut Words<'_>) -> Result<(), Trouble> {
+    let (row, column) = (words.number(), words.number());
+    let cell = read_cell(words);
     let size = picture.size();
     if row >= size.rows || column >= size.columns {
         return Err(Trouble::Bad("no place of the picture"));
     }
     picture.put(row, column, cell);
-    add_word("Ok", came)
+    Ok(())
 }
 
 // A cell, and a blank behind it, as a run.
-fn put_row(
-    picture: &mut Picture,
-    words: &mut Words<'_>,
-    came: &mut Vec<u8>,
-) -> Result<(), Trouble> {
-    let (row, column) = (words.number()?, words.number()?);
-    let (byte, attrs, pair) = read_parts(words)?;
-    let Some(cell) = Cell::paired(byte, attrs, pair) else {
-        return Err(Trouble::Bad("no cell"));
-    };
+fn put_row(picture: &mut Picture, words: &mut Words<'_>) -> Result<(), Trouble> {
+    let (row, column) = (words.number(), words.number());
+    let cell = read_cell(words);
     let size = picture.size();
     if row >= size.rows || column >= size.columns.saturating_sub(1) {
         return Err(Trouble::Bad("no places of the picture"));
     }
     picture.put_row(row, column, &[cell, Cell::blank()]);
-    add_word("Ok", came)
+    Ok(())
 }
 
 // A cell in each column of a part of a row.
-fn fill(picture: &mut Picture, words: &mut Words<'_>, came: &mut Vec<u8>) -> Result<(), Trouble> {
-    let (row, from, end) = (words.number()?, words.number()?, words.number()?);
-    let (byte, attrs, pair) = read_parts(words)?;
-    let Some(cell) = Cell::paired(byte, attrs, pair) else {
-        return Err(Trouble::Bad("no cell"));
-    };
+fn fill(picture: &mut Picture, words: &mut Words<'_>) -> Result<(), Trouble> {
+    let (row, from, end) = (words.number(), words.number(), words.number());
+    let cell = read_cell(words);
     let size = picture.size();
     if row >= size.rows || end > size.columns {
         return Err(Trouble::Bad("no places of the picture"));
     }
     fill_part(picture, row, from, end, cell);
-    add_word("Ok", came)
+    Ok(())
 }
 
 fn fill_part(picture: &mut Picture, row: u32, from: u32, end: u32, cell: Cell) {
@@ -142,56 +138,51 @@ fn fill_part(picture: &mut Picture, row: u32, from: u32, end: u32, cell: Cell) {
     }
 }
 
-fn wish(picture: &mut Picture, words: &mut Words<'_>, came: &mut Vec<u8>) -> Result<(), Trouble> {
+fn wish(picture: &mut Picture, words: &mut Words<'_>) -> Result<(), Trouble> {
     if words.peek() == b"none".as_slice() {
         let _none = words.next();
         picture.set_wish(None);
-        return add_word("Ok", came);
+        return Ok(());
     }
-    let (row, column) = (words.number()?, words.number()?);
+    let (row, column) = (words.number(), words.number());
     let size = picture.size();
     if row >= size.rows || column >= size.columns {
         return Err(Trouble::Bad("no place of the picture"));
     }
     picture.set_wish(Some((row, column)));
-    add_word("Ok", came)
+    Ok(())
 }
 
-fn add_wish(picture: &Picture, came: &mut Vec<u8>) -> Result<(), Trouble> {
+fn add_wish(picture: &Picture, came: &mut Buffer) {
     match picture.wish() {
         Some((row, column)) => add_place(row, column, came),
         None => add_word("none", came),
     }
 }
 
-fn add_size(picture: &Picture, came: &mut Vec<u8>) -> Result<(), Trouble> {
+fn add_size(picture: &Picture, came: &mut Buffer) {
     let size = picture.size();
-    add_place(size.rows, size.columns, came)
+    add_place(size.rows, size.columns, came);
 }
 
-fn add_picture_rows(picture: &Picture, came: &mut Vec<u8>) -> Result<(), Trouble> {
+fn add_picture_rows(picture: &Picture, came: &mut Buffer) {
     for row in 0..picture.size().rows {
-        add_text_of(picture.row(row), came)?;
+        add_text_of(picture.row(row), came);
     }
-    Ok(())
 }
 
-fn add_picture_at(
-    picture: &Picture,
-    words: &mut Words<'_>,
-    came: &mut Vec<u8>,
-) -> Result<(), Trouble> {
-    let (row, column) = (words.number()?, words.number()?);
+fn add_picture_at(picture: &Picture, words: &mut Words<'_>, came: &mut Buffer) {
+    let (row, column) = (words.number(), words.number());
     let size = picture.size();
     if row >= size.rows || column >= size.columns {
-        return Err(Trouble::Bad("no place of the picture"));
+        words.fail(Trouble::Bad("no place of the picture"));
+        return;
     }
-    let cell = picture.row(row)[column as usize];
-    add_cell(cell, came)
+    add_cell(picture.row(row)[column as usize], came);
 }
 
-fn add_pair(picture: &Picture, words: &mut Words<'_>, came: &mut Vec<u8>) -> Result<(), Trouble> {
-    match picture.pair(words.number()?) {
+fn add_pair(picture: &Picture, words: &mut Words<'_>, came: &mut Buffer) {
+    match picture.pair(words.number()) {
         Some((foreground, background)) => {
             add_place(u32::from(foreground), u32::from(background), came)
         }
@@ -199,16 +190,12 @@ fn add_pair(picture: &Picture, words: &mut Words<'_>, came: &mut Vec<u8>) -> Res
     }
 }
 
-fn set_pair(
-    picture: &mut Picture,
-    words: &mut Words<'_>,
-    came: &mut Vec<u8>,
-) -> Result<(), Trouble> {
-    let pair = words.number()?;
-    let (foreground, background) = (words.byte()?, words.byte()?);
+fn set_pair(picture: &mut Picture, words: &mut Words<'_>) -> Result<(), Trouble> {
+    let pair = words.number();
+    let (foreground, background) = (words.byte(), words.byte());
     if pair == 0 || pair > 63 || foreground > 7 || background > 7 {
         return Err(Trouble::Bad("no colours of a pair"));
     }
     picture.set_pair(pair, foreground, background);
-    add_word("Ok", came)
+    Ok(())
 }

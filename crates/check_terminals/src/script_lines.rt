@@ -1,8 +1,7 @@
 //! Lines about the scripts of the demonstration program.
 
-use crate::screen_lines::ready_mut;
 use check_scripts::answers::{add_number, add_text, add_word};
-use check_scripts::texts::read_text;
+use check_scripts::buffers::Buffer;
 use check_scripts::troubles::Trouble;
 use check_scripts::words::Words;
 use scr_cells::NoMemory;
@@ -13,73 +12,73 @@ use std::io;
 use std::io::{ErrorKind, Write};
 
 /// The lines `run TEXT`, `run_raw TEXT`, `refusals TEXT`, `run_writing N TEXT`, `run_stuck N TEXT`, `run_flushing TEXT` and
-/// `feed_run TEXT`, where the text is a script.
+/// `feed_run TEXT`, where the text is a script. Tells whether a line is one of them.
 pub fn answer_of_script(
     alloc: Global,
     screen: &mut Option<EcmaScreen>,
-    text: &mut Vec<u8>,
+    text: &mut Buffer,
     word: &str,
     words: &mut Words<'_>,
-    came: &mut Vec<u8>,
-) -> Result<bool, Trouble> {
-    let done = match word {
+    came: &mut Buffer,
+) -> bool {
+    match word {
         "run" | "run_raw" | "refusals" | "feed_run" => {
             read_and_run(alloc, screen, text, word, words, came)
         }
         "run_writing" | "run_stuck" | "run_flushing" => {
             read_and_fail(alloc, text, word, words, came)
         }
-        _ => return Ok(false),
-    };
-    done?;
-    Ok(true)
+        _ => return false,
+    }
+    true
 }
 
 // The lines whose writer does not fail.
 fn read_and_run(
     alloc: Global,
     screen: &mut Option<EcmaScreen>,
-    text: &mut Vec<u8>,
+    text: &mut Buffer,
     word: &str,
     words: &mut Words<'_>,
-    came: &mut Vec<u8>,
-) -> Result<(), Trouble> {
-    text.clear();
-    read_text(words.next(), text)?;
+    came: &mut Buffer,
+) {
+    words.text(text);
     match word {
-        "refusals" => add_refusals(alloc, text, came),
-        "feed_run" => feed_run(alloc, ready_mut(screen)?, text, came),
-        _ => add_run(alloc, word == "run_raw", text, came),
+        "refusals" => add_refusals(alloc, text.bytes(), came),
+        "feed_run" => match screen {
+            Some(screen) => feed_run(alloc, screen, text.bytes(), came),
+            None => words.fail(Trouble::Bad("no screen")),
+        },
+        _ => add_run(alloc, word == "run_raw", text.bytes(), came),
     }
 }
 
 // The lines whose writer fails.
 fn read_and_fail(
     alloc: Global,
-    text: &mut Vec<u8>,
+    text: &mut Buffer,
     word: &str,
     words: &mut Words<'_>,
-    came: &mut Vec<u8>,
-) -> Result<(), Trouble> {
+    came: &mut Buffer,
+) {
     let fails = match word {
-        "run_writing" => Fails::Behind(words.number()? as usize),
-        "run_stuck" => Fails::StuckBehind(words.number()? as usize),
+        "run_writing" => Fails::Behind(words.number() as usize),
+        "run_stuck" => Fails::StuckBehind(words.number() as usize),
         _ => Fails::Flushed,
     };
-    text.clear();
-    read_text(words.next(), text)?;
-    run_into(alloc, fails, text, came)
+    words.text(text);
+    run_into(alloc, fails, text.bytes(), came);
 }
 
 // Runs a script, and adds what it writes and how it ends.
-fn add_run(alloc: Global, raw: bool, text: &[u8], came: &mut Vec<u8>) -> Result<(), Trouble> {
+fn add_run(alloc: Global, raw: bool, text: &[u8], came: &mut Buffer) {
     let mut out = Vec::new(alloc);
     let ended = run(alloc, text, raw, &mut out);
-    add_text(&out, came)?;
-    add_end(ended, came)
+    add_text(&out, came);
+    add_end(ended, came);
 }
 
-fn add_refusals(alloc: Global, text: &[u8], came: &mut Vec<u8>) -> Result<(), Trouble> {
+fn add_refusals(alloc: Global, text: &[u8], came: &mut Buffer) {
     match refusals(alloc, text) {
         Ok(lines) => add_text(&lines, came),
         Err(NoMemory) => add_word("NoMemory", came),
@@ -87,38 +86,34 @@ fn add_refusals(alloc: Global, text: &[u8], came: &mut Vec<u8>) -> Result<(), Tr
 }
 
 // Runs a script into a writer that fails, and adds what was taken and how the run ends.
-fn run_into(alloc: Global, fails: Fails, text: &[u8], came: &mut Vec<u8>) -> Result<(), Trouble> {
+fn run_into(alloc: Global, fails: Fails, text: &[u8], came: &mut Buffer) {
     let mut out = Failing {
         taken: Vec::new(alloc),
         fails,
     };
     let ended = run(alloc, text, false, &mut out);
-    add_text(&out.taken, came)?;
-    add_end(ended, came)
+    add_text(&out.taken, came);
+    add_end(ended, came);
 }
 
 // Feeds a screen the bytes that a script sends.
-fn feed_run(
-    alloc: Global,
-    screen: &mut EcmaScreen,
-    text: &[u8],
-    came: &mut Vec<u8>,
-) -> Result<(), Trouble> {
+fn feed_run(alloc: Global, screen: &mut EcmaScreen, text: &[u8], came: &mut Buffer) {
     let mut out = Vec::new(alloc);
     let ended = run(alloc, text, true, &mut out);
     if ended.is_err() {
-        return add_end(ended, came);
+        add_end(ended, came);
+        return;
     }
     let fed = screen.feed(&out);
-    add_word(if fed.is_ok() { "Ok" } else { "Undefined" }, came)
+    add_word(if fed.is_ok() { "Ok" } else { "Undefined" }, came);
 }
 
 // How a run ended. The growth of a vector that is written to may be refused too.
-fn add_end(ended: Result<(), DemoFault>, came: &mut Vec<u8>) -> Result<(), Trouble> {
+fn add_end(ended: Result<(), DemoFault>, came: &mut Buffer) {
     match ended {
         Ok(()) => add_word("Ok", came),
         Err(DemoFault::BadCommand(line)) => {
-            add_word("BadCommand", came)?;
+            add_word("BadCommand", came);
             add_number(i64::from(line), came)
         }
         Err(DemoFault::NoMemory) | Err(DemoFault::Write(ErrorKind::OutOfMemory)) => {

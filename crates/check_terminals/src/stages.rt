@@ -11,6 +11,7 @@ use crate::screen_lines::{answer_of_screen, print_state};
 use crate::script_lines::answer_of_script;
 use crate::terminal_lines::answer_of_terminal;
 use crate::text_lines::answer_of_texts;
+use check_scripts::buffers::Buffer;
 use check_scripts::checking::Stage;
 use check_scripts::troubles::Trouble;
 use check_scripts::words::Words;
@@ -29,8 +30,8 @@ pub struct TerminalStage {
     picture: Option<Picture>,
     screen: Option<EcmaScreen>,
     // Room for texts of a line.
-    text: Vec<u8>,
-    other_text: Vec<u8>,
+    text: Buffer,
+    other_text: Buffer,
 }
 
 impl Stage for TerminalStage {
@@ -42,37 +43,34 @@ impl Stage for TerminalStage {
             terminal: None,
             picture: None,
             screen: None,
-            text: Vec::new(alloc),
-            other_text: Vec::new(alloc),
+            text: Buffer::new(alloc),
+            other_text: Buffer::new(alloc),
         }
     }
 
-    fn answer(&mut self, words: &mut Words<'_>, came: &mut Vec<u8>) -> Result<(), Trouble> {
+    fn answer(&mut self, words: &mut Words<'_>, came: &mut Buffer) {
         let word = str::from_utf8(words.next()).unwrap_or("");
-        if self.answer_of_profiles(word, words, came)? || self.answer_of_shown(word, words, came)? {
-            Ok(())
-        } else {
-            Err(Trouble::Bad("no such call, or nothing that it is about"))
+        if !self.answer_of_profiles(word, words, came) && !self.answer_of_shown(word, words, came) {
+            words.fail(Trouble::Bad("no such call, or nothing that it is about"));
         }
     }
 
-    fn dump(&self, bytes: &mut Vec<u8>) -> Result<(), Trouble> {
+    fn dump(&self, bytes: &mut Buffer) {
         if let Some(entry) = &self.entry {
-            dump_entry(entry, bytes)?;
+            dump_entry(entry, bytes);
         }
         if let Some(profile) = &self.profile {
-            dump_profile(profile, bytes)?;
+            dump_profile(profile, bytes);
         }
         if let Some(terminal) = &self.terminal {
-            dump_terminal(terminal, bytes)?;
+            dump_terminal(terminal, bytes);
         }
         if let Some(picture) = &self.picture {
-            dump_picture(picture, bytes)?;
+            dump_picture(picture, bytes);
         }
         if let Some(screen) = &self.screen {
-            print_state(screen, bytes)?;
+            print_state(screen, bytes);
         }
-        Ok(())
     }
 
     fn leaves_all(_word: &[u8]) -> bool {
@@ -81,65 +79,31 @@ impl Stage for TerminalStage {
 }
 
 impl TerminalStage {
-    // Makes the call of a line that is about an entry, a profile or a terminal.
-    fn answer_of_profiles(
-        &mut self,
-        word: &str,
-        words: &mut Words<'_>,
-        came: &mut Vec<u8>,
-    ) -> Result<bool, Trouble> {
-        let alloc = self.alloc;
-        Ok(
-            answer_of_entry(
+    // Makes the call of a line that is about an entry, a profile or a terminal, and tells whether it is one.
+    fn answer_of_profiles(&mut self, word: &str, words: &mut Words<'_>, came: &mut Buffer) -> bool {
+        let (alloc, entry, profile) = (self.alloc, &mut self.entry, &mut self.profile);
+        answer_of_entry(alloc, entry, profile, &mut self.text, word, words, came)
+            || answer_of_texts(alloc, entry, word, came)
+            || answer_of_terminal(alloc, profile, word, words, came)
+            || answer_of_emulated(alloc, &mut self.terminal, profile, word, words, came)
+    }
+
+    // Makes the call of a line that is about a picture, a screen or a script, and tells whether it is one.
+    fn answer_of_shown(&mut self, word: &str, words: &mut Words<'_>, came: &mut Buffer) -> bool {
+        let (alloc, profile, picture) = (self.alloc, &self.profile, &mut self.picture);
+        let (screen, text) = (&mut self.screen, &mut self.text);
+        answer_of_picture(alloc, picture, word, words, came)
+            || answer_of_painting(alloc, picture, profile, screen, word, words, came)
+            || answer_of_joining(
                 alloc,
-                &mut self.entry,
-                &mut self.profile,
-                &mut self.text,
+                &mut self.terminal,
+                picture,
+                profile,
                 word,
                 words,
                 came,
-            )? || answer_of_texts(alloc, &self.entry, word, came)?
-                || answer_of_terminal(alloc, &mut self.profile, word, words, came)?
-                || answer_of_emulated(alloc, &mut self.terminal, &self.profile, word, words, came)?,
-        )
-    }
-
-    // Makes the call of a line that is about a picture, a screen or a script.
-    fn answer_of_shown(
-        &mut self,
-        word: &str,
-        words: &mut Words<'_>,
-        came: &mut Vec<u8>,
-    ) -> Result<bool, Trouble> {
-        let (alloc, text) = (self.alloc, &mut self.text);
-        Ok(
-            answer_of_picture(alloc, &mut self.picture, word, words, came)?
-                || answer_of_painting(
-                    alloc,
-                    &self.picture,
-                    &self.profile,
-                    &mut self.screen,
-                    word,
-                    came,
-                )?
-                || answer_of_joining(
-                    alloc,
-                    &mut self.terminal,
-                    &self.picture,
-                    &self.profile,
-                    word,
-                    came,
-                )?
-                || answer_of_screen(
-                    alloc,
-                    &mut self.screen,
-                    text,
-                    &mut self.other_text,
-                    word,
-                    words,
-                    came,
-                )?
-                || answer_of_script(alloc, &mut self.screen, text, word, words, came)?,
-        )
+            )
+            || answer_of_screen(alloc, screen, text, &mut self.other_text, word, words, came)
+            || answer_of_script(alloc, screen, text, word, words, came)
     }
 }

@@ -2,35 +2,36 @@
 
 use crate::entry_lines::add_profile_fault;
 use check_scripts::answers::{add_text, add_word};
-use check_scripts::troubles::Trouble;
+use check_scripts::buffers::Buffer;
 use curses::{OpenFault, closing_text, opening_text};
 use std::alloc::Global;
 use ti_caps::{Bytes, Entry};
 
-/// The lines `opening_text` and `closing_text`, the bytes that an entry has for them, or why it has none.
+/// The lines `opening_text` and `closing_text`, the bytes that an entry has for them, or why it has none. Tells whether a line is one of
+/// them.
 pub fn answer_of_texts(
     alloc: Global,
     entry: &Option<Entry>,
     word: &str,
-    came: &mut Vec<u8>,
-) -> Result<bool, Trouble> {
+    came: &mut Buffer,
+) -> bool {
     let Some(entry) = entry else {
-        return Ok(false);
+        return false;
     };
     let made = match word {
         "opening_text" => opening_text(alloc, entry),
         "closing_text" => closing_text(alloc, entry),
-        _ => return Ok(false),
+        _ => return false,
     };
-    add_made(&made, came)?;
-    Ok(true)
+    add_made(&made, came);
+    true
 }
 
-fn add_made(made: &Result<Bytes, OpenFault>, came: &mut Vec<u8>) -> Result<(), Trouble> {
+fn add_made(made: &Result<Bytes, OpenFault>, came: &mut Buffer) {
     match made {
         Ok(text) => add_text(&text.0, came),
         Err(OpenFault::Profile(fault)) => add_profile_fault(*fault, came),
         Err(OpenFault::NoMemory) => add_word("NoMemory", came),
-        Err(OpenFault::KeyTooLong(_)) => Err(Trouble::Bad("a text is refused for a key")),
+        Err(OpenFault::KeyTooLong(_)) => add_word("KeyTooLong", came),
     }
 }

@@ -38,8 +38,7 @@
 
 use crate::answer::Answer;
 use crate::current::Current;
-use crate::fault::CheckFault;
-use crate::words::text;
+use crate::words::Words;
 use crate::{changes, cuts, entries, files, inputs, programs, sources, table};
 
 #[derive(Clone, Copy)]
@@ -134,14 +133,10 @@ static CALLS: [(&str, Call); 42] = [
 ];
 
 /// Makes the call that some words name.
-pub fn perform(
-    current: &mut Current,
-    words: &[Vec<u8>],
-    answer: &mut Answer,
-) -> Result<(), CheckFault> {
-    match call_of(&CALLS, text(words, 0)?) {
+pub fn perform(current: &mut Current, words: &mut Words<'_>, answer: &mut Answer) {
+    match call_of(&CALLS, words.text(0)) {
         Some(call) => of_table(call, current, words, answer),
-        None => Err(CheckFault::Line("no such call")),
+        None => words.fail("no such call"),
     }
 }
 
@@ -154,14 +149,9 @@ fn call_of(calls: &[(&str, Call)], name: &[u8]) -> Option<Call> {
     None
 }
 
-fn of_table(
-    call: Call,
-    current: &mut Current,
-    words: &[Vec<u8>],
-    answer: &mut Answer,
-) -> Result<(), CheckFault> {
+fn of_table(call: Call, current: &mut Current, words: &mut Words<'_>, answer: &mut Answer) {
     match call {
-        Call::Find => table::find(current.alloc, words, answer),
+        Call::Find => table::find(words, answer),
         Call::NameOf => table::give_name(words, answer),
         Call::Table => table::names_from(words, answer),
         Call::Named => table::count_named(words, answer),
@@ -171,29 +161,19 @@ fn of_table(
     }
 }
 
-fn of_entry(
-    call: Call,
-    current: &mut Current,
-    words: &[Vec<u8>],
-    answer: &mut Answer,
-) -> Result<(), CheckFault> {
+fn of_entry(call: Call, current: &mut Current, words: &mut Words<'_>, answer: &mut Answer) {
     match call {
         Call::Entry => entries::make(current, words, answer),
-        Call::Shown => entries::show(current, answer),
-        Call::IsBundled => entries::is_bundled(current, answer),
-        Call::Names => answer.say(current.entry()?.names()),
-        Call::Unnamed => answer.say_number(current.entry()?.unnamed()),
-        Call::Print => entries::print(current, answer),
+        Call::Shown => entries::show(current, words, answer),
+        Call::IsBundled => entries::is_bundled(current, words, answer),
+        Call::Names => entries::names(current, words, answer),
+        Call::Unnamed => entries::unnamed(current, words, answer),
+        Call::Print => entries::print(current, words, answer),
         _ => of_slots(call, current, words, answer),
     }
 }
 
-fn of_slots(
-    call: Call,
-    current: &mut Current,
-    words: &[Vec<u8>],
-    answer: &mut Answer,
-) -> Result<(), CheckFault> {
+fn of_slots(call: Call, current: &mut Current, words: &mut Words<'_>, answer: &mut Answer) {
     match call {
         Call::Flag => entries::flag(current, words, answer),
         Call::Number => entries::number(current, words, answer),
@@ -205,29 +185,19 @@ fn of_slots(
     }
 }
 
-fn of_sources(
-    call: Call,
-    current: &mut Current,
-    words: &[Vec<u8>],
-    answer: &mut Answer,
-) -> Result<(), CheckFault> {
+fn of_sources(call: Call, current: &mut Current, words: &mut Words<'_>, answer: &mut Answer) {
     match call {
         Call::Source => sources::read(current, words, answer),
-        Call::Listed => sources::list_names(current, answer),
-        Call::Notes => sources::notes(current, answer),
-        Call::TakeNotes => sources::take_notes(current, answer),
+        Call::Listed => sources::list_names(current, words, answer),
+        Call::Notes => sources::notes(current, words, answer),
+        Call::TakeNotes => sources::take_notes(current, words, answer),
         Call::Resolve => sources::resolve(current, words, answer),
         Call::Resolver => sources::resolve_all(current, words, answer),
         _ => of_meanings(call, current, words, answer),
     }
 }
 
-fn of_meanings(
-    call: Call,
-    current: &mut Current,
-    words: &[Vec<u8>],
-    answer: &mut Answer,
-) -> Result<(), CheckFault> {
+fn of_meanings(call: Call, current: &mut Current, words: &mut Words<'_>, answer: &mut Answer) {
     match call {
         Call::String => sources::mean_string(current.alloc, words, answer),
         Call::Decimal => sources::mean_number(current.alloc, words, answer),
@@ -238,28 +208,18 @@ fn of_meanings(
     }
 }
 
-fn of_files(
-    call: Call,
-    current: &mut Current,
-    words: &[Vec<u8>],
-    answer: &mut Answer,
-) -> Result<(), CheckFault> {
+fn of_files(call: Call, current: &mut Current, words: &mut Words<'_>, answer: &mut Answer) {
     match call {
-        Call::Encode => files::encode(current, answer),
+        Call::Encode => files::encode(current, words, answer),
         Call::File => files::take(current, words, answer),
-        Call::Decode => files::decode(current, answer),
+        Call::Decode => files::decode(current, words, answer),
         Call::Compile => files::compile(current.alloc, words, answer),
         Call::List => files::list(current, answer),
         _ => of_changes(call, current, words, answer),
     }
 }
 
-fn of_changes(
-    call: Call,
-    current: &mut Current,
-    words: &[Vec<u8>],
-    answer: &mut Answer,
-) -> Result<(), CheckFault> {
+fn of_changes(call: Call, current: &mut Current, words: &mut Words<'_>, answer: &mut Answer) {
     match call {
         Call::Changed => changes::decode_changed(current, words, answer),
         Call::FileCuts => changes::cut_everywhere(current, answer),
@@ -268,18 +228,13 @@ fn of_changes(
     }
 }
 
-fn of_programs(
-    call: Call,
-    current: &mut Current,
-    words: &[Vec<u8>],
-    answer: &mut Answer,
-) -> Result<(), CheckFault> {
+fn of_programs(call: Call, current: &mut Current, words: &mut Words<'_>, answer: &mut Answer) {
     match call {
         Call::Vars => programs::forget(current, answer),
         Call::Program => programs::run(current, words, answer),
         Call::Measure => programs::measure(current.alloc, words, answer),
         Call::ReadProgram => programs::read(current.alloc, words, answer),
         Call::Cuts => cuts::cut_all(current.alloc, words, answer),
-        _ => Err(CheckFault::Line("no such call")),
+        _ => words.fail("no such call"),
     }
 }

@@ -5,55 +5,57 @@ use crate::answer::Answer;
 use crate::current::Current;
 use crate::fault::CheckFault;
 use crate::files::say_decoded;
-use crate::words::{size, small};
+use crate::words::Words;
 use std::alloc::Global;
 use ti_binary::BinFault;
 use ti_caps::Bytes;
 
 /// `changed PLACE BYTE..`.
-pub fn decode_changed(
-    current: &mut Current,
-    words: &[Vec<u8>],
-    answer: &mut Answer,
-) -> Result<(), CheckFault> {
-    let mut file = Vec::from_slice(current.alloc, current.file.as_slice())?;
-    for pair in 0..words.len() / 2 {
-        let index = size(words, pair.saturating_mul(2).saturating_add(1))?;
-        let byte = byte(words, pair.saturating_mul(2).saturating_add(2))?;
-        set(&mut file, index, byte)?;
+pub fn decode_changed(current: &mut Current, words: &mut Words<'_>, answer: &mut Answer) {
+    match Vec::from_slice(current.alloc, current.file.as_slice()) {
+        Ok(mut file) => {
+            set_all(&mut file, words);
+            say_decoded(current, file.as_slice(), answer);
+        }
+        Err(_) => words.check(Err(CheckFault::NoMemory)),
     }
-    say_decoded(current, file.as_slice(), answer)
+}
+
+// Sets the bytes of a file that a call names.
+fn set_all(file: &mut [u8], words: &mut Words<'_>) {
+    for pair in 0..words.all().len() / 2 {
+        let index = words.size(pair.saturating_mul(2).saturating_add(1));
+        let byte = byte(words, pair.saturating_mul(2).saturating_add(2));
+        words.check(set(file, index, byte));
+    }
 }
 
 /// How many beginnings of the file there are, which are all truncated; or the length of the first that is not.
-pub fn cut_everywhere(current: &Current, answer: &mut Answer) -> Result<(), CheckFault> {
+pub fn cut_everywhere(current: &Current, answer: &mut Answer) {
     let file = current.file.as_slice();
     for length in 0..file.len() {
         if !is_truncated(current.alloc, file, length) {
-            answer.say(b"cut")?;
-            return answer.say_number(length);
+            answer.say(b"cut");
+            answer.say_number(length);
+            return;
         }
     }
-    answer.say_number(file.len())
+    answer.say_number(file.len());
 }
 
 /// Each byte in turn set to each of some: how many files that makes. What is read of one is written and read again.
-pub fn set_each(
-    current: &Current,
-    words: &[Vec<u8>],
-    answer: &mut Answer,
-) -> Result<(), CheckFault> {
+pub fn set_each(current: &Current, words: &mut Words<'_>, answer: &mut Answer) {
     let mut count = 0usize;
-    for at in 1..words.len() {
-        let byte = byte(words, at)?;
-        set_everywhere(current.alloc, current.file.as_slice(), byte)?;
+    for at in 1..words.all().len() {
+        let byte = byte(words, at);
+        words.check(set_everywhere(current.alloc, current.file.as_slice(), byte));
         count = count.saturating_add(current.file.len());
     }
-    answer.say_number(count)
+    answer.say_number(count);
 }
 
 // Sets a byte of a file.
-fn set(file: &mut Vec<u8>, index: usize, byte: u8) -> Result<(), CheckFault> {
+fn set(file: &mut [u8], index: usize, byte: u8) -> Result<(), CheckFault> {
     match file.get_mut(index) {
         Some(old) => {
             *old = byte;
@@ -63,11 +65,8 @@ fn set(file: &mut Vec<u8>, index: usize, byte: u8) -> Result<(), CheckFault> {
     }
 }
 
-fn byte(words: &[Vec<u8>], index: usize) -> Result<u8, CheckFault> {
-    match u8::try_from(small(words, index)?) {
-        Ok(byte) => Ok(byte),
-        Err(_) => Err(CheckFault::Line("no byte")),
-    }
+fn byte(words: &mut Words<'_>, index: usize) -> u8 {
+    u8::try_from(words.number(index, 0, 255)).unwrap_or(0)
 }
 
 fn is_truncated(alloc: Global, file: &[u8], length: usize) -> bool {
@@ -79,11 +78,14 @@ fn is_truncated(alloc: Global, file: &[u8], length: usize) -> bool {
 
 fn set_everywhere(alloc: Global, file: &[u8], byte: u8) -> Result<(), CheckFault> {
     for index in 0..file.len() {
-        let mut changed = Vec::from_slice(alloc, file)?;
-        set(&mut changed, index, byte)?;
-        read_twice(alloc, changed.as_slice())?;
+        set_at(alloc, file, index, byte)?;
     }
     Ok(())
+}
+
+fn set_at(alloc: Global, file: &[u8], index: usize, byte: u8) -> Result<(), CheckFault> {
+    let mut changed = Vec::from_slice(alloc, file)?;
+    set(&mut changed, index, byte).and(read_twice(alloc, changed.as_slice()))
 }
 
 // The file that is written of what is read of bytes.

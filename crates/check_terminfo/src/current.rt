@@ -1,6 +1,6 @@
 //! What a script's lines go on with.
 
-use crate::fault::CheckFault;
+use crate::words::Words;
 use std::alloc::Global;
 use ti_caps::Entry;
 use ti_param::Vars;
@@ -34,26 +34,26 @@ impl Current {
     }
 
     /// The entry, for a call that reads it.
-    pub fn entry(&self) -> Result<&Entry, CheckFault> {
-        match &self.entry {
-            Some(entry) => Ok(entry),
-            None => Err(CheckFault::Line("there is no entry")),
+    pub fn entry(&self, words: &mut Words<'_>) -> Option<&Entry> {
+        if self.entry.is_none() {
+            words.fail("there is no entry");
         }
+        self.entry.as_ref()
     }
 
     /// The entry, for a call that changes it.
-    pub fn entry_mut(&mut self) -> Result<&mut Entry, CheckFault> {
-        match &mut self.entry {
-            Some(entry) => Ok(entry),
-            None => Err(CheckFault::Line("there is no entry")),
+    pub fn entry_mut(&mut self, words: &mut Words<'_>) -> Option<&mut Entry> {
+        if self.entry.is_none() {
+            words.fail("there is no entry");
         }
+        self.entry.as_mut()
     }
 
     /// The source.
-    pub fn source(&self) -> Result<&Source, CheckFault> {
-        match &self.source {
-            Some(source) => Ok(source),
-            None => Err(CheckFault::Line("there is no source")),
+    pub fn source(&self, words: &mut Words<'_>) -> Option<&Source> {
+        if self.source.is_none() {
+            words.fail("there is no source");
         }
+        self.source.as_ref()
     }
 }

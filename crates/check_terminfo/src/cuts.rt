@@ -3,18 +3,26 @@
 use crate::again;
 use crate::answer::Answer;
 use crate::fault::CheckFault;
+use crate::words::Words;
 use std::alloc::Global;
 use ti_param::{ParamFault, Program, Vars};
 
 /// Answers `ok` where all texts agree, else the first that does not, and where it is cut.
-pub fn cut_all(alloc: Global, words: &[Vec<u8>], answer: &mut Answer) -> Result<(), CheckFault> {
+pub fn cut_all(alloc: Global, words: &mut Words<'_>, answer: &mut Answer) {
+    let done = say_cuts(alloc, words.all(), answer);
+    words.check(done);
+}
+
+fn say_cuts(alloc: Global, words: &[Vec<u8>], answer: &mut Answer) -> Result<(), CheckFault> {
     for text in words.iter().skip(1) {
         if let Some(end) = first_wrong(alloc, text.as_slice())? {
-            answer.say(text.as_slice())?;
-            return answer.say_number(end);
+            answer.say(text.as_slice());
+            answer.say_number(end);
+            return Ok(());
         }
     }
-    answer.say(b"ok")
+    answer.say(b"ok");
+    Ok(())
 }
 
 // Where a text is cut so that its beginning does not agree.

@@ -1,24 +1,21 @@
 //! An entry as the words of an answer, and as one number that tells two entries apart.
 
 use crate::answer::Answer;
-use crate::fault::CheckFault;
-use std::alloc::Global;
 use ti_caps::{Entry, Kind, Slot, name_of};
 
 /// Answers an entry: its names, then `am` for a flag, `cols#80` for a number and `cr=` with its bytes for a text, each
 /// kind by position. A capability without a name is `flag@40`, `number@40#0` or `text@271=x`.
-pub fn say_entry(alloc: Global, entry: &Entry, answer: &mut Answer) -> Result<(), CheckFault> {
-    answer.say(entry.names())?;
+pub fn say_entry(entry: &Entry, answer: &mut Answer) {
+    answer.say(entry.names());
     for position in 0..64u16 {
-        say_flag(alloc, entry, Slot(position), answer)?;
+        say_flag(entry, Slot(position), answer);
     }
     for position in 0..64u16 {
-        say_number(alloc, entry, Slot(position), answer)?;
+        say_number(entry, Slot(position), answer);
     }
     for position in 0..512u16 {
-        say_text(alloc, entry, Slot(position), answer)?;
+        say_text(entry, Slot(position), answer);
     }
-    Ok(())
 }
 
 /// A number that other bytes most likely do not have. It takes no memory.
@@ -41,59 +38,36 @@ pub fn mark_of_entry(entry: &Entry) -> u64 {
     mark
 }
 
-fn say_flag(
-    alloc: Global,
-    entry: &Entry,
-    slot: Slot,
-    answer: &mut Answer,
-) -> Result<(), CheckFault> {
-    if !entry.flag(slot) {
-        return Ok(());
-    }
-    match name_of(Kind::Flag, slot) {
-        Some(name) => answer.say(name.as_bytes()),
-        None => {
-            let position = slot.0.to_string(alloc)?;
-            answer.say_pair(b"flag", b"@", position.as_bytes())
-        }
+fn say_flag(entry: &Entry, slot: Slot, answer: &mut Answer) {
+    if entry.flag(slot) {
+        add_name(Kind::Flag, b"flag@", slot, answer);
+        answer.end();
     }
 }
 
-fn say_number(
-    alloc: Global,
-    entry: &Entry,
-    slot: Slot,
-    answer: &mut Answer,
-) -> Result<(), CheckFault> {
-    let Some(number) = entry.number(slot) else {
-        return Ok(());
-    };
-    let digits = number.to_string(alloc)?;
-    match name_of(Kind::Number, slot) {
-        Some(name) => answer.say_pair(name.as_bytes(), b"#", digits.as_bytes()),
-        None => {
-            let position = slot.0;
-            let name = format!(in alloc; "number@{position}")?;
-            answer.say_pair(name.as_bytes(), b"#", digits.as_bytes())
-        }
+fn say_number(entry: &Entry, slot: Slot, answer: &mut Answer) {
+    if let Some(number) = entry.number(slot) {
+        add_name(Kind::Number, b"number@", slot, answer);
+        answer.add(b"#");
+        answer.say_number(usize::from(number));
     }
 }
 
-fn say_text(
-    alloc: Global,
-    entry: &Entry,
-    slot: Slot,
-    answer: &mut Answer,
-) -> Result<(), CheckFault> {
-    let Some(text) = entry.text(slot) else {
-        return Ok(());
-    };
-    match name_of(Kind::Text, slot) {
-        Some(name) => answer.say_pair(name.as_bytes(), b"=", text),
+fn say_text(entry: &Entry, slot: Slot, answer: &mut Answer) {
+    if let Some(text) = entry.text(slot) {
+        add_name(Kind::Text, b"text@", slot, answer);
+        answer.add(b"=");
+        answer.say(text);
+    }
+}
+
+// Begins a word with the name of a capability, or with its position where it has none.
+fn add_name(kind: Kind, unnamed: &[u8], slot: Slot, answer: &mut Answer) {
+    match name_of(kind, slot) {
+        Some(name) => answer.add(name.as_bytes()),
         None => {
-            let position = slot.0;
-            let name = format!(in alloc; "text@{position}")?;
-            answer.say_pair(name.as_bytes(), b"=", text)
+            answer.add(unnamed);
+            answer.add_number(usize::from(slot.0));
         }
     }
 }

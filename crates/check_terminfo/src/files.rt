@@ -6,116 +6,110 @@ use crate::current::Current;
 use crate::dump::say_entry;
 use crate::fault::CheckFault;
 use crate::sources::say_note;
-use crate::words::text;
+use crate::words::Words;
 use std::alloc::Global;
 use terminfo_files::{Compiled, Files, Listing, Notes, Sizes};
 use ti_caps::Entry;
 
 /// `encode`.
-pub fn encode(current: &mut Current, answer: &mut Answer) -> Result<(), CheckFault> {
-    match again::encode(current.alloc, current.entry()?) {
+pub fn encode(current: &mut Current, words: &mut Words<'_>, answer: &mut Answer) {
+    let encoded = match current.entry(words) {
+        Some(entry) => again::encode(current.alloc, entry),
+        None => return,
+    };
+    match encoded {
         Ok(file) => {
-            answer.say(file.0.as_slice())?;
+            answer.say(file.0.as_slice());
             current.file = file.0;
-            Ok(())
         }
         Err(fault) => answer.refused(&fault),
     }
 }
 
 /// `file BYTES`.
-pub fn take(
-    current: &mut Current,
-    words: &[Vec<u8>],
-    answer: &mut Answer,
-) -> Result<(), CheckFault> {
-    current.file = Vec::from_slice(current.alloc, text(words, 1)?)?;
-    answer.say_number(current.file.len())
+pub fn take(current: &mut Current, words: &mut Words<'_>, answer: &mut Answer) {
+    match Vec::from_slice(current.alloc, words.text(1)) {
+        Ok(file) => {
+            current.file = file;
+            answer.say_number(current.file.len());
+        }
+        Err(_) => words.check(Err(CheckFault::NoMemory)),
+    }
 }
 
 /// Answers what bytes are read as; they are read as the entry then.
-pub fn say_decoded(
-    current: &mut Current,
-    bytes: &[u8],
-    answer: &mut Answer,
-) -> Result<(), CheckFault> {
+pub fn say_decoded(current: &mut Current, bytes: &[u8], answer: &mut Answer) {
     match again::decode(current.alloc, bytes) {
         Ok((entry, rest)) => {
-            say_read(current.alloc, &entry, rest, answer)?;
+            say_read(&entry, rest, answer);
             current.entry = Some(entry);
-            Ok(())
         }
         Err(fault) => answer.refused(&fault),
     }
 }
 
-fn say_read(
-    alloc: Global,
-    entry: &Entry,
-    rest: usize,
-    answer: &mut Answer,
-) -> Result<(), CheckFault> {
-    answer.say_number(rest)?;
-    say_entry(alloc, entry, answer)
+fn say_read(entry: &Entry, rest: usize, answer: &mut Answer) {
+    answer.say_number(rest);
+    say_entry(entry, answer);
 }
 
 /// `decode`.
-pub fn decode(current: &mut Current, answer: &mut Answer) -> Result<(), CheckFault> {
-    let file = Vec::from_slice(current.alloc, current.file.as_slice())?;
-    say_decoded(current, file.as_slice(), answer)
+pub fn decode(current: &mut Current, words: &mut Words<'_>, answer: &mut Answer) {
+    match Vec::from_slice(current.alloc, current.file.as_slice()) {
+        Ok(file) => say_decoded(current, file.as_slice(), answer),
+        Err(_) => words.check(Err(CheckFault::NoMemory)),
+    }
 }
 
 /// `compile SOURCE`.
-pub fn compile(alloc: Global, words: &[Vec<u8>], answer: &mut Answer) -> Result<(), CheckFault> {
-    let compiled = again::compile(alloc, text(words, 1)?);
+pub fn compile(alloc: Global, words: &mut Words<'_>, answer: &mut Answer) {
+    let compiled = again::compile(alloc, words.text(1));
     match &compiled {
-        Ok(compiled) => say_compiled(alloc, compiled, answer),
+        Ok(compiled) => say_compiled(compiled, answer),
         Err(fault) => answer.refused(fault),
     }
 }
 
 /// `list`.
-pub fn list(current: &Current, answer: &mut Answer) -> Result<(), CheckFault> {
-    match again::list(current.alloc, current.file.as_slice()) {
-        Ok(listing) => say_listing(&listing, answer),
-        Err(fault) => answer.refused(&fault),
+pub fn list(current: &Current, answer: &mut Answer) {
+    let listed = again::list(current.alloc, current.file.as_slice());
+    match &listed {
+        Ok(listing) => say_listing(listing, answer),
+        Err(fault) => answer.refused(fault),
     }
 }
 
-fn say_listing(listing: &Listing, answer: &mut Answer) -> Result<(), CheckFault> {
-    answer.say(listing.text.0.as_slice())?;
-    answer.say_number(listing.unnamed)?;
-    answer.say_number(listing.skipped)
+fn say_listing(listing: &Listing, answer: &mut Answer) {
+    answer.say(listing.text.0.as_slice());
+    answer.say_number(listing.unnamed);
+    answer.say_number(listing.skipped);
 }
 
-fn say_files(files: &Files, answer: &mut Answer) -> Result<(), CheckFault> {
+fn say_files(files: &Files, answer: &mut Answer) {
     for (path, bytes) in files.0.as_slice() {
-        answer.say(b"file")?;
-        answer.say(path.0.as_slice())?;
-        answer.say(bytes.0.as_slice())?;
+        answer.say(b"file");
+        answer.say(path.0.as_slice());
+        answer.say(bytes.0.as_slice());
     }
-    Ok(())
 }
 
-fn say_sizes(sizes: &Sizes, answer: &mut Answer) -> Result<(), CheckFault> {
+fn say_sizes(sizes: &Sizes, answer: &mut Answer) {
     for (name, size) in sizes.0.as_slice() {
-        answer.say(b"size")?;
-        answer.say(name.0.as_slice())?;
-        answer.say_number(*size)?;
+        answer.say(b"size");
+        answer.say(name.0.as_slice());
+        answer.say_number(*size);
     }
-    Ok(())
 }
 
-fn say_notes(alloc: Global, notes: &Notes, answer: &mut Answer) -> Result<(), CheckFault> {
+fn say_notes(notes: &Notes, answer: &mut Answer) {
     for note in notes.0.as_slice() {
-        answer.say(b"note")?;
-        say_note(alloc, note, answer)?;
+        answer.say(b"note");
+        say_note(note, answer);
     }
-    Ok(())
 }
 
-fn say_compiled(alloc: Global, compiled: &Compiled, answer: &mut Answer) -> Result<(), CheckFault> {
-    say_files(&compiled.files, answer)?;
-    say_sizes(&compiled.sizes, answer)?;
-    say_notes(alloc, &compiled.notes, answer)
+fn say_compiled(compiled: &Compiled, answer: &mut Answer) {
+    say_files(&compiled.files, answer);
+    say_sizes(&compiled.sizes, answer);
+    say_notes(&compiled.notes, answer);
 }

@@ -1,8 +1,7 @@
 //! Calls about reading an input, of readers that fail.
 
 use crate::answer::Answer;
-use crate::fault::CheckFault;
-use crate::words::{size, text};
+use crate::words::Words;
 use program_input::{InputFault, read_input};
 use std::alloc::Global;
 use std::io;
@@ -34,30 +33,29 @@ impl Read for Pieces {
 }
 
 /// `input COUNT EACH [BEFORE FAULT]`.
-pub fn read_pieces(
-    alloc: Global,
-    words: &[Vec<u8>],
-    answer: &mut Answer,
-) -> Result<(), CheckFault> {
+pub fn read_pieces(alloc: Global, words: &mut Words<'_>, answer: &mut Answer) {
     let pieces = Pieces {
-        left: size(words, 1)?,
-        each: size(words, 2)?,
-        fault: fault(words)?,
+        left: words.size(1),
+        each: words.size(2),
+        fault: fault(words),
     };
     match read_again(alloc, pieces) {
-        Ok(bytes) => {
-            if bytes.as_slice().iter().any(|byte| *byte != b'x') {
-                return Err(CheckFault::Line("other bytes are read"));
-            }
-            answer.say_number(bytes.len())
-        }
+        Ok(bytes) => say_pieces(bytes.as_slice(), words, answer),
         Err(fault) => answer.refused(&fault),
     }
 }
 
+// Answers how many bytes are read.
+fn say_pieces(bytes: &[u8], words: &mut Words<'_>, answer: &mut Answer) {
+    if bytes.iter().any(|byte| *byte != b'x') {
+        words.fail("other bytes are read");
+    }
+    answer.say_number(bytes.len());
+}
+
 /// `input-of TEXT`.
-pub fn read_text(alloc: Global, words: &[Vec<u8>], answer: &mut Answer) -> Result<(), CheckFault> {
-    let text = text(words, 1)?;
+pub fn read_text(alloc: Global, words: &mut Words<'_>, answer: &mut Answer) {
+    let text = words.text(1);
     let mut reader = text;
     let read = match read_input(alloc, &mut reader) {
         Err(InputFault::NoMemory) => {
@@ -72,15 +70,18 @@ pub fn read_text(alloc: Global, words: &[Vec<u8>], answer: &mut Answer) -> Resul
     }
 }
 
-fn fault(words: &[Vec<u8>]) -> Result<Option<(usize, ErrorKind)>, CheckFault> {
-    if words.len() < 4 {
-        return Ok(None);
+fn fault(words: &mut Words<'_>) -> Option<(usize, ErrorKind)> {
+    if words.all().len() < 4 {
+        return None;
     }
-    let before = size(words, 3)?;
-    match str::from_utf8(text(words, 4)?).unwrap_or("") {
-        "interrupted" => Ok(Some((before, ErrorKind::Interrupted))),
-        "broken" => Ok(Some((before, ErrorKind::BrokenPipe))),
-        _ => Err(CheckFault::Line("no such fault")),
+    let before = words.size(3);
+    match str::from_utf8(words.text(4)).unwrap_or("") {
+        "interrupted" => Some((before, ErrorKind::Interrupted)),
+        "broken" => Some((before, ErrorKind::BrokenPipe)),
+        _ => {
+            words.fail("no such fault");
+            None
+        }
     }
 }
 

@@ -40,6 +40,7 @@ use line::Line;
 use program_input::{InputFault, read_input};
 use std::alloc::Global;
 use std::process::ExitCode;
+use words::Words;
 
 fn main(rt: HostRuntime) -> ExitCode {
     match run(&rt) {
@@ -123,19 +124,40 @@ fn difference(
     text: &[u8],
 ) -> Result<Option<String>, CheckFault> {
     let line = Line::read(alloc, text)?;
-    let mut answer = Answer::new(alloc);
-    calls::perform(current, &line.call, &mut answer)?;
-    if answer.words == line.wanted {
-        Ok(None)
-    } else {
-        Ok(Some(told(alloc, &line.wanted, &answer.words)?))
-    }
+    difference_of(alloc, current, &line)
 }
 
-fn told(alloc: Global, wanted: &[Vec<u8>], came: &[Vec<u8>]) -> Result<String, CheckFault> {
+fn difference_of(
+    alloc: Global,
+    current: &mut Current,
+    line: &Line,
+) -> Result<Option<String>, CheckFault> {
+    let mut words = Words::new(&line.call);
+    let mut answer = Answer::new(alloc);
+    calls::perform(current, &mut words, &mut answer);
+    words.check(answer.done());
+    compare(alloc, words.done(), &line.wanted, &answer.words)
+}
+
+fn compare(
+    alloc: Global,
+    done: Result<(), CheckFault>,
+    wanted: &[Vec<u8>],
+    came: &[Vec<u8>],
+) -> Result<Option<String>, CheckFault> {
+    done?;
+    if came == wanted {
+        return Ok(None);
+    }
+    told(alloc, wanted, came)
+}
+
+fn told(alloc: Global, wanted: &[Vec<u8>], came: &[Vec<u8>]) -> Result<Option<String>, CheckFault> {
     let mut line = String::new(alloc);
-    tell(alloc, wanted, came, &mut line)?;
-    Ok(line)
+    match tell(alloc, wanted, came, &mut line) {
+        Ok(()) => Ok(Some(line)),
+        Err(fault) => Err(fault),
+    }
 }
 
 fn tell(

@@ -4,7 +4,7 @@ use crate::again;
 use crate::answer::Answer;
 use crate::current::Current;
 use crate::fault::CheckFault;
-use crate::words::{signed, text};
+use crate::words::Words;
 use std::alloc::Global;
 use ti_param::{Program, RunFault, Vars};
 
@@ -12,64 +12,60 @@ use ti_param::{Program, RunFault, Vars};
 const BEFORE: &[u8] = b"before ";
 
 /// `padding TEXT`.
-pub fn strip(alloc: Global, words: &[Vec<u8>], answer: &mut Answer) -> Result<(), CheckFault> {
-    match again::strip_padding(alloc, text(words, 1)?) {
+pub fn strip(alloc: Global, words: &mut Words<'_>, answer: &mut Answer) {
+    match again::strip_padding(alloc, words.text(1)) {
         Ok(text) => answer.say(text.as_slice()),
         Err(fault) => answer.refused(&fault),
     }
 }
 
 /// `vars`.
-pub fn forget(current: &mut Current, answer: &mut Answer) -> Result<(), CheckFault> {
+pub fn forget(current: &mut Current, answer: &mut Answer) {
     current.vars = Vars::new();
-    answer.say(b"ok")
+    answer.say(b"ok");
 }
 
 /// `read-program TEXT`.
-pub fn read(alloc: Global, words: &[Vec<u8>], answer: &mut Answer) -> Result<(), CheckFault> {
-    match again::read_program(alloc, text(words, 1)?) {
+pub fn read(alloc: Global, words: &mut Words<'_>, answer: &mut Answer) {
+    match again::read_program(alloc, words.text(1)) {
         Ok(_) => answer.say(b"ok"),
         Err(fault) => answer.refused(&fault),
     }
 }
 
 /// `measure TEXT`.
-pub fn measure(alloc: Global, words: &[Vec<u8>], answer: &mut Answer) -> Result<(), CheckFault> {
-    match again::read_program(alloc, text(words, 1)?) {
+pub fn measure(alloc: Global, words: &mut Words<'_>, answer: &mut Answer) {
+    match again::read_program(alloc, words.text(1)) {
         Ok(program) => say_measures(&program, answer),
         Err(fault) => answer.refused(&fault),
     }
 }
 
 // Answers the bound and the depth of a program.
-fn say_measures(program: &Program, answer: &mut Answer) -> Result<(), CheckFault> {
-    answer.say_number(program.bound())?;
-    answer.say_number(program.depth())
+fn say_measures(program: &Program, answer: &mut Answer) {
+    answer.say_number(program.bound());
+    answer.say_number(program.depth());
 }
 
 /// `program TEXT PARAMETER..`.
-pub fn run(
-    current: &mut Current,
-    words: &[Vec<u8>],
-    answer: &mut Answer,
-) -> Result<(), CheckFault> {
-    let params = params(words)?;
-    match again::read_program(current.alloc, text(words, 1)?) {
-        Ok(program) => write(current, &program, params, answer),
+pub fn run(current: &mut Current, words: &mut Words<'_>, answer: &mut Answer) {
+    let params = params(words);
+    match again::read_program(current.alloc, words.text(1)) {
+        Ok(program) => words.check(write(current, &program, params, answer)),
         Err(fault) => answer.refused(&fault),
     }
 }
 
 // The parameters behind a program's text; those that are missing are 0.
-fn params(words: &[Vec<u8>]) -> Result<[i32; 9], CheckFault> {
+fn params(words: &mut Words<'_>) -> [i32; 9] {
     let mut params = [0; 9];
     for (i, param) in params.iter_mut().enumerate() {
         let place = i.saturating_add(2);
-        if place < words.len() {
-            *param = signed(words, place)?;
+        if place < words.all().len() {
+            *param = words.signed(place);
         }
     }
-    Ok(params)
+    params
 }
 
 // Runs a program behind a text, which stays; it writes as many bytes as `length` says, and `bound` at most.
@@ -80,9 +76,20 @@ fn write(
     answer: &mut Answer,
 ) -> Result<(), CheckFault> {
     let mut out = Vec::from_slice(current.alloc, BEFORE)?;
-    let length = program.length(params, &current.vars);
-    match again::run_program(program, params, &mut current.vars, &mut out)? {
-        Ok(()) => say_written(program, length, &out, answer),
+    write_behind(program, params, &mut current.vars, &mut out, answer)
+}
+
+// The same behind the text that is there.
+fn write_behind(
+    program: &Program,
+    params: [i32; 9],
+    vars: &mut Vars,
+    out: &mut Vec<u8>,
+    answer: &mut Answer,
+) -> Result<(), CheckFault> {
+    let length = program.length(params, vars);
+    match again::run_program(program, params, vars, out)? {
+        Ok(()) => say_written(program, length, out, answer),
         Err(fault) => say_full(program, length, fault, answer),
     }
 }
@@ -100,7 +107,8 @@ fn say_written(
     if length != Ok(written.len()) || written.len() > program.bound() {
         return Err(CheckFault::Line("length or bound is wrong"));
     }
-    answer.say(written)
+    answer.say(written);
+    Ok(())
 }
 
 // Answers why a program wrote nothing: it wants more places than the stack has, which its length and its depth say too.
@@ -113,5 +121,6 @@ fn say_full(
     if length != Err(RunFault::StackFull) || program.depth() <= 20 {
         return Err(CheckFault::Line("length or depth is wrong"));
     }
-    answer.refused(&fault)
+    answer.refused(&fault);
+    Ok(())
 }

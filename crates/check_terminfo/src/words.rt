@@ -2,60 +2,98 @@
 
 use crate::fault::CheckFault;
 use std::alloc::{AllocError, Global};
-use std::str;
 
-/// The word at a place; a call's own name is at 0.
-pub fn text(words: &[Vec<u8>], place: usize) -> Result<&[u8], CheckFault> {
-    match words.get(place) {
-        Some(word) => Ok(word.as_slice()),
-        None => Err(CheckFault::Line("a word is missing")),
-    }
+/// The words of a call, and the first trouble with them. A word that is missing, or not what it is taken as, is taken as empty or 0,
+/// and those who take words need not ask each time.
+#[derive(Clone, Copy)]
+pub struct Words<'a> {
+    words: &'a [Vec<u8>],
+    trouble: Option<CheckFault>,
 }
 
-/// The number at a place.
-pub fn number(words: &[Vec<u8>], place: usize) -> Result<i64, CheckFault> {
-    let Ok(digits) = str::from_utf8(text(words, place)?) else {
-        return Err(CheckFault::Line("no number"));
-    };
-    match digits.parse::<i64>() {
-        Ok(number) => Ok(number),
-        Err(_) => Err(CheckFault::Line("no number")),
+impl<'a> Words<'a> {
+    /// The words of a call; its own name is at 0.
+    pub fn new(words: &'a [Vec<u8>]) -> Words<'a> {
+        Words {
+            words,
+            trouble: None,
+        }
     }
-}
 
-/// A number from 0 to 65,535.
-pub fn small(words: &[Vec<u8>], place: usize) -> Result<u16, CheckFault> {
-    match u16::try_from(number(words, place)?) {
-        Ok(number) => Ok(number),
-        Err(_) => Err(CheckFault::Line("not from 0 to 65535")),
+    /// All words.
+    pub fn all(&self) -> &'a [Vec<u8>] {
+        self.words
     }
-}
 
-/// A number from 0 on.
-pub fn size(words: &[Vec<u8>], place: usize) -> Result<usize, CheckFault> {
-    match usize::try_from(number(words, place)?) {
-        Ok(number) => Ok(number),
-        Err(_) => Err(CheckFault::Line("a negative number")),
+    /// Refuses words that there was trouble with.
+    pub fn done(&self) -> Result<(), CheckFault> {
+        match self.trouble {
+            Some(trouble) => Err(trouble),
+            None => Ok(()),
+        }
     }
-}
 
-/// A number of 32 bits with a sign.
-pub fn signed(words: &[Vec<u8>], place: usize) -> Result<i32, CheckFault> {
-    match i32::try_from(number(words, place)?) {
-        Ok(number) => Ok(number),
-        Err(_) => Err(CheckFault::Line("no number of 32 bits")),
+    /// There is trouble with the call.
+    pub fn fail(&mut self, cause: &'static str) {
+        self.check(Err(CheckFault::Line(cause)));
     }
-}
 
-/// `yes` or `no`.
-pub fn is_yes(words: &[Vec<u8>], place: usize) -> Result<bool, CheckFault> {
-    let word = text(words, place)?;
-    if word == b"yes".as_slice() {
-        Ok(true)
-    } else if word == b"no".as_slice() {
-        Ok(false)
-    } else {
-        Err(CheckFault::Line("neither yes nor no"))
+    /// There is trouble with the call, unless something went well.
+    pub fn check(&mut self, done: Result<(), CheckFault>) {
+        if let Err(trouble) = done {
+            self.trouble = self.trouble.or(Some(trouble));
+        }
+    }
+
+    /// The word at a place.
+    pub fn text(&mut self, place: usize) -> &'a [u8] {
+        match self.words.get(place) {
+            Some(word) => word.as_slice(),
+            None => {
+                self.fail("a word is missing");
+                &[]
+            }
+        }
+    }
+
+    /// The number at a place, from one to another.
+    pub fn number(&mut self, place: usize, least: i64, most: i64) -> i64 {
+        let word = self.text(place);
+        match str::from_utf8(word).unwrap_or("").parse::<i64>() {
+            Ok(number) if least <= number && number <= most => number,
+            _ => {
+                self.fail("no number, or one out of range");
+                0
+            }
+        }
+    }
+
+    /// A number from 0 to 65,535.
+    pub fn small(&mut self, place: usize) -> u16 {
+        u16::try_from(self.number(place, 0, 65_535)).unwrap_or(0)
+    }
+
+    /// A number from 0 on.
+    pub fn size(&mut self, place: usize) -> usize {
+        usize::try_from(self.number(place, 0, i64::MAX)).unwrap_or(0)
+    }
+
+    /// A number of 32 bits with a sign.
+    pub fn signed(&mut self, place: usize) -> i32 {
+        let number = self.number(place, i64::from(i32::MIN), i64::from(i32::MAX));
+        i32::try_from(number).unwrap_or(0)
+    }
+
+    /// `yes` or `no`.
+    pub fn is_yes(&mut self, place: usize) -> bool {
+        match self.text(place) {
+            b"yes" => true,
+            b"no" => false,
+            _ => {
+                self.fail("neither yes nor no");
+                false
+            }
+        }
     }
 }
 

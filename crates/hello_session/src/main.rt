@@ -37,15 +37,29 @@ fn dialog(alloc: Global) -> Result<Vec<Call>> {
     Ok(calls)
 }
 
-// What a terminal shows that was sent what the dialog's session wrote.
-fn shown(alloc: Global, size: Size) -> Result<EcmaScreen> {
-    let (entry, calls) = (bundled(alloc)?, dialog(alloc)?);
-    let mut device = Device::new(Vec::new(alloc));
-    if !session(alloc, &entry, Some(size), &calls, &mut device)?.last_ok {
-        bail!("the update ended early");
+// Makes calls on a screen by one session, whose bytes the device takes.
+fn send(alloc: Global, size: Size, calls: &[Call], device: &mut Device<Vec<u8>>) -> Result<()> {
+    let entry = bundled(alloc)?;
+    match session(alloc, &entry, Some(size), calls, device) {
+        Ok(report) if report.last_ok => Ok(()),
+        Ok(_) => bail!("the update ended early"),
+        Err(fault) => bail!("{fault}"),
     }
+}
+
+// What the dialog's session writes.
+fn sent(alloc: Global, size: Size) -> Result<Vec<u8>> {
+    let calls = dialog(alloc)?;
+    let mut device = Device::new(Vec::new(alloc));
+    send(alloc, size, &calls, &mut device)?;
+    Ok(device.writer)
+}
+
+// What a terminal shows that was sent that.
+fn shown(alloc: Global, size: Size) -> Result<EcmaScreen> {
+    let bytes = sent(alloc, size)?;
     let mut terminal = EcmaScreen::new(alloc, size)?;
-    terminal.feed(&device.writer)?;
+    terminal.feed(&bytes)?;
     Ok(terminal)
 }
 
@@ -63,9 +77,8 @@ fn text_of(alloc: Global, looks: &[Look]) -> Result<String> {
     Ok(text)
 }
 
-fn main(rt: HostRuntime) -> Result<()> {
-    let size = Size::new(5, 24).context("no size")?;
-    let terminal = shown(rt.alloc(), size)?;
+// Compares what is shown with what is wanted.
+fn compare(rt: &HostRuntime, terminal: &EcmaScreen) -> Result<()> {
     for row in 0..terminal.size().rows {
         let text = text_of(rt.alloc(), terminal.row(row))?;
         if text.as_str() != WANTED[row as usize % 5] {
@@ -75,4 +88,10 @@ fn main(rt: HostRuntime) -> Result<()> {
     }
     println!(rt; "shown as wanted")?;
     Ok(())
+}
+
+fn main(rt: HostRuntime) -> Result<()> {
+    let size = Size::new(5, 24).context("no size")?;
+    let terminal = shown(rt.alloc(), size)?;
+    compare(&rt, &terminal)
 }

@@ -14,11 +14,17 @@ use std::io::Write;
 fn draw(alloc: Global) -> Result<Desk> {
     let size = Size::new(5, 26).ok_or_else(|| anyhow!("a size from 1 to 500"))?;
     let mut desk = Desk::new(alloc, size)?;
+    draw_on(alloc, &mut desk)?;
+    Ok(desk)
+}
+
+/// The same on a desk that is there.
+fn draw_on(alloc: Global, desk: &mut Desk) -> Result<()> {
     desk.border(Win(0), *b"||--++++")?;
     let inside = desk.derive(alloc, Win(0), 3, 22, 1, 2)?;
     let _ = desk.add_text(inside, b"Hello\nfrom\ttwo\nwindows")?;
     desk.move_cursor(Win(0), 3, 9)?;
-    Ok(desk)
+    Ok(())
 }
 
 /// A window as the picture that a screen of its size is to show.
@@ -33,15 +39,30 @@ fn picture_of(alloc: Global, window: &WindowRef<'_>) -> Result<Picture> {
     Ok(picture)
 }
 
-fn main(rt: HostRuntime) -> Result<()> {
-    let alloc = rt.alloc();
-    let desk = draw(alloc)?;
-    let picture = picture_of(alloc, &desk.window(Win(0))?)?;
+/// What a terminal shows that is sent what paints a picture from scratch.
+fn painted(alloc: Global, picture: &Picture) -> Result<EcmaScreen> {
     let profile = Profile::ecma48(alloc, picture.size())?;
-    let mut screen = EcmaScreen::new(alloc, picture.size())?;
-    screen.feed(&scratch_bytes(alloc, &profile, &picture)?)?;
-    let mut lines = Vec::new(alloc);
-    print_screen(&screen, &mut lines)?;
+    let bytes = scratch_bytes(alloc, &profile, picture)?;
+    fed(alloc, picture.size(), &bytes)
+}
+
+/// A terminal that is sent some bytes.
+fn fed(alloc: Global, size: Size, bytes: &[u8]) -> Result<EcmaScreen> {
+    let mut screen = EcmaScreen::new(alloc, size)?;
+    screen.feed(bytes)?;
+    Ok(screen)
+}
+
+/// Prints the lines of a terminal.
+fn print(rt: &HostRuntime, screen: &EcmaScreen) -> Result<()> {
+    let mut lines = Vec::new(rt.alloc());
+    print_screen(screen, &mut lines)?;
     rt.stdout().write_all(&lines)?;
     Ok(())
+}
+
+fn main(rt: HostRuntime) -> Result<()> {
+    let desk = draw(rt.alloc())?;
+    let picture = picture_of(rt.alloc(), &desk.window(Win(0))?)?;
+    print(&rt, &painted(rt.alloc(), &picture)?)
 }

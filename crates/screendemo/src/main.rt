@@ -6,7 +6,7 @@ use clap::error::ErrorKind;
 use clap::{Arg, ArgAction, Command};
 use program_input::{InputFault, read_input};
 pub use screen_scripts::{DemoFault, refusals, run};
-use std::alloc::Global;
+use std::alloc::{AllocError, Global};
 use std::env::Env;
 use std::io;
 use std::io::Write;
@@ -38,16 +38,20 @@ impl Failure {
     }
 }
 
-// Whether the words of the command line ask for the terminal's bytes.
-fn is_raw(alloc: Global, words: &[String]) -> Result<bool, clap::Error> {
+fn command<'a>(alloc: Global) -> Result<Command<'a>, AllocError> {
     let raw = Arg::new(alloc, "raw")
         .short('r')
         .action(ArgAction::SetTrue)
         .help("Sends the terminal's bytes, and writes refusals to the standard error");
-    let command = Command::new(alloc, "screendemo")
+    Command::new(alloc, "screendemo")
         .about("Draws what a script on the standard input says, and prints the screen")
-        .arg(raw)?;
-    Ok(command.try_get_matches_from(words)?.get_flag("raw"))
+        .arg(raw)
+}
+
+// Whether the words of the command line ask for the terminal's bytes.
+fn is_raw(alloc: Global, words: &[String]) -> Result<bool, clap::Error> {
+    let matches = command(alloc)?.try_get_matches_from(words)?;
+    Ok(matches.get_flag("raw"))
 }
 
 fn words(rt: &(impl Env + AllocGlobal)) -> Result<Vec<String>, Failure> {
@@ -58,22 +62,36 @@ fn words(rt: &(impl Env + AllocGlobal)) -> Result<Vec<String>, Failure> {
     }
 }
 
-fn demonstrate(rt: &HostRuntime) -> Result<(), Failure> {
-    let alloc = rt.alloc();
+// Whether the terminal's bytes are asked for.
+fn asked(rt: &HostRuntime) -> Result<bool, Failure> {
     let words = words(rt)?;
-    let raw = match is_raw(alloc, words.as_slice()) {
-        Ok(raw) => raw,
-        Err(error) if error.kind() == ErrorKind::OutOfMemory => return Err(Failure::NoMemory),
-        Err(error) => return Err(Failure::Words(error)),
-    };
-    let script = match read_input(alloc, &mut rt.reader()) {
-        Ok(script) => script,
-        Err(InputFault::Failed) => return Err(Failure::Read),
-        Err(InputFault::NoMemory) => return Err(Failure::NoMemory),
-    };
-    let ended = run(alloc, &script, raw, &mut io::writer(rt)).map_err(Failure::Demo);
+    match is_raw(rt.alloc(), words.as_slice()) {
+        Ok(raw) => Ok(raw),
+        Err(error) if error.kind() == ErrorKind::OutOfMemory => Err(Failure::NoMemory),
+        Err(error) => Err(Failure::Words(error)),
+    }
+}
+
+// The script on the standard input.
+fn script(rt: &HostRuntime) -> Result<Vec<u8>, Failure> {
+    match read_input(rt.alloc(), &mut rt.reader()) {
+        Ok(script) => Ok(script),
+        Err(InputFault::Failed) => Err(Failure::Read),
+        Err(InputFault::NoMemory) => Err(Failure::NoMemory),
+    }
+}
+
+fn demonstrate(rt: &HostRuntime) -> Result<(), Failure> {
+    let raw = asked(rt)?;
+    let script = script(rt)?;
+    draw(rt, raw, &script)
+}
+
+// Draws what a script says.
+fn draw(rt: &HostRuntime, raw: bool, script: &[u8]) -> Result<(), Failure> {
+    let ended = run(rt.alloc(), script, raw, &mut io::writer(rt)).map_err(Failure::Demo);
     if raw {
-        let told = tell_refusals(rt, &script);
+        let told = tell_refusals(rt, script);
         return ended.and(told);
     }
     ended

@@ -20,6 +20,7 @@ use report::{left_out_lines, note_lines, size_lines};
 use std::io::Write;
 use std::process::ExitCode;
 use std::{env, fs, io};
+use terminfo_files::Notes;
 pub use terminfo_files::{Compiled, Listing, TicFault, compile, list};
 use words::Task;
 
@@ -63,32 +64,35 @@ fn perform(rt: &HostRuntime, words: &[String]) -> u8 {
 
 fn run<'a>(rt: &HostRuntime, task: Task<'a>) -> Result<(), Failure<'a>> {
     match task {
-        Task::Sizes(file) => {
-            let compiled = compiled(rt, file)?;
-            let sizes = size_lines(rt.alloc(), &compiled.sizes)?;
-            print(rt, sizes.as_slice())
-        }
-        Task::Files(directory, file) => {
-            let compiled = compiled(rt, file)?;
-            write_files(rt, directory, &compiled.files)
-        }
-        Task::Listing(file) => print_listing(rt, file),
+        Task::Sizes(file) => print_sizes(rt, &compiled(rt, file)?),
+        Task::Files(directory, file) => write_files(rt, directory, &compiled(rt, file)?.files),
+        Task::Listing(file) => print_listing(rt, &input_of(rt, file)?),
     }
+}
+
+// Prints the name of each entry and the size of its file.
+fn print_sizes<'a>(rt: &HostRuntime, compiled: &Compiled) -> Result<(), Failure<'a>> {
+    let sizes = size_lines(rt.alloc(), &compiled.sizes)?;
+    print(rt, sizes.as_slice())
 }
 
 // What a source is compiled to; the notes on it are printed.
 fn compiled<'a>(rt: &HostRuntime, file: &'a str) -> Result<Compiled, Failure<'a>> {
     let source = input_of(rt, file)?;
     let compiled = compile(rt.alloc(), source.as_slice())?;
-    let notes = note_lines(rt.alloc(), &compiled.notes)?;
-    let _ = rt.stderr().write_all(notes.as_slice());
+    tell_notes(rt, &compiled.notes)?;
     Ok(compiled)
 }
 
+fn tell_notes<'a>(rt: &HostRuntime, notes: &Notes) -> Result<(), Failure<'a>> {
+    let lines = note_lines(rt.alloc(), notes)?;
+    let _ = rt.stderr().write_all(lines.as_slice());
+    Ok(())
+}
+
 // Prints a compiled file as source, and tells what is left out of it.
-fn print_listing<'a>(rt: &HostRuntime, file: &'a str) -> Result<(), Failure<'a>> {
-    let bytes = input_of(rt, file)?;
-    let listing = list(rt.alloc(), bytes.as_slice())?;
+fn print_listing<'a>(rt: &HostRuntime, bytes: &[u8]) -> Result<(), Failure<'a>> {
+    let listing = list(rt.alloc(), bytes)?;
     let left_out = left_out_lines(rt.alloc(), listing.unnamed, listing.skipped)?;
     let printed = print(rt, listing.text.0.as_slice());
     let _ = rt.stderr().write_all(left_out.as_slice());

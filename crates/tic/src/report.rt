@@ -2,18 +2,13 @@
 
 use std::alloc::{AllocError, Global};
 use terminfo_files::{Notes, Sizes};
-use ti_source::Cause;
+use ti_source::{Cause, Note};
 
 /// A line for each note: its line number, its cause and the field's name.
 pub(crate) fn note_lines(alloc: Global, notes: &Notes) -> Result<Vec<u8>, AllocError> {
     let mut lines = Vec::new(alloc);
     for note in notes.0.as_slice() {
-        let word = word_of(note.cause);
-        let number = note.line;
-        let head = format!(in alloc; "line {number}: {word} ")?;
-        lines.extend_from_slice(head.as_bytes())?;
-        lines.extend_from_slice(note.name.0.as_slice())?;
-        lines.push(b'\n')?;
+        add_note(alloc, note, &mut lines)?;
     }
     Ok(lines)
 }
@@ -22,11 +17,7 @@ pub(crate) fn note_lines(alloc: Global, notes: &Notes) -> Result<Vec<u8>, AllocE
 pub(crate) fn size_lines(alloc: Global, sizes: &Sizes) -> Result<Vec<u8>, AllocError> {
     let mut lines = Vec::new(alloc);
     for (name, size) in sizes.0.as_slice() {
-        let digits = size.to_string(alloc)?;
-        lines.extend_from_slice(name.0.as_slice())?;
-        lines.push(b' ')?;
-        lines.extend_from_slice(digits.as_bytes())?;
-        lines.push(b'\n')?;
+        add_size(alloc, name.0.as_slice(), *size, &mut lines)?;
     }
     Ok(lines)
 }
@@ -39,15 +30,51 @@ pub(crate) fn left_out_lines(
     skipped: usize,
 ) -> Result<Vec<u8>, AllocError> {
     let mut lines = Vec::new(alloc);
-    if unnamed > 0 {
-        let line = format!(in alloc; "{unnamed} capabilities without a name left out\n")?;
-        lines.extend_from_slice(line.as_bytes())?;
-    }
-    if skipped > 0 {
-        let line = format!(in alloc; "{skipped} bytes skipped\n")?;
-        lines.extend_from_slice(line.as_bytes())?;
-    }
+    add_count(
+        alloc,
+        unnamed,
+        "capabilities without a name left out",
+        &mut lines,
+    )?;
+    add_count(alloc, skipped, "bytes skipped", &mut lines)?;
     Ok(lines)
+}
+
+fn add_note(alloc: Global, note: &Note, lines: &mut Vec<u8>) -> Result<(), AllocError> {
+    let (number, word) = (note.line, word_of(note.cause));
+    let head = format!(in alloc; "line {number}: {word} ")?;
+    add_line(head.as_bytes(), note.name.0.as_slice(), lines)
+}
+
+fn add_size(
+    alloc: Global,
+    name: &[u8],
+    size: usize,
+    lines: &mut Vec<u8>,
+) -> Result<(), AllocError> {
+    let digits = format!(in alloc; " {size}")?;
+    add_line(name, digits.as_bytes(), lines)
+}
+
+// A line for a count that is not 0.
+fn add_count(
+    alloc: Global,
+    count: usize,
+    what: &str,
+    lines: &mut Vec<u8>,
+) -> Result<(), AllocError> {
+    if count == 0 {
+        return Ok(());
+    }
+    let line = format!(in alloc; "{count} {what}")?;
+    add_line(line.as_bytes(), b"", lines)
+}
+
+// A line of two parts.
+fn add_line(first: &[u8], second: &[u8], lines: &mut Vec<u8>) -> Result<(), AllocError> {
+    lines.extend_from_slice(first)?;
+    lines.extend_from_slice(second)?;
+    lines.extend_from_slice(b"\n")
 }
 
 fn word_of(cause: Cause) -> &'static str {

@@ -1,7 +1,7 @@
 //! The command line of `tic`.
 
 use clap::{Arg, ArgAction, ArgGroup, ArgMatches, Command, Error};
-use std::alloc::Global;
+use std::alloc::{AllocError, Global};
 
 /// What the words ask for.
 #[derive(Clone, Copy, Debug)]
@@ -16,36 +16,55 @@ pub(crate) enum Task<'a> {
 
 /// The words after parsing: exactly one of `-c FILE`, `-o DIR FILE` and `-d COMPILED`.
 pub(crate) fn matches<'a>(alloc: Global, words: &'a [String]) -> Result<ArgMatches<'a>, Error> {
-    let sizes = Arg::new(alloc, "sizes")
+    command(alloc)?.try_get_matches_from(words)
+}
+
+fn command<'a>(alloc: Global) -> Result<Command<'a>, AllocError> {
+    arguments(
+        alloc,
+        Command::new(alloc, "tic").about(
+            "Compiles terminfo sources, and lists compiled files; - stands for the standard input",
+        ),
+    )?
+    .group(forms(alloc)?)
+}
+
+fn arguments<'a>(alloc: Global, command: Command<'a>) -> Result<Command<'a>, AllocError> {
+    command
+        .arg(sizes(alloc))?
+        .arg(files(alloc))?
+        .arg(listing(alloc))
+}
+
+fn sizes<'a>(alloc: Global) -> Arg<'a> {
+    Arg::new(alloc, "sizes")
         .short('c')
         .action(ArgAction::Set)
         .value_name("FILE")
-        .help("Compiles a source, and prints the name and size of each entry");
-    let files = Arg::new(alloc, "files")
+        .help("Compiles a source, and prints the name and size of each entry")
+}
+
+fn files<'a>(alloc: Global) -> Arg<'a> {
+    Arg::new(alloc, "files")
         .short('o')
         .action(ArgAction::Set)
         .num_args(2)
         .value_names(&["DIR", "FILE"])
-        .help("Compiles a source, and writes the files below a folder");
-    let listing = Arg::new(alloc, "listing")
+        .help("Compiles a source, and writes the files below a folder")
+}
+
+fn listing<'a>(alloc: Global) -> Arg<'a> {
+    Arg::new(alloc, "listing")
         .short('d')
         .action(ArgAction::Set)
         .value_name("COMPILED")
-        .help("Prints a compiled file as source");
-    let forms = ArgGroup::new(alloc, "forms")
-        .arg("sizes")?
-        .arg("files")?
-        .arg("listing")?
-        .required(true);
-    Command::new(alloc, "tic")
-        .about(
-            "Compiles terminfo sources, and lists compiled files; - stands for the standard input",
-        )
-        .arg(sizes)?
-        .arg(files)?
-        .arg(listing)?
-        .group(forms)?
-        .try_get_matches_from(words)
+        .help("Prints a compiled file as source")
+}
+
+// One of the three is given.
+fn forms<'a>(alloc: Global) -> Result<ArgGroup<'a>, AllocError> {
+    let forms = ArgGroup::new(alloc, "forms").required(true);
+    forms.arg("sizes")?.arg("files")?.arg("listing")
 }
 
 /// What parsed words ask for, if anything.

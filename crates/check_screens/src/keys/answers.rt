@@ -1,22 +1,22 @@
 //! Answers about keys, in words.
 
 use check_scripts::answers::{add_number, add_word};
-use check_scripts::troubles::Trouble;
+use check_scripts::buffers::Buffer;
 use scr_keys::{Key, KeyFault};
 use ti_caps::Slot;
 
 /// Adds a key: `Slot` and its position, or `Byte` and the byte.
-pub fn add_key(key: Key, words: &mut Vec<u8>) -> Result<(), Trouble> {
+pub fn add_key(key: Key, words: &mut Buffer) {
     let (word, number) = match key {
         Key::Slot(slot) => ("Slot", i64::from(slot)),
         Key::Byte(byte) => ("Byte", i64::from(byte)),
     };
-    add_word(word, words)?;
-    add_number(number, words)
+    add_word(word, words);
+    add_number(number, words);
 }
 
 /// Adds `Ok`, or why a call was refused.
-pub fn add_came(came: Result<(), KeyFault>, words: &mut Vec<u8>) -> Result<(), Trouble> {
+pub fn add_came(came: Result<(), KeyFault>, words: &mut Buffer) {
     match came {
         Ok(()) => add_word("Ok", words),
         Err(fault) => add_fault(fault, words),
@@ -24,10 +24,10 @@ pub fn add_came(came: Result<(), KeyFault>, words: &mut Vec<u8>) -> Result<(), T
 }
 
 /// Adds `Refused` and why; or `NoMemory`.
-pub fn add_fault(fault: KeyFault, words: &mut Vec<u8>) -> Result<(), Trouble> {
+pub fn add_fault(fault: KeyFault, words: &mut Buffer) {
     match fault {
         KeyFault::KeyTooLong(Slot(slot)) => {
-            add_word("Refused KeyTooLong", words)?;
+            add_word("Refused KeyTooLong", words);
             add_number(i64::from(slot), words)
         }
         KeyFault::QueueFull => add_word("Refused QueueFull", words),

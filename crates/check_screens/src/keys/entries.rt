@@ -1,19 +1,14 @@
 //! Entries whose texts a script sets.
 
 use check_scripts::answers::add_word;
-use check_scripts::texts::read_text;
+use check_scripts::buffers::Buffer;
 use check_scripts::troubles::Trouble;
 use check_scripts::words::Words;
 use std::alloc::Global;
 use ti_caps::{CapFault, Entry, Kind, MOST_TEXTS, Slot, bundled, find_name, name_of};
 
 /// The line `entry`, an entry without texts, or `bundled`.
-pub fn make_entry(
-    alloc: Global,
-    entry: &mut Option<Entry>,
-    word: &[u8],
-    came: &mut Vec<u8>,
-) -> Result<(), Trouble> {
+pub fn make_entry(alloc: Global, entry: &mut Option<Entry>, word: &[u8], came: &mut Buffer) {
     let made = if word == b"bundled".as_slice() {
         bundled(alloc)
     } else {
@@ -29,21 +24,17 @@ pub fn make_entry(
 }
 
 /// The line `text NAME TEXT`, which sets a text by its name; without TEXT it is absent then.
-pub fn set_text(
-    alloc: Global,
-    entry: &mut Entry,
-    words: &mut Words<'_>,
-    came: &mut Vec<u8>,
-) -> Result<(), Trouble> {
+pub fn set_text(alloc: Global, entry: &mut Entry, words: &mut Words<'_>, came: &mut Buffer) {
     let Some((Kind::Text, slot)) = find_name(words.next()) else {
-        return Err(Trouble::Bad("no such text"));
+        words.fail(Trouble::Bad("no such text"));
+        return;
     };
-    let mut text = Vec::new(alloc);
+    let mut text = Buffer::new(alloc);
     let set = match words.peek() {
         b"" | b"=" => entry.set_text(slot, None),
         _ => {
-            read_text(words.next(), &mut text)?;
-            entry.set_text(slot, Some(&text))
+            words.text(&mut text);
+            entry.set_text(slot, Some(text.bytes()))
         }
     };
     match set {
@@ -61,19 +52,18 @@ pub fn key_text(entry: &Entry, slot: Slot) -> Option<&[u8]> {
 }
 
 /// Adds all texts of an entry, each behind its position.
-pub fn dump_entry(entry: &Entry, bytes: &mut Vec<u8>) -> Result<(), Trouble> {
+pub fn dump_entry(entry: &Entry, bytes: &mut Buffer) {
     for slot in 0..MOST_TEXTS as u16 {
         if let Some(text) = entry.text(Slot(slot)) {
-            bytes.extend_from_slice(&slot.to_be_bytes())?;
-            bytes.extend_from_slice(text)?;
+            bytes.extend(&slot.to_be_bytes());
+            bytes.extend(text);
         }
     }
-    Ok(())
 }
 
-fn add_fault(fault: CapFault, came: &mut Vec<u8>) -> Result<(), Trouble> {
+fn add_fault(fault: CapFault, came: &mut Buffer) {
     match fault {
         CapFault::NoMemory => add_word("NoMemory", came),
-        _ => Err(Trouble::Bad("no entry")),
+        _ => add_word("refused", came),
     }
 }

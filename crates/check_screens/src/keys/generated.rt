@@ -3,6 +3,7 @@
 use crate::keys::keyboards::{Keyboard, open_into};
 use crate::keys::plain::{PlainKeys, PlainReader};
 use check_scripts::answers::{add_number, add_word};
+use check_scripts::buffers::Buffer;
 use check_scripts::random::Random;
 use check_scripts::troubles::Trouble;
 use check_scripts::words::Words;
@@ -50,9 +51,9 @@ pub fn check_generated(
     entry: &Entry,
     keyboard: &mut Option<Keyboard>,
     words: &mut Words<'_>,
-    came: &mut Vec<u8>,
+    came: &mut Buffer,
 ) -> Result<(), Trouble> {
-    let (count, seed) = (words.number()?, words.number()?);
+    let (count, seed) = (words.number(), words.number());
     if !open_into(alloc, entry, words.next(), keyboard, came)? {
         return Ok(());
     }
@@ -69,7 +70,7 @@ fn add_generated(
     keyboard: &mut Keyboard,
     count: u32,
     mut typist: Typist,
-    came: &mut Vec<u8>,
+    came: &mut Buffer,
 ) -> Result<(), Trouble> {
     let mut plain = PlainReader::new(alloc, PlainKeys::of(alloc, entry)?);
     match first_difference(keyboard, &mut plain, &mut typist, count)? {
@@ -77,6 +78,7 @@ fn add_generated(
         None if typist.found_full => add_word("agrees full", came),
         None => add_word("agrees", came),
     }
+    Ok(())
 }
 
 impl Typist {

@@ -2,6 +2,8 @@
 
 use crate::keys::answers::add_fault;
 use check_scripts::answers::add_word;
+use check_scripts::buffers::Buffer;
+use check_scripts::checking::put;
 use check_scripts::troubles::Trouble;
 use curses::{OpenFault, Screen};
 use scr_cells::Size;
@@ -49,7 +51,7 @@ fn open(
     alloc: Global,
     entry: &Entry,
     word: &[u8],
-    came: &mut Vec<u8>,
+    came: &mut Buffer,
 ) -> Result<Option<Keyboard>, Trouble> {
     let opened = match word {
         b"reader" => open_reader(alloc, entry),
@@ -59,7 +61,7 @@ fn open(
     match opened {
         Ok(keyboard) => Ok(Some(keyboard)),
         Err(fault) => {
-            add_refusal(fault, came)?;
+            add_refusal(fault, came);
             Ok(None)
         }
     }
@@ -72,11 +74,11 @@ pub fn open_into(
     entry: &Entry,
     word: &[u8],
     keyboard: &mut Option<Keyboard>,
-    came: &mut Vec<u8>,
+    came: &mut Buffer,
 ) -> Result<bool, Trouble> {
     match open(alloc, entry, word, came)? {
         Some(opened) => {
-            *keyboard = Some(opened);
+            put(keyboard, Some(opened));
             Ok(true)
         }
         None => Ok(false),
@@ -95,7 +97,7 @@ fn open_screen(alloc: Global, entry: &Entry) -> Result<Keyboard, OpenFault> {
     Ok(Keyboard::Screen(Screen::open(alloc, entry, Size::new(2, 5))?))
 }
 
-fn add_refusal(fault: OpenFault, came: &mut Vec<u8>) -> Result<(), Trouble> {
+fn add_refusal(fault: OpenFault, came: &mut Buffer) {
     match fault {
         OpenFault::Profile(_) => add_word("Refused Profile", came),
         OpenFault::KeyTooLong(slot) => add_fault(KeyFault::KeyTooLong(slot), came),

@@ -6,8 +6,8 @@ use crate::keys::generated::check_generated;
 use crate::keys::keyboards::{Keyboard, open_into};
 use crate::keys::streams::{check_cuts, take_all};
 use check_scripts::answers::add_word;
+use check_scripts::buffers::Buffer;
 use check_scripts::checking::Stage;
-use check_scripts::texts::read_text;
 use check_scripts::troubles::Trouble;
 use check_scripts::words::Words;
 use scr_keys::KeyFault;
@@ -31,26 +31,27 @@ impl Stage for KeyStage {
         }
     }
 
-    fn answer(&mut self, words: &mut Words<'_>, came: &mut Vec<u8>) -> Result<(), Trouble> {
-        let word = words.next();
+    fn answer(&mut self, words: &mut Words<'_>, came: &mut Buffer) {
+        let (alloc, word) = (self.alloc, words.next());
         match word {
-            b"entry" | b"bundled" => make_entry(self.alloc, &mut self.entry, word, came),
-            b"text" | b"reader" | b"screen" | b"cuts" | b"generated" => {
-                let entry = self.entry.as_mut().ok_or(Trouble::Bad("no entry"))?;
-                answer_of_entry(self.alloc, entry, &mut self.keyboard, word, words, came)
-            }
-            _ => {
-                let no_keyboard = Trouble::Bad("no keyboard");
-                let keyboard = self.keyboard.as_mut().ok_or(no_keyboard)?;
-                answer_of_keyboard(self.alloc, keyboard, word, words, came)
-            }
+            b"entry" | b"bundled" => make_entry(alloc, &mut self.entry, word, came),
+            b"text" | b"reader" | b"screen" | b"cuts" | b"generated" => match &mut self.entry {
+                Some(entry) => {
+                    answer_of_entry(alloc, entry, &mut self.keyboard, word, words, came);
+                }
+                None => words.fail(Trouble::Bad("no entry")),
+            },
+            _ => match &mut self.keyboard {
+                Some(keyboard) => answer_of_keyboard(alloc, keyboard, word, words, came),
+                None => words.fail(Trouble::Bad("no keyboard")),
+            },
         }
     }
 
-    fn dump(&self, bytes: &mut Vec<u8>) -> Result<(), Trouble> {
+    fn dump(&self, bytes: &mut Buffer) {
         match &self.entry {
             Some(entry) => dump_entry(entry, bytes),
-            None => Ok(()),
+            None => {}
         }
     }
 
@@ -66,15 +67,26 @@ fn answer_of_entry(
     keyboard: &mut Option<Keyboard>,
     word: &[u8],
     words: &mut Words<'_>,
-    came: &mut Vec<u8>,
-) -> Result<(), Trouble> {
-    match word {
-        b"text" => set_text(alloc, entry, words, came),
+    came: &mut Buffer,
+) {
+    let done = match word {
+        b"text" => {
+            set_text(alloc, entry, words, came);
+            Ok(())
+        }
         b"cuts" => check_cuts(alloc, entry, keyboard, words, came),
         b"generated" => check_generated(alloc, entry, keyboard, words, came),
-        _ if open_into(alloc, entry, word, keyboard, came)? => add_word("Ok", came),
-        _ => Ok(()),
+        _ => add_opened(open_into(alloc, entry, word, keyboard, came), came),
+    };
+    words.check(done);
+}
+
+// Adds that a keyboard was opened, if it was.
+fn add_opened(opened: Result<bool, Trouble>, came: &mut Buffer) -> Result<(), Trouble> {
+    if opened? {
+        add_word("Ok", came);
     }
+    Ok(())
 }
 
 // The lines `byte BYTE`, `bytes TEXT`, `idle`, and `keys`, which takes all keys that wait, or has `none`.
@@ -83,18 +95,18 @@ fn answer_of_keyboard(
     keyboard: &mut Keyboard,
     word: &[u8],
     words: &mut Words<'_>,
-    came: &mut Vec<u8>,
-) -> Result<(), Trouble> {
+    came: &mut Buffer,
+) {
     match word {
-        b"byte" => add_came(keyboard.byte(words.byte()?), came),
+        b"byte" => add_came(keyboard.byte(words.byte()), came),
         b"bytes" => {
-            let mut text = Vec::new(alloc);
-            read_text(words.next(), &mut text)?;
-            add_came(give(keyboard, &text), came)
+            let mut text = Buffer::new(alloc);
+            words.text(&mut text);
+            add_came(give(keyboard, text.bytes()), came);
         }
         b"idle" => add_came(keyboard.idle(), came),
-        b"keys" => add_keys(alloc, keyboard, came),
-        _ => Err(Trouble::Bad("no such line")),
+        b"keys" => words.check(add_keys(alloc, keyboard, came)),
+        _ => words.fail(Trouble::Bad("no such line")),
     }
 }
 
@@ -106,14 +118,14 @@ fn give(keyboard: &mut Keyboard, bytes: &[u8]) -> Result<(), KeyFault> {
     Ok(())
 }
 
-fn add_keys(alloc: Global, keyboard: &mut Keyboard, came: &mut Vec<u8>) -> Result<(), Trouble> {
+fn add_keys(alloc: Global, keyboard: &mut Keyboard, came: &mut Buffer) -> Result<(), Trouble> {
     let mut keys = Vec::new(alloc);
     take_all(keyboard, &mut keys)?;
     if keys.is_empty() {
-        return add_word("none", came);
+        add_word("none", came);
     }
     for key in &keys {
-        add_key(*key, came)?;
+        add_key(*key, came);
     }
     Ok(())
 }

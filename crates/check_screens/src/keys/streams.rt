@@ -3,6 +3,7 @@
 use crate::keys::keyboards::{Keyboard, open_into};
 use crate::keys::plain::PlainKeys;
 use check_scripts::answers::{add_number, add_word};
+use check_scripts::buffers::Buffer;
 use check_scripts::troubles::Trouble;
 use check_scripts::words::Words;
 use scr_keys::Key;
@@ -16,7 +17,7 @@ pub fn check_cuts(
     entry: &Entry,
     keyboard: &mut Option<Keyboard>,
     words: &mut Words<'_>,
-    came: &mut Vec<u8>,
+    came: &mut Buffer,
 ) -> Result<(), Trouble> {
     if !open_into(alloc, entry, words.next(), keyboard, came)? {
         return Ok(());
@@ -29,6 +30,7 @@ pub fn check_cuts(
         Some(place) => add_number(i64::try_from(place).unwrap_or(-1), came),
         None => add_word("agrees", came),
     }
+    Ok(())
 }
 
 // The first place of the stream of an entry's keys where an idle gives other keys than the plain decoder.
