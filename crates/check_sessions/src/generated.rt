@@ -60,6 +60,7 @@ fn make_each(
     for number in 0..count {
         answer.clear();
         let is_well = step(alloc, opened, &mut random, answer)?;
+        answer.done()?;
         if answer.bytes().ends_with(b" NoMemory") {
             add_word("NoMemory", came);
             return Ok(false);
@@ -85,6 +86,5 @@ fn step(
         return opened.update(next_fails(random), answer);
     }
     opened.call(next_call(alloc, random)?, answer)?;
-    answer.done()?;
     Ok(true)
 }
