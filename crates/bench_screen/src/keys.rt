@@ -3,7 +3,6 @@
 
 use anyhow::{Result, bail};
 use curses::Screen;
-use scr_cells::Size;
 use scr_keys::Key;
 use std::alloc::Global;
 use ti_caps::{Entry, Kind, MOST_TEXTS, Slot, bundled, name_of};
@@ -92,27 +91,21 @@ fn taken(screen: &mut Screen) -> u64 {
     sum
 }
 
-// The bundled entry with so many keys.
-fn entry_of(alloc: Global, keys: u32) -> Result<Entry> {
+/// The bundled entry with so many keys.
+pub fn entry_of(alloc: Global, keys: u32) -> Result<Entry> {
     let mut entry = bundled(alloc)?;
     set_keys(&mut entry, keys)?;
     Ok(entry)
 }
 
 /// Reads bytes so often by a screen whose terminal has so many keys.
-pub fn measure(alloc: Global, action: &str, keys: u32, count: u32) -> Result<u64> {
+pub fn measure(
+    alloc: Global,
+    screen: &mut Screen,
+    action: &str,
+    keys: u32,
+    count: u32,
+) -> Result<u64> {
     let bytes = stream(alloc, action, keys)?;
-    measure_bytes(alloc, &bytes, keys, count)
-}
-
-// The same of bytes.
-fn measure_bytes(alloc: Global, bytes: &[u8], keys: u32, count: u32) -> Result<u64> {
-    let mut screen = opened_with(alloc, keys)?;
-    read_often(&mut screen, bytes, count)
-}
-
-// A screen whose terminal has so many keys.
-fn opened_with(alloc: Global, keys: u32) -> Result<Screen> {
-    let entry = entry_of(alloc, keys)?;
-    Ok(Screen::open(alloc, &entry, Size::new(24, 80))?)
+    read_often(screen, &bytes, count)
 }

@@ -11,19 +11,50 @@ mod updating;
 mod windows;
 
 use anyhow::{Context, Result, bail};
+use curses::Screen;
+use screens::opened;
 use std::alloc::Global;
 use std::env;
+use ti_caps::bundled;
 
 // Does what some words and numbers say.
 fn measured(alloc: Global, words: [&str; 3], numbers: [u32; 4]) -> Result<u64> {
     let [benchmark, action, name] = words;
     let [first, second, third, _] = numbers;
     match benchmark {
-        "refresh" => refreshing::measure(alloc, action, numbers),
-        "update" => updating::measure(alloc, action, name, numbers),
-        "keys" => keys::measure(alloc, action, first, second),
         "windows" => windows::measure(alloc, action, [first, second, third]),
         "terminals" => terminals::measure(alloc, action, name, first),
+        _ => measured_on_screen(alloc, words, numbers),
+    }
+}
+
+// The benchmarks of a screen: one function opens it, and lends it to the others.
+fn measured_on_screen(alloc: Global, words: [&str; 3], numbers: [u32; 4]) -> Result<u64> {
+    let mut screen = screen_for(alloc, words[0], numbers)?;
+    measured_on(alloc, &mut screen, words, numbers)
+}
+
+// A new screen: of the keys that a benchmark of keys is about, or of so many rows and columns.
+fn screen_for(alloc: Global, benchmark: &str, numbers: [u32; 4]) -> Result<Screen> {
+    let [first, second, ..] = numbers;
+    if benchmark == "keys" {
+        return opened(alloc, &keys::entry_of(alloc, first)?, 24, 80);
+    }
+    opened(alloc, &bundled(alloc)?, first, second)
+}
+
+fn measured_on(
+    alloc: Global,
+    screen: &mut Screen,
+    words: [&str; 3],
+    numbers: [u32; 4],
+) -> Result<u64> {
+    let [benchmark, action, name] = words;
+    let [first, second, lines, count] = numbers;
+    match benchmark {
+        "refresh" => refreshing::measure(alloc, screen, action, lines, count),
+        "update" => updating::measure(alloc, screen, action, name, lines, count),
+        "keys" => keys::measure(alloc, screen, action, first, second),
         _ => bail!("no such benchmark"),
     }
 }

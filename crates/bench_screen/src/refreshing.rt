@@ -2,7 +2,7 @@
 //! screen, and takes it onto the virtual screen, which has its cells already or gets new ones; `refresh update|scratch ROWS COLUMNS LINES
 //! COUNT` paints the whole screen, whatever is touched. The number is made of all results.
 
-use crate::screens::{FIRST, fill, opened};
+use crate::screens::{FIRST, fill};
 use anyhow::{Result, bail};
 use curses::{Device, Screen};
 use scr_plan::scratch_bytes;
@@ -70,8 +70,14 @@ fn scratch(alloc: Global, screen: &mut Screen, count: u32) -> Result<u64> {
     Ok(bytes)
 }
 
-// Does one part of a refresh again and again.
-fn repeat(alloc: Global, screen: &mut Screen, action: &str, lines: u32, count: u32) -> Result<u64> {
+/// Does one part of a refresh again and again.
+pub fn measure(
+    alloc: Global,
+    screen: &mut Screen,
+    action: &str,
+    lines: u32,
+    count: u32,
+) -> Result<u64> {
     let second = draw(alloc, screen)?;
     let (one, two) = ([FIRST, FIRST], [FIRST, second]);
     match action {
@@ -82,11 +88,4 @@ fn repeat(alloc: Global, screen: &mut Screen, action: &str, lines: u32, count: u
         "scratch" => scratch(alloc, screen, count),
         _ => bail!("no such action"),
     }
-}
-
-/// Does one part of a refresh again and again on a new screen of this size.
-pub fn measure(alloc: Global, action: &str, numbers: [u32; 4]) -> Result<u64> {
-    let [rows, columns, lines, count] = numbers;
-    let mut screen = opened(alloc, rows, columns)?;
-    repeat(alloc, &mut screen, action, lines, count)
 }

@@ -2,7 +2,7 @@
 //! a window over the whole screen, or touches so many lines of two such windows in turn that differ everywhere; `take` takes the window
 //! onto the virtual screen each time, and `update` then brings the terminal to it. The number is that of the bytes that were sent.
 
-use crate::screens::{FIRST, fill, opened};
+use crate::screens::{FIRST, fill};
 use anyhow::{Result, bail};
 use curses::{Device, Screen};
 use scr_cells::Attrs;
@@ -83,15 +83,20 @@ fn repeat(alloc: Global, screen: &mut Screen, each: Work, count: u32) -> Result<
     Ok(bytes)
 }
 
-/// Does the work again and again on a new screen of this size.
-pub fn measure(alloc: Global, stage: &str, change: &str, numbers: [u32; 4]) -> Result<u64> {
-    let [rows, columns, lines, count] = numbers;
+/// Does the work again and again.
+pub fn measure(
+    alloc: Global,
+    screen: &mut Screen,
+    stage: &str,
+    change: &str,
+    lines: u32,
+    count: u32,
+) -> Result<u64> {
     let each = Work {
         is_character: change == "character",
         lines,
         takes: stage != "draw",
         updates: stage == "update",
     };
-    let mut screen = opened(alloc, rows, columns)?;
-    repeat(alloc, &mut screen, each, count)
+    repeat(alloc, screen, each, count)
 }

@@ -16,13 +16,25 @@ pub struct Line {
 impl Line {
     /// Reads a line. A word is all up to a blank outside quotes; `=` alone parts the call from the answer.
     pub fn read(alloc: Global, text: &[u8]) -> Result<Line, CheckFault> {
-        let mut reader = Reader::new(alloc)?;
-        for byte in text {
-            reader.step(*byte)?;
+        let mut line = Line {
+            call: Vec::new(alloc),
+            wanted: Vec::new(alloc),
+        };
+        match read_into(alloc, text, &mut line) {
+            Ok(()) => Ok(line),
+            Err(fault) => Err(fault),
         }
-        reader.step(b' ')?;
-        reader.line()
     }
+}
+
+// Reads the words of a text.
+fn read_into(alloc: Global, text: &[u8], line: &mut Line) -> Result<(), CheckFault> {
+    let mut reader = Reader::new(alloc, line);
+    for byte in text {
+        reader.step(*byte);
+    }
+    reader.step(b' ');
+    reader.done()
 }
 
 /// Where in a word the next byte stands.
@@ -35,8 +47,10 @@ enum Within {
     Quoted,
     /// Behind `\`.
     Escape,
-    /// Behind `\x`, with the first digit where it has come.
-    Digits(Option<u8>),
+    /// Behind `\x`.
+    FirstDigit,
+    /// Behind the first digit.
+    SecondDigit(u8),
     /// Behind a quoted part, which is not yet in the word.
     Closed,
     /// In the count of a quoted part.
@@ -44,167 +58,162 @@ enum Within {
 }
 
 #[derive(Drop)]
-struct Reader {
+struct Reader<'a> {
     alloc: Global,
+    line: &'a mut Line,
     within: Within,
     // The word so far, and its quoted part that is not in it yet.
     word: Vec<u8>,
     part: Vec<u8>,
     // Whether the word has a quoted part.
     is_quoted: bool,
-    words: Vec<Vec<u8>>,
-    call: Option<Vec<Vec<u8>>>,
+    // Whether `=` has come.
+    is_wanted: bool,
+    // The first trouble with the line.
+    trouble: Option<CheckFault>,
 }
 
-impl Reader {
-    fn new(alloc: Global) -> Result<Reader, CheckFault> {
-        Ok(Reader {
+impl<'a> Reader<'a> {
+    fn new(alloc: Global, line: &'a mut Line) -> Reader<'a> {
+        Reader {
             alloc,
+            line,
             within: Within::Between,
-            word: Vec::with_capacity(alloc, 64)?,
-            part: Vec::with_capacity(alloc, 64)?,
+            word: Vec::new(alloc),
+            part: Vec::new(alloc),
             is_quoted: false,
-            words: Vec::with_capacity(alloc, 8)?,
-            call: None,
-        })
+            is_wanted: false,
+            trouble: None,
+        }
     }
 
-    fn step(&mut self, byte: u8) -> Result<(), CheckFault> {
+    fn step(&mut self, byte: u8) {
         match self.within {
             Within::Between | Within::Bare => self.bare(byte),
             Within::Quoted => self.quoted(byte),
             Within::Escape => self.escape(byte),
-            Within::Digits(first) => self.digit(first, byte),
-            Within::Closed => match byte {
-                b'*' => {
-                    self.within = Within::Count(0);
-                    Ok(())
-                }
-                _ => self.take_part(1, byte),
-            },
-            Within::Count(count) => match byte {
-                b'0'..=b'9' => {
-                    let digit = u32::from(byte).saturating_sub(48);
-                    self.within = Within::Count(count.saturating_mul(10).saturating_add(digit));
-                    Ok(())
-                }
-                _ => self.take_part(count, byte),
-            },
+            Within::FirstDigit => self.first_digit(byte),
+            Within::SecondDigit(first) => self.second_digit(first, byte),
+            Within::Closed if byte == b'*' => self.within = Within::Count(0),
+            Within::Closed => self.take_part(1, byte),
+            Within::Count(count) if byte.is_ascii_digit() => {
+                let digit = u32::from(byte).saturating_sub(48);
+                self.within = Within::Count(count.saturating_mul(10).saturating_add(digit));
+            }
+            Within::Count(count) => self.take_part(count, byte),
         }
     }
 
     // Takes the quoted part so many times, and then a byte behind it.
-    fn take_part(&mut self, count: u32, byte: u8) -> Result<(), CheckFault> {
+    fn take_part(&mut self, count: u32, byte: u8) {
         for _ in 0..count {
-            self.word.extend_from_slice(self.part.as_slice())?;
+            let taken = self.word.extend_from_slice(self.part.as_slice());
+            self.check(taken.is_ok());
         }
         self.part.clear();
-        self.bare(byte)
+        self.bare(byte);
     }
 
-    fn bare(&mut self, byte: u8) -> Result<(), CheckFault> {
+    fn bare(&mut self, byte: u8) {
         match byte {
             b' ' => self.end_word(),
             b'"' => {
                 self.is_quoted = true;
                 self.within = Within::Quoted;
-                Ok(())
             }
             _ => {
-                self.word.push(byte)?;
+                let pushed = self.word.push(byte);
+                self.check(pushed.is_ok());
                 self.within = Within::Bare;
-                Ok(())
             }
         }
     }
 
     // Ends the word, if one is there.
-    fn end_word(&mut self) -> Result<(), CheckFault> {
+    fn end_word(&mut self) {
         self.within = Within::Between;
         if self.is_quoted {
             self.is_quoted = false;
-            return self.keep_word();
+            self.keep_word();
+        } else if self.word.as_slice() == b"=".as_slice() && !self.is_wanted {
+            self.is_wanted = true;
+            self.word.clear();
+        } else if !self.word.is_empty() {
+            self.keep_word();
         }
-        if self.word.is_empty() {
-            return Ok(());
-        }
-        if self.word.as_slice() != b"=".as_slice() || self.call.is_some() {
-            return self.keep_word();
-        }
-        self.word.clear();
-        let words = Vec::with_capacity(self.alloc, 8)?;
-        self.call = Some(mem::replace(&mut self.words, words));
-        Ok(())
     }
 
-    fn keep_word(&mut self) -> Result<(), CheckFault> {
-        let word = Vec::from_slice(self.alloc, self.word.as_slice())?;
-        self.word.clear();
-        self.words.push(word)?;
-        Ok(())
+    fn keep_word(&mut self) {
+        let word = mem::replace(&mut self.word, Vec::new(self.alloc));
+        let kept = if self.is_wanted {
+            self.line.wanted.push(word)
+        } else {
+            self.line.call.push(word)
+        };
+        self.check(kept.is_ok());
     }
 
-    fn quoted(&mut self, byte: u8) -> Result<(), CheckFault> {
+    fn quoted(&mut self, byte: u8) {
         match byte {
             b'"' => self.within = Within::Closed,
             b'\\' => self.within = Within::Escape,
-            _ => self.part.push(byte)?,
+            _ => self.add(byte),
         }
-        Ok(())
     }
 
-    fn escape(&mut self, byte: u8) -> Result<(), CheckFault> {
-        let meant = match byte {
-            b'n' => b'\n',
-            b't' => b'\t',
-            b'e' => 27,
-            b'"' | b'\\' => byte,
-            b'x' => {
-                self.within = Within::Digits(None);
-                return Ok(());
-            }
-            _ => return Err(CheckFault::Line("no such escape")),
-        };
-        self.part.push(meant)?;
+    fn escape(&mut self, byte: u8) {
+        match byte {
+            b'n' => self.add(b'\n'),
+            b't' => self.add(b'\t'),
+            b'e' => self.add(27),
+            b'"' | b'\\' => self.add(byte),
+            b'x' => self.within = Within::FirstDigit,
+            _ => self.fail(CheckFault::Line("no such escape")),
+        }
+    }
+
+    // Adds a byte to the quoted part.
+    fn add(&mut self, byte: u8) {
+        let pushed = self.part.push(byte);
+        self.check(pushed.is_ok());
         self.within = Within::Quoted;
-        Ok(())
     }
 
-    fn digit(&mut self, first: Option<u8>, byte: u8) -> Result<(), CheckFault> {
-        let Some(digit) = digit_of(byte) else {
-            return Err(CheckFault::Line("no hexadecimal digit"));
-        };
-        match first {
-            None => self.within = Within::Digits(Some(digit)),
-            Some(first) => {
-                self.part
-                    .push(first.saturating_mul(16).saturating_add(digit))?;
-                self.within = Within::Quoted;
-            }
+    fn first_digit(&mut self, byte: u8) {
+        match digit_of(byte) {
+            Some(first) => self.within = Within::SecondDigit(first),
+            None => self.fail(CheckFault::Line("no hexadecimal digit")),
         }
-        Ok(())
     }
 
-    fn line(self) -> Result<Line, CheckFault> {
-        let Reader {
-            alloc: _,
-            within,
-            word: _,
-            part: _,
-            is_quoted: _,
-            words,
-            call,
-        } = self;
-        let Within::Between = within else {
-            return Err(CheckFault::Line("a quote is open"));
-        };
-        let Some(call) = call else {
-            return Err(CheckFault::Line("no answer is wanted"));
-        };
-        Ok(Line {
-            call,
-            wanted: words,
-        })
+    fn second_digit(&mut self, first: u8, byte: u8) {
+        match digit_of(byte) {
+            Some(second) => self.add(first.saturating_mul(16).saturating_add(second)),
+            None => self.fail(CheckFault::Line("no hexadecimal digit")),
+        }
+    }
+
+    // Memory ran out, unless all is written.
+    fn check(&mut self, is_written: bool) {
+        if !is_written {
+            self.fail(CheckFault::NoMemory);
+        }
+    }
+
+    fn fail(&mut self, fault: CheckFault) {
+        self.trouble = self.trouble.or(Some(fault));
+    }
+
+    // Refuses a line that there was trouble with, or that has no end or no answer.
+    fn done(&self) -> Result<(), CheckFault> {
+        if let Some(fault) = self.trouble {
+            return Err(fault);
+        }
+        match self.within {
+            Within::Between if self.is_wanted => Ok(()),
+            Within::Between => Err(CheckFault::Line("no answer is wanted")),
+            _ => Err(CheckFault::Line("a quote is open")),
+        }
     }
 }
 
