@@ -4,8 +4,9 @@ use crate::again;
 use crate::answer::Answer;
 use crate::current::Current;
 use crate::dump::say_entry;
+use crate::fault::CheckFault;
 use crate::words::Words;
-use std::alloc::{AllocError, Global};
+use std::alloc::Global;
 use ti_caps::{Entry, Slot};
 use ti_source::{Cause, Note, Resolver, Source, SourceFault};
 
@@ -106,7 +107,8 @@ fn say_next(alloc: Global, resolver: &mut Resolver<'_>, name: &[u8], answer: &mu
 
 /// `string TEXT`.
 pub fn mean_string(alloc: Global, words: &mut Words<'_>, answer: &mut Answer) {
-    match entry_of(alloc, [b"t,\n\tcr=", words.text(1), b""]) {
+    let text = words.text(1);
+    match entry_of(alloc, [b"t,\n\tcr=", text, b""], words) {
         Ok(entry) => answer.say(entry.text(Slot(2)).unwrap_or(b"none")),
         Err(fault) => answer.refused(&fault),
     }
@@ -114,7 +116,8 @@ pub fn mean_string(alloc: Global, words: &mut Words<'_>, answer: &mut Answer) {
 
 /// `decimal TEXT`.
 pub fn mean_number(alloc: Global, words: &mut Words<'_>, answer: &mut Answer) {
-    match entry_of(alloc, [b"t,\n\tcols#", words.text(1), b","]) {
+    let text = words.text(1);
+    match entry_of(alloc, [b"t,\n\tcols#", text, b","], words) {
         Ok(entry) => match entry.number(Slot(0)) {
             Some(number) => answer.say_number(usize::from(number)),
             None => answer.say(b"none"),
@@ -132,15 +135,13 @@ fn say_resolved(resolved: &Result<Entry, SourceFault>, answer: &mut Answer) {
 }
 
 // The entry `t` of a source of three parts.
-fn entry_of(alloc: Global, parts: [&[u8]; 3]) -> Result<Entry, SourceFault> {
+fn entry_of(alloc: Global, parts: [&[u8]; 3], words: &mut Words<'_>) -> Result<Entry, SourceFault> {
     let mut source = Vec::new(alloc);
-    match join(parts, &mut source) {
-        Ok(()) => entry_in(alloc, &source),
-        Err(AllocError) => Err(SourceFault::NoMemory),
-    }
+    words.check(join(parts, &mut source));
+    entry_in(alloc, &source)
 }
 
-fn join(parts: [&[u8]; 3], source: &mut Vec<u8>) -> Result<(), AllocError> {
+fn join(parts: [&[u8]; 3], source: &mut Vec<u8>) -> Result<(), CheckFault> {
     for part in parts {
         source.extend_from_slice(part)?;
     }
