@@ -8,7 +8,7 @@ use check_scripts::answers::{
 use check_scripts::buffers::Buffer;
 use check_scripts::troubles::Trouble;
 use check_scripts::words::Words;
-use scr_cells::{Picture, Size};
+use scr_cells::{Attrs, Picture, Size};
 use scr_term::{EcmaScreen, Spot};
 use scr_virtual::Virtual;
 use scr_windows::{Desk, Win, WinFault};
@@ -93,9 +93,10 @@ fn add_first_sent(opened: &Recorded, words: &mut Words<'_>, came: &mut Buffer) {
     add_text(sent.get(..count).unwrap_or(sent), came);
 }
 
-/// The line `changed R C ROWS COLUMNS ROW COLUMN`: a virtual screen of R rows and C columns onto which the first window is taken,
-/// and which is settled then, as by an update that ends well; then a new window is taken, of so many rows and columns at a row
-/// and a column. Adds for each row of the screen the first and the last column that may have changed since, or `none`.
+/// The line `changed R C ROWS COLUMNS ROW COLUMN BYTE`: a virtual screen of R rows and C columns onto which the first window is
+/// taken, and which is settled then, as by an update that ends well; then a new window is taken, of so many rows and columns at a
+/// row and a column, whose first place has this byte. Adds for each row of the screen the first and the last column that may have
+/// changed since, and the first and the last that may look otherwise, or `none`.
 pub fn check_changed(
     alloc: Global,
     words: &mut Words<'_>,
@@ -107,8 +108,9 @@ pub fn check_changed(
     let (rows, columns) = (words.number(), words.number());
     let (row, column) = (words.number(), words.number());
     let area = [rows, columns, row, column];
+    let byte = words.byte();
     match Desk::new(alloc, size) {
-        Ok(mut desk) => add_changed_on(alloc, &mut desk, size, area, came),
+        Ok(mut desk) => add_changed_on(alloc, &mut desk, size, area, byte, came),
         Err(_) => add_no_memory(came),
     }
 }
@@ -124,33 +126,43 @@ fn add_changed_on(
     desk: &mut Desk,
     size: Size,
     area: [u32; 4],
+    byte: u8,
     came: &mut Buffer,
 ) -> Result<(), Trouble> {
     match Virtual::new(alloc, size) {
-        Ok(mut screen) => add_changed_by(alloc, desk, &mut screen, area, came),
+        Ok(mut screen) => add_changed_by(alloc, desk, &mut screen, area, byte, came),
         Err(_) => add_no_memory(came),
     }
 }
 
-// Takes the first window, settles, takes a new window of so many rows and columns at a row and a column, and adds what may have
-// changed since.
+// Takes the first window, settles, takes a new window of so many rows and columns at a row and a column with a byte in its first
+// place, and adds what may have changed since.
 fn add_changed_by(
     alloc: Global,
     desk: &mut Desk,
     screen: &mut Virtual,
     [rows, columns, row, column]: [u32; 4],
+    byte: u8,
     came: &mut Buffer,
 ) -> Result<(), Trouble> {
     take(screen, desk, Win(0))?;
     screen.settle();
     match desk.new_window(alloc, rows, columns, row, column) {
         Ok(win) => {
+            add_byte(desk, win, byte)?;
             take(screen, desk, win)?;
             add_changed(screen, came);
             Ok(())
         }
         Err(WinFault::NoMemory) => add_no_memory(came),
         Err(_) => Err(Trouble::Bad("no such window")),
+    }
+}
+
+fn add_byte(desk: &mut Desk, win: Win, byte: u8) -> Result<(), Trouble> {
+    match desk.add_byte(win, byte, Attrs(0)) {
+        Ok(_) => Ok(()),
+        Err(_) => Err(Trouble::Bad("no byte for a window")),
     }
 }
 
@@ -167,9 +179,14 @@ fn take(screen: &mut Virtual, desk: &mut Desk, win: Win) -> Result<(), Trouble> 
 
 fn add_changed(screen: &Virtual, came: &mut Buffer) {
     for row in 0..screen.size().rows {
-        match screen.changed(row) {
-            Some((first, last)) => add_place(first, last, came),
-            None => add_word("none", came),
-        }
+        add_range(screen.changed(row), came);
+        add_range(screen.altered(row), came);
+    }
+}
+
+fn add_range(range: Option<(u32, u32)>, came: &mut Buffer) {
+    match range {
+        Some((first, last)) => add_place(first, last, came),
+        None => add_word("none", came),
     }
 }

@@ -1,14 +1,13 @@
 -- Steps on what is remembered, and what is true of it after them.
-use Rattle.std.proofs.Common.{◌≡◌, ℕ, ◌+◌, Bool, true, false, sym, ◌∙◌, ap, refl, arith, List, ◌∷◌, length, Option, Some, None, replicate, ◌<◌, ◌&&◌, leb, ltb}
+use Rattle.std.proofs.Common.{◌≡◌, ℕ, ◌+◌, Bool, true, false, sym, ◌∙◌, ap, refl, arith, List, length, Option, Some, None, replicate, ◌<◌, ◌&&◌, leb, ltb}
 use Rattle.std.specs.List.{list_all}
 use Rattle.std.specs.Option.{is_some}
 use Rattle.std.proofs.lemmas.List.{length-replicate}
 use Rattle.scr_term.specs.declared.operations.operation.Op.{Op}
 use Rattle.scr_term.specs.Operations.Abilities.{Abilities}
-use Rattle.scr_term.specs.Operations.Profiles.{ProfileView, abilities}
+use Rattle.scr_term.specs.Operations.Profiles.{abilities}
 use Rattle.scr_term.specs.Operations.States.{TerminalState}
-use Rattle.scr_term.specs.Operations.Steps.{step}
-use Rattle.scr_plan.specs.Memories.{MemoryView, all_followed, disturbed, followed, stepped}
+use Rattle.scr_plan.specs.Memories.{MemoryView, disturbed, stepped}
 use Rattle.scr_plan.specs.Code.Remembering.{IsKept, gone_to, without_run}
 use Rattle.scr_plan.proofs.RememberedRowLaws.{all_are, all_true, without_alike}
 

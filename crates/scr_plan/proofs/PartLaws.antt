@@ -8,7 +8,8 @@ use Rattle.std.proofs.lemmas.List.Concat.{flat_map-append}
 use Rattle.std.proofs.lemmas.List.Elements.{filter-append}
 use Rattle.scr_cells.specs.LookViews.{LookView}
 use Rattle.scr_cells.specs.PenViews.{PenView, pen_eq}
-use Rattle.scr_virtual.specs.VirtualViews.{VirtualView, in_range, range_at}
+use Rattle.scr_virtual.specs.Ranges.{in_range}
+use Rattle.scr_virtual.specs.VirtualViews.{VirtualView, altered_at}
 use Rattle.scr_term.specs.declared.operations.operation.Op.{Op}
 use Rattle.scr_term.specs.Operations.Profiles.{ProfileView}
 use Rattle.scr_plan.specs.Code.Painters.{part_places}
@@ -136,7 +137,7 @@ each_known (known ∷ rows) (suc r) e h = each_known rows r (both known (list_al
 
 -- a place that has not changed since all was shown
 same_place : (profile : ProfileView) (memory : MemoryView) (virtual : VirtualView) → IsUpToDate profile memory virtual → IsSizeOf virtual.picture memory → is_known memory ≡ true
-    → (r c : ℕ) → r < virtual.picture.rows → c < virtual.picture.columns → in_range (range_at virtual r) c ≡ false → differs profile virtual.picture memory (r, c) ≡ false
+    → (r c : ℕ) → r < virtual.picture.rows → c < virtual.picture.columns → in_range (altered_at virtual r) c ≡ false → differs profile virtual.picture memory (r, c) ≡ false
 same_place profile memory virtual same size known r c high wide out =
     let rows = (both (list_all (λ k. k) memory.known_rows) memory.known_spot (both (list_all (λ k. k) memory.known_rows && memory.known_spot) memory.known_pen known).0).0 in
     let row = each_known memory.known_rows r rows (omega (arith, high, size.known_rows)) in
@@ -146,7 +147,7 @@ same_place profile memory virtual same size known r c high wide out =
 
 -- a row that has not changed, and one that has changed in some columns
 pub row_same : (profile : ProfileView) (memory : MemoryView) (virtual : VirtualView) → IsUpToDate profile memory virtual → IsSizeOf virtual.picture memory → is_known memory ≡ true
-    → (r : ℕ) → r < virtual.picture.rows → range_at virtual r ≡ None → filter (differs profile virtual.picture memory) (row_places virtual.picture.columns r) ≡ []
+    → (r : ℕ) → r < virtual.picture.rows → altered_at virtual r ≡ None → filter (differs profile virtual.picture memory) (row_places virtual.picture.columns r) ≡ []
 row_same profile memory virtual same size known r high none =
     none_in_part (differs profile virtual.picture memory) 0 virtual.picture.columns r (λ c low wide. same_place profile memory virtual same size known r c high (omega (arith, wide)) (ap (λ range. in_range range c) none))
 
@@ -161,7 +162,7 @@ outside_above from last c above = let e : leb c last ≡ false = grind (arith, n
     and_false false = refl
 
 pub row_changed : (profile : ProfileView) (memory : MemoryView) (virtual : VirtualView) → IsUpToDate profile memory virtual → IsSizeOf virtual.picture memory → is_known memory ≡ true
-    → (r from last : ℕ) → r < virtual.picture.rows → from ≤ last → last < virtual.picture.columns → range_at virtual r ≡ Some (from, last)
+    → (r from last : ℕ) → r < virtual.picture.rows → from ≤ last → last < virtual.picture.columns → altered_at virtual r ≡ Some (from, last)
     → filter (differs profile virtual.picture memory) (row_places virtual.picture.columns r) ≡ filter (differs profile virtual.picture memory) (part_places from (last + 1 - from) r)
 row_changed profile memory virtual same size known r from last high order wide range =
     let columns : virtual.picture.columns ≡ from + (last + 1 - from) + (virtual.picture.columns - (last + 1)) = omega (arith, order, wide) in
@@ -173,7 +174,7 @@ row_changed profile memory virtual same size known r from last high order wide r
 
 -- right before the columns that have changed nothing differs
 pub before_changed : (profile : ProfileView) (memory : MemoryView) (virtual : VirtualView) → IsUpToDate profile memory virtual → IsSizeOf virtual.picture memory → is_known memory ≡ true
-    → (r from last c : ℕ) → r < virtual.picture.rows → from ≤ last → last < virtual.picture.columns → range_at virtual r ≡ Some (from, last) → c < from
+    → (r from last c : ℕ) → r < virtual.picture.rows → from ≤ last → last < virtual.picture.columns → altered_at virtual r ≡ Some (from, last) → c < from
     → differs profile virtual.picture memory (r, c) ≡ false
 before_changed profile memory virtual same size known r from last c high order wide range below =
     same_place profile memory virtual same size known r c high (omega (arith, below, order, wide)) (ap (λ range. in_range range c) range ∙ outside_below from last c below)

@@ -4,7 +4,7 @@ use Rattle.std.specs.List.{flat_map}
 use Rattle.std.proofs.lemmas.Bool.Decides.{nat_tests}
 use Rattle.std.proofs.lemmas.List.{append-nil, length-append}
 use Rattle.scr_cells.specs.PictureViews.{PictureView}
-use Rattle.scr_virtual.specs.VirtualViews.{VirtualView, range_at}
+use Rattle.scr_virtual.specs.VirtualViews.{VirtualView, altered_at}
 use Rattle.scr_term.specs.declared.operations.operation.Op.{Op}
 use Rattle.scr_term.specs.declared.operations.operation.Op.TheVariants.{Put}
 use Rattle.scr_term.specs.Operations.Profiles.{ProfileView}
@@ -67,7 +67,7 @@ ok_map (Err e) P Q f h = h
 
 -- those before the first that has
 pub begins : (profile : ProfileView) (memory : MemoryView) (virtual : VirtualView) → IsUpToDate profile memory virtual → IsSizeOf virtual.picture memory → is_known memory ≡ true
-    → (first : ℕ) → first ≤ virtual.picture.rows → ((r : ℕ) → r < first → range_at virtual r ≡ None) → filter (differs profile virtual.picture memory) (places first virtual.picture.columns) ≡ []
+    → (first : ℕ) → first ≤ virtual.picture.rows → ((r : ℕ) → r < first → altered_at virtual r ≡ None) → filter (differs profile virtual.picture memory) (places first virtual.picture.columns) ≡ []
 begins profile memory virtual same size known first high none =
     ap (λ n. filter (differs profile virtual.picture memory) (places n virtual.picture.columns)) (sym (from_zero first))
     ∙ rows_same (differs profile virtual.picture memory) 0 first virtual.picture.columns
@@ -78,7 +78,7 @@ begins profile memory virtual same size known first high none =
 
 -- those from the end on
 pub rest : (profile : ProfileView) (memory : MemoryView) (virtual : VirtualView) → IsUpToDate profile memory virtual → IsSizeOf virtual.picture memory → is_known memory ≡ true
-    → (end : ℕ) → end ≤ virtual.picture.rows → ((r : ℕ) → end ≤ r → range_at virtual r ≡ None)
+    → (end : ℕ) → end ≤ virtual.picture.rows → ((r : ℕ) → end ≤ r → altered_at virtual r ≡ None)
     → filter (differs profile virtual.picture memory) (places end virtual.picture.columns) ≡ differing profile virtual.picture memory
 rest profile memory virtual same size known end high none =
     let whole : end + (virtual.picture.rows - end) ≡ virtual.picture.rows = omega (arith, high) in

@@ -1,4 +1,4 @@
--- A known row shows the picture, but for the columns that may have changed.
+-- A known row shows the picture, but for the columns that may look otherwise.
 use Rattle.std.proofs.Common.{◌≡◌, ℕ, ◌+◌, ◌<◌, ◌≤◌, ◌&&◌, leb, ltb, Bool, true, false, refl, sym, ◌∙◌, ap, subst, arith, List, get_or, length, map, replicate, zero, suc, if◌then◌else◌}
 use Rattle.std.specs.List.{range_with_len}
 use Rattle.std.proofs.lemmas.List.FromFn.{get_or-map-range_with_len, length-map-range_with_len}
@@ -9,7 +9,8 @@ use Rattle.scr_cells.specs.Grids.{grid_at, grid_row}
 use Rattle.scr_cells.specs.LookViews.{blank}
 use Rattle.scr_cells.specs.PictureViews.{PictureView, IsPicture}
 use Rattle.scr_virtual.specs.Laws.{HoldsChanges}
-use Rattle.scr_virtual.specs.VirtualViews.{VirtualView, in_range, range_at}
+use Rattle.scr_virtual.specs.Ranges.{in_range}
+use Rattle.scr_virtual.specs.VirtualViews.{VirtualView, altered_at}
 use Rattle.scr_term.specs.Operations.Abilities.{Abilities}
 use Rattle.scr_term.specs.Operations.Painted.{painted, seen_on}
 use Rattle.scr_term.specs.Operations.Profiles.{abilities}
@@ -43,11 +44,11 @@ was_known first n r rows known inside =
 
 -- ---- ranges
 
-was_outside : (old new : VirtualView) → HoldsChanges old new → (r c : ℕ) → in_range (range_at new r) c ≡ false → in_range (range_at old r) c ≡ false
-was_outside old new changes r c out = by (in_range (range_at old r) c) refl
+was_outside : (old new : VirtualView) → HoldsChanges old new → (r c : ℕ) → in_range (altered_at new r) c ≡ false → in_range (altered_at old r) c ≡ false
+was_outside old new changes r c out = by (in_range (altered_at old r) c) refl
   where
-    by : (b : Bool) → in_range (range_at old r) c ≡ b → in_range (range_at old r) c ≡ false
-    by true e = never (in_range (range_at new r) c) out (changes.grows r c e)
+    by : (b : Bool) → in_range (altered_at old r) c ≡ b → in_range (altered_at old r) c ≡ false
+    by true e = never (in_range (altered_at new r) c) out (changes.altered.grows r c e)
     by false e = e
 
 -- ---- after an update
@@ -68,7 +69,7 @@ up_to_date runs = record {
   holds = λ profile memory old new changes rows columns same r c high wide known out.
       let low : r < old.picture.rows = omega (arith, high, rows) in
       let left : c < old.picture.columns = omega (arith, wide, columns) in
-      same r c low left known (was_outside old new changes r c out) ∙ sym (changes.holds (abilities profile).shown (abilities profile).colours r c low left out);
+      same r c low left known (was_outside old new changes r c out) ∙ sym (changes.altered.holds (abilities profile).shown (abilities profile).colours r c low left out);
   follows = λ profile memory virtual ops agrees k plan r c high wide known out.
       let shown = plan.shows memory.state agrees in
       ap (λ state. grid_at blank state.grid r c) (runs.state profile memory shown.new ops shown.run)

@@ -29,7 +29,7 @@ PlansAreMade =
     (profile : ProfileView) → IsProfile profile → (virtual : VirtualView) → IsPicture virtual.picture → Fits profile virtual.picture
     → (memory : MemoryView) → MayBe (abilities profile) memory → IsPlan profile memory virtual (plan_of profile memory virtual)
 
--- What keeps a known row as the picture is, but for the columns that may have changed: all that happens to the virtual screen and to
+-- What keeps a known row as the picture is, but for the columns that may look otherwise: all that happens to the virtual screen and to
 -- what is remembered between updates, and an update that ends well, which makes it so in every column.
 pub record UpToDateLaws : Type 0 where
   pub at_first : (profile : ProfileView) (rows columns : ℕ) (virtual : VirtualView) → IsUpToDate profile (unknown rows columns) virtual

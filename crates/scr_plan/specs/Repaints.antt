@@ -5,7 +5,8 @@ use Rattle.scr_cells.specs.Grids.{grid_at}
 use Rattle.scr_cells.specs.LookViews.{LookView, blank}
 use Rattle.scr_cells.specs.PenViews.{is_plain_pen, pen_eq}
 use Rattle.scr_cells.specs.PictureViews.{PictureView, IsPicture}
-use Rattle.scr_virtual.specs.VirtualViews.{VirtualView, in_range, range_at}
+use Rattle.scr_virtual.specs.Ranges.{in_range}
+use Rattle.scr_virtual.specs.VirtualViews.{VirtualView, altered_at}
 use Rattle.scr_term.specs.declared.operations.operation.Op.{Op}
 use Rattle.scr_term.specs.declared.operations.operation.Op.TheVariants.{Clear, EraseLine, Move, Put, Reset}
 use Rattle.scr_term.specs.declared.operations.operation.Spot.{Spot}
@@ -39,10 +40,10 @@ pub record IsSizeOf (picture : PictureView) (memory : MemoryView) : Type 0 where
   pub columns : memory.columns ≡ picture.columns
   pub known_rows : length memory.known_rows ≡ picture.rows
 
--- every row that is known shows the picture, but for the columns that may have changed
+-- every row that is known shows the picture, but for the columns that may look otherwise
 abbrev pub IsUpToDate : ProfileView → MemoryView → VirtualView → Type 0
 IsUpToDate profile memory virtual =
-    (r c : ℕ) → r < virtual.picture.rows → c < virtual.picture.columns → is_known_row memory r ≡ true → in_range (range_at virtual r) c ≡ false
+    (r c : ℕ) → r < virtual.picture.rows → c < virtual.picture.columns → is_known_row memory r ≡ true → in_range (altered_at virtual r) c ≡ false
     → look_in memory (r, c) ≡ look_at profile virtual.picture (r, c)
 
 -- a cursor is in a place

@@ -70,7 +70,7 @@ pub fn plans_are_made()
     scratch_is_bounded();
 }
 
-/// A known row shows the picture, but for the columns that may have changed: this stays true from call to call, and an update that
+/// A known row shows the picture, but for the columns that may look otherwise: this stays true from call to call, and an update that
 /// ends well makes it true of every column.
 pub fn up_to_date_laws()
     ensures { UpToDateLaws }

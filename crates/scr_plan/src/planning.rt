@@ -16,10 +16,10 @@ use std::alloc::Global;
 /// What an update sends: the operations that paint each place that differs from what is remembered of the terminal, in rows, where
 /// one behind a neighbour that is painted with the same attributes and colours is its character alone; none where no place differs
 /// and the cursor is known to be where it is wished. Where not all is known, or the whole screen is to be painted anew, the screen
-/// is cleared, and what differs from blanks is painted so (curs_refresh(3X), doupdate()). Only the columns that may have changed
-/// are looked at.
+/// is cleared, and what differs from blanks is painted so (curs_refresh(3X), doupdate()). Only the columns that may look otherwise than
+/// at the last update that ended well are looked at.
 ///
-/// Picture and memory have the profile's size, and a known row shows the picture in the columns that have not changed. Fails
+/// Picture and memory have the profile's size, and a known row shows the picture in all other columns. Fails
 /// only when memory runs out.
 pub fn plan(
     alloc: Global,
@@ -66,18 +66,18 @@ fn anew(alloc: Global, profile: &Profile, picture: &Picture) -> Result<Ops, NoMe
     Ok(Ops(ops))
 }
 
-// Whether it is plain that the screen is shown: no row has changed, and the cursor is as wished.
+// Whether it is plain that the screen is shown: no row may look otherwise, and the cursor is as wished.
 fn is_shown(profile: &Profile, memory: &Memory, wanted: &Virtual) -> bool
     requires size { IsSizeOf wanted.now.picture memory.now }
     requires same { IsUpToDate profile.now memory.now wanted.now }
     requires known { is_known memory.now ≡ true }
     ensures { result ≡ true → brief_of profile.now memory.now wanted.now.picture ≡ [] }
 {
-    let (first, end) = wanted.changed_rows();
+    let (first, end) = wanted.altered_rows();
     first == end && memory.is_placed(wanted.picture().wish())
 }
 
-// Each place that differs, found by the columns that may have changed.
+// Each place that differs, found by the columns that may look otherwise.
 fn changes(
     alloc: Global,
     profile: &Profile,
@@ -93,7 +93,7 @@ fn changes(
     let mut ops = Vec::with_capacity(alloc, room_of(wanted.size()))?;
     painter.reset(&mut ops)?;
     let begun = ops.len();
-    let (first, end) = wanted.changed_rows();
+    let (first, end) = wanted.altered_rows();
     for row in first..end {
         painter.paint_changes(profile, memory, wanted, row, &mut ops)?;
     }
@@ -108,7 +108,7 @@ fn room_of(size: Size) -> usize {
 
 impl Painter {
     // Adds the operations for the places of a row that differ from what is remembered, all of which are among its columns that
-    // may have changed.
+    // may look otherwise.
     fn paint_changes(
         self,
         profile: &Profile,
@@ -126,7 +126,7 @@ impl Painter {
             ≡ ops.old.items ++ flat_map (brief_place profile.now wanted.now.picture memory.now) (filter (differs profile.now wanted.now.picture memory.now) (row_places wanted.now.picture.columns row))) }
     {
         let _size = wanted.size();
-        match wanted.changed(row) {
+        match wanted.altered(row) {
             Some((from, last)) => {
                 let looks = Some(memory.looks(row));
                 self.paint_runs(wanted.picture(), row, looks, from, last + 1, ops)

@@ -1,15 +1,16 @@
 -- Lines of a part of a window, copied one after another.
-use Rattle.std.proofs.Common.{◌≡◌, ◌≢◌, inl, inr, ℕ, Bool, true, false, ◌+◌, ◌-◌, ◌<◌, ◌≤◌, ◌==◌, ◌&&◌, sym, ◌∙◌, ap, refl, arith, zero, suc, List, length, map, set, get_or, cond, ltb, leb, None}
+use Rattle.std.proofs.Common.{◌≡◌, ◌≢◌, inl, inr, ℕ, Bool, true, false, ◌+◌, ◌-◌, ◌<◌, ◌≤◌, ◌==◌, ◌&&◌, sym, ◌∙◌, ap, refl, arith, zero, suc, List, length, map, set, get_or, cond, ltb, leb, None, Some}
 use Rattle.std.specs.List.{range_with_len}
-use Rattle.std.proofs.lemmas.List.{get_or_default}
 use Rattle.std.proofs.lemmas.Bool.Decides.{nat_tests}
 use Rattle.scr_cells.specs.CellViews.{CellView, blank_cell}
 use Rattle.scr_cells.specs.Grids.{GridLaws, IsGrid, grid_at, grid_of, grid_with_run}
 use Rattle.scr_virtual.specs.declared.parts.Part.{Part}
-use Rattle.scr_virtual.specs.Code.Lines.{line_copied}
-use Rattle.scr_virtual.specs.Taking.{is_copied, part_copied}
-use Rattle.scr_virtual.specs.VirtualViews.{VirtualView, ranges_with, widened}
-use Rattle.scr_virtual.proofs.RangeLaws.{Range, range_of, range_put, ranges_are, same_or_not}
+use Rattle.scr_virtual.specs.Code.Lines.{copied_cell, line_copied}
+use Rattle.scr_virtual.specs.Ranges.{joined, joined_by, ranges_with}
+use Rattle.scr_virtual.specs.Taking.{columns_unlike, is_copied, part_cell, part_copied}
+use Rattle.scr_virtual.specs.VirtualViews.{VirtualView}
+use Rattle.scr_virtual.proofs.RangeLaws.{Range, made_alike, none_put, range_of, range_put, same_or_not}
+use Rattle.scr_virtual.proofs.UnlikeLaws.{unlike_alike}
 
 map_range : {X : Type 0} (f g : ℕ → X) (a n : ℕ) → ((k : ℕ) → a ≤ k → k < a + n → f k ≡ g k) → map f (range_with_len a n) ≡ map g (range_with_len a n)
 map_range f g a zero h = refl
@@ -75,31 +76,59 @@ grid_more laws part lines cells was rows columns k run taken row_in wide fits sa
       | inr n ↦ other_row part.top part.left part.columns k r c (length run) (lines (part.row + (r - part.top))) _ _ (was r c) n
     ])
 
-ranges_more : (part : Part) (lines : ℕ → Bool) (f g : Range → Range) (changed : List Range) (k : ℕ) → lines (part.row + k) ≡ true → part.top + k < length changed → ((range : Range) → g range ≡ f range)
-    → set (ranges_with (is_copied (rows_of_part part k) lines) f changed) (part.top + k) (g (get_or (ranges_with (is_copied (rows_of_part part k) lines) f changed) (part.top + k) None))
-    ≡ ranges_with (is_copied (rows_of_part part (k + 1)) lines) f changed
-ranges_more part lines f g changed k taken row_in alike =
-    let there : ℕ = part.top + k in
-    let before : List Range = ranges_with (is_copied (rows_of_part part k) lines) f changed in
-    let was : get_or before there None ≡ get_or changed there None =
-    range_of (is_copied (rows_of_part part k) lines) f changed there None row_in
-    ∙ ap (λ b. cond b (f (get_or changed there None)) (get_or changed there None)) (row_not_yet part.top k there (lines (part.row + (there - part.top))) refl) in
-    range_put (is_copied (rows_of_part part k) lines) (is_copied (rows_of_part part (k + 1)) lines) f changed there (g (get_or before there None)) row_in
-    (alike (get_or before there None) ∙ ap f was)
-    (row_more part.top k there (lines (part.row + (there - part.top))) refl (line_at part lines k there refl ∙ taken))
+-- the range of one more row is what a function makes of it
+ranges_more : (part : Part) (lines : ℕ → Bool) (f : ℕ → Range → Range) (ranges : List Range) (k : ℕ) (value : Range) → lines (part.row + k) ≡ true → part.top + k < length ranges → value ≡ f (part.top + k) (get_or ranges (part.top + k) None)
+    → set (ranges_with (is_copied (rows_of_part part k) lines) f ranges) (part.top + k) value ≡ ranges_with (is_copied (rows_of_part part (k + 1)) lines) f ranges
+ranges_more part lines f ranges k value taken row_in is =
+    range_put (is_copied (rows_of_part part k) lines) (is_copied (rows_of_part part (k + 1)) lines) f ranges (part.top + k) value row_in is
+    (row_more part.top k (part.top + k) (lines (part.row + (part.top + k - part.top))) refl (line_at part lines k (part.top + k) refl ∙ taken))
     (λ r n. row_other part.top k r (lines (part.row + (r - part.top))) n)
+
+-- that row's range was not changed before
+range_before : (part : Part) (lines : ℕ → Bool) (f : ℕ → Range → Range) (ranges : List Range) (k : ℕ) → part.top + k < length ranges → get_or (ranges_with (is_copied (rows_of_part part k) lines) f ranges) (part.top + k) None ≡ get_or ranges (part.top + k) None
+range_before part lines f ranges k row_in =
+    let there : ℕ = part.top + k in
+    range_of (is_copied (rows_of_part part k) lines) f ranges there None row_in
+    ∙ ap (λ b. cond b (f there (get_or ranges there None)) (get_or ranges there None)) (row_not_yet part.top k there (lines (part.row + (there - part.top))) refl)
+
+-- nor were its cells
+cells_before : GridLaws CellView → (part : Part) (lines : ℕ → Bool) (cells : ℕ → ℕ → CellView) (old : VirtualView) (k c : ℕ) → part.top + k < old.picture.rows → c < old.picture.columns
+    → grid_at blank_cell (grid_of old.picture.rows old.picture.columns (screen_at part lines cells (grid_at blank_cell old.picture.lines) k)) (part.top + k) c ≡ grid_at blank_cell old.picture.lines (part.top + k) c
+cells_before laws part lines cells old k c row_in wide =
+    let there : ℕ = part.top + k in
+    laws.formula blank_cell old.picture.rows old.picture.columns (screen_at part lines cells (grid_at blank_cell old.picture.lines) k) there c row_in wide
+    ∙ ap (λ b. cond (b && leb part.left c && ltb c (part.left + part.columns)) (part_cell part cells there c) (grid_at blank_cell old.picture.lines there c)) (row_not_yet part.top k there (lines (part.row + (there - part.top))) refl)
 
 -- as far as the lines are copied, one more is
 pub line_more : GridLaws CellView → (part : Part) (lines : ℕ → Bool) (cells : ℕ → ℕ → CellView) (old : VirtualView) (k : ℕ) (run : List CellView) → lines (part.row + k) ≡ true
-    → part.top + k < old.picture.rows → length old.changed ≡ old.picture.rows → length run ≡ part.columns → 1 ≤ part.columns → part.left + part.columns ≤ old.picture.columns
+    → part.top + k < old.picture.rows → length old.changed ≡ old.picture.rows → length old.altered ≡ old.picture.rows → length run ≡ part.columns → 1 ≤ part.columns → part.left + part.columns ≤ old.picture.columns
     → ((j : ℕ) → j < part.columns → get_or run j blank_cell ≡ cells (part.row + k) (part.column + j))
     → line_copied (part.top + k) part.left run (part_copied (rows_of_part part k) lines cells old) ≡ part_copied (rows_of_part part (k + 1)) lines cells old
 unfolding line_copied part_copied
-line_more laws part lines cells old k run taken row_in high wide some fits same =
+line_more laws part lines cells old k run taken row_in high altered_high wide some fits same =
+    let row : ℕ = part.top + k in
+    let was : ℕ → CellView = grid_at blank_cell old.picture.lines row in
+    let before : ℕ → CellView = grid_at blank_cell (grid_of old.picture.rows old.picture.columns (screen_at part lines cells (grid_at blank_cell old.picture.lines) k)) row in
     let last : part.left + (length run - 1) ≡ part.left + part.columns - 1 = omega (arith, wide) in
+    let whole : ℕ → Range → Range = λ _. joined (Some (part.left, part.left + part.columns - 1)) in
+    let unlike : ℕ → Range → Range = λ r. joined_by (columns_unlike (grid_at blank_cell old.picture.lines r) (part_cell part cells r) part.left part.columns) in
     let grid = grid_more laws part lines cells (grid_at blank_cell old.picture.lines) old.picture.rows old.picture.columns k run taken row_in wide fits same in
-    let ranges = ranges_more part lines (widened part.left (part.left + part.columns - 1)) (widened part.left (part.left + (length run - 1))) old.changed k taken (omega (arith, high)) (λ range. ap (λ n. widened part.left n range) last) in
-    λ i. record old { picture = record old.picture { lines = grid i }; changed = ranges i }
+    let ranges = ranges_more part lines whole old.changed k _ taken (omega (arith, high))
+    ((λ i. joined (Some (part.left, last i)) (range_before part lines whole old.changed k (omega (arith, high)) i))) in
+    let columns : columns_unlike before (copied_cell part.left run) part.left (length run) ≡ columns_unlike was (part_cell part cells row) part.left part.columns
+    = ap (columns_unlike before (copied_cell part.left run) part.left) wide
+    ∙ unlike_alike before (copied_cell part.left run) was (part_cell part cells row) part.left part.columns
+    (λ c from end. cells_before laws part lines cells old k c row_in (omega arith))
+    (λ c from end. copied_alike run part cells k c from end same) in
+    let altered = ranges_more part lines unlike old.altered k _ taken (omega (arith, altered_high))
+    (λ i. joined_by (columns i) (range_before part lines unlike old.altered k (omega (arith, altered_high)) i)) in
+    λ i. record old { picture = record old.picture { lines = grid i }; changed = ranges i; altered = altered i }
+  where
+    copied_alike : (run : List CellView) (part : Part) (cells : ℕ → ℕ → CellView) (k c : ℕ) → part.left ≤ c → c < part.left + part.columns → ((j : ℕ) → j < part.columns → get_or run j blank_cell ≡ cells (part.row + k) (part.column + j))
+        → copied_cell part.left run c ≡ part_cell part cells (part.top + k) c
+    copied_alike run part cells k c from end same =
+        let there : part.row + k ≡ part.row + (part.top + k - part.top) = omega arith in
+        same (c - part.left) (omega arith) ∙ ap (λ n. cells n (part.column + (c - part.left))) there
 
 -- a line that is not copied leaves all
 pub line_left : (part : Part) (lines : ℕ → Bool) (cells : ℕ → ℕ → CellView) (old : VirtualView) (k : ℕ) → lines (part.row + k) ≡ false
@@ -116,7 +145,8 @@ line_left part lines cells old k left =
         lines = grid_of old.picture.rows old.picture.columns (λ r c.
             cond (same r i && leb part.left c && ltb c (part.left + part.columns)) (cells (part.row + (r - part.top)) (part.column + (c - part.left))) (grid_at blank_cell old.picture.lines r c));
       };
-      changed = ranges_with (λ r. same r i) (widened part.left (part.left + part.columns - 1)) old.changed;
+      changed = ranges_with (λ r. same r i) (λ _. joined (Some (part.left, part.left + part.columns - 1))) old.changed;
+      altered = ranges_with (λ r. same r i) (λ r. joined_by (columns_unlike (grid_at blank_cell old.picture.lines r) (part_cell part cells r) part.left part.columns)) old.altered;
     }
 
 -- nothing is copied yet
@@ -128,9 +158,9 @@ none_copied laws part lines cells old grid =
     let lines_are = laws.places blank_cell old.picture.rows old.picture.columns old.picture.lines grid
     ∙ grid_same old.picture.rows old.picture.columns _ _ (λ r c h b.
     sym (ap (λ t. cond (t && leb part.left c && ltb c (part.left + part.columns)) (cells (part.row + (r - part.top)) (part.column + (c - part.left))) (grid_at blank_cell old.picture.lines r c)) (none r))) in
-    let ranges = ranges_are (is_copied (rows_of_part part 0) lines) (widened part.left (part.left + part.columns - 1)) old.changed old.changed refl (λ r d h.
-    get_or_default old.changed r d None h ∙ sym (ap (λ t. cond t (widened part.left (part.left + part.columns - 1) (get_or old.changed r None)) (get_or old.changed r None)) (none r))) in
-    λ i. record old { picture = record old.picture { lines = lines_are i }; changed = ranges i }
+    let ranges = none_put (is_copied (rows_of_part part 0) lines) (λ _. joined (Some (part.left, part.left + part.columns - 1))) old.changed none in
+    let altered = none_put (is_copied (rows_of_part part 0) lines) (λ r. joined_by (columns_unlike (grid_at blank_cell old.picture.lines r) (part_cell part cells r) part.left part.columns)) old.altered none in
+    λ i. record old { picture = record old.picture { lines = lines_are i }; changed = ranges i; altered = altered i }
 
 -- cells that agree in the part are copied alike
 pub cells_same : (part : Part) (lines : ℕ → Bool) (f g : ℕ → ℕ → CellView) (old : VirtualView)
@@ -140,8 +170,15 @@ cells_same part lines f g old same =
     let grid = grid_same old.picture.rows old.picture.columns _ _ (λ r c h b.
     taken_alike part.top part.left part.rows part.columns r c (lines (part.row + (r - part.top))) (f (part.row + (r - part.top)) (part.column + (c - part.left))) (g (part.row + (r - part.top)) (part.column + (c - part.left)))
     (grid_at blank_cell old.picture.lines r c) (λ in_rows in_columns above left. same (part.row + (r - part.top)) (part.column + (c - part.left)) (omega arith) (omega arith))) in
-    λ i. record old { picture = record old.picture { lines = grid i }; changed = ranges_with (is_copied part lines) (widened part.left (part.left + part.columns - 1)) old.changed }
+    let altered = made_alike (is_copied part lines) (λ r. joined_by (columns_unlike (grid_at blank_cell old.picture.lines r) (part_cell part f r) part.left part.columns))
+    (λ r. joined_by (columns_unlike (grid_at blank_cell old.picture.lines r) (part_cell part g r) part.left part.columns)) old.altered (λ r range h copied.
+    ap (λ list. joined_by list range) (unlike_alike _ _ _ _ part.left part.columns (λ c from end. refl) (λ c from end.
+    same (part.row + (r - part.top)) (part.column + (c - part.left)) (in_part part.top part.rows r part.row (lines (part.row + (r - part.top))) copied) (omega arith)))) in
+    λ i. record old { picture = record old.picture { lines = grid i }; changed = ranges_with (is_copied part lines) (λ _. joined (Some (part.left, part.left + part.columns - 1))) old.changed; altered = altered i }
   where
     taken_alike : {X : Type 0} (top left rows columns r c : ℕ) (t : Bool) (v w x : X) → (r < top + rows → c < left + columns → top ≤ r → left ≤ c → v ≡ w)
         → cond ((leb top r && ltb r (top + rows) && t) && leb left c && ltb c (left + columns)) v x ≡ cond ((leb top r && ltb r (top + rows) && t) && leb left c && ltb c (left + columns)) w x
     taken_alike top left rows columns r c t v w x h = grind (arith, nat_tests)
+
+    in_part : (top rows r row : ℕ) (t : Bool) → (leb top r && ltb r (top + rows) && t) ≡ true → row + (r - top) < row + rows
+    in_part top rows r row t e = grind (arith, nat_tests)

@@ -17,10 +17,12 @@ use Rattle.scr_windows.specs.DeskViews.{DeskView, WindowView, window_at}
 use Rattle.scr_virtual.specs.declared.parts.Part.{Part}
 use Rattle.scr_virtual.specs.Laws.{HoldsChanges, IsOutside, OutsideStays, RangesHoldChanges, SameSizes, SizesStay, UntouchedChangesNothing, cell_at}
 use Rattle.scr_virtual.specs.Pairs.{set_pair_call, with_pair}
-use Rattle.scr_virtual.specs.Taking.{is_copied, on_ok, pad_part, part_at, part_call, part_copied, part_taken, take_pad_call, take_window_call, taken, touched_line, window_part}
-use Rattle.scr_virtual.specs.VirtualViews.{IsRange, IsVirtual, VirtualView, in_range, marked_rows, range_at, ranges_with, settled, widened}
+use Rattle.scr_virtual.specs.Taking.{columns_unlike, is_copied, on_ok, pad_part, part_at, part_call, part_cell, part_copied, part_taken, take_pad_call, take_window_call, taken, touched_line, window_part}
+use Rattle.scr_virtual.specs.Ranges.{AreRanges, IsRange, in_range, joined, joined_by, ranges_with}
+use Rattle.scr_virtual.specs.VirtualViews.{IsVirtual, VirtualView, marked_rows}
 use Rattle.scr_virtual.proofs.CopyLaws.{grid_same}
 use Rattle.scr_virtual.proofs.RangeLaws.{Range, range_of}
+use Rattle.scr_virtual.proofs.UnlikeLaws.{all_grow, joined_grows, outside_is_same}
 
 -- what holds where the call is refused and where a part is taken holds after the call
 call_holds : (v : VirtualView) (desk : DeskView) (win : ℕ) (part_of : WindowView → Result Part WinFault) (lines : WindowView → ℕ → Bool) (P : VirtualView × DeskView → Type 0) → P (v, desk)
@@ -39,93 +41,126 @@ less_or_not : (a b : ℕ) → (a < b) ⊎ (b ≤ a)
 less_or_not a b = grind arith
 
 -- ranges whose rows are changed lose no column, where what a range becomes holds it
-grown : (rows : ℕ → Bool) (f : Range → Range) (changed : List Range) (r c : ℕ) → (r < length changed → in_range (get_or changed r None) c ≡ true → in_range (f (get_or changed r None)) c ≡ true)
-    → in_range (get_or changed r None) c ≡ true → in_range (get_or (ranges_with rows f changed) r None) c ≡ true
-grown rows f changed r c more was = elim (less_or_not r (length changed)) [
-  | inl h ↦ ap (λ range. in_range range c) (range_of rows f changed r None h) ∙ either (rows r) (get_or changed r None) (more h was) was
-  | inr h ↦ absurd (nowhere (ap (λ range. in_range range c) (sym (get_or_past changed r None h)) ∙ was))
+grown : (rows : ℕ → Bool) (f : ℕ → Range → Range) (ranges : List Range) (r c : ℕ) → (r < length ranges → in_range (get_or ranges r None) c ≡ true → in_range (f r (get_or ranges r None)) c ≡ true)
+    → in_range (get_or ranges r None) c ≡ true → in_range (get_or (ranges_with rows f ranges) r None) c ≡ true
+grown rows f ranges r c more was = elim (less_or_not r (length ranges)) [
+  | inl h ↦ ap (λ range. in_range range c) (range_of rows f ranges r None h) ∙ either (rows r) (f r (get_or ranges r None)) (get_or ranges r None) (more h was) was
+  | inr h ↦ absurd (nowhere (ap (λ range. in_range range c) (sym (get_or_past ranges r None h)) ∙ was))
 ]
   where
-    either : (t : Bool) (range : Range) → in_range (f range) c ≡ true → in_range range c ≡ true → in_range (cond t (f range) range) c ≡ true
-    either true range p q = p
-    either false range p q = q
+    either : (t : Bool) (new range : Range) → in_range new c ≡ true → in_range range c ≡ true → in_range (cond t new range) c ≡ true
+    either true new range p q = p
+    either false new range p q = q
 
     nowhere : false ≡ true → ⊥
     nowhere e = (let z : ⊥ = (cc) in z)
 
--- a range that is widened holds what it held, and the columns up to the last
-widened_grows : (first last c : ℕ) (range : Range) → in_range range c ≡ true → in_range (widened first last range) c ≡ true
-widened_grows first last c None e = absurd (let z : ⊥ = (cc) in z)
-widened_grows first last c (Some range) e = more first last range.0 range.1 c e
-  where
-    more : (first last a b c : ℕ) → (leb a c && leb c b) ≡ true → (leb (min first a) c && leb c (max last b)) ≡ true
-    more first last a b c e = grind (arith, nat_tests)
-
-outside_widened : (left columns c : ℕ) (range : Range) → in_range (widened left (left + columns - 1) range) c ≡ false → (leb left c && ltb c (left + columns)) ≡ false
-outside_widened left columns c None e = none left columns c e
+-- a range that a part's columns were joined to holds each of them
+outside_joined : (left columns c : ℕ) (range : Range) → in_range (joined (Some (left, left + columns - 1)) range) c ≡ false → (leb left c && ltb c (left + columns)) ≡ false
+outside_joined left columns c None e = none left columns c e
   where
     none : (left columns c : ℕ) → (leb left c && leb c (left + columns - 1)) ≡ false → (leb left c && ltb c (left + columns)) ≡ false
     none left columns c e = grind (arith, nat_tests)
-outside_widened left columns c (Some range) e = some left columns range.0 range.1 c e
+outside_joined left columns c (Some range) e = some left columns range.0 range.1 c e
   where
     some : (left columns a b c : ℕ) → (leb (min left a) c && leb c (max (left + columns - 1) b)) ≡ false → (leb left c && ltb c (left + columns)) ≡ false
     some left columns a b c e = grind (arith, nat_tests)
 
 -- the cell of a place after a part was taken
 cell_taken : GridLaws CellView → (v : VirtualView) (part : Part) (lines : ℕ → Bool) (cells : ℕ → ℕ → CellView) (state : WindowState) (r c : ℕ) → r < v.picture.rows → c < v.picture.columns
-    → cell_at (part_taken part lines cells state v) r c ≡ cond (is_copied part lines r && leb part.left c && ltb c (part.left + part.columns)) (cells (part.row + (r - part.top)) (part.column + (c - part.left))) (cell_at v r c)
+    → cell_at (part_taken part lines cells state v) r c ≡ cond (is_copied part lines r && leb part.left c && ltb c (part.left + part.columns)) (part_cell part cells r c) (cell_at v r c)
 unfolding part_copied
 cell_taken laws v part lines cells state r c h b =
     laws.formula blank_cell v.picture.rows v.picture.columns (λ r c. cond (is_copied part lines r && leb part.left c && ltb c (part.left + part.columns)) (cells (part.row + (r - part.top)) (part.column + (c - part.left))) (cell_at v r c)) r c h b
 
-cells_held : GridLaws CellView → (v : VirtualView) (part : Part) (lines : ℕ → Bool) (cells : ℕ → ℕ → CellView) (state : WindowState) → IsVirtual v → (r c : ℕ) → r < v.picture.rows → c < v.picture.columns
-    → in_range (range_at (part_taken part lines cells state v) r) c ≡ false → cell_at (part_taken part lines cells state v) r c ≡ cell_at v r c
-unfolding part_copied
-cells_held laws v part lines cells state is r c h b out =
-    cell_taken laws v part lines cells state r c h b
-    ∙ kept (is_copied part lines r) (get_or v.changed r None) part.left part.columns c _ _ (ap (λ range. in_range range c) (sym (range_of (is_copied part lines) (widened part.left (part.left + part.columns - 1)) v.changed r None (omega (arith, is.rows)))) ∙ out)
-  where
-    chosen : (t : Bool) (x y : CellView) → t ≡ false → cond t x y ≡ y
-    chosen t x y e = ap (λ b. cond b x y) e
+-- what becomes of a row's range when a part is taken: it loses no column, and outside it every place of the part has its cell already
+record Covers (v : VirtualView) (part : Part) (cells : ℕ → ℕ → CellView) (f : ℕ → Range → Range) : Type 0 where
+  grows : (r c : ℕ) (range : Range) → in_range range c ≡ true → in_range (f r range) c ≡ true
+  same : (r c : ℕ) (range : Range) → in_range (f r range) c ≡ false → (leb part.left c && ltb c (part.left + part.columns)) ≡ true → part_cell part cells r c ≡ cell_at v r c
 
-    kept : (t : Bool) (was : Range) (left columns c : ℕ) (x y : CellView) → in_range (cond t (widened left (left + columns - 1) was) was) c ≡ false → cond (t && leb left c && ltb c (left + columns)) x y ≡ y
-    kept true was left columns c x y e = chosen (leb left c && ltb c (left + columns)) x y (outside_widened left columns c was e)
-    kept false was left columns c x y e = refl
+-- all columns of the part
+all_cover : (v : VirtualView) (part : Part) (cells : ℕ → ℕ → CellView) → Covers v part cells (λ _. joined (Some (part.left, part.left + part.columns - 1)))
+all_cover v part cells = record {
+  grows = λ r c range. joined_grows (Some (part.left, part.left + part.columns - 1)) range c;
+  same = λ r c range out is. absurd (nowhere (sym is ∙ outside_joined part.left part.columns c range out));
+}
+  where
+    nowhere : true ≡ false → ⊥
+    nowhere e = (let z : ⊥ = (cc) in z)
+
+-- those that get another cell
+unlike_cover : (v : VirtualView) (part : Part) (cells : ℕ → ℕ → CellView) → Covers v part cells (λ r. joined_by (columns_unlike (cell_at v r) (part_cell part cells r) part.left part.columns))
+unlike_cover v part cells = record {
+  grows = λ r c range. all_grow (columns_unlike (cell_at v r) (part_cell part cells r) part.left part.columns) range c;
+  same = λ r c range out is. outside_is_same (cell_at v r) (part_cell part cells r) part.left part.columns c range (from part.left part.columns c is) (to part.left part.columns c is) out;
+}
+  where
+    from : (left columns c : ℕ) → (leb left c && ltb c (left + columns)) ≡ true → left ≤ c
+    from left columns c e = grind (arith, nat_tests)
+
+    to : (left columns c : ℕ) → (leb left c && ltb c (left + columns)) ≡ true → c < left + columns
+    to left columns c e = grind (arith, nat_tests)
+
+-- then a place outside the new range of its row has the cell that it had
+cells_held : GridLaws CellView → (v : VirtualView) (part : Part) (lines : ℕ → Bool) (cells : ℕ → ℕ → CellView) (state : WindowState) (f : ℕ → Range → Range) (ranges : List Range) → Covers v part cells f → length ranges ≡ v.picture.rows
+    → (r c : ℕ) → r < v.picture.rows → c < v.picture.columns → in_range (get_or (ranges_with (is_copied part lines) f ranges) r None) c ≡ false → cell_at (part_taken part lines cells state v) r c ≡ cell_at v r c
+cells_held laws v part lines cells state f ranges covers many r c h b out =
+    cell_taken laws v part lines cells state r c h b
+    ∙ kept (is_copied part lines r) (f r (get_or ranges r None)) (get_or ranges r None) (leb part.left c) (ltb c (part.left + part.columns)) (part_cell part cells r c) (cell_at v r c)
+    (ap (λ range. in_range range c) (sym (range_of (is_copied part lines) f ranges r None (omega (arith, many)))) ∙ out) (λ left is. covers.same r c (get_or ranges r None) left is)
+  where
+    kept : (t : Bool) (new was : Range) (u v : Bool) (x y : CellView) → in_range (cond t new was) c ≡ false → (in_range new c ≡ false → (u && v) ≡ true → x ≡ y) → cond (t && u && v) x y ≡ y
+    kept true new was true true x y e same = same e refl
+    kept true new was true false x y e same = refl
+    kept true new was false v x y e same = refl
+    kept false new was u v x y e same = refl
 
 taking_holds : GridLaws CellView → (v : VirtualView) (part : Part) (lines : ℕ → Bool) (cells : ℕ → ℕ → CellView) (state : WindowState) → IsVirtual v → HoldsChanges v (part_taken part lines cells state v)
 unfolding part_copied
-taking_holds laws v part lines cells state is = record {
-  grows = λ r c was. grown (is_copied part lines) (widened part.left (part.left + part.columns - 1)) v.changed r c (λ h e. widened_grows part.left (part.left + part.columns - 1) c (get_or v.changed r None) e) was;
-  cells = cells_held laws v part lines cells state is;
-  holds = λ mask colours r c h b out. ap (seen mask colours v.picture.pairs) (cells_held laws v part lines cells state is r c h b out);
-}
+taking_holds laws v part lines cells state is =
+    let all : ℕ → Range → Range = λ _. joined (Some (part.left, part.left + part.columns - 1)) in
+    let unlike : ℕ → Range → Range = λ r. joined_by (columns_unlike (cell_at v r) (part_cell part cells r) part.left part.columns) in
+    let all_are : Covers v part cells all = all_cover v part cells in
+    let unlike_are : Covers v part cells unlike = unlike_cover v part cells in
+    record {
+      changed = record {
+        grows = λ r c was. grown (is_copied part lines) all v.changed r c (λ h e. all_are.grows r c (get_or v.changed r None) e) was;
+        cells = cells_held laws v part lines cells state all v.changed all_are is.rows;
+        holds = λ mask colours r c h b out. ap (seen mask colours v.picture.pairs) (cells_held laws v part lines cells state all v.changed all_are is.rows r c h b out);
+      };
+      altered = record {
+        grows = λ r c was. grown (is_copied part lines) unlike v.altered r c (λ h e. unlike_are.grows r c (get_or v.altered r None) e) was;
+        cells = cells_held laws v part lines cells state unlike v.altered unlike_are is.altered_rows;
+        holds = λ mask colours r c h b out. ap (seen mask colours v.picture.pairs) (cells_held laws v part lines cells state unlike v.altered unlike_are is.altered_rows r c h b out);
+      };
+    }
 
--- a range of a virtual screen ends before the last column
-whole_range : (v : VirtualView) (r c : ℕ) → IsVirtual v → r < length v.changed → in_range (get_or v.changed r None) c ≡ true → in_range (Some (0, v.picture.columns - 1)) c ≡ true
-whole_range v r c is h was = inside (get_or v.changed r None) v.picture.columns c (is.ranges r None h) was
+-- a range of columns ends before the last one
+whole_range : (columns : ℕ) (ranges : List Range) (r c : ℕ) → AreRanges columns ranges → r < length ranges → in_range (get_or ranges r None) c ≡ true → in_range (Some (0, columns - 1)) c ≡ true
+whole_range columns ranges r c are h was = inside (get_or ranges r None) (are r None h) was
   where
-    ends : (a b columns c : ℕ) → b < columns → (leb a c && leb c b) ≡ true → (leb 0 c && leb c (columns - 1)) ≡ true
-    ends a b columns c l e = grind (arith, nat_tests)
+    ends : (a b c : ℕ) → b < columns → (leb a c && leb c b) ≡ true → (leb 0 c && leb c (columns - 1)) ≡ true
+    ends a b c l e = grind (arith, nat_tests)
 
-    inside : (range : Range) (columns c : ℕ) → IfSome range (IsRange columns) → in_range range c ≡ true → in_range (Some (0, columns - 1)) c ≡ true
-    inside None columns c h e = absurd (let z : ⊥ = (cc) in z)
-    inside (Some range) columns c h e = ends range.0 range.1 columns c h.1 e
+    inside : (range : Range) → IfSome range (IsRange columns) → in_range range c ≡ true → in_range (Some (0, columns - 1)) c ≡ true
+    inside None h e = absurd (let z : ⊥ = (cc) in z)
+    inside (Some range) h e = ends range.0 range.1 c h.1 e
+
+-- whole rows hold what their ranges held
+marked_grows : (columns first n : ℕ) (ranges : List Range) (r c : ℕ) → AreRanges columns ranges → in_range (get_or ranges r None) c ≡ true → in_range (get_or (ranges_with (λ r. leb first r && ltb r (first + n)) (λ _ _. Some (0, columns - 1)) ranges) r None) c ≡ true
+marked_grows columns first n ranges r c are was = grown (λ r. leb first r && ltb r (first + n)) (λ _ _. Some (0, columns - 1)) ranges r c (λ h e. whole_range columns ranges r c are h e) was
 
 marking_holds : (v : VirtualView) (first n : ℕ) → IsVirtual v → HoldsChanges v (marked_rows first n v)
 unfolding marked_rows
 marking_holds v first n is = record {
-  grows = λ r c was. grown (λ r. leb first r && ltb r (first + n)) (λ _. Some (0, v.picture.columns - 1)) v.changed r c (λ h e. whole_range v r c is h e) was;
-  cells = λ r c h b out. refl;
-  holds = λ mask colours r c h b out. refl;
+  changed = record { grows = λ r c was. marked_grows v.picture.columns first n v.changed r c is.ranges was; cells = λ r c h b out. refl; holds = λ mask colours r c h b out. refl };
+  altered = record { grows = λ r c was. marked_grows v.picture.columns first n v.altered r c is.altered_ranges was; cells = λ r c h b out. refl; holds = λ mask colours r c h b out. refl };
 }
 
-pair_holds : (v : VirtualView) (pair foreground background : ℕ) → IsVirtual v → HoldsChanges v (with_pair v pair foreground background)
-unfolding marked_rows
-pair_holds v pair foreground background is = record {
-  grows = λ r c was. grown (λ r. leb 0 r && ltb r (0 + v.picture.rows)) (λ _. Some (0, v.picture.columns - 1)) v.changed r c (λ h e. whole_range v r c is h e) was;
-  cells = λ r c h b out. refl;
-  holds = λ mask colours r c h b out. absurd (nowhere (sym (everywhere v.picture.columns c b) ∙ ap (λ range. in_range range c) (sym (whole r h)) ∙ out));
-}
+-- where every row is whole, no column is outside
+nothing_outside : (rows columns : ℕ) (ranges : List Range) (r c : ℕ) → length ranges ≡ rows → r < rows → c < columns → in_range (get_or (ranges_with (λ r. leb 0 r && ltb r (0 + rows)) (λ _ _. Some (0, columns - 1)) ranges) r None) c ≡ false → ⊥
+nothing_outside rows columns ranges r c many h b out =
+    nowhere (sym (everywhere columns c b) ∙ ap (λ range. in_range range c) (sym (range_of (λ r. leb 0 r && ltb r (0 + rows)) (λ _ _. Some (0, columns - 1)) ranges r None (omega (arith, many)) ∙ ap (λ t. cond t (Some (0, columns - 1)) (get_or ranges r None)) (all_rows rows r h))) ∙ out)
   where
     everywhere : (columns c : ℕ) → c < columns → (leb 0 c && leb c (columns - 1)) ≡ true
     everywhere columns c b = grind (arith, nat_tests)
@@ -136,13 +171,26 @@ pair_holds v pair foreground background is = record {
     all_rows : (rows r : ℕ) → r < rows → (leb 0 r && ltb r (0 + rows)) ≡ true
     all_rows rows r h = grind (arith, nat_tests)
 
-    whole : (r : ℕ) → r < v.picture.rows → get_or (ranges_with (λ r. leb 0 r && ltb r (0 + v.picture.rows)) (λ _. Some (0, v.picture.columns - 1)) v.changed) r None ≡ Some (0, v.picture.columns - 1)
-    whole r h =
-        range_of (λ r. leb 0 r && ltb r (0 + v.picture.rows)) (λ _. Some (0, v.picture.columns - 1)) v.changed r None (omega (arith, is.rows))
-        ∙ ap (λ t. cond t (Some (0, v.picture.columns - 1)) (get_or v.changed r None)) (all_rows v.picture.rows r h)
+pair_holds : (v : VirtualView) (pair foreground background : ℕ) → IsVirtual v → HoldsChanges v (with_pair v pair foreground background)
+unfolding marked_rows
+pair_holds v pair foreground background is = record {
+  changed = record {
+    grows = λ r c was. marked_grows v.picture.columns 0 v.picture.rows v.changed r c is.ranges was;
+    cells = λ r c h b out. refl;
+    holds = λ mask colours r c h b out. absurd (nothing_outside v.picture.rows v.picture.columns v.changed r c is.rows h b out);
+  };
+  altered = record {
+    grows = λ r c was. marked_grows v.picture.columns 0 v.picture.rows v.altered r c is.altered_ranges was;
+    cells = λ r c h b out. refl;
+    holds = λ mask colours r c h b out. absurd (nothing_outside v.picture.rows v.picture.columns v.altered r c is.altered_rows h b out);
+  };
+}
 
 nothing_holds : (v : VirtualView) → HoldsChanges v v
-nothing_holds v = record { grows = λ r c was. was; cells = λ r c h b out. refl; holds = λ mask colours r c h b out. refl }
+nothing_holds v = record {
+  changed = record { grows = λ r c was. was; cells = λ r c h b out. refl; holds = λ mask colours r c h b out. refl };
+  altered = record { grows = λ r c was. was; cells = λ r c h b out. refl; holds = λ mask colours r c h b out. refl };
+}
 
 -- a call that refuses two things, or does one
 either_of : {X : Type 0} (P : X → Type 0) (a b : Bool) (x y z : X) → P x → P y → P z → P (cond a x (cond b y z))
@@ -166,17 +214,18 @@ unfolding take_pad_call
 pad_holds laws v desk win row column top left bottom right is =
     call_holds v desk win (pad_part desk.rows desk.columns row column top left bottom right) (λ _ _. true) (λ (x : VirtualView × DeskView). HoldsChanges v x.0) (nothing_holds v) (λ i part found e. taking_holds laws v part (λ _. true) (at desk i) (window_at desk i).state is)
 
-none_left : (v : VirtualView) (r : ℕ) → range_at (settled v) r ≡ None
-none_left v r = elim (less_or_not r (length v.changed)) [
-  | inl h ↦ get_or-replicate (length v.changed) r None None h
-  | inr h ↦ get_or_past (replicate (length v.changed) None) r None (let e : length (replicate (length v.changed) (the_none)) ≡ length v.changed = length-replicate (length v.changed) the_none in omega (arith, e))
+abbrev the_none : Range
+the_none = None
+
+-- no row has a range among none
+none_left : (count r : ℕ) → get_or (replicate count the_none) r the_none ≡ the_none
+none_left count r = elim (less_or_not r count) [
+  | inl h ↦ get_or-replicate count r the_none the_none h
+  | inr h ↦ get_or_past (replicate count the_none) r the_none (let e : length (replicate count the_none) ≡ count = length-replicate count the_none in omega (arith, e))
 ]
-  where
-    the_none : Range
-    the_none = None
 
 pub holding : GridLaws CellView → RangesHoldChanges
-holding laws = record { window = window_holds laws; pad = pad_holds laws; pair = setting_holds; mark = marking_holds; settle = none_left }
+holding laws = record { window = window_holds laws; pad = pad_holds laws; pair = setting_holds; mark = marking_holds; settle = λ v r. (none_left (length v.changed) r, none_left (length v.altered) r) }
 
 -- a place outside a part that is taken
 part_outside : GridLaws CellView → (v : VirtualView) (part : Part) (lines : ℕ → Bool) (cells : ℕ → ℕ → CellView) (state : WindowState) (r c : ℕ) → r < v.picture.rows → c < v.picture.columns → IsOutside part.top part.left part.rows part.columns r c

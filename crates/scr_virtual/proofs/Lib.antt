@@ -4,3 +4,4 @@ pub mod RangeLaws
 pub mod RowLaws
 pub mod ScreenLaws
 pub mod TakingLaws
+pub mod UnlikeLaws

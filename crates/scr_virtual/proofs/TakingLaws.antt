@@ -67,7 +67,7 @@ pub line_taken : GridLaws CellView → (old now new : VirtualView) (lent : LentV
     → new ≡ part_copied (rows_of_part part (k + 1)) (copied_lines all lent) (lent_at lent) old
 line_taken laws old now new lent part all k h inside now_is row_in taken width new_is =
     new_is ∙ ap (line_copied (part.top + k) part.left (part_line lent part k)) now_is
-    ∙ line_more laws part (copied_lines all lent) (lent_at lent) old k (part_line lent part k) taken (omega (arith, inside.bottom)) h.rows width inside.some inside.right (λ j b.
+    ∙ line_more laws part (copied_lines all lent) (lent_at lent) old k (part_line lent part k) taken (omega (arith, inside.bottom)) h.rows h.altered_rows width inside.some inside.right (λ j b.
     get_or-take part.columns (drop part.column (grid_row lent.lines (part.row + k))) j blank_cell b ∙ get_or-drop part.column (grid_row lent.lines (part.row + k)) j blank_cell)
 
 -- a whole window is shown where it is

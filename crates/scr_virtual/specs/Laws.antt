@@ -1,11 +1,12 @@
 -- Laws of virtual screens: what a reader may hold against the definitions of the calls.
-use Rattle.std.specs.Prelude.{ℕ, Bool, true, false, ◌≡◌, ◌+◌, ◌-◌, ◌<◌, ◌≤◌, ◌⊎◌, Some, None, Ok, slice_index_or}
+use Rattle.std.specs.Prelude.{ℕ, Bool, true, false, ◌≡◌, ◌+◌, ◌-◌, ◌<◌, ◌≤◌, ◌⊎◌, Some, None, Option, Ok, slice_index_or}
 use Rattle.scr_cells.specs.CellViews.{CellView, blank_cell}
 use Rattle.scr_cells.specs.Grids.{grid_at}
 use Rattle.scr_cells.specs.LookViews.{LookView, seen}
 use Rattle.scr_windows.specs.DeskViews.{DeskView, window_at}
 use Rattle.scr_windows.specs.Changes.{index_of}
-use Rattle.scr_virtual.specs.VirtualViews.{IsVirtual, VirtualView, in_range, marked_rows, range_at, settled}
+use Rattle.scr_virtual.specs.Ranges.{in_range}
+use Rattle.scr_virtual.specs.VirtualViews.{IsVirtual, VirtualView, altered_at, marked_rows, range_at, settled}
 use Rattle.scr_virtual.specs.Pairs.{set_pair_call}
 use Rattle.scr_virtual.specs.Taking.{take_pad_call, take_window_call}
 
@@ -17,11 +18,16 @@ cell_at virtual r c = grid_at blank_cell virtual.picture.lines r c
 abbrev pub seen_at : ℕ → Bool → VirtualView → ℕ → ℕ → LookView
 seen_at shown colours virtual r c = seen shown colours virtual.picture.pairs (cell_at virtual r c)
 
--- no range loses a column, and a place outside the new ranges has its cell and looks as before
+-- no range of a row loses a column, and a place outside the new ranges has its cell and looks as before
+pub record HoldsIn (ranges : VirtualView → ℕ → Option (ℕ × ℕ)) (old new : VirtualView) : Type 0 where
+  pub grows : (r c : ℕ) → in_range (ranges old r) c ≡ true → in_range (ranges new r) c ≡ true
+  pub cells : (r c : ℕ) → r < old.picture.rows → c < old.picture.columns → in_range (ranges new r) c ≡ false → cell_at new r c ≡ cell_at old r c
+  pub holds : (shown : ℕ) (colours : Bool) (r c : ℕ) → r < old.picture.rows → c < old.picture.columns → in_range (ranges new r) c ≡ false → seen_at shown colours new r c ≡ seen_at shown colours old r c
+
+-- the columns that may have changed, and those that may look otherwise
 pub record HoldsChanges (old new : VirtualView) : Type 0 where
-  pub grows : (r c : ℕ) → in_range (range_at old r) c ≡ true → in_range (range_at new r) c ≡ true
-  pub cells : (r c : ℕ) → r < old.picture.rows → c < old.picture.columns → in_range (range_at new r) c ≡ false → cell_at new r c ≡ cell_at old r c
-  pub holds : (shown : ℕ) (colours : Bool) (r c : ℕ) → r < old.picture.rows → c < old.picture.columns → in_range (range_at new r) c ≡ false → seen_at shown colours new r c ≡ seen_at shown colours old r c
+  pub changed : HoldsIn range_at old new
+  pub altered : HoldsIn altered_at old new
 
 pub record RangesHoldChanges : Type 0 where
   pub window : (virtual : VirtualView) (desk : DeskView) (win : ℕ) → IsVirtual virtual → HoldsChanges virtual (take_window_call virtual desk win).0.0
@@ -29,7 +35,7 @@ pub record RangesHoldChanges : Type 0 where
   pub pair : (virtual : VirtualView) (pair foreground background : ℕ) → IsVirtual virtual → HoldsChanges virtual (set_pair_call virtual pair foreground background).0
   pub mark : (virtual : VirtualView) (row n : ℕ) → IsVirtual virtual → HoldsChanges virtual (marked_rows row n virtual)
   -- a screen that is settled has no range
-  pub settle : (virtual : VirtualView) (r : ℕ) → range_at (settled virtual) r ≡ None
+  pub settle : (virtual : VirtualView) (r : ℕ) → (range_at (settled virtual) r ≡ None) × (altered_at (settled virtual) r ≡ None)
 
 -- a place is not in an area of so many rows and columns
 abbrev pub IsOutside : ℕ → ℕ → ℕ → ℕ → ℕ → ℕ → Type 0

@@ -1,6 +1,7 @@
 -- What it is to take a window or a pad onto the virtual screen. curs_refresh(3X), wnoutrefresh(); curs_pad(3X), pnoutrefresh();
 -- X/Open Curses Issue 7, the same.
-use Rattle.std.specs.Prelude.{ℕ, Bool, true, false, ◌+◌, ◌-◌, ◌&&◌, ◌||◌, leb, ltb, if◌then◌else◌, Option, None, Some, Result, Ok, Err, slice_index_or}
+use Rattle.std.specs.Prelude.{ℕ, Bool, true, false, ◌+◌, ◌-◌, ◌==◌, ◌&&◌, ◌||◌, not, leb, ltb, if◌then◌else◌, List, filter, Option, None, Some, Result, Ok, Err, slice_index_or}
+use Rattle.std.specs.List.{range_with_len}
 use Rattle.scr_cells.specs.CellViews.{CellView, blank_cell}
 use Rattle.scr_cells.specs.Grids.{grid_at, grid_of}
 use Rattle.std.specs.Option.{is_some}
@@ -13,22 +14,35 @@ use Rattle.scr_windows.specs.Changes.{index_of}
 use Rattle.scr_windows.specs.Calls.Reading.{at}
 use Rattle.scr_windows.specs.Calls.Touching.{take_lines_call}
 use Rattle.scr_virtual.specs.declared.parts.Part.{Part}
-use Rattle.scr_virtual.specs.VirtualViews.{VirtualView, ranges_with, widened}
+use Rattle.scr_virtual.specs.Ranges.{joined, joined_by, ranges_with}
+use Rattle.scr_virtual.specs.VirtualViews.{VirtualView}
 
 -- a row of the screen shows a line of the part, one of those that are copied
 abbrev pub is_copied : Part → (ℕ → Bool) → ℕ → Bool
 is_copied part lines r = leb part.top r && ltb r (part.top + part.rows) && lines (part.row + (r - part.top))
 
+-- the cell that a place of the screen gets of the part
+abbrev pub part_cell : Part → (ℕ → ℕ → CellView) → ℕ → ℕ → CellView
+part_cell part cells r c = cells (part.row + (r - part.top)) (part.column + (c - part.left))
+
+abbrev pub cell_eq : CellView → CellView → Bool
+cell_eq a b = a.byte == b.byte && a.attrs == b.attrs && a.pair == b.pair
+
+-- of n columns of a row from one on those in which two rows of cells differ
+abbrev pub columns_unlike : (ℕ → CellView) → (ℕ → CellView) → (from n : ℕ) → List ℕ
+columns_unlike old new from n = filter (λ c. not (cell_eq (old c) (new c))) (range_with_len from n)
+
 -- some lines of a part of a window are copied to where the part is shown: the places there have the window's cells, every other
--- place has what it had, and the ranges of these rows hold the columns that were copied to
+-- place has what it had; the columns that were copied to have changed, and of these the ones that got another cell look otherwise
 unfoldable pub part_copied : Part → (ℕ → Bool) → (ℕ → ℕ → CellView) → VirtualView → VirtualView
 part_copied part lines cells virtual = record virtual {
   picture = record virtual.picture {
     lines = grid_of virtual.picture.rows virtual.picture.columns (λ r c.
-        if is_copied part lines r && leb part.left c && ltb c (part.left + part.columns) then cells (part.row + (r - part.top)) (part.column + (c - part.left))
+        if is_copied part lines r && leb part.left c && ltb c (part.left + part.columns) then part_cell part cells r c
         else grid_at blank_cell virtual.picture.lines r c);
   };
-  changed = ranges_with (is_copied part lines) (widened part.left (part.left + part.columns - 1)) virtual.changed;
+  changed = ranges_with (is_copied part lines) (λ _. joined (Some (part.left, part.left + part.columns - 1))) virtual.changed;
+  altered = ranges_with (is_copied part lines) (λ r. joined_by (columns_unlike (grid_at blank_cell virtual.picture.lines r) (part_cell part cells r) part.left part.columns)) virtual.altered;
 }
 
 -- a place of the window is in the part

@@ -1,9 +1,10 @@
 //! The virtual screen. What is true of every one is in `specs/VirtualViews.antt`.
-ghost use Rattle.std.specs.Prelude.{◌≡◌, ◌<◌, ◌≤◌, ◌&&◌, leb, ltb, IfOk, IfSome, length};
+ghost use Rattle.std.specs.Prelude.{◌≡◌, ◌<◌, ◌≤◌, IfOk, IfSome};
 ghost use Rattle.scr_virtual.specs.Pairs.{set_pair_call};
-ghost use Rattle.scr_virtual.specs.VirtualViews.{IsRange, IsVirtual, NoneOutside, blank_virtual, marked_rows, range_at, ranges_with, settled};
+ghost use Rattle.scr_virtual.specs.Ranges.{AreNoneOutside, IsRange};
+ghost use Rattle.scr_virtual.specs.VirtualViews.{IsVirtual, altered_at, blank_virtual, marked_rows, range_at, settled};
 
-use crate::ranges::with_rows;
+use crate::ranges::Ranges;
 use scr_cells::{Cell, NoMemory, Picture, Size};
 use scr_windows::WinFault;
 use std::alloc::Global;
@@ -11,7 +12,7 @@ use std::marker::Model;
 
 /// What the terminal is to show after the next update (curs_refresh(3X), 'virtual screen'; X/Open Curses Issue 7,
 /// doupdate()): a picture, whether the whole screen is to be painted anew, and for each row the first and the last
-/// column that may have changed since `settle`.
+/// column that may have changed since `settle`, and of those that may look otherwise.
 ///
 /// Rows and columns are counted from 0. A refused call changes nothing; where several refusals hold, the first that the
 /// call names is given. No call but `new` takes memory.
@@ -19,21 +20,18 @@ use std::marker::Model;
 pub struct Virtual {
     pub(crate) picture: Picture,
     pub(crate) repaint: bool,
-    // One for each row.
-    pub(crate) changed: Vec<Option<(u32, u32)>>,
-    // The first and the last row that may have a range. What reads or empties the ranges looks at no other row.
-    pub(crate) rows: Option<(u32, u32)>,
+    pub(crate) changed: Ranges,
+    pub(crate) altered: Ranges,
 }
 
 impl Model for Virtual {
-    ghost use Rattle.scr_virtual.specs.Code.Rows.{HoldRanges};
     ghost use Rattle.scr_virtual.specs.VirtualViews.{IsVirtual, VirtualView};
 
     ghost Value = { VirtualView };
 
-    ghost view = { λ a. record { picture = a.picture; repaint = a.repaint; changed = a.changed.items } };
+    ghost view = { λ a. record { picture = a.picture; repaint = a.repaint; changed = a.changed; altered = a.altered } };
 
-    ghost invariant = { λ a. IsVirtual (record { picture = a.picture; repaint = a.repaint; changed = a.changed.items }) × HoldRanges a.rows a.changed.items };
+    ghost invariant = { λ a. IsVirtual (record { picture = a.picture; repaint = a.repaint; changed = a.changed; altered = a.altered }) };
 }
 
 impl Virtual {
@@ -42,13 +40,13 @@ impl Virtual {
         ensures { IfOk result (λ screen. screen ≡ blank_virtual size.rows size.columns) }
     {
         let picture = Picture::new(alloc, size)?;
-        let mut changed = Vec::with_capacity(alloc, size.rows as usize)?;
-        changed.resize(size.rows as usize, None)?;
+        let changed = Ranges::new(alloc, size.rows)?;
+        let altered = Ranges::new(alloc, size.rows)?;
         Ok(Virtual {
             picture,
             repaint: false,
             changed,
-            rows: None,
+            altered,
         })
     }
 
@@ -82,20 +80,27 @@ impl Virtual {
         ensures value { result ≡ range_at self.now row }
         ensures inside { IfSome result (IsRange self.now.picture.columns) }
     {
-        self.changed[row as usize]
+        self.changed.at(row)
     }
 
-    /// The first row and the end (exclusive) of the rows that may have a range: outside them no row has changed since
-    /// `settle`. An update looks at these rows alone, and costs nothing where nothing changed.
-    pub fn changed_rows(&self) -> (u32, u32)
+    /// The first and the last column of a row that may look otherwise than at `settle`, both inside; `None` where the row looks
+    /// as it did. A line that is copied to where it stands already has changed, and looks as it did.
+    pub fn altered(&self, row: u32) -> Option<(u32, u32)>
+        requires { row < self.now.picture.rows }
+        ensures value { result ≡ altered_at self.now row }
+        ensures inside { IfSome result (IsRange self.now.picture.columns) }
+    {
+        self.altered.at(row)
+    }
+
+    /// The first row and the end (exclusive) of the rows that may look otherwise than at `settle`. An update looks at these rows
+    /// alone, and costs nothing where nothing changed.
+    pub fn altered_rows(&self) -> (u32, u32)
         ensures order { result.0 ≤ result.1 }
         ensures end { result.1 ≤ self.now.picture.rows }
-        ensures others { NoneOutside self.now result.0 result.1 }
+        ensures others { AreNoneOutside self.now.altered result.0 result.1 }
     {
-        match self.rows {
-            Some((first, last)) => (first, last + 1),
-            None => (0, 0),
-        }
+        self.altered.rows()
     }
 
     /// Sets the foreground and the background of a colour pair. The picture has them at once, and every row may have
@@ -125,9 +130,8 @@ impl Virtual {
     pub fn settle(&mut self)
         ensures { self.new ≡ settled self.old }
     {
-        let (first, end) = self.changed_rows();
-        fill(&mut self.changed, first as usize, end as usize, None);
-        self.rows = None;
+        self.changed.clear();
+        self.altered.clear();
         self.repaint = false;
     }
 
@@ -139,23 +143,8 @@ impl Virtual {
         let size = self.picture.size();
         let first = row.min(size.rows);
         let end = first + n.min(size.rows - first);
-        fill(
-            &mut self.changed,
-            first as usize,
-            end as usize,
-            Some((0, size.columns - 1)),
-        );
-        self.rows = with_rows(first, end, self.rows);
-    }
-}
-
-// One range, or none, in rows `first..end`.
-fn fill(ranges: &mut [Option<(u32, u32)>], first: usize, end: usize, range: Option<(u32, u32)>)
-    requires order { first ≤ end }
-    requires end { end ≤ length ranges.old }
-    ensures { ranges.new ≡ ranges_with (λ r. leb first r && ltb r end) (λ _. range) ranges.old }
-{
-    for row in first..end {
-        ranges[row] = range;
+        let whole = (0, size.columns - 1);
+        self.changed.fill(first, end, whole);
+        self.altered.fill(first, end, whole);
     }
 }

@@ -1,15 +1,15 @@
 //! Taking windows and pads onto the virtual screen. The definitions are in `specs/Taking.antt`.
-ghost use Rattle.std.specs.Prelude.{ℕ, ◌≡◌, ◌+◌, ◌<◌, ◌≤◌, ◌||◌, length, IfOk, Ok};
+ghost use Rattle.std.specs.Prelude.{ℕ, ◌≡◌, ◌+◌, ◌<◌, ◌≤◌, ◌||◌, length, IfOk, IfSome, Ok, Option};
 ghost use Rattle.scr_windows.specs.Calls.Touching.{take_lines_call};
 ghost use Rattle.scr_windows.specs.Changes.{index_of};
 ghost use Rattle.scr_windows.specs.DeskViews.{window_at};
 ghost use Rattle.scr_virtual.specs.Taking.{pad_part, part_copied, shown_place, take_pad_call, take_window_call, window_part, wish_of};
-ghost use Rattle.scr_virtual.specs.Code.Lines.{IsInside, IsShown, copied_lines, lent_at, line_copied, part_line, shown};
+ghost use Rattle.scr_virtual.specs.Ranges.{IsRange, joined, joined_by};
+ghost use Rattle.scr_virtual.specs.Code.Lines.{IsInside, IsShown, copied_lines, lent_at, line_copied, line_unlike, part_line, shown};
 
 use crate::parts::Part;
-use crate::ranges::widened;
 use crate::screens::Virtual;
-use scr_cells::{Cell, Size, grid_laws};
+use scr_cells::{Cell, Size, first_difference, grid_laws, last_difference};
 use scr_windows::{Desk, Win, WinFault, WindowRef, windows_are_placed};
 
 impl Virtual {
@@ -131,13 +131,31 @@ impl Virtual {
         requires end { column + length cells.now ≤ self.old.picture.columns }
         ensures { self.new ≡ line_copied row column cells.now self.old }
     {
+        let altered = self.unlike(row, column, cells);
         self.picture.put_row(row, column, cells);
         // What holds of every picture holds of this one.
         let _size = self.picture.size();
         let last = column + (cells.len() as u32 - 1);
-        let range = &mut self.changed[row as usize];
-        *range = widened(column, last, *range);
-        self.rows = widened(row, row, self.rows);
+        self.changed.join(row, Some((column, last)));
+        self.altered.join(row, altered);
+    }
+
+    // The first and the last column of a row, from one on, in which it has another cell than these.
+    fn unlike(&self, row: u32, column: u32, cells: &[Cell]) -> Option<(u32, u32)>
+        requires row { row < self.now.picture.rows }
+        requires end { column + length cells.now ≤ self.now.picture.columns }
+        ensures columns { IfSome result (IsRange self.now.picture.columns) }
+        ensures same { (range : Option (ℕ × ℕ)) → joined result range ≡ joined_by (line_unlike row column cells.now self.now) range }
+    {
+        let from = column as usize;
+        let there = &self.picture.row(row)[from..from + cells.len()];
+        let Some(first) = first_difference(there, cells) else {
+            return None;
+        };
+        let Some(last) = last_difference(there, cells) else {
+            return None;
+        };
+        Some((column + first as u32, column + last as u32))
     }
 
     // Takes the lines of a part of a window on a desk, and its wish to paint anew.

@@ -13,8 +13,8 @@ pub loop-row-init : goal.loop-row-init
 loop-row-init c =
     c.in_ok-reset.ensures ∙ ap (λ ops. ops ++ painter_resets c.of-painter.result) c.in_ok-ops.ensures.items ∙ ap painter_resets c.of-painter.ensures ∙ sym (append-nil (resets c.args.profile.now))
     ∙ ap (λ ps. resets c.args.profile.now ++ flat_map (brief_place c.args.profile.now c.args.wanted.now.picture c.args.memory.now) ps)
-    (sym (begins c.args.profile.now c.args.memory.now c.args.wanted.now c.requires.same c.requires.size c.requires.known c.changed_rows-first.result.0 (omega (arith, c.changed_rows-first.ensures.order, c.changed_rows-first.ensures.end))
-    (λ r below. c.changed_rows-first.ensures.others r (inl below))))
+    (sym (begins c.args.profile.now c.args.memory.now c.args.wanted.now c.requires.same c.requires.size c.requires.known c.altered_rows-first.result.0 (omega (arith, c.altered_rows-first.ensures.order, c.altered_rows-first.ensures.end))
+    (λ r below. c.altered_rows-first.ensures.others r (inl below))))
 
 pub loop-row-preserved : goal.loop-row-preserved
 loop-row-preserved c =
@@ -22,10 +22,10 @@ loop-row-preserved c =
 
 pub returns : goal.returns
 returns c =
-    let end : c.loop-row.row ≡ c.changed_rows-first.result.1 = omega (arith, c.loop-row-test.false, c.loop-row.auto.row-end c.changed_rows-first.ensures.order) in
+    let end : c.loop-row.row ≡ c.altered_rows-first.result.1 = omega (arith, c.loop-row-test.false, c.loop-row.auto.row-end c.altered_rows-first.ensures.order) in
     let all = c.loop-row.invariant ∙ ap (λ ps. resets c.args.profile.now ++ flat_map (brief_place c.args.profile.now c.args.wanted.now.picture c.args.memory.now) ps)
-    (rest c.args.profile.now c.args.memory.now c.args.wanted.now c.requires.same c.requires.size c.requires.known c.loop-row.row (omega (arith, end, c.changed_rows-first.ensures.end))
-    (λ r above. c.changed_rows-first.ensures.others r (inr (omega (arith, end, above))))) in
+    (rest c.args.profile.now c.args.memory.now c.args.wanted.now c.requires.same c.requires.size c.requires.known c.loop-row.row (omega (arith, end, c.altered_rows-first.ensures.end))
+    (λ r above. c.altered_rows-first.ensures.others r (inr (omega (arith, end, above))))) in
     let count : length c.reset.new.ops.items ≡ vec_len c.reset.new.ops = search rules in
     let begun = c.len-begun.ensures ∙ sym count ∙ ap length (c.in_ok-reset.ensures ∙ ap (λ ops. ops ++ painter_resets c.of-painter.result) c.in_ok-ops.ensures.items ∙ ap painter_resets c.of-painter.ensures) in
     let ended : PictureView → Ops → Type 0 = λ picture ops. ops ≡ (if length c.loop-row.ops.items == c.len-begun.result && is_placed c.args.memory.now picture.wish then [] else c.loop-row.ops.items ++ painter_resets c.of-painter.result ++ places_cursor picture.wish) in

@@ -37,5 +37,5 @@ returns-in-Some c =
 pub returns-in-None : goal.returns-in-None
 returns-in-None c =
     sym (ap (λ ps. c.args.ops.now.items ++ flat_map (brief_place c.args.profile.now c.args.wanted.now.picture c.args.memory.now) ps)
-    (row_same c.args.profile.now c.args.memory.now c.args.wanted.now c.requires.same c.requires.size c.requires.known c.args.row c.requires.row (sym c.changed.ensures.value ∙ c.in-None.is))
+    (row_same c.args.profile.now c.args.memory.now c.args.wanted.now c.requires.same c.requires.size c.requires.known c.args.row c.requires.row (sym c.altered.ensures.value ∙ c.in-None.is))
     ∙ append-nil c.args.ops.now.items)

@@ -1,6 +1,5 @@
-use Rattle.std.proofs.Common.{arith}
-use Rattle.std.proofs.lemmas.Grind.{common_steps}
+use Rattle.std.proofs.Common.{rules}
 use Rattle.scr_virtual.proofs.screens.Virtual.changed.Goals as goal
 
 pub returns-clause-value : goal.returns-clause-value
-returns-clause-value c = grind (arith, common_steps)
+returns-clause-value c = search rules
