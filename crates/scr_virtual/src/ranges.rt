@@ -85,6 +85,9 @@ impl Ranges {
         requires { row < length self.old }
         ensures { self.new ≡ slice_set self.old row (joined other (slice_index_or self.old row None)) }
     {
+        if other.is_none() {
+            return;
+        }
         let range = &mut self.columns[row as usize];
         *range = joined(other, *range);
         self.rows = joined(Some((row, row)), self.rows);
