@@ -25,6 +25,7 @@ is_copied part lines r = leb part.top r && ltb r (part.top + part.rows) && lines
 abbrev pub part_cell : Part → (ℕ → ℕ → CellView) → ℕ → ℕ → CellView
 part_cell part cells r c = cells (part.row + (r - part.top)) (part.column + (c - part.left))
 
+-- two cells are the same
 abbrev pub cell_eq : CellView → CellView → Bool
 cell_eq a b = a.byte == b.byte && a.attrs == b.attrs && a.pair == b.pair
 

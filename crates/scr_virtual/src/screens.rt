@@ -12,7 +12,7 @@ use std::marker::Model;
 
 /// What the terminal is to show after the next update (curs_refresh(3X), 'virtual screen'; X/Open Curses Issue 7,
 /// doupdate()): a picture, whether the whole screen is to be painted anew, and for each row the first and the last
-/// column that may have changed since `settle`, and of those that may look otherwise.
+/// column that may have changed since `settle`, and the first and the last that may look otherwise.
 ///
 /// Rows and columns are counted from 0. A refused call changes nothing; where several refusals hold, the first that the
 /// call names is given. No call but `new` takes memory.
