@@ -1,5 +1,5 @@
 -- What a cell of a window holds. X/Open Curses Issue 7, 'Characters' and 'Color'.
-use Rattle.std.specs.Prelude.{ℕ, ◌<◌, ◌≤◌, ◌&&◌, Bool, nat_le}
+use Rattle.std.specs.Prelude.{ℕ, ◌<◌, ◌≤◌, ◌-◌, ◌==◌, ◌&&◌, Bool, nat_le, bit_and, bit_or, if◌then◌else◌}
 
 -- a character: the blank, or a graphic character of ASCII
 abbrev pub IsCharacter : ℕ → Type 0
@@ -27,3 +27,13 @@ pub record IsCell (cell : CellView) : Type 0 where
 -- a blank without attributes, in default colours
 abbrev pub blank_cell : CellView
 blank_cell = record { byte = 32; attrs = 0; pair = 0 }
+
+-- a background in place of another: the byte of the old one becomes that of the new one, the attributes of the old one are taken
+-- off and those of the new one put on, and the colour pair of the old one becomes that of the new one: bkgd()
+abbrev pub exchanged : CellView → CellView → CellView → CellView
+exchanged old new cell =
+    record {
+      byte = if cell.byte == old.byte then new.byte else cell.byte;
+      attrs = bit_or (bit_and cell.attrs (255 - old.attrs)) new.attrs;
+      pair = if cell.pair == old.pair then new.pair else cell.pair;
+    }

@@ -3,10 +3,11 @@ ghost use Rattle.std.specs.Prelude.{◌≡◌, ◌↔◌, ◌==◌, IsSome, IsTr
 ghost use Rattle.std.proofs.Common.{rules};
 ghost use Rattle.std.specs.Ordering.{eq_of_both, on};
 ghost use Rattle.std.specs.Cmp.Rules.{comparing};
-ghost use Rattle.scr_cells.specs.CellViews.{IsCell, IsCharacter, IsPair, blank_cell, is_character};
+ghost use Rattle.scr_cells.specs.CellViews.{IsCell, IsCharacter, IsPair, blank_cell, exchanged, is_character};
 
 use crate::Attrs;
 use crate::differences::Packed;
+use bitflags::Flags;
 use std::marker::Model;
 
 /// What a window holds in one place: a byte 32 to 126, a set of attributes and the number of a colour pair (X/Open
@@ -91,6 +92,48 @@ impl Cell {
         ensures cell { IsCell self }
     {
         self.packed / 65536
+    }
+
+    /// The cell with a new background in place of an old one: where it has the byte of the old one it gets that of the new
+    /// one, the same of the colour pair, and the attributes of the old one are taken off and those of the new one put on
+    /// (X/Open Curses Issue 7, bkgd()).
+    pub fn exchanged(self, old: Cell, new: Cell) -> Cell
+        ensures { result ≡ exchanged old new self }
+    {
+        let shown = if self.byte() == old.byte() {
+            self.with_byte_of(old, new)
+        } else {
+            self
+        };
+        let coloured = if shown.pair() == old.pair() {
+            shown.with_pair_of(old, new)
+        } else {
+            shown
+        };
+        let attrs = self.attrs().difference(old.attrs()).union(new.attrs());
+        Cell {
+            packed: coloured.pair() * 65536 + u32::from(attrs.0) * 256 + u32::from(coloured.byte()),
+        }
+    }
+
+    // The cell with the byte of a new one, where it has that of an old one. By sums, which LLVM does for four cells at a time.
+    fn with_byte_of(self, old: Cell, new: Cell) -> Cell
+        requires { self.byte ≡ old.byte }
+        ensures { result ≡ record self { byte = new.byte } }
+    {
+        Cell {
+            packed: self.packed - old.packed % 256 + new.packed % 256,
+        }
+    }
+
+    // The cell with the colour pair of a new one, where it has that of an old one.
+    fn with_pair_of(self, old: Cell, new: Cell) -> Cell
+        requires { self.pair ≡ old.pair }
+        ensures { result ≡ record self { pair = new.pair } }
+    {
+        Cell {
+            packed: self.packed - old.packed / 65536 * 65536 + new.packed / 65536 * 65536,
+        }
     }
 }
 

@@ -1,10 +1,10 @@
 -- Changes of an area, row after row.
 use Rattle.std.proofs.Common.{ap, ◌≡◌, ℕ, ◌+◌, ◌-◌, ◌<◌, ◌≤◌, sym, ◌∙◌, refl, arith, subst, cond, ltb, leb, ◌==◌, ◌&&◌, ◌||◌, if◌then◌else◌}
 use Rattle.std.proofs.lemmas.Bool.Decides.{nat_tests}
-use Rattle.scr_cells.specs.CellViews.{CellView}
+use Rattle.scr_cells.specs.CellViews.{CellView, exchanged}
 use Rattle.scr_surfaces.specs.declared.areas.Area.{Area}
 use Rattle.scr_surfaces.specs.SurfaceViews.{SurfaceView, IsSurface, IsPart, cell_of, inside_at}
-use Rattle.scr_surfaces.specs.Formulas.{run_put, rows_put, below_put, column_put, exchanged, all_exchanged, row_opened, row_closed}
+use Rattle.scr_surfaces.specs.Formulas.{run_put, rows_put, below_put, column_put, all_exchanged, row_opened, row_closed}
 use Rattle.scr_surfaces.specs.Code.Steps.{RunIs, Changes}
 use Rattle.scr_surfaces.proofs.RunLaws.{then_run, unchanged}
 

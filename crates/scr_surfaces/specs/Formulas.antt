@@ -1,7 +1,7 @@
 -- What drawings put into the places of an area: for each row and column a formula over the cells of the area before.
 -- X/Open Curses Issue 7, the pages named.
-use Rattle.std.specs.Prelude.{bit_and, bit_or, Bool, ℕ, ◌+◌, ◌-◌, ltb, leb, ◌==◌, ◌&&◌, ◌||◌, if◌then◌else◌}
-use Rattle.scr_cells.specs.CellViews.{CellView, blank_cell}
+use Rattle.std.specs.Prelude.{Bool, ℕ, ◌+◌, ◌-◌, ltb, leb, ◌==◌, ◌&&◌, ◌||◌, if◌then◌else◌}
+use Rattle.scr_cells.specs.CellViews.{CellView, blank_cell, exchanged}
 use Rattle.scr_cells.specs.Grids.{GridView, grid_at}
 use Rattle.scr_surfaces.specs.declared.areas.Area.{Area}
 use Rattle.scr_surfaces.specs.declared.borders.Border.{Border}
@@ -39,16 +39,7 @@ below_put y x cell at r c = if (r == y && leb x c) || ltb y r then cell else at 
 abbrev pub column_put : ℕ → ℕ → ℕ → CellView → (ℕ → ℕ → CellView) → ℕ → ℕ → CellView
 column_put column first end cell at r c = if c == column && leb first r && ltb r end then cell else at r c
 
--- a background in place of another: in each cell the byte of the old one becomes that of the new one, the attributes of the
--- old one are taken off and those of the new one put on, and the colour pair of the old one becomes that of the new one: bkgd()
-abbrev pub exchanged : CellView → CellView → CellView → CellView
-exchanged old new cell =
-    record {
-      byte = if cell.byte == old.byte then new.byte else cell.byte;
-      attrs = bit_or (bit_and cell.attrs (255 - old.attrs)) new.attrs;
-      pair = if cell.pair == old.pair then new.pair else cell.pair;
-    }
-
+-- every cell has a background in place of another: bkgd()
 abbrev pub all_exchanged : CellView → CellView → (ℕ → ℕ → CellView) → ℕ → ℕ → CellView
 all_exchanged old new at r c = exchanged old new (at r c)
 

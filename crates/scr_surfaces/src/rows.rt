@@ -1,12 +1,11 @@
 //! Runs of cells in one row of a surface: the steps that every drawing is made of.
 ghost use Rattle.std.specs.Prelude.{◌≡◌, ◌+◌, ◌-◌, ◌<◌, ◌≤◌, length, slice_index_or};
-ghost use Rattle.scr_cells.specs.CellViews.{blank_cell};
+ghost use Rattle.scr_cells.specs.CellViews.{blank_cell, exchanged};
 ghost use Rattle.scr_surfaces.specs.SurfaceViews.{cell_of};
-ghost use Rattle.scr_surfaces.specs.Formulas.{exchanged, laid, over};
+ghost use Rattle.scr_surfaces.specs.Formulas.{laid, over};
 ghost use Rattle.scr_surfaces.specs.Code.Steps.{RunIs};
 
 use crate::surfaces::Surface;
-use bitflags::Flags;
 use scr_cells::{Cell, grid_laws};
 
 impl Surface {
@@ -40,7 +39,7 @@ impl Surface {
     {
         grid_laws::<Cell>();
         self.grid
-            .change(row, from, end, |_, cell| exchanged_cell(cell, old, new));
+            .change(row, from, end, |_, cell| cell.exchanged(old, new));
     }
 
     // Cells over those in columns `from..end` of a row; with overlay a blank leaves its place.
@@ -102,22 +101,4 @@ fn over(cell: Cell, under: Cell) -> Cell
     ensures { result ≡ over cell under }
 {
     if cell.byte() == 32 { under } else { cell }
-}
-
-// A cell with a new background in place of an old one.
-fn exchanged_cell(cell: Cell, old: Cell, new: Cell) -> Cell
-    ensures { result ≡ exchanged old new cell }
-{
-    let byte = if cell.byte() == old.byte() {
-        new.byte()
-    } else {
-        cell.byte()
-    };
-    let attrs = cell.attrs().difference(old.attrs()).union(new.attrs());
-    let pair = if cell.pair() == old.pair() {
-        new.pair()
-    } else {
-        cell.pair()
-    };
-    Cell::paired(byte, attrs, pair).unwrap_or(Cell::blank())
 }

@@ -67,6 +67,7 @@ impl Desk {
     }
 
     // The same, of the window at an index.
+    #[inline(always)]
     pub(crate) fn pen_at(&self, index: usize) -> Pen
         requires { index < length self.now.windows }
         ensures index { result.index ≡ index }
@@ -99,6 +100,7 @@ impl Desk {
     }
 
     // Puts the cursor of the window at an index to a row and a column inside.
+    #[inline(always)]
     pub(crate) fn set_cursor(&mut self, index: usize, row: u32, column: u32)
         requires here { index < length self.old.windows }
         requires row { row < (window_at self.old index).frame.area.rows }

@@ -31,6 +31,7 @@ impl Desk {
     }
 
     // Puts a cell in one place of the window at an index, and touches the line.
+    #[inline(always)]
     pub(crate) fn put(&mut self, index: usize, row: u32, column: u32, cell: Cell)
         requires here { index < length self.old.windows }
         requires row { row < (window_at self.old index).frame.area.rows }

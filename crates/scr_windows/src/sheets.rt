@@ -16,6 +16,7 @@ pub struct Sheet {
 }
 
 /// Where the surface that bears a number stands.
+#[inline(always)]
 pub fn index_of_sheet(sheets: &[Sheet], number: u32) -> usize
     requires ascending { AreSheets sheets.now }
     requires there { HasSheet sheets.now number }

@@ -148,6 +148,7 @@ impl Desk {
     }
 
     // Adds a byte below 128 to the window at an index.
+    #[inline(always)]
     #[tactic(auto, unfolding(crate::specs::Calls::Adding::byte_added))]
     fn add_at(&mut self, index: usize, byte: u8, attrs: Attrs) -> Added
         requires here { index < length self.old.windows }
@@ -168,6 +169,7 @@ impl Desk {
     }
 
     // Shows a control character as `^` and a character.
+    #[inline(never)]
     fn add_shown(&mut self, index: usize, byte: u8, attrs: Attrs) -> Added
         requires here { index < length self.old.windows }
         requires control { (byte < 32) ⊎ (byte ≡ 127) }
@@ -180,6 +182,7 @@ impl Desk {
     }
 
     // Writes a byte 32 to 126 at the cursor.
+    #[inline(always)]
     #[tactic(auto, unfolding(crate::specs::Calls::Adding::character_added))]
     fn add_character(&mut self, index: usize, byte: u8, attrs: Attrs) -> Added
         requires here { index < length self.old.windows }
@@ -201,6 +204,7 @@ impl Desk {
     }
 
     // Erases to the end of the cursor's line, and begins the next one.
+    #[inline(never)]
     #[tactic(auto, unfolding(crate::specs::Calls::Adding::newline_added))]
     fn add_newline(&mut self, index: usize) -> Added
         requires here { index < length self.old.windows }
@@ -213,6 +217,7 @@ impl Desk {
     }
 
     // Erases to the next column that is a multiple of 8, and goes there; a newline where the line has none.
+    #[inline(never)]
     #[tactic(auto, unfolding(crate::specs::Calls::Adding::tab_added))]
     fn add_tab(&mut self, index: usize) -> Added
         requires here { index < length self.old.windows }
@@ -230,6 +235,7 @@ impl Desk {
     }
 
     // Puts the cursor to a row and a column inside.
+    #[inline(always)]
     fn go_to(&mut self, index: usize, row: u32, column: u32) -> Added
         requires here { index < length self.old.windows }
         requires row { row < (window_at self.old index).frame.area.rows }
@@ -242,6 +248,7 @@ impl Desk {
     }
 
     // Begins the line that follows, if one follows.
+    #[inline(never)]
     #[tactic(auto, unfolding(crate::specs::Calls::Adding::line_begun))]
     fn begin_line(&mut self, index: usize) -> Added
         requires here { index < length self.old.windows }
@@ -282,6 +289,7 @@ fn end_of(first: u32, n: u32, edge: u32) -> u32
 }
 
 // The written form of a byte 32 to 126.
+#[inline(always)]
 pub(crate) fn written_form(byte: u8, attrs: Attrs, state: WindowState) -> Cell
     requires from { 32 ≤ byte }
     requires to { byte ≤ 126 }

@@ -1,5 +1,5 @@
 use Rattle.std.proofs.Common.{rules}
-use Rattle.scr_surfaces.specs.Formulas.{exchanged}
+use Rattle.scr_cells.specs.CellViews.{exchanged}
 use Rattle.scr_surfaces.proofs.RunLaws.{change_of}
 use Rattle.scr_surfaces.proofs.surfaces.Surface.exchange_row.Goals as goal
 

@@ -1,5 +1,5 @@
 use Rattle.std.proofs.Common.{rules}
-use Rattle.scr_surfaces.proofs.rows.exchanged_cell.Goals as goal
+use Rattle.scr_cells.proofs.cells.Cell.exchanged.Goals as goal
 
 pub returns : goal.returns
 returns c = search rules
