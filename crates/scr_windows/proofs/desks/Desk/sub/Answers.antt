@@ -1,0 +1,7 @@
+use Rattle.std.proofs.Common.{rules}
+use Rattle.scr_windows.specs.Calls.Subwindows.{sub_call}
+use Rattle.scr_windows.proofs.desks.Desk.sub.Goals as goal
+
+pub returns : goal.returns
+unfolding sub_call
+returns c = search rules
