@@ -1,6 +1,5 @@
 -- A look and a cell of one number: the look is what is seen of the cell.
 use Rattle.std.proofs.Common.{◌≡◌, ◌⊎◌, inl, inr, ℕ, Bool, true, false, not, ◌+◌, ◌-◌, ◌%◌, ◌/◌, ◌<◌, ◌≤◌, sym, ◌∙◌, ap, refl, arith, bit_and, List, None, Option, length, get_or, cond, map, if◌then◌else◌}
-use Rattle.std.proofs.lemmas.Bool.{eqb-true}
 use Rattle.std.proofs.lemmas.Simd.{length-zip2, mask_l-mod, tops_compared}
 use Rattle.std.proofs.Math.Dec.{eqb}
 use Rattle.std.specs.Simd.Lanes.{mask_l, top, zip2}
