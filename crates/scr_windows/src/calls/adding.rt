@@ -1,6 +1,7 @@
 //! Calls that add bytes: a byte, a text, an inserted byte, and lines of one byte.
 //!
 //! The definitions are in `specs/Calls/Adding.antt`; what is drawn of them is a matter of `scr_surfaces`.
+//! What a character takes is laid inline, and what ends a line or is rare is called, so that adding a text is one short loop.
 ghost use Rattle.std.specs.Prelude.{◌≡◌, ◌+◌, ◌<◌, ◌≤◌, ◌⊎◌, length, leb, min, false};
 ghost use Rattle.std.specs.List.{list_any};
 ghost use Rattle.scr_cells.specs.CellViews.{IsPair};
