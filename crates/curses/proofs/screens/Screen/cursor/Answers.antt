@@ -1,5 +1,0 @@
-use Rattle.std.proofs.Common.{rules}
-use Rattle.curses.proofs.screens.Screen.cursor.Goals as goal
-
-pub returns : goal.returns
-returns c = search rules
