@@ -1,9 +1,9 @@
 //! Answers of calls on windows, in words.
 
-use check_scripts::answers::{add_flag, add_held, add_number, add_place, add_word};
+use check_scripts::answers::{add_flag, add_held, add_name, add_number, add_place, add_word};
 use check_scripts::buffers::Buffer;
 use plain_desk::calls::{Answer, Answered};
-use scr_windows::{Added, WinFault};
+use scr_windows::Added;
 
 /// Adds what a call on windows answered.
 pub fn add_answer(answered: Answered, words: &mut Buffer) {
@@ -17,28 +17,6 @@ pub fn add_answer(answered: Answered, words: &mut Buffer) {
         Ok(Answer::Flag(flag)) => add_flag(flag, words),
         Ok(Answer::Number(number)) => add_number(i64::from(number), words),
         Ok(Answer::Nothing) => add_word("none", words),
-        Err(fault) => add_word(fault_name(fault), words),
-    }
-}
-
-/// The name of a refusal.
-pub fn fault_name(fault: WinFault) -> &'static str {
-    match fault {
-        WinFault::NoWindow => "NoWindow",
-        WinFault::IsPad => "IsPad",
-        WinFault::NotPad => "NotPad",
-        WinFault::IsSub => "IsSub",
-        WinFault::HasChildren => "HasChildren",
-        WinFault::NotAscii => "NotAscii",
-        WinFault::OutOfWindow => "OutOfWindow",
-        WinFault::OffScreen => "OffScreen",
-        WinFault::NotInParent => "NotInParent",
-        WinFault::BadRegion => "BadRegion",
-        WinFault::NoScroll => "NoScroll",
-        WinFault::TooBig => "TooBig",
-        WinFault::TooMany => "TooMany",
-        WinFault::NoMemory => "NoMemory",
-        WinFault::BadPair => "BadPair",
-        WinFault::BadColour => "BadColour",
+        Err(fault) => add_name(&fault, words),
     }
 }

@@ -1,8 +1,7 @@
 //! Lines about a whole desk: how one is made, and what a window holds.
 
-use crate::answers::fault_name;
 use crate::lent_lines::answer_of_lent;
-use check_scripts::answers::{add_number, add_text_of, add_word};
+use check_scripts::answers::{add_name, add_number, add_text_of, add_word};
 use check_scripts::buffers::Buffer;
 use check_scripts::words::Words;
 use scr_cells::{Cell, Size};
@@ -72,7 +71,7 @@ fn make_desk(
             *desk = Some(made);
             add_word("Ok", came)
         }
-        Err(fault) => add_word(fault_name(fault), came),
+        Err(fault) => add_name(&fault, came),
     }
 }
 
@@ -89,7 +88,7 @@ fn add_rows(desk: &Desk, words: &mut Words<'_>, came: &mut Buffer) {
                 add_cells(desk.line(win, row), came);
             }
         }
-        Err(fault) => add_word(fault_name(fault), came),
+        Err(fault) => add_name(&fault, came),
     }
 }
 
@@ -104,7 +103,7 @@ fn add_of_each(desk: &Desk, words: &mut Words<'_>, pairs: bool, came: &mut Buffe
                 add_number(i64::from(number), came);
             }
         }
-        Err(fault) => add_word(fault_name(fault), came),
+        Err(fault) => add_name(&fault, came),
     }
 }
 
@@ -118,7 +117,7 @@ fn add_touched(desk: &Desk, words: &mut Words<'_>, came: &mut Buffer) {
                 came.push(if touched { b'x' } else { b'.' });
             }
         }
-        Err(fault) => add_word(fault_name(fault), came),
+        Err(fault) => add_name(&fault, came),
     }
 }
 
@@ -138,6 +137,6 @@ fn new_desk(alloc: Global, size: Size, text: Option<&[u8]>) -> Result<Desk, WinF
 fn add_cells(cells: Result<&[Cell], WinFault>, came: &mut Buffer) {
     match cells {
         Ok(cells) => add_text_of(cells, came),
-        Err(fault) => add_word(fault_name(fault), came),
+        Err(fault) => add_name(&fault, came),
     }
 }

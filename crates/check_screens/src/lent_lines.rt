@@ -1,8 +1,8 @@
 //! Lines about which windows there are, and about what one that is lent tells.
 
-use crate::answers::{add_answer, fault_name};
+use crate::answers::add_answer;
 use crate::lent_windows::{FIELDS, Field, lent_field, lent_line};
-use check_scripts::answers::{add_flag, add_number, add_place, add_text_of, add_word};
+use check_scripts::answers::{add_flag, add_name, add_number, add_place, add_text_of, add_word};
 use check_scripts::buffers::Buffer;
 use check_scripts::troubles::Trouble;
 use check_scripts::words::Words;
@@ -42,7 +42,7 @@ fn add_lent(desk: &Desk, words: &mut Words<'_>, came: &mut Buffer) {
     let asked = read_row(word, words);
     match desk.window(win) {
         Ok(window) => words.check(add_asked(&window, word, asked, came)),
-        Err(fault) => add_word(fault_name(fault), came),
+        Err(fault) => add_name(&fault, came),
     }
 }
 

@@ -5,6 +5,8 @@ use crate::texts::{write_byte, write_text};
 use crate::troubles::Trouble;
 use crate::words::Words;
 use scr_cells::{Attrs, Cell, Look, NoMemory, Size};
+use std::fmt::Debug;
+use std::io::Write;
 
 /// Adds a word.
 pub fn add_word(word: &str, came: &mut Buffer) {
@@ -21,6 +23,13 @@ pub fn add_number(number: i64, came: &mut Buffer) {
 pub fn add_text(text: &[u8], came: &mut Buffer) {
     came.push(b' ');
     write_text(text, came);
+}
+
+/// Adds the name of a refusal that tells nothing else.
+pub fn add_name<F: Debug>(fault: &F, came: &mut Buffer) {
+    came.push(b' ');
+    let written = write!(came.vector(), "{fault:?}");
+    came.check(written.is_ok());
 }
 
 /// Adds `yes` or `no`.

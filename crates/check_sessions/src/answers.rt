@@ -1,6 +1,6 @@
 //! Answers of calls on a screen, in words.
 
-use check_scripts::answers::{add_cell, add_flag, add_number, add_place, add_word};
+use check_scripts::answers::{add_cell, add_flag, add_name, add_number, add_place, add_word};
 use check_scripts::buffers::Buffer;
 use curses::{Answer, UpdateFault};
 use scr_windows::{Added, WinFault};
@@ -39,7 +39,7 @@ fn add_refusal(fault: WinFault, words: &mut Buffer) {
         return;
     }
     add_word("Refused", words);
-    add_word(fault_name(fault), words);
+    add_name(&fault, words);
 }
 
 // Adds why an update ended early, how many operations it began, and how many bytes it sent.
@@ -74,26 +74,5 @@ fn kind_name(kind: ErrorKind) -> &'static str {
         ErrorKind::WriteZero => "WriteZero",
         ErrorKind::Other => "Other",
         _ => "another",
-    }
-}
-
-fn fault_name(fault: WinFault) -> &'static str {
-    match fault {
-        WinFault::NoWindow => "NoWindow",
-        WinFault::IsPad => "IsPad",
-        WinFault::NotPad => "NotPad",
-        WinFault::IsSub => "IsSub",
-        WinFault::HasChildren => "HasChildren",
-        WinFault::NotAscii => "NotAscii",
-        WinFault::OutOfWindow => "OutOfWindow",
-        WinFault::OffScreen => "OffScreen",
-        WinFault::NotInParent => "NotInParent",
-        WinFault::BadRegion => "BadRegion",
-        WinFault::NoScroll => "NoScroll",
-        WinFault::TooBig => "TooBig",
-        WinFault::TooMany => "TooMany",
-        WinFault::NoMemory => "NoMemory",
-        WinFault::BadPair => "BadPair",
-        WinFault::BadColour => "BadColour",
     }
 }
