@@ -1,4 +1,4 @@
--- Painting places briefly leads where painting them one by one leads.
+-- Painting the places of a row, each behind its neighbour where both have one pen, leads where painting them one by one leads.
 use Rattle.std.proofs.Common.{◌≡◌, ℕ, ◌+◌, ◌<◌, ◌≤◌, Bool, true, false, All, refl, sym, ◌∙◌, ap, arith, nat_lt, List, [], ◌∷◌, ◌++◌, filter, Option, Some, None, option_and_then, zero, suc, if◌then◌else◌}
 use Rattle.std.specs.List.{flat_map}
 use Rattle.std.proofs.lemmas.Bool.Decides.{nat_tests}
@@ -23,7 +23,7 @@ use Rattle.scr_plan.proofs.PlaceLaws.{cell_of, one_run}
 use Rattle.scr_plan.proofs.PlainLaws.{both, pen_same}
 use Rattle.scr_plan.specs.Code.Painters.{part_places}
 use Rattle.scr_plan.specs.Memories.{MemoryView}
-use Rattle.scr_plan.specs.Repaints.{BriefActsAsPlain, brief_place, differs, joins_left}
+use Rattle.scr_plan.specs.Repaints.{brief_place, differs, joins_left}
 use Rattle.scr_plan.specs.Scratch.{PlaceIsPainted, goes, look_at, paints_place, places, renders, row_places}
 
 -- ---- runs one behind another
@@ -64,7 +64,7 @@ put_is_place have place_law profile p picture k r c high wide old s spot pen =
 -- ---- the places of a row
 
 -- the last place of a part, if it differs, leaves the cursor behind it, and its pen
-behind_last : RunLaws → PlaceIsPainted → (profile : ProfileView) → IsProfile profile → (picture : PictureView) → IsPicture picture → (d : ℕ × ℕ → Bool)
+pub behind_last : RunLaws → PlaceIsPainted → (profile : ProfileView) → IsProfile profile → (picture : PictureView) → IsPicture picture → (d : ℕ × ℕ → Bool)
     → (r m : ℕ) → r < profile.rows → m < profile.columns → d (r, m) ≡ true → (old new : TerminalState) → IsState (abilities profile) old
     → runs profile old (flat_map (paints_place profile picture) (filter d (part_places 0 (suc m) r))) ≡ Some new
     → (new.spot ≡ spot_after profile.columns r m) × (new.pen ≡ (look_at profile picture (r, m)).pen)
@@ -112,7 +112,7 @@ one_same laws have place_law profile p picture k memory r (suc m) high wide old 
         let behind = behind_last laws place_law profile p picture k (differs profile picture memory) r m high (omega (arith, wide)) parts.0 old next s run in
         put_is_place have place_law profile p picture k r m high wide next (laws.kept profile p old next s _ run) behind.0 (behind.1 ∙ pen_same (look_at profile picture (r, m)).pen look.pen parts.1)
 
-row_same : RunLaws → ProfilesHave → PlaceIsPainted → (profile : ProfileView) → IsProfile profile → (picture : PictureView) → IsPicture picture → (memory : MemoryView)
+pub row_same : RunLaws → ProfilesHave → PlaceIsPainted → (profile : ProfileView) → IsProfile profile → (picture : PictureView) → IsPicture picture → (memory : MemoryView)
     → (r n : ℕ) → r < profile.rows → n ≤ profile.columns → (old : TerminalState) → IsState (abilities profile) old
     → runs profile old (flat_map (brief_place profile picture memory) (filter (differs profile picture memory) (part_places 0 n r)))
     ≡ runs profile old (flat_map (paints_place profile picture) (filter (differs profile picture memory) (part_places 0 n r)))
@@ -139,27 +139,3 @@ row_same laws have place_law profile p picture k memory r (suc n) high wide old 
     by false between same = refl
     by true between same =
         ap (runs profile between) (append-nil (brief_place profile picture memory (r, n))) ∙ same ∙ sym (ap (runs profile between) (append-nil (paints_place profile picture (r, n))))
-
--- ---- all places
-
-rows_same : RunLaws → ProfilesHave → PlaceIsPainted → (profile : ProfileView) → IsProfile profile → (picture : PictureView) → IsPicture picture → (memory : MemoryView)
-    → picture.columns ≡ profile.columns → (n : ℕ) → n ≤ profile.rows → (old : TerminalState) → IsState (abilities profile) old
-    → runs profile old (flat_map (brief_place profile picture memory) (filter (differs profile picture memory) (places n picture.columns)))
-    ≡ runs profile old (flat_map (paints_place profile picture) (filter (differs profile picture memory) (places n picture.columns)))
-rows_same laws have place_law profile p picture k memory columns zero high old s = refl
-rows_same laws have place_law profile p picture k memory columns (suc n) high old s =
-    let d = differs profile picture memory in
-    let f = paints_place profile picture in
-    let g = brief_place profile picture memory in
-    let next : suc n ≡ n + 1 = omega arith in
-    ap (λ m. runs profile old (flat_map g (filter d (places m picture.columns)))) next
-    ∙ ap (runs profile old) (row_more g d n picture.columns)
-    ∙ then_same laws profile old old (flat_map g (filter d (places n picture.columns))) (flat_map f (filter d (places n picture.columns))) (flat_map g (filter d (row_places picture.columns n))) (flat_map f (filter d (row_places picture.columns n)))
-    (rows_same laws have place_law profile p picture k memory columns n (omega (arith, high)) old s)
-    (λ between run. row_same laws have place_law profile p picture k memory n picture.columns (omega (arith, high)) (omega (arith, columns)) between (laws.kept profile p old between s _ run))
-    ∙ sym (ap (runs profile old) (row_more f d n picture.columns))
-    ∙ sym (ap (λ m. runs profile old (flat_map f (filter d (places m picture.columns)))) next)
-
-pub brief_acts_as_plain : RunLaws → ProfilesHave → PlaceIsPainted → BriefActsAsPlain
-brief_acts_as_plain laws have place_law profile p picture k fits memory old s =
-    rows_same laws have place_law profile p picture k memory fits.columns picture.rows (omega (arith, fits.rows)) old s

@@ -16,37 +16,38 @@ use Rattle.scr_term.specs.declared.operations.operation.Op.{Op}
 use Rattle.scr_term.specs.declared.operations.operation.Op.TheVariants.{Put}
 use Rattle.scr_term.specs.Operations.Profiles.{ProfileView}
 use Rattle.scr_plan.specs.declared.painting.Painter.{Painter}
+use Rattle.scr_plan.specs.Code.Joinings.{ShowsRow}
 use Rattle.scr_plan.specs.Code.Painters.{is_that_pen, painter_look, painter_of, painter_sees, painter_writes, part_places, pen_before, row_differs, row_paints, shown_in}
 use Rattle.scr_plan.specs.Memories.{MemoryView, is_known_row}
-use Rattle.scr_plan.specs.Repaints.{brief_place, cleared, differs, look_eq, look_in}
+use Rattle.scr_plan.specs.Repaints.{brief_place, cleared, differs, joins_left, look_eq, look_in}
 use Rattle.scr_plan.specs.Scratch.{goes, look_at, renders}
 use Rattle.scr_plan.proofs.PartLaws.{look_refl, none_in_part, part_joined}
 use Rattle.scr_plan.proofs.Rows.{read_any}
 
 -- ---- by looks and by what is remembered
 
--- a row is known to show these looks
-pub record ShowsRow (memory : MemoryView) (row : ℕ) (before : Option (List LookView)) : Type 0 where
-  pub known : is_known_row memory row ≡ true
-  pub looks : (c : ℕ) → look_in memory (row, c) ≡ shown_in before c
-
-differs_same : (profile : ProfileView) (picture : PictureView) (memory : MemoryView) (row : ℕ) (before : Option (List LookView)) → ShowsRow memory row before
+pub differs_same : (profile : ProfileView) (picture : PictureView) (memory : MemoryView) (row : ℕ) (before : Option (List LookView)) → ShowsRow memory row before
     → (c : ℕ) → row_differs (painter_of profile) picture before (row, c) ≡ differs profile picture memory (row, c)
 differs_same profile picture memory row before shows c =
     sym (ap (λ known. not (known && look_eq (look_in memory (row, c)) (look_at profile picture (row, c)))) shows.known
     ∙ ap (λ look. not (look_eq look (look_at profile picture (row, c)))) (shows.looks c))
 
-paints_same : (profile : ProfileView) (picture : PictureView) (memory : MemoryView) (row : ℕ) (before : Option (List LookView)) → ShowsRow memory row before
-    → (c : ℕ) → row_paints (painter_of profile) picture before (row, c) ≡ brief_place profile picture memory (row, c)
-paints_same profile picture memory row before shows zero = refl
-paints_same profile picture memory row before shows (suc c) =
-    ap (λ joins. (if joins then [] else goes profile (row, suc c) ++ renders (look_at profile picture (row, suc c)).pen) ++ Put (look_at profile picture (row, suc c)).byte ∷ [])
-    (by (row_differs (painter_of profile) picture before (row, c)) ∙ ap (λ b. b && pen_eq (look_at profile picture (row, c)).pen (look_at profile picture (row, suc c)).pen) (differs_same profile picture memory row before shows c))
+-- a place joins its left neighbour, by the pen of that if it is painted
+pub joins_same : (profile : ProfileView) (picture : PictureView) (memory : MemoryView) (row : ℕ) (before : Option (List LookView)) → ShowsRow memory row before
+    → (c : ℕ) → is_that_pen (pen_before (painter_of profile) picture before row c) (look_at profile picture (row, c)).pen ≡ joins_left profile picture memory row c
+joins_same profile picture memory row before shows zero = refl
+joins_same profile picture memory row before shows (suc c) =
+    by (row_differs (painter_of profile) picture before (row, c)) ∙ ap (λ b. b && pen_eq (look_at profile picture (row, c)).pen (look_at profile picture (row, suc c)).pen) (differs_same profile picture memory row before shows c)
   where
     by : (b : Bool) → is_that_pen (if b then Some (look_at profile picture (row, c)).pen else None) (look_at profile picture (row, suc c)).pen
         ≡ (b && pen_eq (look_at profile picture (row, c)).pen (look_at profile picture (row, suc c)).pen)
     by true = refl
     by false = refl
+
+paints_same : (profile : ProfileView) (picture : PictureView) (memory : MemoryView) (row : ℕ) (before : Option (List LookView)) → ShowsRow memory row before
+    → (c : ℕ) → row_paints (painter_of profile) picture before (row, c) ≡ brief_place profile picture memory (row, c)
+paints_same profile picture memory row before shows c =
+    ap (λ joins. (if joins then [] else goes profile (row, c) ++ renders (look_at profile picture (row, c)).pen) ++ Put (look_at profile picture (row, c)).byte ∷ []) (joins_same profile picture memory row before shows c)
 
 -- the same places of a row pass, and each adds the same
 part_same : (f g : ℕ × ℕ → List Op) (d e : ℕ × ℕ → Bool) (row : ℕ) → ((c : ℕ) → f (row, c) ≡ g (row, c)) → ((c : ℕ) → d (row, c) ≡ e (row, c)) → (a n : ℕ)
@@ -90,7 +91,7 @@ each_true (suc n) zero below = refl
 each_true (suc n) (suc r) below = each_true n r (omega (arith, below))
 
 -- a row of blanks has a blank in every column
-blank_row : (picture : PictureView) (row c : ℕ) → row < picture.rows → look_in (cleared picture) (row, c) ≡ blank
+pub blank_row : (picture : PictureView) (row c : ℕ) → row < picture.rows → look_in (cleared picture) (row, c) ≡ blank
 blank_row picture row c high =
     let line : ℕ → List LookView = λ r. map (λ c. blank) (range_with_len 0 picture.columns) in
     ap (λ looks. get_or looks c blank)

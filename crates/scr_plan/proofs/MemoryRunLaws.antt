@@ -1,5 +1,5 @@
 -- Operations one after another, as they are remembered; and what is remembered after a plan.
-use Rattle.std.proofs.Common.{◌≡◌, ◌==◌, ◌&&◌, ◌||◌, not, Bool, true, false, refl, sym, ◌∙◌, ap, subst, List, [], ◌∷◌, ◌++◌, length, Option, Some, None, option_and_then, replicate, if◌then◌else◌}
+use Rattle.std.proofs.Common.{◌≡◌, ◌==◌, ◌&&◌, ◌||◌, not, Bool, true, false, refl, sym, ◌∙◌, ap, append_assoc, subst, List, [], ◌∷◌, ◌++◌, length, Option, Some, None, option_and_then, replicate, if◌then◌else◌}
 use Rattle.std.specs.List.{list_all}
 use Rattle.std.proofs.lemmas.List.{length-replicate}
 use Rattle.scr_cells.specs.Grids.{GridLaws}
@@ -10,7 +10,6 @@ use Rattle.scr_term.specs.declared.operations.operation.Op.{Op}
 use Rattle.scr_term.specs.declared.operations.operation.Op.TheVariants.{Clear, Reset}
 use Rattle.scr_term.specs.Operations.Abilities.{Abilities}
 use Rattle.scr_term.specs.Operations.Laws.{BlankLaws, HasLaws, ProfilesHave, RunLaws}
-use Rattle.scr_term.specs.Operations.Painted.{Shows}
 use Rattle.scr_term.specs.Operations.Profiles.{ProfileView, IsProfile, abilities, is_there}
 use Rattle.scr_term.specs.Operations.States.{TerminalState, IsState, blank_state}
 use Rattle.scr_term.specs.Operations.Steps.{runs, step}
@@ -19,7 +18,7 @@ use Rattle.scr_plan.proofs.MemoryViewLaws.{same_size}
 use Rattle.scr_plan.proofs.RememberedRowLaws.{all_true}
 use Rattle.scr_plan.specs.Memories.{Agrees, MemoryLaws, MemoryView, all_followed, followed, has_one_pen, is_known, remembered, stepped, unknown}
 use Rattle.scr_plan.specs.MemoryRuns.{KnownMemories, MayBe, MemoryRuns, PlansAreRemembered}
-use Rattle.scr_plan.specs.Repaints.{PlanShows, anew_of, brief_of, brief_places, cleared, plain_of, plan_of}
+use Rattle.scr_plan.specs.Repaints.{joined_of}
 use Rattle.scr_plan.specs.Scratch.{RunsToShow, ScratchShows, paints_places, places_cursor, resets, scratch_of}
 
 -- ---- runs
@@ -141,40 +140,27 @@ known_begun profile can memory new false there e =
     ap (λ next. is_known (stepped (abilities profile) Clear memory next)) first.1
     ∙ known_cleared (abilities profile) memory first.0 (ap (λ b. memory.known_pen || false || b) one ∙ or_true (memory.known_pen || false))
 
--- whatever is painted on a screen that was cleared, if it is defined
+-- whatever is sent behind a screen that was cleared, if it is defined
 anew_known : RunLaws → ProfilesHave → MemoryLaws → (profile : ProfileView) → IsProfile profile → (memory : MemoryView) → MayBe (abilities profile) memory
-    → (new : TerminalState) (all cursor : List Op) → runs profile memory.state (resets profile ++ Clear ∷ [] ++ all ++ resets profile ++ cursor) ≡ Some new
-    → is_known (all_followed profile (resets profile ++ Clear ∷ [] ++ all ++ resets profile ++ cursor) memory) ≡ true
-anew_known laws have one profile p memory may new all cursor run =
+    → (new : TerminalState) (ops : List Op) → runs profile memory.state (resets profile ++ Clear ∷ [] ++ ops) ≡ Some new
+    → is_known (all_followed profile (resets profile ++ Clear ∷ [] ++ ops) memory) ≡ true
+anew_known laws have one profile p memory may new ops run =
     let begins : List Op = resets profile ++ Clear ∷ [] in
-    let third = run_before laws profile memory.state new (begins ++ all ++ resets profile) cursor run in
-    let second = run_before laws profile memory.state third.0 (begins ++ all) (resets profile) third.1 in
-    let first = run_before laws profile memory.state second.0 begins all second.1 in
-    known_more laws one profile p memory may new (begins ++ all ++ resets profile) cursor run
-    (known_more laws one profile p memory may third.0 (begins ++ all) (resets profile) third.1
-    (known_more laws one profile p memory may second.0 begins all second.1
-    (known_begun profile (have profile p) memory first.0 (is_there profile Sgr0) refl first.1)))
+    let first = run_before laws profile memory.state new begins ops run in
+    known_more laws one profile p memory may new begins ops run (known_begun profile (have profile p) memory first.0 (is_there profile Sgr0) refl first.1)
 
-known_by : RunLaws → ProfilesHave → MemoryLaws → (profile : ProfileView) → IsProfile profile → (picture : PictureView) → (memory : MemoryView) → MayBe (abilities profile) memory
-    → (a repaint : Bool) → is_known memory ≡ a → (new : TerminalState)
-    → runs profile memory.state (if a && not repaint then brief_of profile memory picture else anew_of profile picture) ≡ Some new
-    → is_known (all_followed profile (if a && not repaint then brief_of profile memory picture else anew_of profile picture) memory) ≡ true
-known_by laws have one profile p picture memory may true false known new run =
-    runs_stay_known one profile p memory memory.state new (brief_of profile memory picture) (agrees_itself (abilities profile) memory may) run known
-known_by laws have one profile p picture memory may true true known new run = anew_known laws have one profile p memory may new (brief_places profile picture (cleared picture)) (places_cursor picture.wish) run
-known_by laws have one profile p picture memory may false repaint known new run = anew_known laws have one profile p memory may new (brief_places profile picture (cleared picture)) (places_cursor picture.wish) run
-
-pub plans_are_remembered : RunLaws → ProfilesHave → MemoryLaws → ScratchShows → PlanShows → PlansAreRemembered
-plans_are_remembered laws have one scratch plan = record {
-  scratch_known = λ profile p picture k fits memory may.
+pub plans_are_remembered : RunLaws → ProfilesHave → MemoryLaws → ScratchShows → PlansAreRemembered
+plans_are_remembered laws have one scratch = record {
+  cleared = λ profile p memory may new ops run. anew_known laws have one profile p memory may new ops run;
+  scratch = λ profile p picture k fits memory may.
       let run : RunsToShow profile memory.state (scratch_of profile picture) picture = scratch profile p picture k fits memory.state may.state in
-      anew_known laws have one profile p memory may run.new (paints_places profile picture) (places_cursor picture.wish) run.run;
-  known = λ profile p virtual k fits memory may.
-      let run : RunsToShow profile memory.state (plan_of profile memory virtual) virtual.picture = plan.agreeing profile p virtual k fits memory memory.state (agrees_itself (abilities profile) memory may) in
-      known_by laws have one profile p virtual.picture memory may (is_known memory) virtual.repaint refl run.new run.run;
-  shows = λ profile p virtual k fits memory may.
-      let run : RunsToShow profile memory.state (plan_of profile memory virtual) virtual.picture = plan.agreeing profile p virtual k fits memory memory.state (agrees_itself (abilities profile) memory may) in
-      subst (λ state. Shows (abilities profile) state virtual.picture) (sym (runs_state profile memory run.new (plan_of profile memory virtual) run.run)) run.shows;
+      let begins : List Op = resets profile ++ Clear ∷ [] in
+      let rest : List Op = paints_places profile picture ++ resets profile ++ places_cursor picture.wish in
+      let same : begins ++ rest ≡ scratch_of profile picture =
+      sym (append_assoc (begins ++ paints_places profile picture) (resets profile) (places_cursor picture.wish) ∙ append_assoc begins (paints_places profile picture) (resets profile ++ places_cursor picture.wish)
+      ∙ ap (λ ops. begins ++ ops) (sym (append_assoc (paints_places profile picture) (resets profile) (places_cursor picture.wish)))) in
+      subst (λ ops. is_known (all_followed profile ops memory) ≡ true) same
+      (anew_known laws have one profile p memory may run.new rest (ap (runs profile memory.state) same ∙ run.run));
 }
 
 -- ---- what is all known
@@ -193,6 +179,5 @@ known_memories grids = record {
   state = known_state grids;
   all = λ abilities memory now agrees known rows columns.
       known_is grids abilities memory now agrees known ∙ (λ i. record (remembered abilities.rows abilities.columns now) { rows = rows i; columns = columns i });
-  plain = λ profile memory now picture agrees known. ap (λ m. plain_of profile m picture) (known_is grids (abilities profile) memory now agrees known);
-  plan = λ profile memory now virtual agrees known. ap (λ m. plan_of profile m virtual) (known_is grids (abilities profile) memory now agrees known);
+  joined = λ profile memory now picture agrees known. ap (λ m. joined_of profile m picture) (known_is grids (abilities profile) memory now agrees known);
 }

@@ -9,12 +9,12 @@ use Rattle.std.proofs.lemmas.List.Elements.{filter-append}
 use Rattle.scr_cells.specs.LookViews.{LookView}
 use Rattle.scr_cells.specs.PenViews.{PenView, pen_eq}
 use Rattle.scr_virtual.specs.Ranges.{in_range}
-use Rattle.scr_virtual.specs.VirtualViews.{VirtualView, altered_at}
+use Rattle.scr_virtual.specs.VirtualViews.{VirtualView}
 use Rattle.scr_term.specs.declared.operations.operation.Op.{Op}
 use Rattle.scr_term.specs.Operations.Profiles.{ProfileView}
 use Rattle.scr_plan.specs.Code.Painters.{part_places}
 use Rattle.scr_plan.specs.Memories.{MemoryView, is_known, is_known_row}
-use Rattle.scr_plan.specs.Repaints.{IsSizeOf, IsUpToDate, differs, look_eq, look_in}
+use Rattle.scr_plan.specs.Repaints.{IsSizeOf, ShowsOutside, differs, look_eq, look_in}
 use Rattle.scr_plan.specs.Scratch.{look_at, places, row_places}
 
 -- ---- parts
@@ -69,7 +69,7 @@ part_skipped d a n k r none =
     ∙ append-nil (filter d (part_places a n r))
 
 -- what passes in a row passes in a part of it
-row_in_part : (d : ℕ × ℕ → Bool) (a n rest r : ℕ) → ((c : ℕ) → c < a → d (r, c) ≡ false) → ((c : ℕ) → a + n ≤ c → c < a + n + rest → d (r, c) ≡ false)
+pub row_in_part : (d : ℕ × ℕ → Bool) (a n rest r : ℕ) → ((c : ℕ) → c < a → d (r, c) ≡ false) → ((c : ℕ) → a + n ≤ c → c < a + n + rest → d (r, c) ≡ false)
     → filter d (part_places 0 (a + n + rest) r) ≡ filter d (part_places a n r)
 row_in_part d a n rest r before behind =
     ap (filter d) (part_joined 0 (a + n) rest r)
@@ -136,9 +136,9 @@ each_known (known ∷ rows) zero e h = (both known (list_all (λ known. known) r
 each_known (known ∷ rows) (suc r) e h = each_known rows r (both known (list_all (λ known. known) rows) e).1 (omega (arith, h))
 
 -- a place that has not changed since all was shown
-same_place : (profile : ProfileView) (memory : MemoryView) (virtual : VirtualView) → IsUpToDate profile memory virtual → IsSizeOf virtual.picture memory → is_known memory ≡ true
-    → (r c : ℕ) → r < virtual.picture.rows → c < virtual.picture.columns → in_range (altered_at virtual r) c ≡ false → differs profile virtual.picture memory (r, c) ≡ false
-same_place profile memory virtual same size known r c high wide out =
+pub same_place : (ranges : VirtualView → ℕ → Option (ℕ × ℕ)) (profile : ProfileView) (memory : MemoryView) (virtual : VirtualView) → ShowsOutside ranges profile memory virtual → IsSizeOf virtual.picture memory → is_known memory ≡ true
+    → (r c : ℕ) → r < virtual.picture.rows → c < virtual.picture.columns → in_range (ranges virtual r) c ≡ false → differs profile virtual.picture memory (r, c) ≡ false
+same_place ranges profile memory virtual same size known r c high wide out =
     let rows = (both (list_all (λ k. k) memory.known_rows) memory.known_spot (both (list_all (λ k. k) memory.known_rows && memory.known_spot) memory.known_pen known).0).0 in
     let row = each_known memory.known_rows r rows (omega (arith, high, size.known_rows)) in
     let looks : look_eq (look_in memory (r, c)) (look_at profile virtual.picture (r, c)) ≡ true =
@@ -146,38 +146,38 @@ same_place profile memory virtual same size known r c high wide out =
     ap not (and_both (is_known_row memory r) _ row looks)
 
 -- a row that has not changed, and one that has changed in some columns
-pub row_same : (profile : ProfileView) (memory : MemoryView) (virtual : VirtualView) → IsUpToDate profile memory virtual → IsSizeOf virtual.picture memory → is_known memory ≡ true
-    → (r : ℕ) → r < virtual.picture.rows → altered_at virtual r ≡ None → filter (differs profile virtual.picture memory) (row_places virtual.picture.columns r) ≡ []
-row_same profile memory virtual same size known r high none =
-    none_in_part (differs profile virtual.picture memory) 0 virtual.picture.columns r (λ c low wide. same_place profile memory virtual same size known r c high (omega (arith, wide)) (ap (λ range. in_range range c) none))
+pub row_same : (ranges : VirtualView → ℕ → Option (ℕ × ℕ)) (profile : ProfileView) (memory : MemoryView) (virtual : VirtualView) → ShowsOutside ranges profile memory virtual → IsSizeOf virtual.picture memory → is_known memory ≡ true
+    → (r : ℕ) → r < virtual.picture.rows → ranges virtual r ≡ None → filter (differs profile virtual.picture memory) (row_places virtual.picture.columns r) ≡ []
+row_same ranges profile memory virtual same size known r high none =
+    none_in_part (differs profile virtual.picture memory) 0 virtual.picture.columns r (λ c low wide. same_place ranges profile memory virtual same size known r c high (omega (arith, wide)) (ap (λ range. in_range range c) none))
 
-outside_below : (from last c : ℕ) → c < from → in_range (Some (from, last)) c ≡ false
+pub outside_below : (from last c : ℕ) → c < from → in_range (Some (from, last)) c ≡ false
 outside_below from last c below = let e : leb from c ≡ false = grind (arith, nat_tests) in ap (λ b. b && leb c last) e
 
-outside_above : (from last c : ℕ) → last < c → in_range (Some (from, last)) c ≡ false
+pub outside_above : (from last c : ℕ) → last < c → in_range (Some (from, last)) c ≡ false
 outside_above from last c above = let e : leb c last ≡ false = grind (arith, nat_tests) in ap (λ b. leb from c && b) e ∙ and_false (leb from c)
   where
     and_false : (b : Bool) → (b && false) ≡ false
     and_false true = refl
     and_false false = refl
 
-pub row_changed : (profile : ProfileView) (memory : MemoryView) (virtual : VirtualView) → IsUpToDate profile memory virtual → IsSizeOf virtual.picture memory → is_known memory ≡ true
-    → (r from last : ℕ) → r < virtual.picture.rows → from ≤ last → last < virtual.picture.columns → altered_at virtual r ≡ Some (from, last)
+pub row_changed : (ranges : VirtualView → ℕ → Option (ℕ × ℕ)) (profile : ProfileView) (memory : MemoryView) (virtual : VirtualView) → ShowsOutside ranges profile memory virtual → IsSizeOf virtual.picture memory → is_known memory ≡ true
+    → (r from last : ℕ) → r < virtual.picture.rows → from ≤ last → last < virtual.picture.columns → ranges virtual r ≡ Some (from, last)
     → filter (differs profile virtual.picture memory) (row_places virtual.picture.columns r) ≡ filter (differs profile virtual.picture memory) (part_places from (last + 1 - from) r)
-row_changed profile memory virtual same size known r from last high order wide range =
+row_changed ranges profile memory virtual same size known r from last high order wide range =
     let columns : virtual.picture.columns ≡ from + (last + 1 - from) + (virtual.picture.columns - (last + 1)) = omega (arith, order, wide) in
     let d = differs profile virtual.picture memory in
     ap (λ n. filter d (part_places 0 n r)) columns
     ∙ row_in_part d from (last + 1 - from) (virtual.picture.columns - (last + 1)) r
-    (λ c below. same_place profile memory virtual same size known r c high (omega (arith, below, order, wide)) (ap (λ range. in_range range c) range ∙ outside_below from last c below))
-    (λ c low few. same_place profile memory virtual same size known r c high (omega (arith, few, order, wide)) (ap (λ range. in_range range c) range ∙ outside_above from last c (omega (arith, low, order))))
+    (λ c below. same_place ranges profile memory virtual same size known r c high (omega (arith, below, order, wide)) (ap (λ range. in_range range c) range ∙ outside_below from last c below))
+    (λ c low few. same_place ranges profile memory virtual same size known r c high (omega (arith, few, order, wide)) (ap (λ range. in_range range c) range ∙ outside_above from last c (omega (arith, low, order))))
 
 -- right before the columns that have changed nothing differs
-pub before_changed : (profile : ProfileView) (memory : MemoryView) (virtual : VirtualView) → IsUpToDate profile memory virtual → IsSizeOf virtual.picture memory → is_known memory ≡ true
-    → (r from last c : ℕ) → r < virtual.picture.rows → from ≤ last → last < virtual.picture.columns → altered_at virtual r ≡ Some (from, last) → c < from
+pub before_changed : (ranges : VirtualView → ℕ → Option (ℕ × ℕ)) (profile : ProfileView) (memory : MemoryView) (virtual : VirtualView) → ShowsOutside ranges profile memory virtual → IsSizeOf virtual.picture memory → is_known memory ≡ true
+    → (r from last c : ℕ) → r < virtual.picture.rows → from ≤ last → last < virtual.picture.columns → ranges virtual r ≡ Some (from, last) → c < from
     → differs profile virtual.picture memory (r, c) ≡ false
-before_changed profile memory virtual same size known r from last c high order wide range below =
-    same_place profile memory virtual same size known r c high (omega (arith, below, order, wide)) (ap (λ range. in_range range c) range ∙ outside_below from last c below)
+before_changed ranges profile memory virtual same size known r from last c high order wide range below =
+    same_place ranges profile memory virtual same size known r c high (omega (arith, below, order, wide)) (ap (λ range. in_range range c) range ∙ outside_below from last c below)
 
 -- a row of a memory that knows all
 pub row_known : (memory : MemoryView) → is_known memory ≡ true → (r : ℕ) → r < length memory.known_rows → is_known_row memory r ≡ true

@@ -19,7 +19,7 @@ use Rattle.scr_term.specs.declared.operations.operation.Op.{Op}
 use Rattle.scr_term.specs.declared.operations.operation.Op.TheVariants.{Move, Reset, Fore, Back, Put}
 use Rattle.scr_term.specs.declared.operations.operation.Spot.TheVariants.{At}
 use Rattle.scr_term.specs.Operations.Laws.{HasLaws, ProfilesHave, RunLaws}
-use Rattle.scr_term.specs.Operations.Profiles.{ProfileView, abilities, has_colours, is_there, shown_set}
+use Rattle.scr_term.specs.Operations.Profiles.{ProfileView, IsProfile, abilities, has_colours, is_there, shown_set}
 use Rattle.scr_term.specs.Operations.States.{TerminalState, AreShownColours, IsShownPen, moved_to, spot_after}
 use Rattle.scr_term.specs.Operations.Steps.{act, runs}
 use Rattle.scr_term.specs.Operations.Texts.{has, is_attribute}
@@ -40,7 +40,7 @@ one_run profile old new op had acts =
 -- ---- the cursor goes to a place
 
 -- a terminal that cannot reset has a plain pen
-plain_only : (profile : ProfileView) → HasLaws profile → is_there profile Sgr0 ≡ false → (pen : PenView) → IsShownPen (abilities profile) pen → pen ≡ plain_pen
+pub plain_only : (profile : ProfileView) → HasLaws profile → is_there profile Sgr0 ≡ false → (pen : PenView) → IsShownPen (abilities profile) pen → pen ≡ plain_pen
 plain_only profile can none pen shown =
     let nothing : bit_and 0 pen.attrs ≡ pen.attrs = ap (λ set. bit_and set pen.attrs) (sym (can.plain_set none)) ∙ shown.attrs in
     let attrs : pen.attrs ≡ 0 = omega (arith, nothing, and_le_l 0 pen.attrs) in
@@ -70,7 +70,7 @@ move_run profile can old place inside free =
     (ap (λ b. if b then moved_to profile.rows profile.columns old place.0 place.1 else None) free
     ∙ ap (λ b. if b then Some (at_place old place) else None) here)
 
-goes_by : RunLaws → (profile : ProfileView) → HasLaws profile → (old : TerminalState) → IsShownPen (abilities profile) old.pen → (place : ℕ × ℕ) → IsPlace profile.rows profile.columns place
+pub goes_by : RunLaws → (profile : ProfileView) → HasLaws profile → (old : TerminalState) → IsShownPen (abilities profile) old.pen → (place : ℕ × ℕ) → IsPlace profile.rows profile.columns place
     → (b : Bool) → profile.msgr ≡ b
     → runs profile old (if b then Move place.0 place.1 ∷ resets profile else resets profile ++ Move place.0 place.1 ∷ []) ≡ Some (plain (at_place old place))
 goes_by laws profile can old shown place inside true free =
@@ -146,10 +146,10 @@ background_set profile can old place attrs f (Some n) seen =
 
 -- ---- what is seen of a cell
 
-blank_is_cell : IsCell blank_cell
+pub blank_is_cell : IsCell blank_cell
 blank_is_cell = record { character = (omega arith, omega arith); attributes = omega arith; pair = omega arith }
 
-cell_of_row : (cells : List CellView) (c : ℕ) → AllByRecursion IsCell cells → IsCell (get_or cells c blank_cell)
+pub cell_of_row : (cells : List CellView) (c : ℕ) → AllByRecursion IsCell cells → IsCell (get_or cells c blank_cell)
 cell_of_row [] c each = blank_is_cell
 cell_of_row (cell ∷ cells) zero each = each.0
 cell_of_row (cell ∷ cells) (suc c) each = cell_of_row cells c each.1
@@ -179,8 +179,14 @@ colours_seen profile picture k pair small false shown = (tt, tt)
 
 -- ---- a place
 
-pub place_is_painted : RunLaws → ProfilesHave → PlaceIsPainted
-place_is_painted laws have profile p picture k place inside old s =
+-- the state at a place, with the pen of what is seen there
+abbrev pub begun : TerminalState → PictureView → ProfileView → ℕ × ℕ → TerminalState
+begun state picture profile place = record { grid = state.grid; spot = At place.0 place.1; pen = (look_at profile picture place).pen }
+
+-- its attributes and colours are set there
+pub begun_run : RunLaws → ProfilesHave → (profile : ProfileView) → IsProfile profile → (picture : PictureView) → IsPicture picture → (place : ℕ × ℕ) → (old : TerminalState)
+    → runs profile (plain (at_place old place)) (renders (look_at profile picture place).pen) ≡ Some (begun old picture profile place)
+begun_run laws have profile p picture k place old =
     let can = have profile p in
     let cell : CellView = grid_at blank_cell picture.lines place.0 place.1 in
     let is : IsCell cell = cell_of picture.lines place.0 place.1 (recursion_from_All (All IsCell) picture.lines k.cells) in
@@ -192,16 +198,21 @@ place_is_painted laws have profile p picture k place inside old s =
     let lit : TerminalState = with_pen old place attrs None None in
     let fore : TerminalState = with_pen old place attrs look.pen.foreground None in
     let coloured : TerminalState = with_pen old place attrs look.pen.foreground look.pen.background in
-    let new : TerminalState = record { grid = grid_with old.grid place.0 place.1 look; spot = spot_after profile.columns place.0 place.1; pen = look.pen } in
-    let gone : runs profile old (goes profile place) ≡ Some there = goes_by laws profile can old s.pen place inside profile.msgr refl in
     let entered : runs profile there (map enter (attributes_of attrs)) ≡ Some lit =
     enters laws profile can cell.attrs all_attributes (refl, (refl, (refl, (refl, (refl, (refl, (refl, tt))))))) there
     ∙ ap (λ set. Some (with_pen old place set None None)) (all_of_set attrs small) in
-    let set : runs profile there (renders look.pen) ≡ Some coloured =
     then_runs laws profile there fore coloured (map enter (attributes_of attrs) ++ sets_foreground look.pen.foreground) (sets_background look.pen.background)
     (then_runs laws profile there lit fore (map enter (attributes_of attrs)) (sets_foreground look.pen.foreground) entered
     (foreground_set profile can old place attrs look.pen.foreground seen.0))
-    (background_set profile can old place attrs look.pen.foreground look.pen.background seen.1) in
-    then_runs laws profile old coloured new (goes profile place ++ renders look.pen) (Put look.byte ∷ [])
-    (then_runs laws profile old there coloured (goes profile place) (renders look.pen) gone set)
-    (one_run profile coloured new (Put look.byte) (can.put look.byte is.character) refl)
+    (background_set profile can old place attrs look.pen.foreground look.pen.background seen.1)
+
+pub place_is_painted : RunLaws → ProfilesHave → PlaceIsPainted
+place_is_painted laws have profile p picture k place inside old s =
+    let can = have profile p in
+    let is : IsCell (grid_at blank_cell picture.lines place.0 place.1) = cell_of picture.lines place.0 place.1 (recursion_from_All (All IsCell) picture.lines k.cells) in
+    let look : LookView = look_at profile picture place in
+    let new : TerminalState = record { grid = grid_with old.grid place.0 place.1 look; spot = spot_after profile.columns place.0 place.1; pen = look.pen } in
+    then_runs laws profile old (begun old picture profile place) new (goes profile place ++ renders look.pen) (Put look.byte ∷ [])
+    (then_runs laws profile old (plain (at_place old place)) (begun old picture profile place) (goes profile place) (renders look.pen)
+    (goes_by laws profile can old s.pen place inside profile.msgr refl) (begun_run laws have profile p picture k place old))
+    (one_run profile (begun old picture profile place) new (Put look.byte) (can.put look.byte is.character) refl)

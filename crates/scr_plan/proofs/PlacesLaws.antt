@@ -13,7 +13,7 @@ all_of_both : {A : Type 0} (P : A → Type 0) (xs ys : List A) → AllByRecursio
 all_of_both P [] ys some more = more
 all_of_both P (x ∷ xs) ys some more = (some.0, all_of_both P xs ys some.1 more)
 
-row_inside : (rows columns r n a : ℕ) → r < rows → a + n ≤ columns → AllByRecursion (IsPlace rows columns) (map (λ c. (r, c)) (range_with_len a n))
+pub row_inside : (rows columns r n a : ℕ) → r < rows → a + n ≤ columns → AllByRecursion (IsPlace rows columns) (map (λ c. (r, c)) (range_with_len a n))
 row_inside rows columns r zero a high wide = tt
 row_inside rows columns r (suc n) a high wide = ((high, omega (arith, wide)), row_inside rows columns r n (a + 1) high (omega (arith, wide)))
 
@@ -44,7 +44,7 @@ among_row_by r c n a low others false e =
     let behind : a + 1 ≤ c = grind (arith, nat_tests) in
     ap (λ b. is_here r c (r, a) || b) (others behind) ∙ or-true (is_here r c (r, a))
 
-among_row : (r c n a : ℕ) → a ≤ c → c < a + n → is_among r c (map (λ c. (r, c)) (range_with_len a n)) ≡ true
+pub among_row : (r c n a : ℕ) → a ≤ c → c < a + n → is_among r c (map (λ c. (r, c)) (range_with_len a n)) ≡ true
 among_row r c zero a low high = absurd (omega (arith, low, high))
 among_row r c (suc n) a low high = among_row_by r c n a low (λ behind. among_row r c n (a + 1) behind (omega (arith, high))) (a == c) refl
 

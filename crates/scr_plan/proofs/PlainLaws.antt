@@ -44,7 +44,7 @@ pen_same a b e =
     let background : a.background ≡ b.background = option_same a.background b.background second.1 in
     λ i. record { attrs = attrs i; foreground = foreground i; background = background i }
 
-look_same : (a b : LookView) → look_eq a b ≡ true → a ≡ b
+pub look_same : (a b : LookView) → look_eq a b ≡ true → a ≡ b
 look_same a b e =
     let first = both (a.byte == b.byte) (pen_eq a.pen b.pen) e in
     let byte : a.byte ≡ b.byte = grind (arith, nat_tests, first.0) in
@@ -53,11 +53,11 @@ look_same a b e =
 
 -- ---- what does not differ is shown
 
-not_false : (b : Bool) → not b ≡ false → b ≡ true
+pub not_false : (b : Bool) → not b ≡ false → b ≡ true
 not_false true e = refl
 not_false false e = (cc)
 
-same_is_shown : (profile : ProfileView) (picture : PictureView) (memory : MemoryView) (old : TerminalState) → Agrees (abilities profile) memory old
+pub same_is_shown : (profile : ProfileView) (picture : PictureView) (memory : MemoryView) (old : TerminalState) → Agrees (abilities profile) memory old
     → (r c : ℕ) → r < profile.rows → differs profile picture memory (r, c) ≡ false → grid_at blank old.grid r c ≡ looks profile picture r c
 same_is_shown profile picture memory old agrees r c high e =
     let found = both (is_known_row memory r) (look_eq (look_in memory (r, c)) (look_at profile picture (r, c))) (not_false _ e) in
@@ -72,7 +72,7 @@ here_same profile picture memory r c place here =
     let column : place.1 ≡ c = grind (arith, nat_tests) in
     λ i. differs profile picture memory (row i, column i)
 
-among_differing : (profile : ProfileView) (picture : PictureView) (memory : MemoryView) (r c : ℕ) → r < picture.rows → c < picture.columns
+pub among_differing : (profile : ProfileView) (picture : PictureView) (memory : MemoryView) (r c : ℕ) → r < picture.rows → c < picture.columns
     → is_among r c (differing profile picture memory) ≡ differs profile picture memory (r, c)
 among_differing profile picture memory r c high wide =
     any-filter_same (is_here r c) (differs profile picture memory) (differs profile picture memory (r, c)) (here_same profile picture memory r c) (places picture.rows picture.columns)
@@ -83,7 +83,7 @@ among_differing profile picture memory r c high wide =
     and_true true = refl
     and_true false = refl
 
-filter_inside : {A : Type 0} (P : A → Type 0) (p : A → Bool) (xs : List A) → AllByRecursion P xs → AllByRecursion P (filter p xs)
+pub filter_inside : {A : Type 0} (P : A → Type 0) (p : A → Bool) (xs : List A) → AllByRecursion P xs → AllByRecursion P (filter p xs)
 filter_inside P p [] all = tt
 filter_inside P p (x ∷ xs) all = kept (p x) all.0 (filter_inside P p xs all.1)
   where
@@ -132,11 +132,11 @@ repaint_shows laws have place_law grids profile p picture k fits memory old agre
 
 -- ---- where nothing differs
 
-none_left : (list : List (ℕ × ℕ)) → is_none_left list ≡ true → list ≡ []
+pub none_left : (list : List (ℕ × ℕ)) → is_none_left list ≡ true → list ≡ []
 none_left [] e = refl
 none_left (place ∷ more) e = (cc)
 
-placed_is : (memory : MemoryView) (wish : Option (ℕ × ℕ)) (spot : Spot) → (memory.known_spot ≡ true → spot ≡ memory.state.spot) → is_placed memory wish ≡ true
+pub placed_is : (memory : MemoryView) (wish : Option (ℕ × ℕ)) (spot : Spot) → (memory.known_spot ≡ true → spot ≡ memory.state.spot) → is_placed memory wish ≡ true
     → IfSome wish (λ place. spot ≡ At place.0 place.1)
 placed_is memory None spot known e = tt
 placed_is memory (Some place) spot known e =
@@ -150,7 +150,7 @@ placed_is memory (Some place) spot known e =
         λ i. At (row i) (column i)
     there (Margin r) h = (cc)
 
-nothing_shows : GridLaws LookView → (profile : ProfileView) (picture : PictureView) → IsPicture picture → Fits profile picture
+pub nothing_shows : GridLaws LookView → (profile : ProfileView) (picture : PictureView) → IsPicture picture → Fits profile picture
     → (memory : MemoryView) (old : TerminalState) → Agrees (abilities profile) memory old → is_none_left (differing profile picture memory) ≡ true → is_placed memory picture.wish ≡ true
     → RunsToShow profile old [] picture
 nothing_shows grids profile picture k fits memory old agrees none placed =

@@ -1,22 +1,102 @@
--- What is planned is all that an update wants.
-use Rattle.std.proofs.Common.{◌&&◌, not, refl, arith, length}
-use Rattle.std.proofs.lemmas.List.{length-append}
-use Rattle.scr_plan.proofs.PlanLaws.{IsMeasure, plan_less}
-use Rattle.scr_plan.specs.Memories.{is_known}
-use Rattle.scr_plan.specs.MemoryRuns.{PlansAreRemembered}
-use Rattle.scr_plan.specs.Plans.{PlansAreMade}
-use Rattle.scr_plan.specs.Repaints.{PlanIsCheap, PlanShows}
-use Rattle.scr_plan.specs.Scratch.{ScratchIsBounded}
+-- The sure repaint is all that an update wants.
+use Rattle.std.proofs.Common.{◌≡◌, ◌≤◌, ◌&&◌, not, Bool, true, false, refl, sym, ◌∙◌, ap, subst, arith, List, [], ◌∷◌, length, Result, Ok, Err, IfOk, if◌then◌else◌}
+use Rattle.scr_cells.specs.PictureViews.{PictureView, IsPicture}
+use Rattle.scr_cells.specs.declared.NoMemory.{NoMemory}
+use Rattle.scr_virtual.specs.VirtualViews.{VirtualView}
+use Rattle.scr_term.specs.declared.operations.operation.Op.{Op}
+use Rattle.scr_term.specs.Operations.Profiles.{ProfileView, IsProfile, abilities}
+use Rattle.scr_term.specs.Operations.States.{IsShownPen}
+use Rattle.scr_term.specs.Operations.Texts.{all_bytes}
+use Rattle.scr_plan.proofs.JoinedPriceLaws.{anew_less, count_fewer, count_is, joined_less, plain_less}
+use Rattle.scr_plan.proofs.MemoryRunLaws.{agrees_itself}
+use Rattle.scr_plan.specs.Memories.{MemoryView, is_known}
+use Rattle.scr_plan.specs.MemoryRuns.{MayBe, MemoryRuns, PlansAreRemembered}
+use Rattle.scr_plan.specs.Plans.{IsPlan, PlanIsCheap, PlansAreMade}
+use Rattle.scr_plan.specs.Repaints.{JoinedIsCheap, JoinedShows, anew_of, cleared, joined_of, plain_of}
+use Rattle.scr_plan.specs.Scratch.{Fits, ScratchIsBounded, scratch_of}
 
-count_is : IsMeasure length
-count_is = record { none = refl; joined = length-append }
+never : {R : Type 0} (b : Bool) → b ≡ true → b ≡ false → R
+never true e f = (cc)
+never false e f = (cc)
 
-pub plans_are_made : PlanShows → PlanIsCheap → PlansAreRemembered → ScratchIsBounded → PlansAreMade
-plans_are_made shows cheap remembered bounded = λ profile p virtual k fits memory may. record {
-  shows = λ old agrees. shows.agreeing profile p virtual k fits memory old agrees;
-  anew = λ wished old state. shows.anew profile p virtual k fits wished memory old state;
-  known = remembered.known profile p virtual k fits memory may;
-  few = omega (arith, plan_less length count_is profile memory virtual.picture (is_known memory && not virtual.repaint), bounded profile virtual.picture);
-  scratch = cheap.scratch profile memory virtual;
-  plain = cheap.plain profile memory virtual;
+-- where all is known and the screen is not to be painted anew, the joined repaint
+joined_plan : JoinedShows → JoinedIsCheap → ScratchIsBounded → MemoryRuns → (profile : ProfileView) → IsProfile profile → (virtual : VirtualView) → IsPicture virtual.picture → Fits profile virtual.picture
+    → (memory : MemoryView) → is_known memory ≡ true → virtual.repaint ≡ false → IsPlan profile memory virtual (joined_of profile memory virtual.picture)
+joined_plan shows cheap bounded runs profile p virtual k fits memory known calm = record {
+  shows = λ old agrees. shows.joined profile p virtual.picture k fits memory old agrees known;
+  anew = λ wished old state. never virtual.repaint wished calm;
+  known = λ may.
+      let agrees = agrees_itself (abilities profile) memory may in
+      let run = shows.joined profile p virtual.picture k fits memory memory.state agrees known in
+      runs.stays_known profile p memory memory.state run.new (joined_of profile memory virtual.picture) agrees run.run known;
+  few = omega (arith, joined_less length profile memory virtual.picture (count_fewer profile virtual.picture memory), plain_less length count_is profile memory virtual.picture, bounded profile virtual.picture);
+  scratch = omega (arith, cheap.joined profile memory virtual.picture, cheap.plain profile memory virtual.picture);
+  joined = λ known calm. omega arith;
 }
+
+-- else what paints the screen anew
+anew_plan : JoinedShows → JoinedIsCheap → PlansAreRemembered → ScratchIsBounded → (profile : ProfileView) → IsProfile profile → (virtual : VirtualView) → IsPicture virtual.picture → Fits profile virtual.picture
+    → (memory : MemoryView) → (is_known memory && not virtual.repaint) ≡ false → IsPlan profile memory virtual (anew_of profile virtual.picture)
+anew_plan shows cheap remembered bounded profile p virtual k fits memory due = record {
+  shows = λ old agrees. shows.anew profile p virtual.picture k fits old agrees.is_state;
+  anew = λ wished old state. shows.anew profile p virtual.picture k fits old state;
+  known = λ may.
+      let run = shows.anew profile p virtual.picture k fits memory.state may.state in
+      remembered.cleared profile p memory may run.new _ run.run;
+  few = omega (arith, anew_less length profile virtual.picture (count_fewer profile virtual.picture (cleared virtual.picture)), bounded profile virtual.picture);
+  scratch = cheap.anew profile virtual.picture;
+  joined = λ known calm. never (is_known memory && not virtual.repaint) (ap (λ b. b && not virtual.repaint) known ∙ ap not calm) due;
+}
+
+pub plans_are_made : JoinedShows → JoinedIsCheap → PlansAreRemembered → ScratchIsBounded → MemoryRuns → PlansAreMade
+plans_are_made shows cheap remembered bounded runs profile p virtual k fits memory = by (is_known memory) virtual.repaint refl refl
+  where
+    by : (known repaint : Bool) → is_known memory ≡ known → virtual.repaint ≡ repaint
+        → IsPlan profile memory virtual (if known && not repaint then joined_of profile memory virtual.picture else anew_of profile virtual.picture)
+    by true false known calm = joined_plan shows cheap bounded runs profile p virtual k fits memory known calm
+    by true true known calm = anew_plan shows cheap remembered bounded profile p virtual k fits memory (ap (λ b. is_known memory && not b) calm ∙ ap (λ b. b && false) known)
+    by false repaint known calm = anew_plan shows cheap remembered bounded profile p virtual k fits memory (ap (λ b. b && not virtual.repaint) known)
+
+-- where no state of the profile agrees with what is remembered, nothing serves
+pub nothing_plan : (profile : ProfileView) (virtual : VirtualView) (memory : MemoryView) → (is_known memory && not virtual.repaint) ≡ true → (IsShownPen (abilities profile) memory.state.pen → ⊥) → IsPlan profile memory virtual []
+nothing_plan profile virtual memory due never_shown = record {
+  shows = λ old agrees. absurd (never_shown agrees.may_be.pen);
+  anew = λ wished old state. by (is_known memory) virtual.repaint wished due;
+  known = λ may. absurd (never_shown may.state.pen);
+  few = omega arith;
+  scratch = omega arith;
+  joined = λ known calm. omega arith;
+}
+  where
+    by : {R : Type 0} (known repaint : Bool) → repaint ≡ true → (known && not repaint) ≡ true → R
+    by true true e f = (cc)
+    by true false e f = (cc)
+    by false repaint e f = (cc)
+
+pub plan_is_cheap : JoinedIsCheap → PlanIsCheap
+plan_is_cheap cheap = record {
+  plain = λ profile memory virtual ops plan known calm. omega (arith, plan.joined known calm, cheap.joined profile memory virtual.picture);
+  none = λ profile memory virtual ops plan known calm none placed.
+      empty (all_bytes profile ops) (subst (λ joined. length (all_bytes profile ops) ≤ length (all_bytes profile joined)) (cheap.none profile memory virtual.picture none placed) (plan.joined known calm));
+}
+  where
+    empty : {A : Type 0} (xs : List A) → length xs ≤ 0 → xs ≡ []
+    empty [] h = refl
+    empty (x ∷ xs) h = absurd (omega arith)
+
+-- ---- answers
+
+ok_map : {A E : Type 0} (r : Result A E) (P Q : A → Type 0) → ((a : A) → P a → Q a) → IfOk r P → IfOk r Q
+ok_map (Ok a) P Q f h = f a h
+ok_map (Err e) P Q f h = h
+
+-- a repaint that was made is a plan
+pub sure_plan : PlansAreMade → (profile : ProfileView) → IsProfile profile → (virtual : VirtualView) → IsPicture virtual.picture → Fits profile virtual.picture → (memory : MemoryView) (due : Bool) → (is_known memory && not virtual.repaint) ≡ due
+    → (ops : List Op) → ops ≡ (if due then joined_of profile memory virtual.picture else anew_of profile virtual.picture) → IsPlan profile memory virtual ops
+sure_plan made profile p virtual k fits memory due is ops same =
+    subst (IsPlan profile memory virtual) (sym (same ∙ ap (λ b. if b then joined_of profile memory virtual.picture else anew_of profile virtual.picture) (sym is))) (made profile p virtual k fits memory)
+
+pub sure_plans : PlansAreMade → (profile : ProfileView) → IsProfile profile → (virtual : VirtualView) → IsPicture virtual.picture → Fits profile virtual.picture → (memory : MemoryView) (due : Bool) → (is_known memory && not virtual.repaint) ≡ due
+    → (r : Result (List Op) NoMemory) → IfOk r (λ ops. ops ≡ (if due then joined_of profile memory virtual.picture else anew_of profile virtual.picture)) → IfOk r (IsPlan profile memory virtual)
+sure_plans made profile p virtual k fits memory due is r same =
+    ok_map r (λ ops. ops ≡ (if due then joined_of profile memory virtual.picture else anew_of profile virtual.picture)) (IsPlan profile memory virtual) (λ ops e. sure_plan made profile p virtual k fits memory due is ops e) same

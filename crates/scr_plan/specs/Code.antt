@@ -1,3 +1,6 @@
 -- The words of private functions: nothing that has to be read to know what the library does.
+pub mod Joinings
+pub mod Looking
 pub mod Painters
+pub mod Planning
 pub mod Remembering

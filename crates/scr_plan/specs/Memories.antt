@@ -4,6 +4,7 @@ use Rattle.std.specs.Prelude.{ℕ, ◌≡◌, ◌+◌, ◌<◌, ◌==◌, ◌&&�
 use Rattle.std.specs.List.{list_all, range_with_len}
 use Rattle.scr_cells.specs.Grids.{grid_row}
 use Rattle.scr_cells.specs.LookViews.{LookView}
+use Rattle.scr_cells.specs.PenViews.{PenView}
 use Rattle.scr_cells.specs.PictureViews.{IsSize}
 use Rattle.scr_term.specs.declared.operations.operation.Op.{Op}
 use Rattle.scr_term.specs.declared.operations.operation.Op.TheVariants.{Home, Move, Clear, EraseLine, EraseBelow, EraseChars, Reset, Set, Put}
@@ -49,6 +50,10 @@ row_looks memory r = if is_known_row memory r then Some (grid_row memory.state.g
 -- where the cursor is, where that is known
 abbrev pub spot_if_known : MemoryView → Option Spot
 spot_if_known memory = if memory.known_spot then Some memory.state.spot else None
+
+-- what is written with, where that is known
+abbrev pub pen_if_known : MemoryView → Option PenView
+pen_if_known memory = if memory.known_pen then Some memory.state.pen else None
 
 -- every row, the spot and the pen are known
 abbrev pub is_known : MemoryView → Bool

@@ -1,16 +1,15 @@
--- What is remembered after operations one after another, and after the plan of an update. curs_refresh(3X), doupdate().
-use Rattle.std.specs.Prelude.{◌≡◌, ◌++◌, true, List, length, Some}
+-- What is remembered after operations one after another, and behind a cleared screen. curs_refresh(3X), doupdate().
+use Rattle.std.specs.Prelude.{◌≡◌, ◌∷◌, ◌++◌, [], true, List, length, Some}
 use Rattle.scr_cells.specs.PictureViews.{PictureView, IsPicture}
-use Rattle.scr_virtual.specs.VirtualViews.{VirtualView}
 use Rattle.scr_term.specs.declared.operations.operation.Op.{Op}
+use Rattle.scr_term.specs.declared.operations.operation.Op.TheVariants.{Clear}
 use Rattle.scr_term.specs.Operations.Abilities.{Abilities}
-use Rattle.scr_term.specs.Operations.Painted.{Shows}
 use Rattle.scr_term.specs.Operations.Profiles.{ProfileView, IsProfile, abilities}
 use Rattle.scr_term.specs.Operations.States.{TerminalState, IsState}
 use Rattle.scr_term.specs.Operations.Steps.{runs}
 use Rattle.scr_plan.specs.Memories.{Agrees, MemoryView, all_followed, is_known, remembered, unknown}
-use Rattle.scr_plan.specs.Repaints.{plain_of, plan_of}
-use Rattle.scr_plan.specs.Scratch.{Fits, scratch_of}
+use Rattle.scr_plan.specs.Repaints.{joined_of}
+use Rattle.scr_plan.specs.Scratch.{Fits, resets, scratch_of}
 
 -- Where a state agrees with what is remembered and operations are defined from it, the state after them agrees with what is
 -- remembered then, and where all was known, all is. Where they are defined from the remembered state, the state after them is
@@ -33,21 +32,18 @@ pub record MayBe (abilities : Abilities) (memory : MemoryView) : Type 0 where
   pub state : IsState abilities memory.state
   pub high : length memory.known_rows ≡ abilities.rows
 
--- After scratch, and after a plan, all is known, whatever was known before, and the remembered state shows the picture.
+-- Where attributes were turned off and the screen was cleared, all is known after whatever is sent behind it, whatever was known before;
+-- so it is after scratch.
 pub record PlansAreRemembered : Type 0 where
-  pub scratch_known : (profile : ProfileView) → IsProfile profile → (picture : PictureView) → IsPicture picture → Fits profile picture
+  pub cleared : (profile : ProfileView) → IsProfile profile → (memory : MemoryView) → MayBe (abilities profile) memory → (new : TerminalState) (ops : List Op)
+      → runs profile memory.state (resets profile ++ Clear ∷ [] ++ ops) ≡ Some new → is_known (all_followed profile (resets profile ++ Clear ∷ [] ++ ops) memory) ≡ true
+  pub scratch : (profile : ProfileView) → IsProfile profile → (picture : PictureView) → IsPicture picture → Fits profile picture
       → (memory : MemoryView) → MayBe (abilities profile) memory → is_known (all_followed profile (scratch_of profile picture) memory) ≡ true
-  pub known : (profile : ProfileView) → IsProfile profile → (virtual : VirtualView) → IsPicture virtual.picture → Fits profile virtual.picture
-      → (memory : MemoryView) → MayBe (abilities profile) memory → is_known (all_followed profile (plan_of profile memory virtual) memory) ≡ true
-  pub shows : (profile : ProfileView) → IsProfile profile → (virtual : VirtualView) → IsPicture virtual.picture → Fits profile virtual.picture
-      → (memory : MemoryView) → MayBe (abilities profile) memory → Shows (abilities profile) (all_followed profile (plan_of profile memory virtual) memory).state virtual.picture
 
--- Where all is known, a state that agrees is the remembered one, and the plain repaint and the plan are those from this state.
+-- Where all is known, a state that agrees is the remembered one, and the joined repaint is that from this state.
 pub record KnownMemories : Type 0 where
   pub state : (abilities : Abilities) (memory : MemoryView) (now : TerminalState) → Agrees abilities memory now → is_known memory ≡ true → memory.state ≡ now
   pub all : (abilities : Abilities) (memory : MemoryView) (now : TerminalState) → Agrees abilities memory now → is_known memory ≡ true
       → memory.rows ≡ abilities.rows → memory.columns ≡ abilities.columns → memory ≡ remembered abilities.rows abilities.columns now
-  pub plain : (profile : ProfileView) (memory : MemoryView) (now : TerminalState) (picture : PictureView) → Agrees (abilities profile) memory now → is_known memory ≡ true
-      → plain_of profile memory picture ≡ plain_of profile (remembered profile.rows profile.columns now) picture
-  pub plan : (profile : ProfileView) (memory : MemoryView) (now : TerminalState) (virtual : VirtualView) → Agrees (abilities profile) memory now → is_known memory ≡ true
-      → plan_of profile memory virtual ≡ plan_of profile (remembered profile.rows profile.columns now) virtual
+  pub joined : (profile : ProfileView) (memory : MemoryView) (now : TerminalState) (picture : PictureView) → Agrees (abilities profile) memory now → is_known memory ≡ true
+      → joined_of profile memory picture ≡ joined_of profile (remembered profile.rows profile.columns now) picture

@@ -40,11 +40,15 @@ pub record IsSizeOf (picture : PictureView) (memory : MemoryView) : Type 0 where
   pub columns : memory.columns ≡ picture.columns
   pub known_rows : length memory.known_rows ≡ picture.rows
 
+-- every row that is known shows the picture, but for these columns
+abbrev pub ShowsOutside : (VirtualView → ℕ → Option (ℕ × ℕ)) → ProfileView → MemoryView → VirtualView → Type 0
+ShowsOutside ranges profile memory virtual =
+    (r c : ℕ) → r < virtual.picture.rows → c < virtual.picture.columns → is_known_row memory r ≡ true → in_range (ranges virtual r) c ≡ false
+    → look_in memory (r, c) ≡ look_at profile virtual.picture (r, c)
+
 -- every row that is known shows the picture, but for the columns that may look otherwise
 abbrev pub IsUpToDate : ProfileView → MemoryView → VirtualView → Type 0
-IsUpToDate profile memory virtual =
-    (r c : ℕ) → r < virtual.picture.rows → c < virtual.picture.columns → is_known_row memory r ≡ true → in_range (altered_at virtual r) c ≡ false
-    → look_in memory (r, c) ≡ look_at profile virtual.picture (r, c)
+IsUpToDate = ShowsOutside altered_at
 
 -- a cursor is in a place
 abbrev pub is_in_place : Spot → ℕ × ℕ → Bool
@@ -72,7 +76,7 @@ abbrev pub plain_of : ProfileView → MemoryView → PictureView → List Op
 plain_of profile memory picture =
     if is_none_left (differing profile picture memory) && is_placed memory picture.wish then [] else paints profile picture (differing profile picture memory)
 
--- ---- what an update sends
+-- ---- neighbours with one pen
 
 -- the left neighbour of a place differs too and is seen with the same pen
 abbrev pub joins_left : ProfileView → PictureView → MemoryView → ℕ → ℕ → Bool
@@ -89,30 +93,7 @@ begins_place profile picture memory r c =
 abbrev pub brief_place : ProfileView → PictureView → MemoryView → ℕ × ℕ → List Op
 brief_place profile picture memory place = begins_place profile picture memory place.0 place.1 ++ Put (look_at profile picture place).byte ∷ []
 
-abbrev pub brief_places : ProfileView → PictureView → MemoryView → List Op
-brief_places profile picture memory = flat_map (brief_place profile picture memory) (differing profile picture memory)
-
--- the plain repaint, but for what leads to a place from the neighbour before it
-abbrev pub brief_of : ProfileView → MemoryView → PictureView → List Op
-brief_of profile memory picture =
-    if is_none_left (differing profile picture memory) && is_placed memory picture.wish then []
-    else resets profile ++ brief_places profile picture memory ++ resets profile ++ places_cursor picture.wish
-
--- what is remembered of a screen of the picture's size that was cleared: blanks everywhere
-abbrev pub cleared : PictureView → MemoryView
-cleared picture = remembered picture.rows picture.columns (blank_state picture.rows picture.columns)
-
--- the whole screen painted anew: it is cleared, and what differs from blanks is painted
-abbrev pub anew_of : ProfileView → PictureView → List Op
-anew_of profile picture =
-    resets profile ++ Clear ∷ [] ++ brief_places profile picture (cleared picture) ++ resets profile ++ places_cursor picture.wish
-
--- what an update sends: only what differs where all is known, unless the whole screen is to be painted anew
-abbrev pub plan_of : ProfileView → MemoryView → VirtualView → List Op
-plan_of profile memory virtual =
-    if is_known memory && not virtual.repaint then brief_of profile memory virtual.picture else anew_of profile virtual.picture
-
--- ---- the joined repaint: what a plan has to be no longer than
+-- ---- the joined repaint: what an update sends no more than
 
 -- all looks of a row from a column on are blanks
 abbrev pub is_blank_from : ProfileView → PictureView → ℕ → ℕ → Bool
@@ -172,6 +153,20 @@ joined_of profile memory picture =
     if is_none_left (differing profile picture memory) && is_placed memory picture.wish then []
     else without_idle profile memory.state (resets profile ++ joined_places profile picture memory ++ resets profile ++ places_cursor picture.wish)
 
+-- what is remembered of a screen of the picture's size that was cleared: blanks everywhere
+abbrev pub cleared : PictureView → MemoryView
+cleared picture = remembered picture.rows picture.columns (blank_state picture.rows picture.columns)
+
+-- the whole screen painted anew: it is cleared, and what differs from blanks is painted as in the joined repaint
+abbrev pub anew_of : ProfileView → PictureView → List Op
+anew_of profile picture =
+    resets profile ++ Clear ∷ [] ++ without_idle profile (blank_state profile.rows profile.columns) (joined_places profile picture (cleared picture) ++ resets profile ++ places_cursor picture.wish)
+
+-- a repaint that shows the picture: of what differs where all is known, unless the whole screen is to be painted anew
+abbrev pub sure_of : ProfileView → MemoryView → VirtualView → List Op
+sure_of profile memory virtual =
+    if is_known memory && not virtual.repaint then joined_of profile memory virtual.picture else anew_of profile virtual.picture
+
 -- ---- the laws
 
 -- From every state that agrees with what is remembered, the plain repaint is defined and shows the picture.
@@ -182,26 +177,18 @@ PlainShows =
     → (memory : MemoryView) (old : TerminalState) → Agrees (abilities profile) memory old
     → RunsToShow profile old (plain_of profile memory picture) picture
 
--- Painting places briefly leads from every state where painting them one by one leads.
-abbrev pub BriefActsAsPlain : Type 0
-BriefActsAsPlain =
-    (profile : ProfileView) → IsProfile profile
-    → (picture : PictureView) → IsPicture picture → Fits profile picture
-    → (memory : MemoryView) (old : TerminalState) → IsState (abilities profile) old
-    → runs profile old (brief_places profile picture memory) ≡ runs profile old (flat_map (paints_place profile picture) (differing profile picture memory))
+-- Where all is known, the joined repaint is defined from the state that is remembered and shows the picture; and from every state, what
+-- paints the screen anew.
+pub record JoinedShows : Type 0 where
+  pub joined : (profile : ProfileView) → IsProfile profile → (picture : PictureView) → IsPicture picture → Fits profile picture
+      → (memory : MemoryView) (old : TerminalState) → Agrees (abilities profile) memory old → is_known memory ≡ true → RunsToShow profile old (joined_of profile memory picture) picture
+  pub anew : (profile : ProfileView) → IsProfile profile → (picture : PictureView) → IsPicture picture → Fits profile picture
+      → (old : TerminalState) → IsState (abilities profile) old → RunsToShow profile old (anew_of profile picture) picture
 
--- The same of a plan; and where the screen is to be painted anew, from every state.
-pub record PlanShows : Type 0 where
-  pub agreeing : (profile : ProfileView) → IsProfile profile → (virtual : VirtualView) → IsPicture virtual.picture → Fits profile virtual.picture
-      → (memory : MemoryView) (old : TerminalState) → Agrees (abilities profile) memory old → RunsToShow profile old (plan_of profile memory virtual) virtual.picture
-  pub anew : (profile : ProfileView) → IsProfile profile → (virtual : VirtualView) → IsPicture virtual.picture → Fits profile virtual.picture
-      → virtual.repaint ≡ true → (memory : MemoryView) (old : TerminalState) → IsState (abilities profile) old → RunsToShow profile old (plan_of profile memory virtual) virtual.picture
-
--- The bytes of a plan are no more than those of scratch; where all is known and the screen is not to be painted anew, they are no
--- more than those of the plain repaint, and there are none where no place differs and the cursor is as wished.
-pub record PlanIsCheap : Type 0 where
-  pub scratch : (profile : ProfileView) (memory : MemoryView) (virtual : VirtualView) → length (all_bytes profile (plan_of profile memory virtual)) ≤ length (all_bytes profile (scratch_of profile virtual.picture))
-  pub plain : (profile : ProfileView) (memory : MemoryView) (virtual : VirtualView) → is_known memory ≡ true → virtual.repaint ≡ false
-      → length (all_bytes profile (plan_of profile memory virtual)) ≤ length (all_bytes profile (plain_of profile memory virtual.picture))
-  pub none : (profile : ProfileView) (memory : MemoryView) (virtual : VirtualView) → is_known memory ≡ true → virtual.repaint ≡ false → is_none_left (differing profile virtual.picture memory) ≡ true → is_placed memory virtual.picture.wish ≡ true
-      → plan_of profile memory virtual ≡ []
+-- The joined repaint has no more bytes than the plain one, and the plain one no more than scratch; what paints the screen anew has no
+-- more than scratch. The joined repaint is nothing where no place differs and the cursor is as wished.
+pub record JoinedIsCheap : Type 0 where
+  pub joined : (profile : ProfileView) (memory : MemoryView) (picture : PictureView) → length (all_bytes profile (joined_of profile memory picture)) ≤ length (all_bytes profile (plain_of profile memory picture))
+  pub plain : (profile : ProfileView) (memory : MemoryView) (picture : PictureView) → length (all_bytes profile (plain_of profile memory picture)) ≤ length (all_bytes profile (scratch_of profile picture))
+  pub anew : (profile : ProfileView) (picture : PictureView) → length (all_bytes profile (anew_of profile picture)) ≤ length (all_bytes profile (scratch_of profile picture))
+  pub none : (profile : ProfileView) (memory : MemoryView) (picture : PictureView) → is_none_left (differing profile picture memory) ≡ true → is_placed memory picture.wish ≡ true → joined_of profile memory picture ≡ []

@@ -1,24 +1,27 @@
 //! Which operations bring a terminal to a picture.
 #![tactic(auto)]
 
+mod joined_rows;
+mod joining;
+mod looking;
 mod memories;
 mod painting;
+mod plain_repaint;
 mod plan_laws;
 mod planning;
 mod remembering_laws;
-mod repainting;
-mod runs;
 mod scratch_laws;
 mod scratch_texts;
 
 pub use memories::Memory;
 pub use painting::scratch;
 pub use plan_laws::{
-    brief_acts_as_plain, memory_laws, plain_shows, plan_is_cheap, plan_shows, plans_are_made,
+    joined_is_cheap, joined_shows, memory_laws, plain_shows, plan_is_cheap, plans_are_made,
     up_to_date_laws,
 };
+pub use plain_repaint::plain;
 pub use planning::plan;
 pub use remembering_laws::{known_memories, memory_runs, plans_are_remembered};
-pub use repainting::plain;
+
 pub use scratch_laws::{place_is_painted, scratch_bytes_show, scratch_is_bounded, scratch_shows};
 pub use scratch_texts::scratch_bytes;

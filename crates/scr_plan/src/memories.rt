@@ -5,12 +5,12 @@ ghost use Rattle.std.specs.Option.{is_some};
 ghost use Rattle.scr_term.specs.Operations.Profiles.{abilities};
 ghost use Rattle.scr_term.specs.Operations.States.{IsSpot};
 ghost use Rattle.scr_term.specs.Operations.Steps.{step};
-ghost use Rattle.scr_plan.specs.Memories.{IsMemory, all_followed, changes_cells, clears, disturbed, followed, forgotten, has_one_pen, is_known, is_known_row, places_spot, row_looks, rows_followed, sets_pen, spot_if_known, stepped, unknown};
+ghost use Rattle.scr_plan.specs.Memories.{IsMemory, all_followed, changes_cells, clears, disturbed, followed, forgotten, has_one_pen, is_known, is_known_row, pen_if_known, places_spot, row_looks, rows_followed, sets_pen, spot_if_known, stepped, unknown};
 ghost use Rattle.scr_plan.specs.Repaints.{is_placed};
 ghost use Rattle.scr_cells.specs.Grids.{grid_row};
 ghost use Rattle.scr_plan.specs.Code.Remembering.{gone_to, is_character_op, without_run};
 
-use scr_cells::{Look, NoMemory, Size};
+use scr_cells::{Look, NoMemory, Pen, Size};
 use scr_term::{Op, Profile, Spot, Terminal};
 use std::alloc::Global;
 use std::marker::Model;
@@ -125,6 +125,31 @@ impl Memory {
         } else {
             None
         }
+    }
+
+    /// What is written with: attributes and colours; `None` where that is not known.
+    pub fn pen(&self) -> Option<Pen>
+        ensures { result ≡ pen_if_known self.now }
+    {
+        if self.pen {
+            Some(self.terminal.pen())
+        } else {
+            None
+        }
+    }
+
+    // Where the cursor is in the remembered state, known or not.
+    pub(crate) fn remembered_spot(&self) -> Spot
+        ensures { result ≡ self.now.state.spot }
+    {
+        self.terminal.spot()
+    }
+
+    // What is written with in the remembered state, known or not.
+    pub(crate) fn remembered_pen(&self) -> Pen
+        ensures { result ≡ self.now.state.pen }
+    {
+        self.terminal.pen()
     }
 
     /// Nothing is known any more, as after a write that failed.

@@ -5,10 +5,10 @@ ghost use Rattle.scr_cells.specs.Attributes.{attributes_of};
 ghost use Rattle.scr_term.specs.declared.operations.operation.Op.TheVariants.{Enter};
 ghost use Rattle.scr_plan.specs.Repaints.{look_eq};
 ghost use Rattle.scr_plan.specs.Scratch.{scratch_of, row_places, renders, enter, places_cursor, sets_background, sets_foreground, Fits};
-ghost use Rattle.scr_plan.specs.Code.Painters.{painter_goes, painter_of, painter_paints, painter_paints_place, painter_resets, painter_sees};
+ghost use Rattle.scr_plan.specs.Code.Painters.{moves_unless_there, painter_goes, painter_leads, painter_of, painter_paints, painter_paints_place, painter_resets, painter_sees, resets_unless_plain};
 
 use scr_cells::{Attrs, Cell, Look, NoMemory, Pen, Picture};
-use scr_term::{Op, Ops, Profile};
+use scr_term::{Op, Ops, Profile, Spot};
 use std::alloc::Global;
 
 /// The operations that paint a whole picture on a terminal that may show anything (curs_refresh(3X)):
@@ -101,6 +101,55 @@ impl Painter {
         self.go(row, column, ops)?;
         enter_each(pen.attrs().0, ops)?;
         set_colours(pen.foreground(), pen.background(), ops)
+    }
+
+    // Adds what leads to a place with a pen from another spot and pen, without what changes nothing there.
+    pub(crate) fn lead(
+        self,
+        spot: Spot,
+        now: Pen,
+        row: u32,
+        column: u32,
+        pen: Pen,
+        ops: &mut Vec<Op>,
+    ) -> Result<(), NoMemory>
+        ensures { OnOk result (ops.new.items ≡ ops.old.items ++ painter_leads self spot now (row, column) pen) }
+    {
+        if self.moves_in_any_rendition {
+            self.move_unless_there(spot, row, column, ops)?;
+            self.reset_unless_plain(now, ops)?;
+        } else {
+            self.reset_unless_plain(now, ops)?;
+            self.move_unless_there(spot, row, column, ops)?;
+        }
+        enter_each(pen.attrs().0, ops)?;
+        set_colours(pen.foreground(), pen.background(), ops)
+    }
+
+    // Adds what moves the cursor to a place, unless it is there.
+    pub(crate) fn move_unless_there(
+        self,
+        spot: Spot,
+        row: u32,
+        column: u32,
+        ops: &mut Vec<Op>,
+    ) -> Result<(), NoMemory>
+        ensures { OnOk result (ops.new.items ≡ ops.old.items ++ moves_unless_there spot (row, column)) }
+    {
+        if spot != Spot::At(row, column) {
+            ops.push(Op::Move(row, column))?;
+        }
+        Ok(())
+    }
+
+    // Adds what turns attributes off and makes colours the default ones, unless that is so.
+    pub(crate) fn reset_unless_plain(self, now: Pen, ops: &mut Vec<Op>) -> Result<(), NoMemory>
+        ensures { OnOk result (ops.new.items ≡ ops.old.items ++ resets_unless_plain self now) }
+    {
+        if now.is_plain() {
+            return Ok(());
+        }
+        self.reset(ops)
     }
 
     // Adds the operations for a cell of a picture in a place, unless what the place shows is known and is what is seen of the cell.

@@ -1,26 +1,37 @@
-//! What an update sends. The definitions are in `specs/Repaints.antt`.
-ghost use Rattle.std.specs.Prelude.{◌≡◌, ◌++◌, ◌<◌, ◌&&◌, not, [], IfOk, OnOk, filter, true};
+//! What an update sends. The definitions are in `specs/Plans.antt` and `specs/Repaints.antt`.
+ghost use Rattle.std.specs.Prelude.{ℕ, ◌≡◌, ◌++◌, ◌∷◌, [], ◌<◌, ◌≤◌, ◌⊎◌, ◌&&◌, not, IfOk, IfSome, OnOk, false, filter, length, true};
 ghost use Rattle.std.specs.List.{flat_map};
+ghost use Rattle.scr_cells.specs.PenViews.{is_plain_pen};
+ghost use Rattle.scr_term.specs.declared.operations.capability.Capability.TheVariants.{Sgr0};
+ghost use Rattle.scr_term.specs.declared.operations.operation.Op.TheVariants.{Clear};
+ghost use Rattle.scr_term.specs.Operations.Profiles.{abilities, is_there};
+ghost use Rattle.scr_term.specs.Operations.States.{IsShownPen};
+ghost use Rattle.scr_virtual.specs.Ranges.{IsRange};
+ghost use Rattle.scr_virtual.specs.VirtualViews.{altered_at, range_at};
+ghost use Rattle.scr_plan.specs.Code.Joinings.{Continues, joined_at};
 ghost use Rattle.scr_plan.specs.Code.Painters.{painter_of};
+ghost use Rattle.scr_plan.specs.Code.Planning.{AreNoneByOutside, range_by};
 ghost use Rattle.scr_plan.specs.Memories.{is_known};
-ghost use Rattle.scr_plan.specs.Repaints.{IsSizeOf, IsUpToDate, anew_of, brief_of, brief_place, differs, plan_of};
-ghost use Rattle.scr_plan.specs.Scratch.{Fits, row_places};
+ghost use Rattle.scr_plan.specs.Plans.{IsPlan};
+ghost use Rattle.scr_plan.specs.Repaints.{IsSizeOf, IsUpToDate, ShowsOutside, anew_of, cleared, differing, differs, is_none_left, is_placed, joined_of, joined_places};
+ghost use Rattle.scr_plan.specs.Scratch.{Fits, places_cursor, resets, row_places};
 
+use crate::joining::Joining;
 use crate::memories::Memory;
 use crate::painting::Painter;
+use crate::plan_laws::plans_are_made;
 use scr_cells::{NoMemory, Picture, Size};
-use scr_term::{Op, Ops, Profile};
+use scr_term::{Op, Ops, Profile, profiles_have};
 use scr_virtual::Virtual;
 use std::alloc::Global;
 
-/// What an update sends: the operations that paint each place that differs from what is remembered of the terminal, in rows, where
-/// one behind a neighbour that is painted with the same attributes and colours is its character alone; none where no place differs
-/// and the cursor is known to be where it is wished. Where not all is known, or the whole screen is to be painted anew, the screen
-/// is cleared, and what differs from blanks is painted so (curs_refresh(3X), doupdate()). Only the columns that may look otherwise than
-/// at the last update that ended well are looked at.
+/// What an update sends: operations that bring a terminal of which this is remembered to the picture, in few bytes
+/// (curs_refresh(3X), doupdate()). From every state that agrees with what is remembered they show the picture, and all is known after
+/// them. Where all is known and the screen is not to be painted anew, they have no more bytes than the joined repaint, and none where no
+/// place differs and the cursor is as wished; else the screen is cleared, and they have no more than `scratch`.
 ///
-/// Picture and memory have the profile's size, and a known row shows the picture in all other columns. Fails
-/// only when memory runs out.
+/// Picture and memory have the profile's size, and a known row shows the picture but in the columns that may have changed
+/// (`Virtual::changed`). Fails only when memory runs out.
 pub fn plan(
     alloc: Global,
     profile: &Profile,
@@ -29,16 +40,87 @@ pub fn plan(
 ) -> Result<Ops, NoMemory>
     requires fits { Fits profile.now wanted.now.picture }
     requires size { IsSizeOf wanted.now.picture memory.now }
-    requires same { IsUpToDate profile.now memory.now wanted.now }
-    ensures { IfOk result (λ ops. ops ≡ plan_of profile.now memory.now wanted.now) }
+    requires same { ShowsOutside range_at profile.now memory.now wanted.now }
+    ensures { IfOk result (IsPlan profile.now memory.now wanted.now) }
 {
+    plan_by(alloc, profile, memory, wanted, Looked::Changed)
+}
+
+/// The same for a known row that shows the picture but in the columns that may look otherwise (`Virtual::altered`). Only these are
+/// looked at, so that an update costs in proportion to what looks otherwise.
+pub fn plan_altered(
+    alloc: Global,
+    profile: &Profile,
+    memory: &Memory,
+    wanted: &Virtual,
+) -> Result<Ops, NoMemory>
+    requires fits { Fits profile.now wanted.now.picture }
+    requires size { IsSizeOf wanted.now.picture memory.now }
+    requires same { IsUpToDate profile.now memory.now wanted.now }
+    ensures { IfOk result (IsPlan profile.now memory.now wanted.now) }
+{
+    plan_by(alloc, profile, memory, wanted, Looked::Altered)
+}
+
+// The columns of a row that are looked at where the row is known.
+#[derive(Clone, Copy)]
+enum Looked {
+    // Those that may have changed.
+    Changed,
+    // Those that may look otherwise.
+    Altered,
+}
+
+impl Looked {
+    // The first and the last of them; `None` where there are none.
+    fn in_row(self, wanted: &Virtual, row: u32) -> Option<(u32, u32)>
+        requires { row < wanted.now.picture.rows }
+        ensures value { result ≡ range_by self wanted.now row }
+        ensures inside { IfSome result (IsRange wanted.now.picture.columns) }
+    {
+        match self {
+            Looked::Changed => wanted.changed(row),
+            Looked::Altered => wanted.altered(row),
+        }
+    }
+
+    // The first row that has any, and the end of those that have.
+    fn rows(self, wanted: &Virtual) -> (u32, u32)
+        ensures order { result.0 ≤ result.1 }
+        ensures end { result.1 ≤ wanted.now.picture.rows }
+        ensures others { AreNoneByOutside self wanted.now result.0 result.1 }
+    {
+        match self {
+            Looked::Changed => (0, wanted.size().rows),
+            Looked::Altered => wanted.altered_rows(),
+        }
+    }
+}
+
+// A plan, where a known row shows the picture but in these columns.
+fn plan_by(
+    alloc: Global,
+    profile: &Profile,
+    memory: &Memory,
+    wanted: &Virtual,
+    by: Looked,
+) -> Result<Ops, NoMemory>
+    requires fits { Fits profile.now wanted.now.picture }
+    requires size { IsSizeOf wanted.now.picture memory.now }
+    requires same { ShowsOutside (range_by by) profile.now memory.now wanted.now }
+    ensures { IfOk result (IsPlan profile.now memory.now wanted.now) }
+{
+    plans_are_made();
+    let _profile = profile.size();
+    let _wanted = wanted.size();
+    let _memory = memory.size();
     if !wants_changes_alone(memory, wanted) {
         return anew(alloc, profile, wanted.picture());
     }
-    if is_shown(profile, memory, wanted) {
+    if !may_be(profile, memory) {
         return Ok(Ops(Vec::new(alloc)));
     }
-    changes(alloc, profile, memory, wanted)
+    changes(alloc, profile, memory, wanted, by)
 }
 
 // Whether only what differs is to be painted: all is known, and the whole screen is not to be painted anew.
@@ -49,55 +131,54 @@ fn wants_changes_alone(memory: &Memory, wanted: &Virtual) -> bool
     memory.known() && !wanted.repaint()
 }
 
+// Whether a terminal of the profile can be as it is remembered: one that cannot turn attributes off has none, in default colours.
+fn may_be(profile: &Profile, memory: &Memory) -> bool
+    ensures yes { result ≡ true → (is_there profile.now Sgr0 ≡ true) ⊎ (is_plain_pen memory.now.state.pen ≡ true) }
+    ensures no { result ≡ false → IsShownPen (abilities profile.now) memory.now.state.pen → ⊥ }
+{
+    profiles_have();
+    let _profile = profile.size();
+    profile.can_reset() || memory.remembered_pen().is_plain()
+}
+
 // The whole screen painted anew: it is cleared, and what differs from blanks is painted.
 fn anew(alloc: Global, profile: &Profile, picture: &Picture) -> Result<Ops, NoMemory>
     requires { Fits profile.now picture.now }
     ensures { IfOk result (λ ops. ops ≡ anew_of profile.now picture.now) }
 {
     let painter = Painter::of(profile);
-    let size = picture.size();
-    let mut ops = Vec::with_capacity(alloc, room_of(size))?;
+    let mut ops = Vec::with_capacity(alloc, room_of(picture.size()))?;
     painter.reset(&mut ops)?;
     ops.push(Op::Clear)?;
-    for row in 0..size.rows {
-        painter.paint_runs(picture, row, None, 0, size.columns, &mut ops)?;
-    }
-    painter.finish(picture.wish(), &mut ops)?;
-    Ok(Ops(ops))
+    let mut joining = Joining::on_blanks(profile, ops);
+    joining.join_all(painter, profile, picture)?;
+    Ok(Ops(joining.ops))
 }
 
-// Whether it is plain that the screen is shown: no row may look otherwise, and the cursor is as wished.
-fn is_shown(profile: &Profile, memory: &Memory, wanted: &Virtual) -> bool
-    requires size { IsSizeOf wanted.now.picture memory.now }
-    requires same { IsUpToDate profile.now memory.now wanted.now }
-    requires known { is_known memory.now ≡ true }
-    ensures { result ≡ true → brief_of profile.now memory.now wanted.now.picture ≡ [] }
-{
-    let (first, end) = wanted.altered_rows();
-    first == end && memory.is_placed(wanted.picture().wish())
-}
-
-// Each place that differs, found by the columns that may look otherwise.
+// The joined repaint.
 fn changes(
     alloc: Global,
     profile: &Profile,
     memory: &Memory,
     wanted: &Virtual,
+    by: Looked,
 ) -> Result<Ops, NoMemory>
+    requires fits { Fits profile.now wanted.now.picture }
     requires size { IsSizeOf wanted.now.picture memory.now }
-    requires same { IsUpToDate profile.now memory.now wanted.now }
+    requires same { ShowsOutside (range_by by) profile.now memory.now wanted.now }
     requires known { is_known memory.now ≡ true }
-    ensures { IfOk result (λ ops. ops ≡ brief_of profile.now memory.now wanted.now.picture) }
+    requires pen { (is_there profile.now Sgr0 ≡ true) ⊎ (is_plain_pen memory.now.state.pen ≡ true) }
+    ensures { IfOk result (λ ops. ops ≡ joined_of profile.now memory.now wanted.now.picture) }
 {
     let painter = Painter::of(profile);
-    let mut ops = Vec::with_capacity(alloc, room_of(wanted.size()))?;
-    painter.reset(&mut ops)?;
-    let begun = ops.len();
-    let (first, end) = wanted.altered_rows();
-    for row in first..end {
-        painter.paint_changes(profile, memory, wanted, row, &mut ops)?;
+    let picture = wanted.picture();
+    if memory.is_placed(picture.wish()) && !differs(painter, profile, memory, wanted, by) {
+        return Ok(Ops(Vec::new(alloc)));
     }
-    painter.end(wanted.picture(), memory, begun, ops)
+    let ops = Vec::with_capacity(alloc, room_of(wanted.size()))?;
+    let mut joining = Joining::behind(painter, profile, memory, ops)?;
+    joining.join_changes(painter, profile, memory, wanted, by)?;
+    Ok(Ops(joining.ops))
 }
 
 // How many operations a line mostly takes: each of its characters, and what leads to them. Room for them spares the lists of most
@@ -106,32 +187,141 @@ fn room_of(size: Size) -> usize {
     size.columns as usize + 12
 }
 
-impl Painter {
-    // Adds the operations for the places of a row that differ from what is remembered, all of which are among its columns that
-    // may look otherwise.
-    fn paint_changes(
-        self,
+// Whether some place differs from what is known of it.
+fn differs(
+    painter: Painter,
+    profile: &Profile,
+    memory: &Memory,
+    wanted: &Virtual,
+    by: Looked,
+) -> bool
+    requires painter { painter ≡ painter_of profile.now }
+    requires size { IsSizeOf wanted.now.picture memory.now }
+    requires same { ShowsOutside (range_by by) profile.now memory.now wanted.now }
+    requires known { is_known memory.now ≡ true }
+    ensures { result ≡ not (is_none_left (differing profile.now wanted.now.picture memory.now)) }
+{
+    let _size = wanted.size();
+    let (first, end) = by.rows(wanted);
+    for row in first..end {
+        if differs_in(painter, profile, memory, wanted, by, row) {
+            return true;
+        }
+    }
+    false
+}
+
+// Whether some place of a row differs from what is known of it.
+fn differs_in(
+    painter: Painter,
+    profile: &Profile,
+    memory: &Memory,
+    wanted: &Virtual,
+    by: Looked,
+    row: u32,
+) -> bool
+    requires painter { painter ≡ painter_of profile.now }
+    requires size { IsSizeOf wanted.now.picture memory.now }
+    requires same { ShowsOutside (range_by by) profile.now memory.now wanted.now }
+    requires known { is_known memory.now ≡ true }
+    requires row { row < wanted.now.picture.rows }
+    ensures none { result ≡ false → (c : ℕ) → c < wanted.now.picture.columns → differs profile.now wanted.now.picture memory.now (row, c) ≡ false }
+    ensures one { result ≡ true → (c : ℕ) × (c < wanted.now.picture.columns) × (differs profile.now wanted.now.picture memory.now (row, c) ≡ true) }
+{
+    let Some((from, last)) = by.in_row(wanted, row) else {
+        return false;
+    };
+    let _size = wanted.size();
+    let picture = wanted.picture();
+    let looks = Some(memory.looks(row));
+    let cells = picture.row(row);
+    painter.unlike_from(picture, row, cells, looks, from, last + 1) <= last
+}
+
+impl Joining {
+    // Adds what paints each place that differs from what is known of it, and then what places the cursor.
+    fn join_changes(
+        &mut self,
+        painter: Painter,
         profile: &Profile,
         memory: &Memory,
         wanted: &Virtual,
-        row: u32,
-        ops: &mut Vec<Op>,
+        by: Looked,
     ) -> Result<(), NoMemory>
-        requires painter { self ≡ painter_of profile.now }
+        requires painter { painter ≡ painter_of profile.now }
+        requires fits { Fits profile.now wanted.now.picture }
         requires size { IsSizeOf wanted.now.picture memory.now }
-        requires same { IsUpToDate profile.now memory.now wanted.now }
+        requires same { ShowsOutside (range_by by) profile.now memory.now wanted.now }
         requires known { is_known memory.now ≡ true }
-        requires row { row < wanted.now.picture.rows }
-        ensures { OnOk result (ops.new.items
-            ≡ ops.old.items ++ flat_map (brief_place profile.now wanted.now.picture memory.now) (filter (differs profile.now wanted.now.picture memory.now) (row_places wanted.now.picture.columns row))) }
+        ensures { OnOk result (Continues profile.now self.old self.new (joined_places profile.now wanted.now.picture memory.now ++ resets profile.now ++ places_cursor wanted.now.picture.wish)) }
     {
         let _size = wanted.size();
-        match wanted.altered(row) {
+        let (first, end) = by.rows(wanted);
+        for row in first..end {
+            self.join_changed(painter, profile, memory, wanted, by, row)?;
+        }
+        self.finish(painter, profile, wanted.picture())
+    }
+
+    // Adds what paints each place of a row that differs from what is known of it.
+    fn join_changed(
+        &mut self,
+        painter: Painter,
+        profile: &Profile,
+        memory: &Memory,
+        wanted: &Virtual,
+        by: Looked,
+        row: u32,
+    ) -> Result<(), NoMemory>
+        requires painter { painter ≡ painter_of profile.now }
+        requires fits { Fits profile.now wanted.now.picture }
+        requires size { IsSizeOf wanted.now.picture memory.now }
+        requires same { ShowsOutside (range_by by) profile.now memory.now wanted.now }
+        requires known { is_known memory.now ≡ true }
+        requires row { row < wanted.now.picture.rows }
+        ensures { OnOk result (Continues profile.now self.old self.new (flat_map (joined_at profile.now wanted.now.picture memory.now) (filter (differs profile.now wanted.now.picture memory.now) (row_places wanted.now.picture.columns row)))) }
+    {
+        let _size = wanted.size();
+        match by.in_row(wanted, row) {
             Some((from, last)) => {
                 let looks = Some(memory.looks(row));
-                self.paint_runs(wanted.picture(), row, looks, from, last + 1, ops)
+                self.join_row(painter, profile, wanted.picture(), row, looks, from, last + 1)
             }
             None => Ok(()),
         }
+    }
+
+    // Adds what paints each place that differs from a blank, and then what places the cursor.
+    fn join_all(
+        &mut self,
+        painter: Painter,
+        profile: &Profile,
+        picture: &Picture,
+    ) -> Result<(), NoMemory>
+        requires painter { painter ≡ painter_of profile.now }
+        requires fits { Fits profile.now picture.now }
+        ensures { OnOk result (Continues profile.now self.old self.new (joined_places profile.now picture.now (cleared picture.now) ++ resets profile.now ++ places_cursor picture.now.wish)) }
+    {
+        let size = picture.size();
+        for row in 0..size.rows {
+            self.join_row(painter, profile, picture, row, None, 0, size.columns)?;
+        }
+        self.finish(painter, profile, picture)
+    }
+
+    // Turns attributes off, and moves the cursor where the picture wishes it.
+    fn finish(
+        &mut self,
+        painter: Painter,
+        profile: &Profile,
+        picture: &Picture,
+    ) -> Result<(), NoMemory>
+        requires painter { painter ≡ painter_of profile.now }
+        requires fits { Fits profile.now picture.now }
+        ensures { OnOk result (Continues profile.now self.old self.new (resets profile.now ++ places_cursor picture.now.wish)) }
+    {
+        let _size = picture.size();
+        self.reset(painter, profile)?;
+        self.place_cursor(painter, profile, picture.wish())
     }
 }

@@ -1,7 +1,7 @@
 //! Laws of what is remembered after operations and plans: functions that do nothing, whose contracts are the laws.
 ghost use Rattle.scr_plan.specs.MemoryRuns.{KnownMemories, MemoryRuns, PlansAreRemembered};
 
-use crate::plan_laws::{memory_laws, plan_shows};
+use crate::plan_laws::memory_laws;
 use crate::scratch_laws::scratch_shows;
 use scr_cells::{Look, grid_laws};
 use scr_term::{blank_laws, profiles_have, run_laws};
@@ -16,8 +16,8 @@ pub fn memory_runs()
     memory_laws();
 }
 
-/// After the operations of a plan, as after scratch, all is known, whatever was known before, and the remembered state shows the
-/// picture (curs_refresh(3X), doupdate()).
+/// Where attributes were turned off and the screen was cleared, all is known after whatever is sent behind it, whatever was known
+/// before; so it is after scratch (curs_refresh(3X), doupdate()).
 pub fn plans_are_remembered()
     ensures { PlansAreRemembered }
 {
@@ -25,11 +25,10 @@ pub fn plans_are_remembered()
     profiles_have();
     memory_laws();
     scratch_shows();
-    plan_shows();
 }
 
-/// Where all is known, a state that agrees with what is remembered is the remembered one; so what an update sends is
-/// determined by the terminal's state.
+/// Where all is known, a state that agrees with what is remembered is the remembered one; so the joined repaint is determined by the
+/// terminal's state.
 pub fn known_memories()
     ensures { KnownMemories }
 {

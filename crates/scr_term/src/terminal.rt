@@ -6,7 +6,8 @@ ghost use Rattle.scr_cells.specs.Grids.{grid_at, grid_row};
 ghost use Rattle.scr_cells.specs.LookViews.{IsLook, LookView};
 ghost use Rattle.scr_cells.specs.PictureViews.{IsPlace};
 ghost use Rattle.scr_term.specs.Displays.{IsDisplay, blank_display, gone_on};
-ghost use Rattle.scr_term.specs.Operations.States.{IsSpot};
+ghost use Rattle.scr_term.specs.Operations.Abilities.{full_abilities};
+ghost use Rattle.scr_term.specs.Operations.States.{IsShownPen, IsSpot};
 ghost use Rattle.scr_term.specs.Operations.Steps.{act, step};
 ghost use Rattle.scr_term.specs.Operations.Texts.{has};
 ghost use Rattle.scr_term.specs.Code.Changes.{IsChange, changed};
@@ -15,7 +16,7 @@ ghost use Rattle.scr_term.specs.declared.operations.operation.Op.TheVariants.{Pu
 use crate::displays::{Change, Display};
 use crate::operations::change_of;
 use crate::{Op, Profile, Spot, Undefined};
-use scr_cells::{Attrs, Look, NoMemory, Size, is_character};
+use scr_cells::{Attrs, Look, NoMemory, Pen, Size, is_character};
 use std::alloc::Global;
 use std::marker::Model;
 
@@ -114,6 +115,14 @@ impl Terminal {
         ensures inside { IsSpot self.now.rows self.now.columns result }
     {
         self.display.spot()
+    }
+
+    /// What is written with: the attributes that are on, and the current colours.
+    pub fn pen(&self) -> Pen
+        ensures value { result ≡ self.now.state.pen }
+        ensures shown { IsShownPen (full_abilities self.now.rows self.now.columns) result }
+    {
+        self.display.pen()
     }
 
     /// The attributes that are on.

@@ -4,14 +4,15 @@ use Rattle.std.specs.List.{range_with_len}
 use Rattle.scr_cells.specs.CellViews.{CellView, blank_cell}
 use Rattle.scr_cells.specs.Grids.{grid_at}
 use Rattle.scr_cells.specs.LookViews.{LookView, blank, seen}
-use Rattle.scr_cells.specs.PenViews.{PenView, pen_eq}
+use Rattle.scr_cells.specs.PenViews.{PenView, is_plain_pen, pen_eq}
 use Rattle.scr_cells.specs.PictureViews.{PictureView}
 use Rattle.scr_term.specs.declared.operations.capability.Capability.TheVariants.{Sgr0}
 use Rattle.scr_term.specs.declared.operations.operation.Op.{Op}
 use Rattle.scr_term.specs.declared.operations.operation.Op.TheVariants.{Move, Put, Reset}
+use Rattle.scr_term.specs.declared.operations.operation.Spot.{Spot}
 use Rattle.scr_term.specs.Operations.Profiles.{ProfileView, has_colours, is_there, shown_set}
 use Rattle.scr_plan.specs.Memories.{MemoryView, is_known_row}
-use Rattle.scr_plan.specs.Repaints.{look_eq, look_in}
+use Rattle.scr_plan.specs.Repaints.{is_in_place, look_eq, look_in}
 use Rattle.scr_plan.specs.Scratch.{renders}
 use Rattle.scr_plan.specs.declared.painting.Painter.{Painter}
 
@@ -30,6 +31,21 @@ painter_resets painter = if painter.can_reset then Reset ∷ [] else []
 abbrev pub painter_goes : Painter → ℕ × ℕ → List Op
 painter_goes painter place =
     if painter.moves_in_any_rendition then Move place.0 place.1 ∷ painter_resets painter else painter_resets painter ++ Move place.0 place.1 ∷ []
+
+-- what leads to a place and a pen
+abbrev pub painter_begins : Painter → ℕ × ℕ → PenView → List Op
+painter_begins painter place pen = painter_goes painter place ++ renders pen
+
+-- the same without what changes nothing where the cursor and the pen are these
+abbrev pub moves_unless_there : Spot → ℕ × ℕ → List Op
+moves_unless_there spot place = if is_in_place spot place then [] else Move place.0 place.1 ∷ []
+
+abbrev pub resets_unless_plain : Painter → PenView → List Op
+resets_unless_plain painter pen = if is_plain_pen pen then [] else painter_resets painter
+
+abbrev pub painter_leads : Painter → Spot → PenView → ℕ × ℕ → PenView → List Op
+painter_leads painter spot now place pen =
+    (if painter.moves_in_any_rendition then moves_unless_there spot place ++ resets_unless_plain painter now else resets_unless_plain painter now ++ moves_unless_there spot place) ++ renders pen
 
 -- what is seen of a cell
 abbrev pub painter_sees : Painter → List (ℕ × ℕ) → CellView → LookView

@@ -1,5 +1,5 @@
-use Rattle.scr_plan.proofs.PlanLaws as laws
+use Rattle.scr_plan.proofs.PlanMadeLaws as laws
 use Rattle.scr_plan.proofs.plan_laws.plan_is_cheap.Goals as goal
 
 pub returns : goal.returns
-returns c = laws.plan_is_cheap c.run_laws.ensures
+returns c = laws.plan_is_cheap c.joined_is_cheap.ensures

@@ -1,0 +1,285 @@
+-- The joined repaint, row by row.
+use Rattle.std.proofs.Common.{◌≡◌, ℕ, ◌+◌, ◌-◌, ◌<◌, ◌≤◌, ◌&&◌, ◌⊎◌, inl, inr, not, Bool, true, false, All, refl, sym, ◌∙◌, ap, subst, arith, append_assoc, get_or, nat_lt, Result, Ok, Err, OnOk, List, [], ◌∷◌, ◌++◌, length, filter, Option, Some, None, zero, suc, if◌then◌else◌}
+use Rattle.std.specs.List.{flat_map, range_with_len}
+use Rattle.std.proofs.lemmas.Bool.Decides.{nat_tests}
+use Rattle.std.proofs.lemmas.List.{append-nil}
+use Rattle.std.proofs.lemmas.List.Elements.{recursion_from_All, filter-append}
+use Rattle.scr_cells.specs.CellViews.{CellView, IsCell, IsCharacter, blank_cell}
+use Rattle.scr_cells.specs.Grids.{grid_at, grid_row}
+use Rattle.scr_cells.specs.LookViews.{LookView, blank}
+use Rattle.scr_cells.specs.PenViews.{PenView}
+use Rattle.scr_cells.specs.PictureViews.{PictureView, IsPicture}
+use Rattle.scr_virtual.specs.Ranges.{in_range}
+use Rattle.scr_virtual.specs.VirtualViews.{VirtualView}
+use Rattle.scr_term.specs.declared.operations.operation.Op.{Op}
+use Rattle.scr_term.specs.declared.operations.operation.Op.TheVariants.{EraseLine, Put}
+use Rattle.scr_term.specs.declared.operations.operation.Spot.TheVariants.{At}
+use Rattle.scr_term.specs.Operations.Profiles.{ProfileView}
+use Rattle.scr_plan.proofs.JoinLaws.{differs_same, joins_same, known_row, painted_adds, parts_painted, passed, row_is_brief}
+use Rattle.scr_plan.proofs.JoinedLaws.{IsErasable, erasable, row_erased, row_unerased}
+use Rattle.scr_plan.proofs.JoiningLaws.{goes_on, nothing_goes}
+use Rattle.scr_plan.proofs.PartLaws.{none_in_part, outside_above, outside_below, part_joined, row_in_part, row_known, row_more, row_same, rows_same, same_place}
+use Rattle.scr_plan.proofs.PlaceLaws.{cell_of}
+use Rattle.scr_plan.proofs.PlacesLaws.{is_among}
+use Rattle.scr_plan.proofs.PlainLaws.{among_differing, pen_same}
+use Rattle.scr_plan.specs.Code.Joinings.{Continues, IsBehind, ShowsRow, joined_at}
+use Rattle.scr_plan.specs.Code.Painters.{is_that_pen, painter_begins, painter_look, painter_of, painter_writes, part_places, pen_before, row_differs, row_paints}
+use Rattle.scr_plan.specs.Memories.{MemoryView, is_known}
+use Rattle.scr_plan.specs.Repaints.{IsSizeOf, ShowsOutside, begins_place, brief_place, differing, differs, erased_column, is_none_left, joins_left}
+use Rattle.scr_plan.specs.Scratch.{goes, look_at, places, renders, row_places}
+use Rattle.scr_plan.specs.declared.joining.Joining.{Joining}
+use Rattle.scr_plan.specs.declared.painting.Painter.{Painter}
+
+-- ---- behind a place that was painted
+
+pub there_already : (columns : ℕ) (joining : Joining) (row column : ℕ) (left : Option PenView) (pen : PenView) → is_that_pen left pen ≡ true → IsBehind columns joining row column left → column < columns
+    → (joining.spot ≡ At row column) × (joining.pen ≡ pen)
+there_already columns joining row column None pen that behind wide = (cc)
+there_already columns joining row column (Some p) pen that behind wide = (behind.1 wide, behind.0 ∙ pen_same p pen that)
+
+pub unless_there : (profile : ProfileView) (painter : Painter) (old : Joining) (left : Option PenView) (place : ℕ × ℕ) (pen : PenView) → is_that_pen left pen ≡ true
+    → Continues profile old old (if is_that_pen left pen then [] else painter_begins painter place pen)
+unless_there profile painter old left place pen that =
+    subst (Continues profile old old) (sym (ap (λ b. if b then [] else painter_begins painter place pen) that)) (nothing_goes profile old)
+
+pub unless_led : (profile : ProfileView) (painter : Painter) (old new : Joining) (left : Option PenView) (place : ℕ × ℕ) (pen : PenView) → is_that_pen left pen ≡ false → Continues profile old new (painter_begins painter place pen)
+    → Continues profile old new (if is_that_pen left pen then [] else painter_begins painter place pen)
+unless_led profile painter old new left place pen other led =
+    subst (Continues profile old new) (sym (ap (λ b. if b then [] else painter_begins painter place pen) other)) led
+
+-- ---- a place of a row
+
+-- the byte of a cell is a character
+pub byte_is : (picture : PictureView) → IsPicture picture → (row column : ℕ) (cells : List CellView) (byte : ℕ) → cells ≡ grid_row picture.lines row → byte ≡ (get_or cells column blank_cell).byte → IsCharacter byte
+byte_is picture k row column cells byte are is =
+    let cell : IsCell (grid_at blank_cell picture.lines row column) = cell_of picture.lines row column (recursion_from_All (All IsCell) picture.lines k.cells) in
+    subst IsCharacter (sym (is ∙ ap (λ line. (get_or line column blank_cell).byte) are)) cell.character
+
+-- places that are passed add nothing
+pub passed_goes : (profile : ProfileView) (painter : Painter) (picture : PictureView) (before : Option (List LookView)) (row column next : ℕ) (old : Joining) → column < next
+    → ((c : ℕ) → column ≤ c → c < next → row_differs painter picture before (row, c) ≡ false)
+    → Continues profile old old (flat_map (row_paints painter picture before) (filter (row_differs painter picture before) (part_places column (next - column) row)))
+passed_goes profile painter picture before row column next old more same =
+    subst (Continues profile old old) (sym (ap (flat_map (row_paints painter picture before)) (passed painter picture before row column next more same).0)) (nothing_goes profile old)
+
+-- a place that is painted
+pub painted_goes : (profile : ProfileView) (painter : Painter) (picture : PictureView) (before : Option (List LookView)) (row column : ℕ) (old new : Joining) (left : Option PenView) (look : LookView)
+    → row_differs painter picture before (row, column) ≡ true → left ≡ pen_before painter picture before row column → look ≡ painter_look painter picture (row, column)
+    → Continues profile old new (painter_writes painter left (row, column) look)
+    → Continues profile old new (flat_map (row_paints painter picture before) (filter (row_differs painter picture before) (part_places column (column + 1 - column) row)))
+painted_goes profile painter picture before row column old new left look differs is_left is_look goes =
+    subst (Continues profile old new) (painted_adds painter picture before row column [] (painter_writes painter left (row, column) look) left look differs is_left is_look refl) goes
+
+-- ---- a part of a row
+
+pub none_yet : (profile : ProfileView) (painter : Painter) (picture : PictureView) (before : Option (List LookView)) (row from : ℕ) (old : Joining)
+    → Continues profile old old (flat_map (row_paints painter picture before) (filter (row_differs painter picture before) (part_places from (from - from) row)))
+none_yet profile painter picture before row from old =
+    let zero_of : from - from ≡ 0 = omega arith in
+    subst (Continues profile old old) (sym (ap (λ n. flat_map (row_paints painter picture before) (filter (row_differs painter picture before) (part_places from n row))) zero_of)) (nothing_goes profile old)
+
+pub part_goes : (profile : ProfileView) (painter : Painter) (picture : PictureView) (before : Option (List LookView)) (row from column next : ℕ) (old mid new : Joining) → from ≤ column → column < next
+    → Continues profile old mid (flat_map (row_paints painter picture before) (filter (row_differs painter picture before) (part_places from (column - from) row)))
+    → Continues profile mid new (flat_map (row_paints painter picture before) (filter (row_differs painter picture before) (part_places column (next - column) row)))
+    → Continues profile old new (flat_map (row_paints painter picture before) (filter (row_differs painter picture before) (part_places from (next - from) row)))
+part_goes profile painter picture before row from column next old mid new low more first second =
+    let f = row_paints painter picture before in
+    let d = row_differs painter picture before in
+    subst (Continues profile old new)
+    (parts_painted painter picture before row from column next [] (flat_map f (filter d (part_places from (column - from) row))) (flat_map f (filter d (part_places from (column - from) row)) ++ flat_map f (filter d (part_places column (next - column) row))) low more refl refl)
+    (goes_on profile old mid new _ _ first second)
+
+-- ---- a row
+
+-- what differs in a row does so in a part of it
+part_whole : (d : ℕ × ℕ → Bool) (columns r from end : ℕ) → from ≤ end → end ≤ columns → ((c : ℕ) → (c < from) ⊎ (end ≤ c) → c < columns → d (r, c) ≡ false) → filter d (part_places 0 columns r) ≡ filter d (part_places from (end - from) r)
+part_whole d columns r from end order wide outside =
+    let whole : columns ≡ from + (end - from) + (columns - end) = omega (arith, order, wide) in
+    ap (λ n. filter d (part_places 0 n r)) whole
+    ∙ row_in_part d from (end - from) (columns - end) r (λ c below. outside c (inl below) (omega (arith, below, order, wide))) (λ c low few. outside c (inr (omega (arith, low, order))) (omega (arith, few, order, wide)))
+
+part_before : (d : ℕ × ℕ → Bool) (r from e : ℕ) → from ≤ e → ((c : ℕ) → c < from → d (r, c) ≡ false) → filter d (part_places 0 e r) ≡ filter d (part_places from (e - from) r)
+part_before d r from e order none =
+    let whole : e ≡ from + (e - from) = omega (arith, order) in
+    let here : 0 + from ≡ from = omega arith in
+    ap (λ n. filter d (part_places 0 n r)) whole
+    ∙ ap (filter d) (part_joined 0 from (e - from) r)
+    ∙ filter-append d (part_places 0 from r) (part_places (0 + from) (e - from) r)
+    ∙ ap (λ ps. ps ++ filter d (part_places (0 + from) (e - from) r)) (none_in_part d 0 from r (λ c low high. none c (omega (arith, high))))
+    ∙ ap (λ k. filter d (part_places k (e - from) r)) here
+
+pub row_whole : (profile : ProfileView) (picture : PictureView) (row : ℕ) (before : Option (List LookView)) (painter : Painter) → painter ≡ painter_of profile → (from end : ℕ) → from ≤ end → end ≤ picture.columns
+    → ((c : ℕ) → (c < from) ⊎ (end ≤ c) → c < picture.columns → row_differs painter picture before (row, c) ≡ false)
+    → (old new : Joining) → Continues profile old new (flat_map (row_paints painter picture before) (filter (row_differs painter picture before) (part_places from (end - from) row)))
+    → (memory : MemoryView) → ShowsRow memory row before → None ≡ erased_column profile picture memory row
+    → Continues profile old new (flat_map (joined_at profile picture memory) (filter (differs profile picture memory) (row_places picture.columns row)))
+row_whole profile picture row before painter who from end order wide outside old new goes memory shows none =
+    let d = differs profile picture memory in
+    let same : (c : ℕ) → (c < from) ⊎ (end ≤ c) → c < picture.columns → d (row, c) ≡ false =
+    λ c out w. sym (differs_same profile picture memory row before shows c) ∙ ap (λ p. row_differs p picture before (row, c)) (sym who) ∙ outside c out w in
+    subst (Continues profile old new)
+    (row_is_brief profile picture memory row before painter who shows from (end - from)
+    ∙ ap (flat_map (brief_place profile picture memory)) (sym (part_whole d picture.columns row from end order wide same))
+    ∙ sym (row_unerased profile picture memory row (sym none))) goes
+
+pub row_with_rest : (profile : ProfileView) (picture : PictureView) (row : ℕ) (before : Option (List LookView)) (painter : Painter) → painter ≡ painter_of profile → (from e : ℕ) (left : Option PenView) → from ≤ e → e < picture.columns
+    → ((c : ℕ) → c < from → c < picture.columns → row_differs painter picture before (row, c) ≡ false) → left ≡ pen_before painter picture before row e → painter_look painter picture (row, e) ≡ blank
+    → (old mid new : Joining) → Continues profile old mid (flat_map (row_paints painter picture before) (filter (row_differs painter picture before) (part_places from (e - from) row)))
+    → Continues profile mid new ((if is_that_pen left blank.pen then [] else painter_begins painter (row, e) blank.pen) ++ EraseLine ∷ [])
+    → (memory : MemoryView) → ShowsRow memory row before → Some e ≡ erased_column profile picture memory row
+    → Continues profile old new (flat_map (joined_at profile picture memory) (filter (differs profile picture memory) (row_places picture.columns row)))
+row_with_rest profile picture row before painter who from e left order wide outside is_left is_blank old mid new first last memory shows at =
+    let d = differs profile picture memory in
+    let can : IsErasable profile picture memory row e = erasable profile picture memory row e (sym at) in
+    let same : (c : ℕ) → c < from → d (row, c) ≡ false = λ c below. sym (differs_same profile picture memory row before shows c) ∙ ap (λ p. row_differs p picture before (row, c)) (sym who) ∙ outside c below (omega (arith, below, order, wide)) in
+    let look : look_at profile picture (row, e) ≡ blank = ap (λ p. painter_look p picture (row, e)) (sym who) ∙ is_blank in
+    let joins : is_that_pen left blank.pen ≡ joins_left profile picture memory row e =
+    (λ i. is_that_pen ((is_left ∙ ap (λ p. pen_before p picture before row e) who) i) (sym look i).pen) ∙ joins_same profile picture memory row before shows e in
+    let begun : (if is_that_pen left blank.pen then [] else painter_begins painter (row, e) blank.pen) ≡ begins_place profile picture memory row e =
+    (λ i. if joins i then [] else painter_begins (who i) (row, e) (sym look i).pen) in
+    let prefix : flat_map (row_paints painter picture before) (filter (row_differs painter picture before) (part_places from (e - from) row)) ≡ flat_map (brief_place profile picture memory) (filter d (part_places 0 e row)) =
+    row_is_brief profile picture memory row before painter who shows from (e - from) ∙ ap (flat_map (brief_place profile picture memory)) (sym (part_before d row from e order same)) in
+    subst (Continues profile old new)
+    ((λ i. prefix i ++ (begun i ++ EraseLine ∷ [])) ∙ sym (row_erased profile picture memory row e (sym at) can.inside can.differs_there))
+    (goes_on profile old mid new _ _ first last)
+
+-- ---- rows of what is remembered
+
+-- outside the columns that are looked at nothing differs
+pub outside_looks : (ranges : VirtualView → ℕ → Option (ℕ × ℕ)) (profile : ProfileView) (memory : MemoryView) (virtual : VirtualView) → ShowsOutside ranges profile memory virtual → IsSizeOf virtual.picture memory → is_known memory ≡ true
+    → (painter : Painter) → painter ≡ painter_of profile → (r from last : ℕ) (looks : List LookView) → r < virtual.picture.rows → ranges virtual r ≡ Some (from, last) → looks ≡ grid_row memory.state.grid r
+    → (c : ℕ) → (c < from) ⊎ (last + 1 ≤ c) → c < virtual.picture.columns → row_differs painter virtual.picture (Some looks) (r, c) ≡ false
+outside_looks ranges profile memory virtual same size known painter who r from last looks high range are c out wide =
+    let row = row_known memory known r (omega (arith, high, size.known_rows)) in
+    ap (λ p. row_differs p virtual.picture (Some looks) (r, c)) who ∙ differs_same profile virtual.picture memory r (Some looks) (known_row memory r looks row are) c
+    ∙ same_place ranges profile memory virtual same size known r c high wide (ap (λ range. in_range range c) range ∙ by out)
+  where
+    by : (c < from) ⊎ (last + 1 ≤ c) → in_range (Some (from, last)) c ≡ false
+    by (inl below) = outside_below from last c below
+    by (inr above) = outside_above from last c (omega (arith, above))
+
+pub shows_row : (profile : ProfileView) (memory : MemoryView) (virtual : VirtualView) → IsSizeOf virtual.picture memory → is_known memory ≡ true → (r : ℕ) (looks : List LookView) → r < virtual.picture.rows → looks ≡ grid_row memory.state.grid r → ShowsRow memory r (Some looks)
+shows_row profile memory virtual size known r looks high are = known_row memory r looks (row_known memory known r (omega (arith, high, size.known_rows))) are
+
+-- a row without such columns
+pub unlooked_goes : (ranges : VirtualView → ℕ → Option (ℕ × ℕ)) (profile : ProfileView) (memory : MemoryView) (virtual : VirtualView) → ShowsOutside ranges profile memory virtual → IsSizeOf virtual.picture memory → is_known memory ≡ true
+    → (r : ℕ) → r < virtual.picture.rows → ranges virtual r ≡ None → (old : Joining)
+    → Continues profile old old (flat_map (joined_at profile virtual.picture memory) (filter (differs profile virtual.picture memory) (row_places virtual.picture.columns r)))
+unlooked_goes ranges profile memory virtual same size known r high none old =
+    subst (Continues profile old old) (sym (ap (flat_map (joined_at profile virtual.picture memory)) (row_same ranges profile memory virtual same size known r high none))) (nothing_goes profile old)
+
+-- ---- all rows
+
+-- one row more
+pub rows_go : (profile : ProfileView) (picture : PictureView) (memory : MemoryView) (row columns : ℕ) (old mid new : Joining)
+    → Continues profile old mid (flat_map (joined_at profile picture memory) (filter (differs profile picture memory) (places row columns)))
+    → Continues profile mid new (flat_map (joined_at profile picture memory) (filter (differs profile picture memory) (row_places columns row)))
+    → Continues profile old new (flat_map (joined_at profile picture memory) (filter (differs profile picture memory) (places (row + 1) columns)))
+rows_go profile picture memory row columns old mid new first second =
+    subst (Continues profile old new) (sym (row_more (joined_at profile picture memory) (differs profile picture memory) row columns)) (goes_on profile old mid new _ _ first second)
+
+-- rows before the first that is looked at, and from the end of these on
+pub begin_rows : (ranges : VirtualView → ℕ → Option (ℕ × ℕ)) (profile : ProfileView) (memory : MemoryView) (virtual : VirtualView) → ShowsOutside ranges profile memory virtual → IsSizeOf virtual.picture memory → is_known memory ≡ true
+    → (first : ℕ) → first ≤ virtual.picture.rows → ((r : ℕ) → r < first → r < virtual.picture.rows → ranges virtual r ≡ None) → filter (differs profile virtual.picture memory) (places first virtual.picture.columns) ≡ []
+begin_rows ranges profile memory virtual same size known first high none =
+    ap (λ n. filter (differs profile virtual.picture memory) (places n virtual.picture.columns)) (sym (from_zero first))
+    ∙ rows_same (differs profile virtual.picture memory) 0 first virtual.picture.columns
+    (λ r low below. row_same ranges profile memory virtual same size known r (omega (arith, below, high)) (none r (omega (arith, below)) (omega (arith, below, high))))
+  where
+    from_zero : (n : ℕ) → 0 + n ≡ n
+    from_zero n = omega arith
+
+pub end_rows : (ranges : VirtualView → ℕ → Option (ℕ × ℕ)) (profile : ProfileView) (memory : MemoryView) (virtual : VirtualView) → ShowsOutside ranges profile memory virtual → IsSizeOf virtual.picture memory → is_known memory ≡ true
+    → (end : ℕ) → end ≤ virtual.picture.rows → ((r : ℕ) → end ≤ r → r < virtual.picture.rows → ranges virtual r ≡ None)
+    → filter (differs profile virtual.picture memory) (places virtual.picture.rows virtual.picture.columns) ≡ filter (differs profile virtual.picture memory) (places end virtual.picture.columns)
+end_rows ranges profile memory virtual same size known end high none =
+    let whole : virtual.picture.rows ≡ end + (virtual.picture.rows - end) = omega (arith, high) in
+    ap (λ n. filter (differs profile virtual.picture memory) (places n virtual.picture.columns)) whole
+    ∙ rows_same (differs profile virtual.picture memory) end (virtual.picture.rows - end) virtual.picture.columns
+    (λ r low below. row_same ranges profile memory virtual same size known r (omega (arith, below, high)) (none r low (omega (arith, below, high))))
+
+pub nothing_of : (profile : ProfileView) (picture : PictureView) (memory : MemoryView) (n columns : ℕ) (old : Joining) → filter (differs profile picture memory) (places n columns) ≡ []
+    → Continues profile old old (flat_map (joined_at profile picture memory) (filter (differs profile picture memory) (places n columns)))
+nothing_of profile picture memory n columns old none = subst (Continues profile old old) (sym (ap (flat_map (joined_at profile picture memory)) none)) (nothing_goes profile old)
+
+pub all_of : (profile : ProfileView) (picture : PictureView) (memory : MemoryView) (rows n columns : ℕ) (old new : Joining) → filter (differs profile picture memory) (places rows columns) ≡ filter (differs profile picture memory) (places n columns)
+    → Continues profile old new (flat_map (joined_at profile picture memory) (filter (differs profile picture memory) (places n columns)))
+    → Continues profile old new (flat_map (joined_at profile picture memory) (filter (differs profile picture memory) (places rows columns)))
+all_of profile picture memory rows n columns old new same goes = subst (Continues profile old new) (sym (ap (flat_map (joined_at profile picture memory)) same)) goes
+
+-- the rows and what ends a repaint
+pub ended : (profile : ProfileView) (old mid new : Joining) (rows resets cursor : List Op) → Continues profile old mid rows → Continues profile mid new (resets ++ cursor) → Continues profile old new (rows ++ resets ++ cursor)
+ended profile old mid new rows resets cursor first last = subst (Continues profile old new) (sym (append_assoc rows resets cursor)) (goes_on profile old mid new rows (resets ++ cursor) first last)
+
+-- ---- whether some place differs
+
+-- a row without such columns
+pub unlooked_same : (ranges : VirtualView → ℕ → Option (ℕ × ℕ)) (profile : ProfileView) (memory : MemoryView) (virtual : VirtualView) → ShowsOutside ranges profile memory virtual → IsSizeOf virtual.picture memory → is_known memory ≡ true
+    → (r c : ℕ) → r < virtual.picture.rows → c < virtual.picture.columns → ranges virtual r ≡ None → differs profile virtual.picture memory (r, c) ≡ false
+unlooked_same ranges profile memory virtual same size known r c high wide none = same_place ranges profile memory virtual same size known r c high wide (ap (λ range. in_range range c) none)
+
+-- a row in which the columns that are looked at show what is wanted
+pub looked_same : (ranges : VirtualView → ℕ → Option (ℕ × ℕ)) (profile : ProfileView) (memory : MemoryView) (virtual : VirtualView) → ShowsOutside ranges profile memory virtual → IsSizeOf virtual.picture memory → is_known memory ≡ true
+    → (painter : Painter) → painter ≡ painter_of profile → (r from last next : ℕ) (looks : List LookView) → r < virtual.picture.rows → ranges virtual r ≡ Some (from, last) → looks ≡ grid_row memory.state.grid r
+    → last < next → ((c : ℕ) → from ≤ c → c < next → row_differs painter virtual.picture (Some looks) (r, c) ≡ false)
+    → (c : ℕ) → c < virtual.picture.columns → differs profile virtual.picture memory (r, c) ≡ false
+looked_same ranges profile memory virtual same size known painter who r from last next looks high range are end none c wide = by (nat_lt c from) refl (nat_lt c next) refl
+  where
+    is : row_differs painter virtual.picture (Some looks) (r, c) ≡ false → differs profile virtual.picture memory (r, c) ≡ false
+    is h = sym (differs_same profile virtual.picture memory r (Some looks) (shows_row profile memory virtual size known r looks high are) c) ∙ ap (λ p. row_differs p virtual.picture (Some looks) (r, c)) (sym who) ∙ h
+
+    by : (a : Bool) → nat_lt c from ≡ a → (b : Bool) → nat_lt c next ≡ b → differs profile virtual.picture memory (r, c) ≡ false
+    by true before b h = is (outside_looks ranges profile memory virtual same size known painter who r from last looks high range are c (inl (grind (arith, nat_tests))) wide)
+    by false from_there true h = is (none c (grind (arith, nat_tests)) (grind (arith, nat_tests)))
+    by false from_there false h = is (outside_looks ranges profile memory virtual same size known painter who r from last looks high range are c (inr (grind (arith, nat_tests, end))) wide)
+
+pub looked_differs : (profile : ProfileView) (memory : MemoryView) (virtual : VirtualView) → IsSizeOf virtual.picture memory → is_known memory ≡ true → (painter : Painter) → painter ≡ painter_of profile → (r c : ℕ) (looks : List LookView)
+    → r < virtual.picture.rows → looks ≡ grid_row memory.state.grid r → row_differs painter virtual.picture (Some looks) (r, c) ≡ true → differs profile virtual.picture memory (r, c) ≡ true
+looked_differs profile memory virtual size known painter who r c looks high are h =
+    sym (differs_same profile virtual.picture memory r (Some looks) (shows_row profile memory virtual size known r looks high are) c) ∙ ap (λ p. row_differs p virtual.picture (Some looks) (r, c)) (sym who) ∙ h
+
+pub some_left : (profile : ProfileView) (picture : PictureView) (memory : MemoryView) (r c : ℕ) → r < picture.rows → c < picture.columns → differs profile picture memory (r, c) ≡ true → is_none_left (differing profile picture memory) ≡ false
+some_left profile picture memory r c high wide here = by (differing profile picture memory) (among_differing profile picture memory r c high wide ∙ here)
+  where
+    by : (list : List (ℕ × ℕ)) → is_among r c list ≡ true → is_none_left list ≡ false
+    by [] among = (cc)
+    by (place ∷ more) among = refl
+
+pub none_left_at : (profile : ProfileView) (picture : PictureView) (memory : MemoryView) → ((r c : ℕ) → r < picture.rows → c < picture.columns → differs profile picture memory (r, c) ≡ false) → is_none_left (differing profile picture memory) ≡ true
+none_left_at profile picture memory same =
+    let d = differs profile picture memory in
+    let whole : 0 + picture.rows ≡ picture.rows = omega arith in
+    ap (λ n. is_none_left (filter d (places n picture.columns))) (sym whole)
+    ∙ ap is_none_left (rows_same d 0 picture.rows picture.columns (λ r low below. none_in_part d 0 picture.columns r (λ c l wide. same r c (omega (arith, below)) (omega (arith, wide)))))
+
+-- one row more in which nothing differs
+pub more : (profile : ProfileView) (picture : PictureView) (memory : MemoryView) (row : ℕ) → ((r c : ℕ) → r < row → c < picture.columns → differs profile picture memory (r, c) ≡ false)
+    → ((c : ℕ) → c < picture.columns → differs profile picture memory (row, c) ≡ false) → (r c : ℕ) → r < row + 1 → c < picture.columns → differs profile picture memory (r, c) ≡ false
+more profile picture memory row before here r c below wide = by (nat_lt r row) refl
+  where
+    by : (b : Bool) → nat_lt r row ≡ b → differs profile picture memory (r, c) ≡ false
+    by true e = before r c (grind (arith, nat_tests)) wide
+    by false e = let same : r ≡ row = grind (arith, nat_tests, below) in ap (λ k. differs profile picture memory (k, c)) same ∙ here c wide
+
+pub all_rows : (profile : ProfileView) (picture : PictureView) (memory : MemoryView) (row : ℕ) → ((r c : ℕ) → r < row → c < picture.columns → differs profile picture memory (r, c) ≡ false)
+    → ((r : ℕ) → row ≤ r → r < picture.rows → (c : ℕ) → c < picture.columns → differs profile picture memory (r, c) ≡ false) → (r c : ℕ) → r < picture.rows → c < picture.columns → differs profile picture memory (r, c) ≡ false
+all_rows profile picture memory row before behind r c high wide = by (nat_lt r row) refl
+  where
+    by : (b : Bool) → nat_lt r row ≡ b → differs profile picture memory (r, c) ≡ false
+    by true e = before r c (grind (arith, nat_tests)) wide
+    by false e = behind r (grind (arith, nat_tests)) high c wide
+
+-- something is to be done where a place differs, or where the cursor is elsewhere
+pub some_differs : (none placed : Bool) → true ≡ not none → (none && placed) ≡ false
+some_differs true placed e = (cc)
+some_differs false placed e = refl
+
+pub not_placed : (none placed : Bool) → placed ≡ false → (none && placed) ≡ false
+not_placed true placed e = e
+not_placed false placed e = refl
+
+-- ---- answers
+
+pub on_ok : {T E : Type 0} (r : Result T E) (P Q : Type 0) → (P → Q) → OnOk r P → OnOk r Q
+on_ok (Ok a) P Q f h = f h
+on_ok (Err e) P Q f h = h

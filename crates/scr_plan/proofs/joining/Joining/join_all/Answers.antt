@@ -1,0 +1,27 @@
+use Rattle.std.proofs.Common.{ap, arith, refl, sym, ◌≡◌, ◌<◌, ◌++◌, filter}
+use Rattle.std.specs.List.{flat_map}
+use Rattle.scr_plan.specs.Code.Joinings.{Continues, joined_at}
+use Rattle.scr_plan.specs.Repaints.{cleared, differs, joined_places}
+use Rattle.scr_plan.specs.Scratch.{places, places_cursor, resets}
+use Rattle.scr_plan.proofs.JoinLaws.{cleared_row}
+use Rattle.scr_plan.proofs.JoinedRowLaws.{all_of, ended, nothing_of, on_ok, rows_go}
+use Rattle.scr_plan.proofs.joining.Joining.join_all.Goals as goal
+
+pub loop-row-init : goal.loop-row-init
+loop-row-init c = nothing_of c.args.profile.now c.args.picture.now (cleared c.args.picture.now) 0 c.args.picture.now.columns c.args.self.now refl
+
+pub loop-row-preserved : goal.loop-row-preserved
+loop-row-preserved c =
+    let high : c.loop-row.row < c.args.picture.now.rows = omega (arith, c.loop-row-test.true, c.size-size.ensures.rows) in
+    rows_go c.args.profile.now c.args.picture.now (cleared c.args.picture.now) c.loop-row.row c.args.picture.now.columns c.args.self.now c.loop-row.self c.join_row.new.self c.loop-row.invariant
+    (c.in_ok-join_row.ensures (cleared c.args.picture.now) (cleared_row c.args.picture.now c.loop-row.row high))
+
+pub returns : goal.returns
+returns c =
+    let profile = c.args.profile.now in
+    let picture = c.args.picture.now in
+    let last : picture.rows ≡ c.loop-row.row = omega (arith, c.loop-row-test.false, c.loop-row.auto.row-end, c.size-size.ensures.rows) in
+    on_ok c.finish.result _ (Continues profile c.args.self.now c.finish.new.self (joined_places profile picture (cleared picture) ++ resets profile ++ places_cursor picture.wish))
+    (λ end. ended profile c.args.self.now c.loop-row.self c.finish.new.self (joined_places profile picture (cleared picture)) (resets profile) (places_cursor picture.wish)
+    (all_of profile picture (cleared picture) picture.rows c.loop-row.row picture.columns c.args.self.now c.loop-row.self (ap (λ n. filter (differs profile picture (cleared picture)) (places n picture.columns)) last) c.loop-row.invariant) end)
+    c.finish.ensures

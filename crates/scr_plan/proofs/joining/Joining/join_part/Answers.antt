@@ -1,0 +1,14 @@
+use Rattle.std.proofs.Common.{arith, option_map}
+use Rattle.scr_plan.proofs.JoinedRowLaws.{none_yet, part_goes}
+use Rattle.scr_plan.proofs.joining.Joining.join_part.Goals as goal
+
+pub loop-column-preserved : goal.loop-column-preserved
+loop-column-preserved c = record {
+  from = omega (arith, c.loop-column.invariant.from, c.in_ok-column.ensures.more);
+  end = c.in_ok-column.ensures.end;
+  left = c.in_ok-column.ensures.left;
+  behind = c.in_ok-column.ensures.behind;
+  all =
+      part_goes c.args.profile.now c.args.painter c.args.picture.now (option_map (λ looks. looks.now) c.args.before) c.args.row c.args.from c.loop-column.column c.in_ok-column.field-0-0 c.args.self.now c.loop-column.self c.join_next.new.self
+      c.loop-column.invariant.from c.in_ok-column.ensures.more c.loop-column.invariant.all c.in_ok-column.ensures.all;
+}

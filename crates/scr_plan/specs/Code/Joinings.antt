@@ -1,0 +1,58 @@
+-- Making the joined repaint, row by row.
+use Rattle.std.specs.Prelude.{ℕ, ◌≡◌, ◌+◌, ◌-◌, ◌^◌, min, Bool, true, ◌<◌, List, All, drop, ◌++◌, length, Option, Some, None}
+use Rattle.scr_cells.specs.LookViews.{LookView}
+use Rattle.scr_cells.specs.PenViews.{PenView}
+use Rattle.scr_cells.specs.PictureViews.{PictureView}
+use Rattle.scr_term.specs.declared.operations.operation.Op.{Op}
+use Rattle.scr_term.specs.declared.operations.operation.Spot.{Spot}
+use Rattle.scr_term.specs.declared.operations.operation.Spot.TheVariants.{At}
+use Rattle.scr_term.specs.Operations.Profiles.{ProfileView, abilities}
+use Rattle.scr_term.specs.Operations.States.{TerminalState, IsState}
+use Rattle.scr_term.specs.Operations.Steps.{runs}
+use Rattle.scr_term.specs.Operations.Texts.{all_bytes, has}
+use Rattle.scr_plan.specs.Code.Painters.{shown_in}
+use Rattle.scr_plan.specs.Memories.{MemoryView, is_known_row}
+use Rattle.scr_plan.specs.Repaints.{erased_column, joined_place, look_in, without_idle}
+use Rattle.scr_plan.specs.declared.joining.Joining.{Joining}
+
+-- a row is known to show these looks
+pub record ShowsRow (memory : MemoryView) (row : ℕ) (before : Option (List LookView)) : Type 0 where
+  pub known : is_known_row memory row ≡ true
+  pub looks : (c : ℕ) → look_in memory (row, c) ≡ shown_in before c
+
+-- a count that stays at the greatest that is counted
+abbrev pub counted_up : ℕ → ℕ
+counted_up n = min n (2 ^ 64 - 1)
+
+-- From this state these operations lead to one with this spot and this pen; counted and, where they are kept, kept behind the first ones are
+-- those of them that change something.
+pub record IsJoining (profile : ProfileView) (stores : Bool) (first : List Op) (start : TerminalState) (all : List Op) (joining : Joining) : Type 0 where
+  pub now : TerminalState
+  pub run : runs profile start all ≡ Some now
+  pub state : IsState (abilities profile) now
+  pub spot : now.spot ≡ joining.spot
+  pub pen : now.pen ≡ joining.pen
+  pub bytes : joining.bytes ≡ counted_up (length (all_bytes profile (without_idle profile start all)))
+  pub stored : joining.keeps ≡ stores
+  pub ops : stores ≡ true → joining.ops.items ≡ first ++ without_idle profile start all
+
+-- these operations more, from wherever the others came
+abbrev pub Continues : ProfileView → Joining → Joining → List Op → Type 0
+Continues profile old new more = (stores : Bool) (first : List Op) (start : TerminalState) (all : List Op) → IsJoining profile stores first start all old → IsJoining profile stores first start (all ++ more) new
+
+-- the operations from one on are counted, and kept where that is asked for; they lead to this spot and this pen
+pub record IsCounted (profile : ProfileView) (old new : Joining) (begun : ℕ) (spot : Spot) (pen : PenView) : Type 0 where
+  pub bytes : All (λ op. has profile op ≡ true) (drop begun old.ops.items) → new.bytes ≡ counted_up (old.bytes + length (all_bytes profile (drop begun old.ops.items)))
+  pub keeps : new.keeps ≡ old.keeps
+  pub ops : old.keeps ≡ true → new.ops.items ≡ old.ops.items
+  pub spot_is : new.spot ≡ spot
+  pub pen_is : new.pen ≡ pen
+
+-- behind a place that was painted the cursor is in the next one, and the pen is still on
+abbrev pub IsBehind : ℕ → Joining → ℕ → ℕ → Option PenView → Type 0
+IsBehind columns joining row column None = Unit {0}
+IsBehind columns joining row column (Some pen) = (joining.pen ≡ pen) × (column < columns → joining.spot ≡ At row column)
+
+-- a place of the joined repaint
+abbrev pub joined_at : ProfileView → PictureView → MemoryView → ℕ × ℕ → List Op
+joined_at profile picture memory place = joined_place profile picture memory (erased_column profile picture memory place.0) place.0 place.1

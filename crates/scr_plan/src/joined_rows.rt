@@ -1,0 +1,213 @@
+//! The joined repaint of a row: the places that differ, each behind the one before it where both have one pen, and the rest of the line
+//! erased where that is worth it.
+ghost use Rattle.std.specs.Prelude.{ℕ, ◌≡◌, ◌+◌, ◌++◌, ◌∷◌, [], ◌-◌, ◌<◌, ◌≤◌, ◌⊎◌, IfOk, IfSome, None, Some, OnOk, filter, false, true, length, option_map, if◌then◌else◌};
+ghost use Rattle.std.specs.List.{flat_map};
+ghost use Rattle.scr_cells.specs.CellViews.{IsCharacter};
+ghost use Rattle.scr_cells.specs.Grids.{grid_row};
+ghost use Rattle.scr_cells.specs.LookViews.{blank};
+ghost use Rattle.scr_term.specs.declared.operations.operation.Op.TheVariants.{EraseLine};
+ghost use Rattle.scr_term.specs.declared.operations.operation.Spot.TheVariants.{At};
+ghost use Rattle.scr_term.specs.Operations.Texts.{has};
+ghost use Rattle.scr_plan.specs.Code.Joinings.{Continues, IsBehind, ShowsRow, joined_at};
+ghost use Rattle.scr_plan.specs.Code.Painters.{is_that_pen, painter_begins, painter_look, painter_of, painter_writes, part_places, pen_before, row_differs, row_paints};
+ghost use Rattle.scr_plan.specs.Memories.{MemoryView};
+ghost use Rattle.scr_plan.specs.Repaints.{differs, look_eq};
+ghost use Rattle.scr_plan.specs.Scratch.{Fits, row_places};
+
+use crate::joining::Joining;
+use crate::looking::{is_shown_in, is_that_pen};
+use crate::painting::Painter;
+use scr_cells::{Cell, Look, NoMemory, Pen, Picture};
+use scr_term::Profile;
+
+impl Joining {
+    // Adds what paints the places of a row that differ from what the row shows, these looks or blanks. None differs but from one column
+    // up to another.
+    pub(crate) fn join_row(
+        &mut self,
+        painter: Painter,
+        profile: &Profile,
+        picture: &Picture,
+        row: u32,
+        before: Option<&[Look]>,
+        from: u32,
+        end: u32,
+    ) -> Result<(), NoMemory>
+        requires painter { painter ≡ painter_of profile.now }
+        requires fits { Fits profile.now picture.now }
+        requires row { row < picture.now.rows }
+        requires width { IfSome before (λ looks. length looks.now ≡ picture.now.columns) }
+        requires from { from ≤ end }
+        requires end { end ≤ picture.now.columns }
+        requires outside { (c : ℕ) → (c < from) ⊎ (end ≤ c) → c < picture.now.columns → row_differs painter picture.now (option_map (λ looks. looks.now) before) (row, c) ≡ false }
+        ensures { OnOk result ((memory : MemoryView) → ShowsRow memory row (option_map (λ looks. looks.now) before.entry)
+            → Continues profile.now self.old self.new (flat_map (joined_at profile.now picture.now memory) (filter (differs profile.now picture.now memory) (row_places picture.now.columns row)))) }
+    {
+        let cells = picture.row(row);
+        match painter.erased_column(profile, picture, row, cells, before, from, end) {
+            Some(column) => {
+                let left = self
+                    .join_part(painter, profile, picture, row, cells, before, from, column)?;
+                self.erase_from(painter, profile, picture, row, column, left)
+            }
+            None => {
+                let _left =
+                    self.join_part(painter, profile, picture, row, cells, before, from, end)?;
+                Ok(())
+            }
+        }
+    }
+
+    // Adds what paints the places of a part of a row that differ, and answers the pen of the last place, if that was painted. No place
+    // right before the part differs.
+    fn join_part(
+        &mut self,
+        painter: Painter,
+        profile: &Profile,
+        picture: &Picture,
+        row: u32,
+        cells: &[Cell],
+        before: Option<&[Look]>,
+        from: u32,
+        end: u32,
+    ) -> Result<Option<Pen>, NoMemory>
+        requires painter { painter ≡ painter_of profile.now }
+        requires fits { Fits profile.now picture.now }
+        requires row { row < picture.now.rows }
+        requires cells { cells.now ≡ grid_row picture.now.lines row }
+        requires wide { length cells.now ≡ picture.now.columns }
+        requires width { IfSome before (λ looks. length looks.now ≡ picture.now.columns) }
+        requires from { from ≤ end }
+        requires end { end ≤ picture.now.columns }
+        requires first { pen_before painter picture.now (option_map (λ looks. looks.now) before) row from ≡ None }
+        ensures all { IfOk result (λ left. Continues profile.now self.old self.new (flat_map (row_paints painter picture.now (option_map (λ looks. looks.now) before.entry)) (filter (row_differs painter picture.now (option_map (λ looks. looks.now) before.entry)) (part_places from (end - from) row)))) }
+        ensures left { IfOk result (λ left. left ≡ pen_before painter picture.now (option_map (λ looks. looks.now) before.entry) row end) }
+        ensures behind { IfOk result (λ left. IsBehind picture.now.columns self.new row end left) }
+    {
+        let mut left = None;
+        let mut column = from;
+        while column < end {
+            (column, left) = self
+                .join_next(painter, profile, picture, row, cells, before, column, end, left)?;
+        }
+        Ok(left)
+    }
+
+    // Paints a place that differs, or passes one that does not and those behind it that do not. The answer is where to go on, and the
+    // pen of the place before that, if it was painted.
+    #[inline(always)]
+    fn join_next(
+        &mut self,
+        painter: Painter,
+        profile: &Profile,
+        picture: &Picture,
+        row: u32,
+        cells: &[Cell],
+        before: Option<&[Look]>,
+        column: u32,
+        end: u32,
+        left: Option<Pen>,
+    ) -> Result<(u32, Option<Pen>), NoMemory>
+        requires painter { painter ≡ painter_of profile.now }
+        requires fits { Fits profile.now picture.now }
+        requires row { row < picture.now.rows }
+        requires cells { cells.now ≡ grid_row picture.now.lines row }
+        requires wide { length cells.now ≡ picture.now.columns }
+        requires width { IfSome before (λ looks. length looks.now ≡ picture.now.columns) }
+        requires column { column < end }
+        requires end { end ≤ picture.now.columns }
+        requires left { left ≡ pen_before painter picture.now (option_map (λ looks. looks.now) before) row column }
+        requires behind { IsBehind picture.now.columns self.old row column left }
+        ensures more { IfOk result (λ next. column < next.0) }
+        ensures end { IfOk result (λ next. next.0 ≤ end) }
+        ensures left { IfOk result (λ next. next.1 ≡ pen_before painter picture.now (option_map (λ looks. looks.now) before.entry) row next.0) }
+        ensures behind { IfOk result (λ next. IsBehind picture.now.columns self.new row next.0 next.1) }
+        ensures all { IfOk result (λ next. Continues profile.now self.old self.new (flat_map (row_paints painter picture.now (option_map (λ looks. looks.now) before.entry)) (filter (row_differs painter picture.now (option_map (λ looks. looks.now) before.entry)) (part_places column (next.0 - column) row)))) }
+    {
+        let _size = picture.size();
+        let (byte, pen) = painter.seen_in(picture, cells, column);
+        if is_shown_in(before, column, byte, pen) {
+            let next = painter.unlike_from(picture, row, cells, before, column + 1, end);
+            return Ok((next, None));
+        }
+        self.write(painter, profile, picture, row, column, left, byte, pen)?;
+        Ok((column + 1, Some(pen)))
+    }
+
+    // Adds a character in a place, and what leads there with its pen, unless the place before it was painted with that pen.
+    fn write(
+        &mut self,
+        painter: Painter,
+        profile: &Profile,
+        picture: &Picture,
+        row: u32,
+        column: u32,
+        left: Option<Pen>,
+        byte: u8,
+        pen: Pen,
+    ) -> Result<(), NoMemory>
+        requires painter { painter ≡ painter_of profile.now }
+        requires fits { Fits profile.now picture.now }
+        requires row { row < picture.now.rows }
+        requires column { column < picture.now.columns }
+        requires look { record { byte = byte; pen = pen } ≡ painter_look painter picture.now (row, column) }
+        requires byte { IsCharacter byte }
+        requires behind { IsBehind picture.now.columns self.old row column left }
+        ensures all { OnOk result (Continues profile.now self.old self.new (painter_writes painter left (row, column) (record { byte = byte; pen = pen }))) }
+        ensures behind { OnOk result (IsBehind picture.now.columns self.new row (column + 1) (Some pen)) }
+    {
+        self.begin_unless(painter, profile, picture, row, column, left, pen)?;
+        self.put(profile, row, column, byte)
+    }
+
+    // Adds what leads to a place with the pen that is seen there, unless the place before it was painted with that pen.
+    fn begin_unless(
+        &mut self,
+        painter: Painter,
+        profile: &Profile,
+        picture: &Picture,
+        row: u32,
+        column: u32,
+        left: Option<Pen>,
+        pen: Pen,
+    ) -> Result<(), NoMemory>
+        requires painter { painter ≡ painter_of profile.now }
+        requires fits { Fits profile.now picture.now }
+        requires row { row < picture.now.rows }
+        requires column { column < picture.now.columns }
+        requires pen { pen ≡ (painter_look painter picture.now (row, column)).pen }
+        requires behind { IsBehind picture.now.columns self.old row column left }
+        ensures all { OnOk result (Continues profile.now self.old self.new (if is_that_pen left pen then [] else painter_begins painter (row, column) pen)) }
+        ensures spot { OnOk result (self.new.spot ≡ At row column) }
+        ensures pen { OnOk result (self.new.pen ≡ pen) }
+    {
+        if is_that_pen(left, pen) {
+            return Ok(());
+        }
+        self.begin(painter, profile, picture, row, column, pen)
+    }
+
+    // Erases the rest of a row from a column on, which is seen blank there, and adds what leads there with a plain pen, unless the place
+    // before it was painted with that.
+    fn erase_from(
+        &mut self,
+        painter: Painter,
+        profile: &Profile,
+        picture: &Picture,
+        row: u32,
+        column: u32,
+        left: Option<Pen>,
+    ) -> Result<(), NoMemory>
+        requires painter { painter ≡ painter_of profile.now }
+        requires fits { Fits profile.now picture.now }
+        requires row { row < picture.now.rows }
+        requires column { column < picture.now.columns }
+        requires look { painter_look painter picture.now (row, column) ≡ blank }
+        requires has { has profile.now EraseLine ≡ true }
+        requires behind { IsBehind picture.now.columns self.old row column left }
+        ensures { OnOk result (Continues profile.now self.old self.new ((if is_that_pen left blank.pen then [] else painter_begins painter (row, column) blank.pen) ++ EraseLine ∷ [])) }
+    {
+        self.begin_unless(painter, profile, picture, row, column, left, Pen::plain())?;
+        self.erase(profile, row, column)
+    }
+}

@@ -1,0 +1,236 @@
+//! The joined repaint, operation by operation: they are counted as they are made, and kept where that is asked for. The definition is in
+//! `specs/Repaints.antt`.
+ghost use Rattle.std.specs.Prelude.{◌≡◌, ◌+◌, ◌≤◌, ◌++◌, ◌∷◌, [], ◌⊎◌, All, IfOk, IfSome, OnOk, length, true};
+ghost use Rattle.scr_cells.specs.CellViews.{IsCharacter};
+ghost use Rattle.scr_cells.specs.PenViews.{is_plain_pen, plain_pen};
+ghost use Rattle.scr_cells.specs.PictureViews.{IsPlace};
+ghost use Rattle.scr_term.specs.declared.operations.operation.Op.TheVariants.{EraseLine, Move, Put};
+ghost use Rattle.scr_term.specs.declared.operations.operation.Spot.TheVariants.{At};
+ghost use Rattle.scr_term.specs.declared.operations.capability.Capability.TheVariants.{Sgr0};
+ghost use Rattle.scr_term.specs.Operations.Profiles.{is_there};
+ghost use Rattle.scr_term.specs.Operations.States.{blank_state, spot_after};
+ghost use Rattle.scr_term.specs.Operations.Texts.{all_bytes, has};
+ghost use Rattle.scr_plan.specs.Code.Joinings.{Continues, IsCounted, IsJoining, counted_up};
+ghost use Rattle.scr_plan.specs.Code.Painters.{painter_begins, painter_leads, painter_of};
+ghost use Rattle.scr_plan.specs.Scratch.{Fits, look_at, places_cursor, resets};
+
+use crate::memories::Memory;
+use crate::painting::Painter;
+use scr_cells::{NoMemory, Pen, Picture};
+use scr_term::{Op, Profile, Spot, blank_laws, profiles_have, run_laws};
+
+// The joined repaint as far as it is made: where it leads, how many bytes it has, and its operations, if they are kept.
+#[derive(Drop)]
+pub(crate) struct Joining {
+    pub(crate) ops: Vec<Op>,
+    pub(crate) keeps: bool,
+    pub(crate) bytes: usize,
+    pub(crate) spot: Spot,
+    pub(crate) pen: Pen,
+}
+
+impl Joining {
+    // None yet, on a terminal that was cleared by operations that were made before.
+    pub(crate) fn on_blanks(profile: &Profile, ops: Vec<Op>) -> Joining
+        ensures { IsJoining profile.now true ops.items (blank_state profile.now.rows profile.now.columns) [] result }
+    {
+        blank_laws();
+        let _size = profile.size();
+        Joining {
+            ops,
+            keeps: true,
+            bytes: 0,
+            spot: Spot::At(0, 0),
+            pen: Pen::plain(),
+        }
+    }
+
+    // What begins a repaint of a terminal of which this is remembered: no attribute is on any more, in default colours.
+    pub(crate) fn behind(
+        painter: Painter,
+        profile: &Profile,
+        memory: &Memory,
+        ops: Vec<Op>,
+    ) -> Result<Joining, NoMemory>
+        requires painter { painter ≡ painter_of profile.now }
+        requires rows { memory.now.rows ≡ profile.now.rows }
+        requires columns { memory.now.columns ≡ profile.now.columns }
+        requires pen { (is_there profile.now Sgr0 ≡ true) ⊎ (is_plain_pen memory.now.state.pen ≡ true) }
+        ensures { IfOk result (IsJoining profile.now true ops.items memory.now.state (resets profile.now)) }
+    {
+        run_laws();
+        profiles_have();
+        let _size = profile.size();
+        let _memory = memory.size();
+        let mut ops = ops;
+        let begun = ops.len();
+        painter.reset_unless_plain(memory.remembered_pen(), &mut ops)?;
+        let bytes = price_of(profile, &ops[begun..]);
+        Ok(Joining {
+            ops,
+            keeps: true,
+            bytes,
+            spot: memory.remembered_spot(),
+            pen: Pen::plain(),
+        })
+    }
+
+    // Counts the operations from one on, which lead to this spot and this pen, and lets them go where none are kept.
+    fn count(&mut self, profile: &Profile, begun: usize, spot: Spot, pen: Pen)
+        requires { begun ≤ length self.old.ops.items }
+        ensures { IsCounted profile.now self.old self.new begun spot pen }
+    {
+        let price = price_of(profile, &self.ops[begun..]);
+        self.bytes = self.bytes.saturating_add(price);
+        if !self.keeps {
+            self.ops.truncate(begun);
+        }
+        self.spot = spot;
+        self.pen = pen;
+    }
+
+    // Turns attributes off, and makes colours the default ones.
+    pub(crate) fn reset(&mut self, painter: Painter, profile: &Profile) -> Result<(), NoMemory>
+        requires painter { painter ≡ painter_of profile.now }
+        ensures all { OnOk result (Continues profile.now self.old self.new (resets profile.now)) }
+        ensures pen { OnOk result (self.new.pen ≡ plain_pen) }
+    {
+        run_laws();
+        profiles_have();
+        let _size = profile.size();
+        let begun = self.ops.len();
+        painter.reset_unless_plain(self.pen, &mut self.ops)?;
+        self.count(profile, begun, self.spot, Pen::plain());
+        Ok(())
+    }
+
+    // Leads to a place and to the pen with which the picture is seen there.
+    pub(crate) fn begin(
+        &mut self,
+        painter: Painter,
+        profile: &Profile,
+        picture: &Picture,
+        row: u32,
+        column: u32,
+        pen: Pen,
+    ) -> Result<(), NoMemory>
+        requires painter { painter ≡ painter_of profile.now }
+        requires fits { Fits profile.now picture.now }
+        requires place { IsPlace profile.now.rows profile.now.columns (row, column) }
+        requires pen { pen ≡ (look_at profile.now picture.now (row, column)).pen }
+        ensures all { OnOk result (Continues profile.now self.old self.new (painter_begins painter (row, column) pen)) }
+        ensures spot { OnOk result (self.new.spot ≡ At row column) }
+        ensures pen { OnOk result (self.new.pen ≡ pen) }
+    {
+        run_laws();
+        profiles_have();
+        let _size = profile.size();
+        let _picture = picture.size();
+        let begun = self.ops.len();
+        painter.lead(self.spot, self.pen, row, column, pen, &mut self.ops)?;
+        self.count(profile, begun, Spot::At(row, column), pen);
+        Ok(())
+    }
+
+    // A character where the cursor is.
+    pub(crate) fn put(
+        &mut self,
+        profile: &Profile,
+        row: u32,
+        column: u32,
+        byte: u8,
+    ) -> Result<(), NoMemory>
+        requires here { self.old.spot ≡ At row column }
+        requires place { IsPlace profile.now.rows profile.now.columns (row, column) }
+        requires byte { IsCharacter byte }
+        ensures all { OnOk result (Continues profile.now self.old self.new (Put byte ∷ [])) }
+        ensures spot { OnOk result (self.new.spot ≡ spot_after profile.now.columns row column) }
+        ensures pen { OnOk result (self.new.pen ≡ self.old.pen) }
+    {
+        run_laws();
+        profiles_have();
+        let size = profile.size();
+        let begun = self.ops.len();
+        self.ops.push(Op::Put(byte))?;
+        self.count(profile, begun, behind(row, column, size.columns), self.pen);
+        Ok(())
+    }
+
+    // The rest of the line is erased.
+    pub(crate) fn erase(
+        &mut self,
+        profile: &Profile,
+        row: u32,
+        column: u32,
+    ) -> Result<(), NoMemory>
+        requires here { self.old.spot ≡ At row column }
+        requires plain { is_plain_pen self.old.pen ≡ true }
+        requires has { has profile.now EraseLine ≡ true }
+        ensures all { OnOk result (Continues profile.now self.old self.new (EraseLine ∷ [])) }
+        ensures pen { OnOk result (self.new.pen ≡ self.old.pen) }
+    {
+        run_laws();
+        let _size = profile.size();
+        let begun = self.ops.len();
+        self.ops.push(Op::EraseLine)?;
+        self.count(profile, begun, Spot::At(row, column), self.pen);
+        Ok(())
+    }
+
+    // The cursor goes where it is wished, with no attribute and default colours.
+    pub(crate) fn place_cursor(
+        &mut self,
+        painter: Painter,
+        profile: &Profile,
+        wish: Option<(u32, u32)>,
+    ) -> Result<(), NoMemory>
+        requires plain { is_plain_pen self.old.pen ≡ true }
+        requires wish { IfSome wish (IsPlace profile.now.rows profile.now.columns) }
+        ensures { OnOk result (Continues profile.now self.old self.new (places_cursor wish)) }
+    {
+        let Some((row, column)) = wish else {
+            return Ok(());
+        };
+        run_laws();
+        profiles_have();
+        let _size = profile.size();
+        let begun = self.ops.len();
+        painter.move_unless_there(self.spot, row, column, &mut self.ops)?;
+        self.count(profile, begun, Spot::At(row, column), self.pen);
+        Ok(())
+    }
+}
+
+// Where the cursor is behind a character.
+fn behind(row: u32, column: u32, columns: u32) -> Spot
+    requires { column ≤ 1000 }
+    ensures { result ≡ spot_after columns row column }
+{
+    if column + 1 < columns {
+        Spot::At(row, column + 1)
+    } else {
+        Spot::Margin(row)
+    }
+}
+
+// How many bytes operations have.
+fn price_of(profile: &Profile, ops: &[Op]) -> usize
+    ensures { All (λ op. has profile.now op ≡ true) ops.now → result ≡ counted_up (length (all_bytes profile.now ops.now)) }
+{
+    let mut bytes = 0usize;
+    for op in ops {
+        bytes = bytes.saturating_add(price_of_one(profile, *op));
+    }
+    bytes
+}
+
+// How many bytes an operation has.
+#[inline(always)]
+fn price_of_one(profile: &Profile, op: Op) -> usize
+    ensures { has profile.now op ≡ true → result ≡ length (all_bytes profile.now (op ∷ [])) }
+{
+    match op {
+        Op::Put(_) => 1,
+        _ => profile.cost(op).unwrap_or(0),
+    }
+}

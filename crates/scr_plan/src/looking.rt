@@ -1,0 +1,221 @@
+//! Looking for the places of a row that differ from what it shows, and for blanks at its end.
+ghost use Rattle.std.specs.Prelude.{ℕ, ◌≡◌, ◌+◌, ◌-◌, ◌<◌, ◌≤◌, ◌⊎◌, IfSome, List, Some, false, true, length, option_map, slice_index_or, if◌then◌else◌};
+ghost use Rattle.scr_cells.specs.CellViews.{blank_cell};
+ghost use Rattle.scr_cells.specs.Grids.{grid_row};
+ghost use Rattle.scr_cells.specs.LookViews.{blank};
+ghost use Rattle.scr_term.specs.declared.operations.operation.Op.TheVariants.{EraseLine};
+ghost use Rattle.scr_term.specs.Operations.Texts.{has};
+ghost use Rattle.scr_plan.specs.Code.Joinings.{ShowsRow};
+ghost use Rattle.scr_plan.specs.Code.Looking.{IsRest};
+ghost use Rattle.scr_plan.specs.Code.Painters.{is_that_pen, painter_look, painter_of, painter_sees, row_differs, shown_in};
+ghost use Rattle.scr_plan.specs.Memories.{MemoryView};
+ghost use Rattle.scr_plan.specs.Repaints.{erased_column, look_eq};
+
+use crate::painting::Painter;
+use scr_cells::{Cell, Look, Pen, Picture, shown_before};
+use scr_term::{Op, Profile};
+
+impl Painter {
+    // What is seen of a row's cell: its byte, and what that is written with.
+    #[inline(always)]
+    pub(crate) fn seen_in(self, picture: &Picture, cells: &[Cell], column: u32) -> (u8, Pen)
+        requires { column < length cells.now }
+        ensures byte { result.0 ≡ (painter_sees self picture.now.pairs (slice_index_or cells.now column blank_cell)).byte }
+        ensures pen { result.1 ≡ (painter_sees self picture.now.pairs (slice_index_or cells.now column blank_cell)).pen }
+    {
+        let cell = cells[column as usize];
+        (cell.byte(), self.pen_of(picture, cell))
+    }
+
+    // The column from which on the joined repaint erases the rest of a row, if any. No place differs but from one column up to another.
+    pub(crate) fn erased_column(
+        self,
+        profile: &Profile,
+        picture: &Picture,
+        row: u32,
+        cells: &[Cell],
+        before: Option<&[Look]>,
+        from: u32,
+        end: u32,
+    ) -> Option<u32>
+        requires painter { self ≡ painter_of profile.now }
+        requires cells { cells.now ≡ grid_row picture.now.lines row }
+        requires wide { length cells.now ≡ picture.now.columns }
+        requires width { IfSome before (λ looks. length looks.now ≡ picture.now.columns) }
+        requires from { from ≤ end }
+        requires end { end ≤ picture.now.columns }
+        requires outside { (c : ℕ) → (c < from) ⊎ (end ≤ c) → c < picture.now.columns → row_differs self picture.now (option_map (λ looks. looks.now) before) (row, c) ≡ false }
+        ensures inside { IfSome result (λ column. (from ≤ column) × (column < end)) }
+        ensures blank { IfSome result (λ column. painter_look self picture.now (row, column) ≡ blank) }
+        ensures has { IfSome result (λ column. has profile.now EraseLine ≡ true) }
+        ensures value { (memory : MemoryView) → ShowsRow memory row (option_map (λ looks. looks.now) before.entry) → result ≡ erased_column profile.now picture.now memory row }
+    {
+        let rest = self.blank_rest(picture, row, cells, before, from, end);
+        let column = rest.first?;
+        let price = profile.cost(Op::EraseLine)?;
+        if (rest.count as usize) < price || !self.is_blank_from(picture, row, cells, end) {
+            return None;
+        }
+        Some(column)
+    }
+
+    // The blanks that a part of a row ends with: the first that differs, and how many do.
+    fn blank_rest(
+        self,
+        picture: &Picture,
+        row: u32,
+        cells: &[Cell],
+        before: Option<&[Look]>,
+        from: u32,
+        end: u32,
+    ) -> Rest
+        requires cells { cells.now ≡ grid_row picture.now.lines row }
+        requires wide { length cells.now ≡ picture.now.columns }
+        requires width { IfSome before (λ looks. length looks.now ≡ picture.now.columns) }
+        requires from { from ≤ end }
+        requires end { end ≤ picture.now.columns }
+        ensures { IsRest self picture.now row (option_map (λ looks. looks.now) before.entry) from end result }
+    {
+        let _size = picture.size();
+        let mut rest = Rest {
+            begin: end,
+            first: None,
+            count: 0,
+        };
+        while rest.begin > from {
+            let (byte, pen) = self.seen_in(picture, cells, rest.begin - 1);
+            if !is_blank(byte, pen) {
+                return rest;
+            }
+            rest = rest.with_blank(before, byte, pen);
+        }
+        rest
+    }
+
+    // Whether a row is seen blank from a column on.
+    fn is_blank_from(self, picture: &Picture, row: u32, cells: &[Cell], from: u32) -> bool
+        requires cells { cells.now ≡ grid_row picture.now.lines row }
+        requires wide { length cells.now ≡ picture.now.columns }
+        ensures all { result ≡ true → (c : ℕ) → from ≤ c → c < picture.now.columns → look_eq (painter_look self picture.now (row, c)) blank ≡ true }
+        ensures none { result ≡ false → (c : ℕ) × (from ≤ c) × (c < picture.now.columns) × (look_eq (painter_look self picture.now (row, c)) blank ≡ false) }
+    {
+        let size = picture.size();
+        for column in from..size.columns {
+            let (byte, pen) = self.seen_in(picture, cells, column);
+            if !is_blank(byte, pen) {
+                return false;
+            }
+        }
+        true
+    }
+
+    // The first column from one on in which the row does not show what is seen of its cell; the end, where there is none before it.
+    pub(crate) fn unlike_from(
+        self,
+        picture: &Picture,
+        row: u32,
+        cells: &[Cell],
+        before: Option<&[Look]>,
+        from: u32,
+        end: u32,
+    ) -> u32
+        requires cells { cells.now ≡ grid_row picture.now.lines row }
+        requires wide { length cells.now ≡ picture.now.columns }
+        requires width { IfSome before (λ looks. length looks.now ≡ picture.now.columns) }
+        requires from { from ≤ end }
+        requires end { end ≤ picture.now.columns }
+        ensures from { from ≤ result }
+        ensures end { result ≤ end }
+        ensures same { (c : ℕ) → from ≤ c → c < result → row_differs self picture.now (option_map (λ looks. looks.now) before.entry) (row, c) ≡ false }
+        ensures unlike { result < end → row_differs self picture.now (option_map (λ looks. looks.now) before.entry) (row, result) ≡ true }
+    {
+        for column in from + self.shown_by_eight(cells, before, from, end)..end {
+            let (byte, pen) = self.seen_in(picture, cells, column);
+            if !is_shown_in(before, column, byte, pen) {
+                return column;
+            }
+        }
+        end
+    }
+
+    // A count of places from one column on that show what is seen of their cells, found eight at a time.
+    fn shown_by_eight(self, cells: &[Cell], before: Option<&[Look]>, from: u32, end: u32) -> u32
+        requires width { IfSome before (λ looks. length looks.now ≡ length cells.now) }
+        requires from { from ≤ end }
+        requires end { end ≤ length cells.now }
+        ensures end { from + result ≤ end }
+        ensures same { (c : ℕ) → from ≤ c → c < from + result → (pairs : List (ℕ × ℕ))
+            → shown_in (option_map (λ looks. looks.now) before.entry) c ≡ painter_sees self pairs (slice_index_or cells.now c blank_cell) }
+    {
+        match before {
+            Some(looks) => {
+                let looks = &looks[from as usize..end as usize];
+                shown_before(looks, &cells[from as usize..end as usize], self.shown) as u32
+            }
+            None => 0,
+        }
+    }
+}
+
+// Blanks at the end of a part of a row: from which column on there are blanks alone, the first of these that differs from what the row
+// shows, and how many do.
+#[derive(Clone, Copy)]
+struct Rest {
+    begin: u32,
+    first: Option<u32>,
+    count: u32,
+}
+
+impl Rest {
+    // One blank more, in front.
+    fn with_blank(self, before: Option<&[Look]>, byte: u8, pen: Pen) -> Rest
+        requires begin { 0 < self.begin }
+        requires width { IfSome before (λ looks. self.begin ≤ length looks.now) }
+        requires few { self.count ≤ 500 }
+        ensures begin { result.begin ≡ self.begin - 1 }
+        ensures first { result.first ≡ if look_eq (shown_in (option_map (λ looks. looks.now) before.entry) (self.begin - 1)) (record { byte = byte; pen = pen }) then self.first else Some (self.begin - 1) }
+        ensures count { result.count ≡ if look_eq (shown_in (option_map (λ looks. looks.now) before.entry) (self.begin - 1)) (record { byte = byte; pen = pen }) then self.count else self.count + 1 }
+    {
+        let begin = self.begin - 1;
+        if is_shown_in(before, begin, byte, pen) {
+            return Rest { begin, first: self.first, count: self.count };
+        }
+        Rest {
+            begin,
+            first: Some(begin),
+            count: self.count + 1,
+        }
+    }
+}
+
+// Whether a blank is seen.
+#[inline(always)]
+fn is_blank(byte: u8, pen: Pen) -> bool
+    ensures { result ≡ look_eq (record { byte = byte; pen = pen }) blank }
+{
+    byte == b' ' && pen.is_plain()
+}
+
+// Whether a row shows a character with a pen in a column.
+#[inline(always)]
+pub(crate) fn is_shown_in(before: Option<&[Look]>, column: u32, byte: u8, pen: Pen) -> bool
+    requires { IfSome before (λ looks. column < length looks.now) }
+    ensures { result ≡ look_eq (shown_in (option_map (λ looks. looks.now) before.entry) column) (record { byte = byte; pen = pen }) }
+{
+    let look = match before {
+        Some(looks) => looks[column as usize],
+        None => Look::blank(),
+    };
+    look.byte() == byte && look.pen() == pen
+}
+
+// Whether a place was painted with a pen.
+#[inline(always)]
+pub(crate) fn is_that_pen(left: Option<Pen>, pen: Pen) -> bool
+    ensures { result ≡ is_that_pen left pen }
+{
+    match left {
+        Some(left) => left == pen,
+        None => false,
+    }
+}
