@@ -296,7 +296,7 @@ shown_made runs old new sent before after is shown = record {
   sent = shown.updated.sent;
   agrees = λ state next agrees run. subst (λ m. Agrees (abilities old.profile) m next) (sym (ap (λ s. s.memory) shown.screen)) (runs.follows old.profile is old.memory state next sent.begun agrees run);
   well = λ well. record { picture = ap (λ s. s.virtual.picture) shown.screen; plan = shown.updated.plan; nothing = ap (λ s. s.owed) shown.screen };
-  knows = λ b knew e. record { owed = ap (λ s. s.owed) shown.screen; memory = ap (λ s. is_known s.memory) shown.screen ∙ shown.updated.plan.known };
+  knows = λ b knew e. record { owed = ap (λ s. s.owed) shown.screen; memory = ap (λ s. is_known s.memory) shown.screen ∙ shown.updated.known };
   puts = shown.updated.puts;
   finishes = shown.updated.finishes;
 }

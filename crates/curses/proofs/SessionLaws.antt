@@ -14,7 +14,7 @@ use Rattle.scr_term.specs.Operations.Texts.{all_bytes}
 use Rattle.scr_plan.specs.Memories.{Agrees, MemoryView, remembered}
 use Rattle.scr_plan.specs.MemoryRuns.{KnownMemories}
 use Rattle.scr_plan.specs.Plans.{IsPlan}
-use Rattle.scr_plan.specs.Repaints.{plain_of}
+use Rattle.scr_plan.specs.Repaints.{joined_of}
 use Rattle.scr_plan.specs.Scratch.{RunsToShow}
 use Rattle.curses.specs.declared.answers.Answer.{Answer}
 use Rattle.curses.specs.declared.answers.Answer.TheVariants.{Nothing}
@@ -206,11 +206,11 @@ one_more laws acts remembers profile calls answers call answer old new before mi
         let none = (made.well well).nothing in
         let bytes : count_of answer ≡ length (all_bytes profile (begun_of answer)) =
         sent.cut.bytes ∙ sym (ap length (append-nil sent.cut.taken)) ∙ sym (ap (λ r. length (sent.cut.taken ++ r)) none) ∙ sym (ap length sent.cut.whole) ∙ ap (λ o. length (o ++ all_bytes profile (begun_of answer))) knows.owed in
-        let few : length (all_bytes profile (begun_of answer)) ≤ length (all_bytes profile (plain_of profile old.memory old.virtual.picture)) =
-        subst (λ p. length (all_bytes p (begun_of answer)) ≤ length (all_bytes p (plain_of p old.memory old.virtual.picture))) is.same (plan.plain knows.memory paint) in
-        let known : plain_of profile old.memory old.virtual.picture ≡ plain_of profile (remembered profile.rows profile.columns state) old.virtual.picture =
-        remembers.plain profile old.memory state old.virtual.picture (subst (Agrees (abilities profile) old.memory) same before.agrees) knows.memory in
-        let less : length (all_bytes profile (begun_of answer)) ≤ length (all_bytes profile (plain_of profile (remembered profile.rows profile.columns state) old.virtual.picture)) =
+        let few : length (all_bytes profile (begun_of answer)) ≤ length (all_bytes profile (joined_of profile old.memory old.virtual.picture)) =
+        subst (λ p. length (all_bytes p (begun_of answer)) ≤ length (all_bytes p (joined_of p old.memory old.virtual.picture))) is.same (plan.joined knows.memory paint) in
+        let known : joined_of profile old.memory old.virtual.picture ≡ joined_of profile (remembered profile.rows profile.columns state) old.virtual.picture =
+        remembers.joined profile old.memory state old.virtual.picture (subst (Agrees (abilities profile) old.memory) same before.agrees) knows.memory in
+        let less : length (all_bytes profile (begun_of answer)) ≤ length (all_bytes profile (joined_of profile (remembered profile.rows profile.columns state) old.virtual.picture)) =
         subst (λ ops. length (all_bytes profile (begun_of answer)) ≤ length (all_bytes profile ops)) known few in
         omega (arith, bytes, less)
 

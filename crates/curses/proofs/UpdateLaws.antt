@@ -11,7 +11,7 @@ use Rattle.scr_term.specs.Operations.Profiles.{ProfileView, IsProfile, abilities
 use Rattle.scr_term.specs.Operations.States.{TerminalState, IsState}
 use Rattle.scr_term.specs.Operations.Steps.{runs}
 use Rattle.scr_term.specs.Operations.Texts.{all_bytes, has}
-use Rattle.scr_plan.specs.Memories.{Agrees, MemoryView}
+use Rattle.scr_plan.specs.Memories.{Agrees, MemoryView, all_followed, is_known}
 use Rattle.scr_plan.specs.Plans.{IsPlan}
 use Rattle.curses.specs.Cuts.{IsCut}
 use Rattle.curses.specs.Updates.{IsDefined, IsDefinedAnew, IsOfOneText, IsSent}
@@ -72,6 +72,12 @@ pub planned_whole : (profile : ProfileView) (memory : MemoryView) (virtual : Vir
     → IsPlan profile memory virtual begun
 planned_whole profile memory virtual plan ops begun k is same taken whole =
     subst (IsPlan profile memory virtual) (sym (taken ∙ ap (λ n. take n ops) whole ∙ take_all (length ops) ops (omega arith) ∙ same)) is
+
+-- all is known after a plan that was begun whole
+pub known_whole : (profile : ProfileView) (memory : MemoryView) (virtual : VirtualView) (plan ops begun : List Op) (k : ℕ) → IsPlan profile memory virtual plan → Agrees (abilities profile) memory memory.state → ops ≡ plan → begun ≡ take k ops → k ≡ length ops
+    → is_known (all_followed profile begun memory) ≡ true
+known_whole profile memory virtual plan ops begun k is agrees same taken whole =
+    (planned_whole profile memory virtual plan ops begun k is same taken whole).known (record { state = agrees.is_state; high = agrees.high })
 
 -- what a writer holds that was not asked
 pub kept_same : (known : Option (List ℕ)) → Keeps known known

@@ -20,7 +20,7 @@ use Rattle.scr_virtual.specs.VirtualViews.{VirtualView, blank_virtual, settled}
 use Rattle.scr_virtual.specs.Pairs.{set_pair_call}
 use Rattle.scr_virtual.specs.Taking.{take_pad_call, take_window_call}
 use Rattle.scr_plan.specs.Memories.{remembered}
-use Rattle.scr_plan.specs.Repaints.{plain_of}
+use Rattle.scr_plan.specs.Repaints.{joined_of}
 use Rattle.curses.specs.declared.answers.Answer.{Answer}
 use Rattle.curses.specs.declared.answers.Answer.TheVariants.{Failed, Nothing, Refused, Sent}
 use Rattle.curses.specs.declared.calls.values.Call.{Call}
@@ -186,9 +186,9 @@ knows_behind before [] answers = before
 knows_behind before (call ∷ calls) [] = before
 knows_behind before (call ∷ calls) (answer ∷ answers) = knows_behind (knows_after before call answer) calls answers
 
--- an update that answered so took no more bytes than the plain repaint of a terminal in this state, all of which is known
+-- an update that answered so took no more bytes than the joined repaint of a terminal in this state, all of which is known
 abbrev pub IsCheap : ProfileView → TerminalState → PictureView → Answer → Type 0
-IsCheap profile now picture answer = count_of answer ≤ length (all_bytes profile (plain_of profile (remembered profile.rows profile.columns now) picture))
+IsCheap profile now picture answer = count_of answer ≤ length (all_bytes profile (joined_of profile (remembered profile.rows profile.columns now) picture))
 
 -- windows and virtual screen after the first n calls
 abbrev pub drawn_at : ProfileView → List Call → List Answer → ℕ → Drawn
@@ -203,7 +203,7 @@ pub record IsSession (profile : ProfileView) (calls : List Call) (answers : List
   pub moments : (i : ℕ) → i < length calls → (opened : TerminalState) → IsState (abilities profile) opened
       → Moment profile opened (drawn_at profile calls answers (i + 1)).virtual.picture (begun_in (take (i + 1) answers)) (take (count_in (take (i + 1) answers)) taken)
       (tells_sent (slice_index_or answers i Nothing))
-  -- where what the terminal shows is known, an update that ends well sends no more than what differs
+  -- where what the terminal shows is known, an update that ends well sends no more than the joined repaint of what differs
   pub cheap : (i : ℕ) → i < length calls → knows_behind false (take i calls) (take i answers) ≡ true → (drawn_at profile calls answers i).virtual.repaint ≡ false
       → tells_sent (slice_index_or answers i Nothing) ≡ true → (opened now : TerminalState) → IsState (abilities profile) opened → runs profile opened (begun_in (take i answers)) ≡ Some now
       → IsCheap profile now (drawn_at profile calls answers i).virtual.picture (slice_index_or answers i Nothing)

@@ -6,7 +6,7 @@ use Rattle.scr_term.specs.Operations.Profiles.{ProfileView, abilities}
 use Rattle.scr_term.specs.Operations.States.{TerminalState, IsState}
 use Rattle.scr_term.specs.Operations.Steps.{runs}
 use Rattle.scr_term.specs.Operations.Texts.{all_bytes, bytes_of}
-use Rattle.scr_plan.specs.Memories.{Agrees, MemoryView, all_followed, forgotten}
+use Rattle.scr_plan.specs.Memories.{Agrees, MemoryView, all_followed, forgotten, is_known}
 use Rattle.scr_plan.specs.Plans.{IsPlan}
 use Rattle.curses.specs.Cuts.{IsCut}
 use Rattle.curses.specs.Writers.{WriterView, counted}
@@ -42,6 +42,7 @@ pub record IsSent (profile : ProfileView) (memory : MemoryView) (owed : List ℕ
 pub record IsUpdated (profile : ProfileView) (memory : MemoryView) (virtual : VirtualView) (owed : List ℕ) (old new : WriterView) (begun : List Op) (count : ℕ) (rest : List ℕ) : Type 0 where
   pub sent : IsSent profile memory owed old new begun count rest
   pub plan : IsPlan profile memory virtual begun
+  pub known : is_known (all_followed profile begun memory) ≡ true
   pub nothing : rest ≡ []
   pub puts : new.failed_puts ≡ old.failed_puts
   pub finishes : new.failed_finishes ≡ old.failed_finishes

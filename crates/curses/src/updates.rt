@@ -18,7 +18,7 @@ use crate::screens::Screen;
 use crate::sending::send_all;
 use crate::writers::Counted;
 use scr_cells::NoMemory;
-use scr_plan::{Memory, memory_laws, memory_runs, plan, plans_are_made, up_to_date_laws};
+use scr_plan::{Memory, memory_laws, memory_runs, plan_altered, up_to_date_laws};
 use scr_term::{Op, Ops, Profile, run_laws};
 use scr_virtual::Virtual;
 use std::alloc::Global;
@@ -143,8 +143,7 @@ fn planned(
 {
     let _profile = profile.size();
     let _wanted = wanted.size();
-    plans_are_made();
-    plan(alloc, profile, memory, wanted)
+    plan_altered(alloc, profile, memory, wanted)
 }
 
 // Has what was sent reach its end, where something was sent, and answers why it failed, if it did.

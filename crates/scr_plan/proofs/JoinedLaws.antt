@@ -1,24 +1,24 @@
 -- The joined repaint shows the picture.
-use Rattle.std.proofs.Common.{◌≡◌, ℕ, ◌+◌, ◌-◌, ◌<◌, ◌≤◌, ◌==◌, ◌&&◌, ◌||◌, ◌⊎◌, inl, inr, not, leb, Bool, true, false, refl, sym, ◌∙◌, ap, subst, arith, List, [], ◌∷◌, ◌++◌, append_assoc, nat_lt, nat_le, length, map, filter, Option, Some, None, IfSome, option_and_then, zero, suc, if◌then◌else◌}
-use Rattle.std.specs.List.{All, AllByRecursion, flat_map, list_all, range_with_len}
+use Rattle.std.proofs.Common.{◌≡◌, ℕ, ◌+◌, ◌-◌, ◌<◌, ◌≤◌, ◌==◌, ◌&&◌, ◌||◌, ◌⊎◌, inl, inr, not, leb, Bool, true, false, refl, sym, ◌∙◌, ap, subst, arith, List, [], ◌∷◌, ◌++◌, append_assoc, nat_lt, filter, Option, Some, None, IfSome, option_and_then, zero, suc, if◌then◌else◌}
+use Rattle.std.specs.List.{flat_map, list_all, range_with_len}
 use Rattle.std.specs.Option.{is_none}
 use Rattle.std.proofs.lemmas.Bool.Decides.{nat_tests}
 use Rattle.std.proofs.lemmas.List.{append-nil, length-replicate}
 use Rattle.std.proofs.lemmas.List.Concat.{flat_map-append}
 use Rattle.std.proofs.lemmas.List.Elements.{filter-append}
 use Rattle.std.proofs.lemmas.Map.Views.{any-filter_same}
-use Rattle.scr_cells.specs.Grids.{GridLaws, IsGrid, grid_at, grid_filled, is_in_run}
+use Rattle.scr_cells.specs.Grids.{GridLaws, IsGrid, grid_at, is_in_run}
 use Rattle.scr_cells.specs.LookViews.{LookView, blank}
 use Rattle.scr_cells.specs.PenViews.{PenView, is_plain_pen, pen_eq, plain_pen}
 use Rattle.scr_cells.specs.PictureViews.{PictureView, IsPicture, IsPlace}
 use Rattle.scr_term.specs.declared.operations.operation.Op.{Op}
-use Rattle.scr_term.specs.declared.operations.operation.Op.TheVariants.{Clear, EraseLine, Move, Put, Reset}
+use Rattle.scr_term.specs.declared.operations.operation.Op.TheVariants.{Clear, EraseLine, Move, Reset}
 use Rattle.scr_term.specs.declared.operations.operation.Spot.{Spot}
 use Rattle.scr_term.specs.declared.operations.operation.Spot.TheVariants.{At, Margin}
 use Rattle.scr_term.specs.Operations.Laws.{BlankLaws, HasLaws, ProfilesHave, RunLaws}
 use Rattle.scr_term.specs.Operations.Profiles.{ProfileView, IsProfile, abilities}
-use Rattle.scr_term.specs.Operations.States.{TerminalState, IsState, blank_state, erased, from_place, rest_of_line_erased, spot_after}
-use Rattle.scr_term.specs.Operations.Steps.{act, erasure_made, runs, step}
+use Rattle.scr_term.specs.Operations.States.{TerminalState, IsState, blank_state, erased, from_place, rest_of_line_erased}
+use Rattle.scr_term.specs.Operations.Steps.{act, runs, step}
 use Rattle.scr_term.specs.Operations.Texts.{has}
 use Rattle.scr_plan.proofs.ActLaws.{Acts, acts}
 use Rattle.scr_plan.proofs.BriefLaws.{behind_last, row_same}
@@ -27,12 +27,12 @@ use Rattle.scr_plan.proofs.PartLaws.{part_joined, row_more}
 use Rattle.scr_plan.proofs.PlaceLaws.{at_place, goes_by, one_run, plain, resets_run, then_runs}
 use Rattle.scr_plan.proofs.PlacesLaws.{among_row, is_among, is_here, row_inside}
 use Rattle.scr_plan.proofs.PlainLaws.{both, filter_inside, look_same, nothing_shows, pen_same, same_is_shown}
-use Rattle.scr_plan.proofs.ScratchLaws.{PaintsEach, cleared_run, cursor_placed, each_painted, grid_is_painted, looks, shown_after}
+use Rattle.scr_plan.proofs.ScratchLaws.{cleared_run, cursor_placed, each_painted, grid_is_painted, looks, shown_after}
 use Rattle.scr_plan.specs.Code.Joinings.{joined_at}
 use Rattle.scr_plan.specs.Code.Painters.{part_places}
-use Rattle.scr_plan.specs.Memories.{Agrees, MemoryView, is_known}
+use Rattle.scr_plan.specs.Memories.{Agrees, MemoryView}
 use Rattle.scr_plan.specs.MemoryRuns.{KnownMemories}
-use Rattle.scr_plan.specs.Repaints.{JoinedShows, anew_of, begins_place, blank_column, brief_place, cleared, differing_from, differing, differs, erased_column, erased_if_worth, is_blank_from, is_idle, is_in_place, is_none_left, is_placed, joined_of, joined_place, joined_places, joins_left, kept_unless_idle, look_eq, without_idle}
+use Rattle.scr_plan.specs.Repaints.{JoinedShows, begins_place, blank_column, brief_place, cleared, differing, differs, erased_column, erased_if_worth, is_blank_from, is_idle, is_in_place, is_none_left, is_placed, joined_place, joined_places, joins_left, kept_unless_idle, look_eq, without_idle}
 use Rattle.scr_plan.specs.Scratch.{Fits, PlaceIsPainted, RunsToShow, goes, look_at, paints_place, places, places_cursor, renders, resets, row_places}
 
 -- ---- where the rest of a line is erased

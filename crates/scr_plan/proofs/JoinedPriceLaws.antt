@@ -1,5 +1,5 @@
 -- How long the joined repaint is.
-use Rattle.std.proofs.Common.{◌≡◌, ℕ, ◌+◌, ◌-◌, ◌<◌, ◌≤◌, ◌==◌, ◌&&◌, leb, nat_le, Bool, true, false, refl, sym, ◌∙◌, ap, subst, arith, List, [], ◌∷◌, ◌++◌, length, filter, map, Option, Some, None, zero, suc, if◌then◌else◌}
+use Rattle.std.proofs.Common.{◌≡◌, ℕ, ◌+◌, ◌-◌, ◌≤◌, ◌==◌, ◌&&◌, leb, nat_le, Bool, true, false, refl, sym, ◌∙◌, ap, subst, arith, List, [], ◌∷◌, ◌++◌, length, filter, Option, Some, None, zero, suc, if◌then◌else◌}
 use Rattle.std.specs.List.{flat_map, range_with_len}
 use Rattle.std.proofs.lemmas.Bool.Decides.{nat_tests}
 use Rattle.std.proofs.lemmas.List.{append-nil, length-append}
@@ -15,7 +15,7 @@ use Rattle.scr_term.specs.Operations.Steps.{step}
 use Rattle.scr_term.specs.Operations.Texts.{all_bytes, bytes_of, has}
 use Rattle.scr_plan.proofs.JoinedLaws.{IsErasable, erasable, row_erased, row_unerased}
 use Rattle.scr_plan.proofs.PartLaws.{part_joined, row_more}
-use Rattle.scr_plan.proofs.PlainLaws.{both, none_left}
+use Rattle.scr_plan.proofs.PlainLaws.{both}
 use Rattle.scr_plan.specs.Code.Joinings.{joined_at}
 use Rattle.scr_plan.specs.Code.Painters.{part_places}
 use Rattle.scr_plan.specs.Memories.{MemoryView}

@@ -1,8 +1,7 @@
 -- The joined repaint, operation by operation.
-use Rattle.std.proofs.Common.{◌≡◌, ℕ, ◌+◌, ◌-◌, ◌^◌, ◌<◌, ◌≤◌, ◌&&◌, ◌||◌, ◌⊎◌, inl, inr, min, Bool, true, false, refl, sym, ◌∙◌, ap, subst, arith, append_assoc, drop, get_or, take, List, [], ◌∷◌, ◌++◌, length, map, Option, Some, None, IfSome, option_and_then, zero, suc, if◌then◌else◌}
-use Rattle.std.specs.List.{All, flat_map}
-use Rattle.std.proofs.lemmas.Bool.Decides.{nat_tests}
-use Rattle.std.proofs.lemmas.List.{append-nil, length-append, take_more}
+use Rattle.std.proofs.Common.{◌≡◌, ℕ, ◌+◌, ◌<◌, ◌||◌, ◌⊎◌, inl, inr, Bool, true, false, refl, sym, ◌∙◌, ap, subst, arith, append_assoc, drop, get_or, take, List, [], ◌∷◌, ◌++◌, length, map, Option, Some, None, option_and_then, if◌then◌else◌}
+use Rattle.std.specs.List.{All}
+use Rattle.std.proofs.lemmas.List.{append-nil, take_more}
 use Rattle.std.proofs.lemmas.List.Elements.{All-get_or}
 use Rattle.std.proofs.lemmas.Nat.{and_le_r}
 use Rattle.std.proofs.Math.Bool.{or-true}
@@ -14,23 +13,23 @@ use Rattle.scr_cells.specs.PenViews.{PenView, is_plain_pen, plain_pen}
 use Rattle.scr_cells.specs.PictureViews.{PictureView, IsPicture, IsPlace}
 use Rattle.scr_term.specs.declared.operations.capability.Capability.TheVariants.{Sgr0}
 use Rattle.scr_term.specs.declared.operations.operation.Op.{Op}
-use Rattle.scr_term.specs.declared.operations.operation.Op.TheVariants.{Clear, Enter, EraseLine, Fore, Back, Move, Put, Reset}
+use Rattle.scr_term.specs.declared.operations.operation.Op.TheVariants.{EraseLine, Fore, Back, Move, Put, Reset}
 use Rattle.scr_term.specs.declared.operations.operation.Spot.{Spot}
-use Rattle.scr_term.specs.declared.operations.operation.Spot.TheVariants.{At, Margin}
+use Rattle.scr_term.specs.declared.operations.operation.Spot.TheVariants.{At}
 use Rattle.scr_term.specs.Operations.Abilities.{full_abilities}
 use Rattle.scr_term.specs.Operations.Laws.{HasLaws, ProfilesHave, RunLaws}
 use Rattle.scr_term.specs.Operations.Profiles.{ProfileView, IsProfile, abilities, has_colours, is_there, shown_set}
 use Rattle.scr_term.specs.Operations.States.{TerminalState, AreShownColours, IsShownPen, IsState, erased, from_place, rest_of_line_erased, spot_after, written_at}
 use Rattle.scr_term.specs.Operations.Steps.{act, runs, step}
-use Rattle.scr_term.specs.Operations.Texts.{all_bytes, has}
-use Rattle.scr_plan.proofs.JoinedLaws.{had_step, idle_same, in_place, plain_is}
+use Rattle.scr_term.specs.Operations.Texts.{has}
+use Rattle.scr_plan.proofs.JoinedLaws.{idle_same, plain_is}
 use Rattle.scr_plan.proofs.JoinedPriceLaws.{price, price_is}
-use Rattle.scr_plan.proofs.PlaceLaws.{at_place, begun_run, move_run, one_run, plain, plain_only, resets_run, then_runs}
+use Rattle.scr_plan.proofs.PlaceLaws.{at_place, begun_run, move_run, one_run, plain, resets_run, then_runs}
 use Rattle.scr_plan.specs.Code.Joinings.{Continues, IsCounted, IsJoining, counted_up}
-use Rattle.scr_plan.specs.Code.Painters.{moves_unless_there, painter_begins, painter_goes, painter_leads, painter_of, painter_resets, resets_unless_plain}
+use Rattle.scr_plan.specs.Code.Painters.{moves_unless_there, painter_begins, painter_leads, painter_of, resets_unless_plain}
 use Rattle.scr_plan.specs.Memories.{IsMemory, MemoryView}
 use Rattle.scr_plan.specs.Repaints.{is_idle, is_in_place, kept_unless_idle, without_idle}
-use Rattle.scr_plan.specs.Scratch.{Fits, enter, goes, look_at, places_cursor, renders, resets, sets_background, sets_foreground}
+use Rattle.scr_plan.specs.Scratch.{enter, goes, look_at, renders, resets, sets_background, sets_foreground}
 use Rattle.scr_plan.specs.declared.joining.Joining.{Joining}
 use Rattle.scr_plan.specs.declared.painting.Painter.{Painter}
 

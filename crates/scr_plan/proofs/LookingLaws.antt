@@ -1,5 +1,5 @@
 -- Where the rest of a row is erased.
-use Rattle.std.proofs.Common.{◌≡◌, ℕ, ◌+◌, ◌-◌, ◌<◌, ◌≤◌, ◌==◌, ◌&&◌, ◌||◌, ◌⊎◌, inl, inr, not, leb, nat_lt, nat_le, Bool, true, false, refl, sym, ◌∙◌, ap, subst, arith, get_or, List, [], ◌∷◌, length, filter, Option, Some, None, zero, suc, if◌then◌else◌}
+use Rattle.std.proofs.Common.{◌≡◌, ℕ, ◌+◌, ◌-◌, ◌<◌, ◌≤◌, ◌==◌, ◌&&◌, ◌||◌, ◌⊎◌, inl, inr, not, leb, nat_lt, nat_le, Bool, true, false, refl, sym, ◌∙◌, ap, subst, arith, get_or, List, ◌∷◌, length, filter, Option, Some, None, zero, suc, if◌then◌else◌}
 use Rattle.std.specs.Prelude.{find}
 use Rattle.std.specs.List.{list_all, range_with_len}
 use Rattle.std.proofs.lemmas.Bool.Decides.{nat_tests}
@@ -12,7 +12,7 @@ use Rattle.scr_term.specs.declared.operations.operation.Op.TheVariants.{EraseLin
 use Rattle.scr_term.specs.Operations.Profiles.{ProfileView}
 use Rattle.scr_term.specs.Operations.Texts.{bytes_of, has}
 use Rattle.scr_plan.proofs.JoinLaws.{differs_by, differs_same}
-use Rattle.scr_plan.proofs.JoinedLaws.{all_in_range, blank_from, none_is_not, some_is}
+use Rattle.scr_plan.proofs.JoinedLaws.{blank_from, none_is_not, some_is}
 use Rattle.scr_plan.proofs.JoinedPriceLaws.{count_from}
 use Rattle.scr_plan.proofs.PartLaws.{look_refl}
 use Rattle.scr_plan.proofs.PlainLaws.{both, look_same}

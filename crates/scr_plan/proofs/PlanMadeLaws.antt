@@ -1,19 +1,18 @@
 -- The sure repaint is all that an update wants.
 use Rattle.std.proofs.Common.{◌≡◌, ◌≤◌, ◌&&◌, not, Bool, true, false, refl, sym, ◌∙◌, ap, subst, arith, List, [], ◌∷◌, length, Result, Ok, Err, IfOk, if◌then◌else◌}
-use Rattle.scr_cells.specs.PictureViews.{PictureView, IsPicture}
+use Rattle.scr_cells.specs.PictureViews.{IsPicture}
 use Rattle.scr_cells.specs.declared.NoMemory.{NoMemory}
 use Rattle.scr_virtual.specs.VirtualViews.{VirtualView}
 use Rattle.scr_term.specs.declared.operations.operation.Op.{Op}
 use Rattle.scr_term.specs.Operations.Profiles.{ProfileView, IsProfile, abilities}
-use Rattle.scr_term.specs.Operations.States.{IsShownPen}
 use Rattle.scr_term.specs.Operations.Texts.{all_bytes}
 use Rattle.scr_plan.proofs.JoinedPriceLaws.{anew_less, count_fewer, count_is, joined_less, plain_less}
 use Rattle.scr_plan.proofs.MemoryRunLaws.{agrees_itself}
 use Rattle.scr_plan.specs.Memories.{MemoryView, is_known}
-use Rattle.scr_plan.specs.MemoryRuns.{MayBe, MemoryRuns, PlansAreRemembered}
+use Rattle.scr_plan.specs.MemoryRuns.{MemoryRuns, PlansAreRemembered}
 use Rattle.scr_plan.specs.Plans.{IsPlan, PlanIsCheap, PlansAreMade}
-use Rattle.scr_plan.specs.Repaints.{JoinedIsCheap, JoinedShows, anew_of, cleared, joined_of, plain_of}
-use Rattle.scr_plan.specs.Scratch.{Fits, ScratchIsBounded, scratch_of}
+use Rattle.scr_plan.specs.Repaints.{JoinedIsCheap, JoinedShows, anew_of, cleared, joined_of}
+use Rattle.scr_plan.specs.Scratch.{Fits, ScratchIsBounded}
 
 never : {R : Type 0} (b : Bool) → b ≡ true → b ≡ false → R
 never true e f = (cc)
@@ -56,22 +55,6 @@ plans_are_made shows cheap remembered bounded runs profile p virtual k fits memo
     by true false known calm = joined_plan shows cheap bounded runs profile p virtual k fits memory known calm
     by true true known calm = anew_plan shows cheap remembered bounded profile p virtual k fits memory (ap (λ b. is_known memory && not b) calm ∙ ap (λ b. b && false) known)
     by false repaint known calm = anew_plan shows cheap remembered bounded profile p virtual k fits memory (ap (λ b. b && not virtual.repaint) known)
-
--- where no state of the profile agrees with what is remembered, nothing serves
-pub nothing_plan : (profile : ProfileView) (virtual : VirtualView) (memory : MemoryView) → (is_known memory && not virtual.repaint) ≡ true → (IsShownPen (abilities profile) memory.state.pen → ⊥) → IsPlan profile memory virtual []
-nothing_plan profile virtual memory due never_shown = record {
-  shows = λ old agrees. absurd (never_shown agrees.may_be.pen);
-  anew = λ wished old state. by (is_known memory) virtual.repaint wished due;
-  known = λ may. absurd (never_shown may.state.pen);
-  few = omega arith;
-  scratch = omega arith;
-  joined = λ known calm. omega arith;
-}
-  where
-    by : {R : Type 0} (known repaint : Bool) → repaint ≡ true → (known && not repaint) ≡ true → R
-    by true true e f = (cc)
-    by true false e f = (cc)
-    by false repaint e f = (cc)
 
 pub plan_is_cheap : JoinedIsCheap → PlanIsCheap
 plan_is_cheap cheap = record {

@@ -1,5 +1,5 @@
 -- A repaint that is made row by row is that of all places that differ.
-use Rattle.std.proofs.Common.{◌≡◌, ℕ, ◌+◌, ◌-◌, ◌<◌, ◌≤◌, ◌==◌, ◌&&◌, Bool, true, sym, ◌∙◌, ap, arith, append_assoc, List, [], ◌∷◌, ◌++◌, length, filter, None, Result, Ok, Err, IfOk, if◌then◌else◌}
+use Rattle.std.proofs.Common.{◌≡◌, ℕ, ◌+◌, ◌<◌, ◌≤◌, ◌==◌, ◌&&◌, Bool, sym, ◌∙◌, ap, arith, append_assoc, List, [], ◌∷◌, ◌++◌, length, filter, if◌then◌else◌}
 use Rattle.std.specs.List.{flat_map}
 use Rattle.std.proofs.lemmas.Bool.Decides.{nat_tests}
 use Rattle.std.proofs.lemmas.List.{append-nil, length-append}
@@ -10,7 +10,7 @@ use Rattle.scr_term.specs.Operations.Profiles.{ProfileView}
 use Rattle.scr_plan.specs.declared.painting.Painter.{Painter}
 use Rattle.scr_plan.specs.Code.Painters.{painter_of, painter_resets}
 use Rattle.scr_plan.specs.Memories.{MemoryView}
-use Rattle.scr_plan.specs.Repaints.{differing, differs, is_none_left, is_placed}
+use Rattle.scr_plan.specs.Repaints.{differing, is_none_left, is_placed}
 use Rattle.scr_plan.specs.Scratch.{goes, look_at, paints_place, places, places_cursor, renders, resets, row_places}
 use Rattle.scr_plan.proofs.PartLaws.{row_more}
 

@@ -13,7 +13,7 @@ use Rattle.scr_term.specs.declared.operations.operation.Spot.{Spot}
 use Rattle.scr_term.specs.declared.operations.operation.Spot.TheVariants.{At, Margin}
 use Rattle.scr_term.specs.Operations.Profiles.{ProfileView, IsProfile, abilities}
 use Rattle.scr_term.specs.Operations.States.{TerminalState, IsState, blank_state}
-use Rattle.scr_term.specs.Operations.Steps.{runs, step}
+use Rattle.scr_term.specs.Operations.Steps.{step}
 use Rattle.scr_term.specs.Operations.Texts.{all_bytes, bytes_of, has}
 use Rattle.scr_plan.specs.Memories.{Agrees, MemoryView, is_known, is_known_row, remembered}
 use Rattle.scr_plan.specs.Scratch.{Fits, RunsToShow, goes, look_at, paints_place, places, places_cursor, renders, resets, scratch_of}

@@ -46,13 +46,15 @@ impl Joining {
         let cells = picture.row(row);
         match painter.erased_column(profile, picture, row, cells, before, from, end) {
             Some(column) => {
-                let left = self
-                    .join_part(painter, profile, picture, row, cells, before, from, column)?;
+                let left = self.join_part(
+                    painter, profile, picture, row, cells, before, from, column,
+                )?;
                 self.erase_from(painter, profile, picture, row, column, left)
             }
             None => {
-                let _left =
-                    self.join_part(painter, profile, picture, row, cells, before, from, end)?;
+                let _left = self.join_part(
+                    painter, profile, picture, row, cells, before, from, end,
+                )?;
                 Ok(())
             }
         }
@@ -87,8 +89,9 @@ impl Joining {
         let mut left = None;
         let mut column = from;
         while column < end {
-            (column, left) = self
-                .join_next(painter, profile, picture, row, cells, before, column, end, left)?;
+            (column, left) = self.join_next(
+                painter, profile, picture, row, cells, before, column, end, left,
+            )?;
         }
         Ok(left)
     }

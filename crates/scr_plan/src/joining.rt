@@ -157,12 +157,7 @@ impl Joining {
     }
 
     // The rest of the line is erased.
-    pub(crate) fn erase(
-        &mut self,
-        profile: &Profile,
-        row: u32,
-        column: u32,
-    ) -> Result<(), NoMemory>
+    pub(crate) fn erase(&mut self, profile: &Profile, row: u32, column: u32) -> Result<(), NoMemory>
         requires here { self.old.spot ≡ At row column }
         requires plain { is_plain_pen self.old.pen ≡ true }
         requires has { has profile.now EraseLine ≡ true }

@@ -15,13 +15,12 @@ mod scratch_texts;
 
 pub use memories::Memory;
 pub use painting::scratch;
+pub use plain_repaint::plain;
 pub use plan_laws::{
     joined_is_cheap, joined_shows, memory_laws, plain_shows, plan_is_cheap, plans_are_made,
     up_to_date_laws,
 };
-pub use plain_repaint::plain;
-pub use planning::plan;
+pub use planning::{plan, plan_altered};
 pub use remembering_laws::{known_memories, memory_runs, plans_are_remembered};
-
 pub use scratch_laws::{place_is_painted, scratch_bytes_show, scratch_is_bounded, scratch_shows};
 pub use scratch_texts::scratch_bytes;

@@ -178,7 +178,11 @@ impl Rest {
     {
         let begin = self.begin - 1;
         if is_shown_in(before, begin, byte, pen) {
-            return Rest { begin, first: self.first, count: self.count };
+            return Rest {
+                begin,
+                first: self.first,
+                count: self.count,
+            };
         }
         Rest {
             begin,

@@ -115,7 +115,8 @@ impl Painter {
     ) -> Result<(), NoMemory>
         ensures { OnOk result (ops.new.items ≡ ops.old.items ++ painter_leads self spot now (row, column) pen) }
     {
-        if self.moves_in_any_rendition {
+        let moves_first = self.moves_in_any_rendition;
+        if moves_first {
             self.move_unless_there(spot, row, column, ops)?;
             self.reset_unless_plain(now, ops)?;
         } else {

@@ -285,7 +285,15 @@ impl Joining {
         match by.in_row(wanted, row) {
             Some((from, last)) => {
                 let looks = Some(memory.looks(row));
-                self.join_row(painter, profile, wanted.picture(), row, looks, from, last + 1)
+                self.join_row(
+                    painter,
+                    profile,
+                    wanted.picture(),
+                    row,
+                    looks,
+                    from,
+                    last + 1,
+                )
             }
             None => Ok(()),
         }

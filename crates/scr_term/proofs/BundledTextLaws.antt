@@ -1,5 +1,5 @@
 -- The texts of the bundled entry, and what they write for their parameters.
-use Rattle.std.proofs.Common.{◌≡◌, ℕ, ℤ, pos, ◌+◌, ◌^◌, ◌<◌, ◌==◌, ◌||◌, Bool, true, cond, refl, sym, ◌∙◌, ap, List, [], ◌∷◌, ◌++◌, append_assoc, Option, Some, None, option_and_then, codes, bit_and}
+use Rattle.std.proofs.Common.{◌≡◌, ℕ, pos, ◌+◌, ◌^◌, ◌<◌, ◌==◌, ◌||◌, Bool, true, cond, refl, sym, ◌∙◌, ap, List, [], ◌∷◌, ◌++◌, append_assoc, Some, codes, bit_and}
 use Rattle.std.specs.Int.{w32, int_wrap, int_wrapping_add}
 use Rattle.std.specs.Fmt.{decimal}
 use Rattle.std.specs.Str.{bytes_eq}
@@ -14,7 +14,6 @@ use Rattle.ti_param.specs.Stripped.{stripped}
 use Rattle.ti_param.specs.Tree.{Tree, End, Do, When, literals}
 use Rattle.ti_param.specs.declared.directives.Directive.TheVariants.{Literal, Parameter, Binary}
 use Rattle.ti_param.specs.declared.directives.Operator.TheVariants.{BitOr}
-use Rattle.scr_term.specs.declared.operations.capability.Capability.{Capability}
 use Rattle.scr_term.specs.declared.operations.capability.Capability.TheVariants.{Cr, Clear, El, Ed, Hpa, Cup, Cud1, Home, Cub1, Cuf1, Cuu1, Blink, Bold, Dim, Invis, Rev, Smso, Smul, Ech, Sgr0, Cud, Cub, Cuf, Cuu, Vpa, Sgr, Op, Setaf, Setab}
 use Rattle.scr_term.specs.Operations.Ecma48.{bundled_program}
 use Rattle.scr_term.specs.Operations.Texts.{nine, renditions_of, written}

@@ -1,5 +1,5 @@
 -- The profile of the bundled entry, computed.
-use Rattle.std.proofs.Common.{◌≡◌, ◌∙◌, ℕ, ◌≤◌, Bool, true, false, ◌&&◌, nat_le, refl, sym, ap, subst, arith, List, [], ◌∷◌, All, map, length, Option, Some, None, IfSome, option_and_then}
+use Rattle.std.proofs.Common.{◌≡◌, ◌∙◌, ℕ, Bool, true, ◌&&◌, nat_le, refl, sym, ap, subst, arith, List, [], ◌∷◌, All, map, Option, Some, None, IfSome, option_and_then}
 use Rattle.std.specs.List.{list_all}
 use Rattle.std.proofs.lemmas.Bool.Decides.{nat_tests}
 use Rattle.std.proofs.lemmas.List.Elements.{All-nil, All-cons}

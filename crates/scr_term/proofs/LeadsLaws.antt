@@ -1,12 +1,12 @@
 -- Texts that lead from a state to another: one unit, one control sequence, and one text behind another.
-use Rattle.std.proofs.Common.{◌≡◌, ℕ, ◌≤◌, ◌^◌, ◌<◌, refl, sym, ◌∙◌, ap, arith, List, [], ◌∷◌, ◌++◌, append_assoc, length, Option, Some, None, option_and_then}
+use Rattle.std.proofs.Common.{◌≡◌, ℕ, ◌≤◌, sym, ◌∙◌, ap, arith, List, [], ◌∷◌, ◌++◌, append_assoc, length, Option, Some, option_and_then}
 use Rattle.std.specs.List.{flat_map, AllByRecursion}
 use Rattle.std.specs.Fmt.{decimal}
 use Rattle.std.proofs.lemmas.Fmt.{length-decimal-le}
 use Rattle.std.proofs.lemmas.List.{append-nil}
 use Rattle.std.proofs.lemmas.List.Concat.{flat_map-append}
 use Rattle.scr_term.specs.Operations.States.{TerminalState}
-use Rattle.scr_term.specs.Ecma.Units.{EcmaUnit, Sequence, spelling, IsUnit, IsDivision, IsSequence}
+use Rattle.scr_term.specs.Ecma.Units.{EcmaUnit, Sequence, spelling, IsUnit, IsSequence}
 use Rattle.scr_term.specs.Ecma.Meanings.{Leads, control_function, meaning, meanings, parameters_of}
 use Rattle.scr_term.proofs.BundledTextLaws.{control_sequence}
 use Rattle.scr_term.proofs.ChoiceLaws.{same_some, then_some}

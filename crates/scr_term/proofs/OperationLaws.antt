@@ -1,13 +1,13 @@
 -- On the bundled entry, the bytes of each operation do to the negative of a state what the operation does to the state.
-use Rattle.std.proofs.Common.{◌≡◌, ℕ, ℤ, pos, ◌+◌, ◌-◌, ◌^◌, ◌<◌, ◌≤◌, ◌==◌, ◌&&◌, ◌||◌, Bool, true, false, IsTrue, cond, inl, inr, refl, sym, ◌∙◌, ap, subst, arith, List, [], ◌∷◌, ◌++◌, length, length-append, Option, Some, None, option_map, option_and_then, bit_and, bit_or, nat_le, nat_lt}
+use Rattle.std.proofs.Common.{◌≡◌, ℕ, ℤ, pos, ◌+◌, ◌-◌, ◌<◌, ◌≤◌, ◌==◌, ◌&&◌, ◌||◌, Bool, true, false, IsTrue, cond, inl, inr, refl, sym, ◌∙◌, ap, subst, arith, List, [], ◌∷◌, ◌++◌, length-append, Option, Some, None, option_map, option_and_then, bit_and, bit_or, nat_le, nat_lt}
 use Rattle.std.specs.List.{flat_map, list_any}
 use Rattle.std.specs.Fmt.{decimal}
 use Rattle.std.proofs.lemmas.Nat.{and_le_l}
 use Rattle.std.proofs.lemmas.List.{append-nil}
-use Rattle.std.proofs.lemmas.Bool.{eqb-true, false≢true}
+use Rattle.std.proofs.lemmas.Bool.{eqb-true}
 use Rattle.std.proofs.lemmas.Bool.Decides.{nat_tests}
 use Rattle.scr_cells.specs.Attributes.{all_attributes}
-use Rattle.scr_cells.specs.LookViews.{LookView, blank_grid, negative, negative_grid}
+use Rattle.scr_cells.specs.LookViews.{LookView, blank_grid}
 use Rattle.scr_cells.specs.PenViews.{PenView, is_plain_pen, negative_pen, plain_pen, with_attribute}
 use Rattle.scr_cells.specs.Grids.{grid_with}
 use Rattle.scr_cells.specs.PictureViews.{IsSize}
@@ -20,11 +20,11 @@ use Rattle.scr_term.specs.declared.operations.operation.Spot.{Spot}
 use Rattle.scr_term.specs.Operations.Pieces.{Piece, Character, Text}
 use Rattle.scr_term.specs.declared.operations.operation.Spot.TheVariants.{At, Margin}
 use Rattle.scr_term.specs.Operations.Admission.{IsEcma48}
-use Rattle.scr_term.specs.Operations.Profiles.{ProfileView, abilities, entering, has_colours, is_there, program_of, shown_set}
+use Rattle.scr_term.specs.Operations.Profiles.{ProfileView, abilities, has_colours, is_there, program_of, shown_set}
 use Rattle.scr_term.specs.Operations.States.{from_place, TerminalState, IsState, negative_state, moved_down, moved_left, moved_right, moved_to, moved_to_column, moved_to_row, moved_up, rest_of_line_erased, characters_erased, written_at, spot_after}
-use Rattle.scr_term.specs.Operations.Steps.{act, coloured, lines_below_erased}
+use Rattle.scr_term.specs.Operations.Steps.{act, lines_below_erased}
 use Rattle.scr_term.specs.Operations.Texts.{bytes_of, first_piece, has, is_sendable, is_within, motion, nine, piece_bytes, pieces, renditions_of, text, text_of_one, written}
-use Rattle.scr_term.specs.Ecma.Units.{EcmaUnit, Graphic, Control, Sequence, spelling, is_parameter_byte, IsUnit, IsDivision, IsSequence}
+use Rattle.scr_term.specs.Ecma.Units.{Graphic, Control, is_parameter_byte}
 use Rattle.scr_term.specs.Ecma.Meanings.{Leads, control_function, count_of, cursor_at, parameters_of, renditions}
 use Rattle.scr_term.specs.Operations.Laws.{BytesActAsTheirOperation}
 use Rattle.scr_term.proofs.Attributes.{each_attribute, negative-or_standout, negative-or_underline, negative-or_reverse, negative-or_blink, negative-or_dim, negative-or_bold, negative-or_invis}

@@ -1,5 +1,5 @@
 -- Renditions as the bundled entry sends them: `sgr` of a set of attributes, `op`, and the colours.
-use Rattle.std.proofs.Common.{◌≡◌, ℕ, zero, suc, ◌+◌, ◌-◌, ◌<◌, ◌≤◌, ◌==◌, ◌&&◌, Bool, true, false, IsTrue, refl, sym, ◌∙◌, ap, subst, arith, eqb, List, [], ◌∷◌, ◌++◌, length, nat_le, Option, Some, None}
+use Rattle.std.proofs.Common.{◌≡◌, ℕ, zero, suc, ◌+◌, ◌<◌, ◌≤◌, ◌&&◌, Bool, true, false, IsTrue, refl, sym, ◌∙◌, ap, subst, arith, eqb, List, [], ◌∷◌, length, nat_le, Option, Some, None}
 use Rattle.std.specs.List.{AllByRecursion, list_all}
 use Rattle.std.specs.Option.{is_none}
 use Rattle.std.specs.Fmt.{decimal, digits}
@@ -8,7 +8,7 @@ use Rattle.std.proofs.lemmas.Bool.Decides.{nat_tests}
 use Rattle.scr_cells.specs.Attributes.{negative_set}
 use Rattle.scr_cells.specs.PenViews.{PenView, plain_pen}
 use Rattle.scr_term.specs.Operations.States.{TerminalState}
-use Rattle.scr_term.specs.Ecma.Units.{IsSequence, is_parameter_byte}
+use Rattle.scr_term.specs.Ecma.Units.{is_parameter_byte}
 use Rattle.scr_term.specs.Ecma.Meanings.{Leads, control_function, parameters_of, renditions}
 use Rattle.scr_term.proofs.BundledTextLaws.{control_sequence, rendition_parameters}
 use Rattle.scr_term.proofs.ChoiceLaws.{both_true}

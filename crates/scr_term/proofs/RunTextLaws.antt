@@ -1,9 +1,8 @@
 -- How the texts of operations join.
-use Rattle.std.proofs.Common.{◌≡◌, refl, subst, List, [], ◌∷◌, ◌++◌, Some, option_and_then}
-use Rattle.scr_term.specs.declared.operations.operation.Op.{Op}
+use Rattle.std.proofs.Common.{refl, subst, [], ◌∷◌}
 use Rattle.scr_term.specs.Operations.Admission.{IsEcma48}
 use Rattle.scr_term.specs.Operations.Profiles.{ProfileView, IsProfile}
-use Rattle.scr_term.specs.Operations.States.{TerminalState, negative_state}
+use Rattle.scr_term.specs.Operations.States.{negative_state}
 use Rattle.scr_term.specs.Operations.Steps.{step, runs}
 use Rattle.scr_term.specs.Operations.Texts.{bytes_of, all_bytes}
 use Rattle.scr_term.specs.Ecma.Meanings.{Leads}

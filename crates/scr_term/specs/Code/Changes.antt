@@ -1,11 +1,10 @@
 -- What changes on an emulated terminal, and what a change makes of a state.
-use Rattle.std.specs.Prelude.{ℕ, ◌≡◌, ◌<◌, ◌≤◌, Option, option_map, unwrap_or}
+use Rattle.std.specs.Prelude.{ℕ, ◌≡◌, ◌<◌, ◌≤◌, Option, option_map}
 use Rattle.scr_cells.specs.Grids.{is_in_run}
 use Rattle.scr_cells.specs.LookViews.{blank_grid}
 use Rattle.scr_cells.specs.PenViews.{PenView, plain_pen, with_attribute}
-use Rattle.scr_cells.specs.PictureViews.{IsSize}
 use Rattle.scr_term.specs.Operations.Abilities.{full_abilities}
-use Rattle.scr_term.specs.Operations.States.{TerminalState, IsSpot, IsShownPen, IsState, blank_state, erased, is_from_place}
+use Rattle.scr_term.specs.Operations.States.{TerminalState, IsSpot, IsShownPen, erased, is_from_place}
 use Rattle.scr_term.specs.declared.operations.operation.Op.{Op}
 use Rattle.scr_term.specs.declared.operations.operation.Op.TheVariants.{Reset, Enter, Set}
 use Rattle.scr_term.specs.declared.operations.operation.Spot.{Spot}

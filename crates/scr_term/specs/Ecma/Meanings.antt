@@ -1,6 +1,6 @@
 -- What each unit of an ECMA-48 text does to a screen. ECMA-48, 8.3: CUU, CUD, CUF, CUB, CHA, VPA, CUP, ED, EL, ECH, SGR, BS, CR.
 -- Every unit that is not named here is undefined.
-use Rattle.std.specs.Prelude.{ℕ, ◌≡◌, ◌+◌, ◌-◌, ◌==◌, ◌&&◌, nat_le, List, [], ◌∷◌, Option, Some, None, option_and_then, option_map, unwrap_or, if◌then◌else◌}
+use Rattle.std.specs.Prelude.{ℕ, ◌≡◌, ◌-◌, ◌==◌, ◌&&◌, nat_le, List, [], ◌∷◌, Option, Some, None, option_and_then, option_map, unwrap_or, if◌then◌else◌}
 use Rattle.std.specs.List.{slice_split}
 use Rattle.std.specs.Str.Parse.{digits_value}
 use Rattle.scr_cells.specs.Attributes.{underline, reverse, blink, dim, bold, invis}

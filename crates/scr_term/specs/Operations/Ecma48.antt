@@ -1,6 +1,5 @@
 -- The profile of the bundled entry, and what can be relied on of it. ECMA-48, 8.3; terminfo(5), 'Predefined Capabilities'.
 use Rattle.std.specs.Prelude.{ℕ, ◌≡◌, true, map, Option, option_and_then}
-use Rattle.scr_cells.specs.PictureViews.{IsSize}
 use Rattle.ti_caps.specs.Bundled.{bundled_texts, listed}
 use Rattle.ti_param.specs.Parsed.{parsed}
 use Rattle.ti_param.specs.Stripped.{stripped}

@@ -1,5 +1,5 @@
 -- What is known of a terminal from its terminfo entry and its size. terminfo(5), 'Capabilities'.
-use Rattle.std.specs.Prelude.{ℕ, ◌≡◌, ◌≤◌, ◌==◌, ◌&&◌, Bool, true, List, [], ◌∷◌, All, length, filter, bit_or, Option, Some, None, IfSome, slice_index_or, if◌then◌else◌}
+use Rattle.std.specs.Prelude.{ℕ, ◌≡◌, ◌≤◌, ◌==◌, ◌&&◌, Bool, true, List, [], ◌∷◌, All, length, filter, bit_or, Option, None, IfSome, slice_index_or, if◌then◌else◌}
 use Rattle.std.specs.Option.{is_some}
 use Rattle.scr_cells.specs.Attributes.{all_attributes, standout, underline, reverse, blink, dim, bold}
 use Rattle.scr_cells.specs.PictureViews.{IsSize}

@@ -4,7 +4,7 @@ use Rattle.std.specs.List.{All}
 use Rattle.scr_term.specs.Operations.Texts.{has}
 use Rattle.curses.specs.Writers.{counted}
 use Rattle.curses.proofs.CutLaws.{nothing_left}
-use Rattle.curses.proofs.UpdateLaws.{beginnings_anew, had, kept_same, planned_whole, sent_part, some_not_none}
+use Rattle.curses.proofs.UpdateLaws.{beginnings_anew, had, kept_same, known_whole, planned_whole, sent_part, some_not_none}
 use Rattle.curses.proofs.updates.update.Goals as goal
 
 pub send_all-sent-requires-clause-has : goal.send_all-sent-requires-clause-has
@@ -41,6 +41,9 @@ returns-clause-ok g c = record {
       (c.send_all-sent.ensures.nothing c.in_default.is)) c.finish_after.ensures.bytes;
   plan = planned_whole c.args.profile.now c.args.memory.now c.args.wanted.now c.in_ok-plan.plan c.deref.result.now c.truncate.new.self.items c.send_all-sent.result.begun c.in_ok-plan.ensures.plan (c.deref.ensures.value ∙ c.plan.view_is)
       (c.truncate.ensures.items ∙ sym (ap (take c.send_all-sent.result.begun) c.deref.ensures.value)) (c.send_all-sent.ensures.whole c.in_default.is);
+  known =
+      known_whole c.args.profile.now c.args.memory.now c.args.wanted.now c.in_ok-plan.plan c.deref.result.now c.truncate.new.self.items c.send_all-sent.result.begun c.in_ok-plan.ensures.plan c.requires.remembered.agrees
+      (c.deref.ensures.value ∙ c.plan.view_is) (c.truncate.ensures.items ∙ sym (ap (take c.send_all-sent.result.begun) c.deref.ensures.value)) (c.send_all-sent.ensures.whole c.in_default.is);
   nothing = c.send_all-sent.ensures.nothing c.in_default.is;
   puts = c.finish_after.ensures.puts ∙ c.send_all-sent.ensures.puts ∙ ap (λ f. counted (is_some f) (g.W.Counted.told c.args.out.now).failed_puts) c.in_default.is;
   finishes = c.finish_after.ensures.finishes ∙ ap (λ f. counted (is_some f) (g.W.Counted.told c.send_all-sent.new.out).failed_finishes) c.in_default-finish_after.is ∙ c.send_all-sent.ensures.finishes;

@@ -1,4 +1,4 @@
-use Rattle.std.proofs.Common.{ap, refl, sym, true, [], ◌≡◌, ◌∙◌, ◌++◌, ◌∷◌}
+use Rattle.std.proofs.Common.{ap, refl, true, [], ◌≡◌, ◌∙◌, ◌++◌, ◌∷◌}
 use Rattle.scr_term.specs.declared.operations.operation.Op.TheVariants.{Clear}
 use Rattle.scr_term.specs.Operations.States.{blank_state}
 use Rattle.scr_plan.specs.Code.Painters.{painter_resets}

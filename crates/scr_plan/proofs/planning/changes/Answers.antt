@@ -1,5 +1,5 @@
-use Rattle.std.proofs.Common.{ap, refl, rules, sym, not, true, false, Bool, [], ◌≡◌, ◌∙◌, ◌++◌, ◌&&◌, if◌then◌else◌}
-use Rattle.scr_plan.specs.Repaints.{differing, is_none_left, is_placed, joined_of, joined_places, without_idle}
+use Rattle.std.proofs.Common.{ap, refl, sym, true, false, [], ◌≡◌, ◌∙◌, ◌++◌, ◌&&◌, if◌then◌else◌}
+use Rattle.scr_plan.specs.Repaints.{differing, is_none_left, is_placed, joined_places, without_idle}
 use Rattle.scr_plan.specs.Scratch.{places_cursor, resets}
 use Rattle.scr_plan.proofs.JoinedLaws.{joined_assoc}
 use Rattle.scr_plan.proofs.JoinedRowLaws.{not_placed, some_differs}
@@ -15,8 +15,8 @@ returns c =
     let end = c.in_ok-join_changes.ensures true c.in_ok-ops.ops.items memory.state (resets profile) c.in_ok-joining.ensures in
     let something : (is_none_left (differing profile picture memory) && is_placed memory picture.wish) ≡ false =
     elim c.else-is_placed.branch as (λ _. (is_none_left (differing profile picture memory) && is_placed memory picture.wish) ≡ false) [
-      else-is_placed-via-then-is_placed+else-not-differs w ↦ some_differs (is_none_left (differing profile picture memory)) (is_placed memory picture.wish) (sym w.if-not-differs.false ∙ w.differs.ensures)
-    | else-is_placed-via-else-is_placed w ↦ not_placed (is_none_left (differing profile picture memory)) (is_placed memory picture.wish) (sym (ap (is_placed memory) (c.wish.ensures.wish ∙ ap (λ p. p.wish) c.picture-picture.ensures)) ∙ sym c.is_placed.ensures ∙ w.if-is_placed.false)
+      | else-is_placed-via-then-is_placed+else-not-differs w ↦ some_differs (is_none_left (differing profile picture memory)) (is_placed memory picture.wish) (sym w.if-not-differs.false ∙ w.differs.ensures)
+      | else-is_placed-via-else-is_placed w ↦ not_placed (is_none_left (differing profile picture memory)) (is_placed memory picture.wish) (sym (ap (is_placed memory) (c.wish.ensures.wish ∙ ap (λ p. p.wish) c.picture-picture.ensures)) ∙ sym c.is_placed.ensures ∙ w.if-is_placed.false)
     ] in
     end.ops refl
     ∙ ap (λ ops. ops ++ without_idle profile memory.state (resets profile ++ (joined_places profile picture memory ++ resets profile ++ places_cursor picture.wish))) c.in_ok-ops.ensures.items

@@ -1,4 +1,4 @@
-use Rattle.std.proofs.Common.{ap, arith, inl, inr, not, rules, sym, false, true, Bool, ◌≡◌, ◌∙◌, ◌<◌, ◌==◌}
+use Rattle.std.proofs.Common.{ap, arith, inl, inr, not, sym, ◌≡◌, ◌<◌}
 use Rattle.scr_plan.specs.Code.Planning.{range_by}
 use Rattle.scr_plan.proofs.JoinedRowLaws.{all_rows, more, none_left_at, some_left, unlooked_same}
 use Rattle.scr_plan.proofs.planning.differs.Goals as goal

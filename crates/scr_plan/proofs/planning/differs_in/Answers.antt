@@ -1,8 +1,8 @@
-use Rattle.std.proofs.Common.{ap, arith, subst, sym, false, true, ◌≡◌, ◌∙◌, ◌<◌, Some}
+use Rattle.std.proofs.Common.{ap, arith, sym, ◌∙◌, Some}
 use Rattle.std.proofs.lemmas.Bool.Decides.{nat_tests}
 use Rattle.scr_plan.specs.Code.Painters.{row_differs}
 use Rattle.scr_plan.specs.Code.Planning.{range_by}
-use Rattle.scr_plan.proofs.JoinedRowLaws.{looked_differs, looked_same, unlooked_same}
+use Rattle.scr_plan.proofs.JoinedRowLaws.{looked_same}
 use Rattle.scr_plan.proofs.planning.differs_in.Goals as goal
 
 pub returns-clause-none : goal.returns-clause-none

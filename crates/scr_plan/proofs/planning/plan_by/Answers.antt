@@ -1,8 +1,6 @@
-use Rattle.std.proofs.Common.{ap, rules, subst, sym, false, true, IfOk, ◌≡◌, ◌∙◌, ◌&&◌, not, if◌then◌else◌}
-use Rattle.scr_plan.specs.Memories.{is_known}
-use Rattle.scr_plan.specs.Plans.{IsPlan}
-use Rattle.scr_plan.specs.Repaints.{anew_of, joined_of}
-use Rattle.scr_plan.proofs.PlanMadeLaws.{nothing_plan, sure_plans}
+use Rattle.std.proofs.Common.{rules, subst, sym, false, IfOk, ◌≡◌, ◌∙◌}
+use Rattle.scr_plan.specs.Repaints.{anew_of}
+use Rattle.scr_plan.proofs.PlanMadeLaws.{sure_plans}
 use Rattle.scr_plan.proofs.planning.plan_by.Goals as goal
 
 pub returns-then-not-wants_changes_alone : goal.returns-then-not-wants_changes_alone

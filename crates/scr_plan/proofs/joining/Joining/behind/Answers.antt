@@ -1,4 +1,4 @@
-use Rattle.std.proofs.Common.{ap, arith, drop, length, length-drop, refl, rules, sym, true, ◌≡◌, ◌∙◌, ◌++◌, ◌-◌}
+use Rattle.std.proofs.Common.{ap, arith, drop, length, length-drop, refl, rules, true, ◌≡◌, ◌∙◌, ◌++◌, ◌-◌}
 use Rattle.std.proofs.lemmas.List.{take_all}
 use Rattle.scr_plan.specs.Code.Painters.{resets_unless_plain}
 use Rattle.scr_plan.proofs.JoiningLaws.{begun_joining}

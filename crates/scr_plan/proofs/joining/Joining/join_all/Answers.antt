@@ -1,6 +1,5 @@
-use Rattle.std.proofs.Common.{ap, arith, refl, sym, ◌≡◌, ◌<◌, ◌++◌, filter}
-use Rattle.std.specs.List.{flat_map}
-use Rattle.scr_plan.specs.Code.Joinings.{Continues, joined_at}
+use Rattle.std.proofs.Common.{ap, arith, refl, ◌≡◌, ◌<◌, ◌++◌, filter}
+use Rattle.scr_plan.specs.Code.Joinings.{Continues}
 use Rattle.scr_plan.specs.Repaints.{cleared, differs, joined_places}
 use Rattle.scr_plan.specs.Scratch.{places, places_cursor, resets}
 use Rattle.scr_plan.proofs.JoinLaws.{cleared_row}

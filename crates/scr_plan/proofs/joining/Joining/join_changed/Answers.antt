@@ -1,4 +1,4 @@
-use Rattle.std.proofs.Common.{ap, subst, sym, ◌≡◌, ◌∙◌, ◌<◌, Some, filter}
+use Rattle.std.proofs.Common.{ap, subst, sym, ◌∙◌, ◌<◌, Some, filter}
 use Rattle.std.specs.List.{flat_map}
 use Rattle.scr_plan.specs.Code.Joinings.{Continues, joined_at}
 use Rattle.scr_plan.specs.Code.Painters.{row_differs}

@@ -1,4 +1,4 @@
-use Rattle.std.proofs.Common.{ap, arith, inl, inr, sym, subst, ◌≡◌, ◌<◌, ◌≤◌, ◌++◌}
+use Rattle.std.proofs.Common.{arith, inl, inr, subst, ◌≡◌, ◌++◌}
 use Rattle.scr_plan.specs.Code.Joinings.{Continues}
 use Rattle.scr_plan.specs.Code.Planning.{range_by}
 use Rattle.scr_plan.specs.Repaints.{joined_places}

@@ -1,5 +1,5 @@
 use Rattle.std.proofs.Common.{arith, option_map}
-use Rattle.scr_plan.proofs.JoinedRowLaws.{none_yet, part_goes}
+use Rattle.scr_plan.proofs.JoinedRowLaws.{part_goes}
 use Rattle.scr_plan.proofs.joining.Joining.join_part.Goals as goal
 
 pub loop-column-preserved : goal.loop-column-preserved

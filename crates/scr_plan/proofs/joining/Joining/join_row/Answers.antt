@@ -1,4 +1,4 @@
-use Rattle.std.proofs.Common.{arith, ap, inl, inr, option_map, rules, subst, sym, ◌≡◌, ◌∙◌, ◌<◌, ◌≤◌, ◌++◌, ◌∷◌, [], Some, None, if◌then◌else◌, filter}
+use Rattle.std.proofs.Common.{arith, inl, option_map, filter}
 use Rattle.std.specs.List.{flat_map}
 use Rattle.scr_plan.specs.Memories.{MemoryView}
 use Rattle.scr_plan.specs.Code.Joinings.{Continues, ShowsRow, joined_at}
@@ -11,7 +11,7 @@ pub returns-in_ok-left-in-Some : goal.returns-in_ok-left-in-Some
 returns-in_ok-left-in-Some c =
     let before = option_map (λ looks. looks.now) c.args.before in
     on_ok c.erase_from.result _ ((memory : MemoryView) → ShowsRow memory c.args.row before
-        → Continues c.args.profile.now c.args.self.now c.erase_from.new.self (flat_map (joined_at c.args.profile.now c.args.picture.now memory) (filter (differs c.args.profile.now c.args.picture.now memory) (row_places c.args.picture.now.columns c.args.row))))
+    → Continues c.args.profile.now c.args.self.now c.erase_from.new.self (flat_map (joined_at c.args.profile.now c.args.picture.now memory) (filter (differs c.args.profile.now c.args.picture.now memory) (row_places c.args.picture.now.columns c.args.row))))
     (λ last memory shows.
     row_with_rest c.args.profile.now c.args.picture.now c.args.row before c.args.painter c.requires.painter c.args.from c.in-Some.column c.in_ok-left-in-Some.left c.in-Some.ensures.inside.0
     (omega (arith, c.in-Some.ensures.inside.1, c.requires.end)) (λ k below wide. c.requires.outside k (inl below) wide) c.in_ok-left-in-Some.ensures.left c.in-Some.ensures.blank

@@ -1,4 +1,4 @@
-use Rattle.std.proofs.Common.{refl, rules, sym, ap, subst, IfSome, Some, List, ◌++◌}
+use Rattle.std.proofs.Common.{refl, rules, sym, subst, IfSome}
 use Rattle.scr_cells.specs.PictureViews.{IsPlace}
 use Rattle.scr_plan.specs.Code.Joinings.{Continues}
 use Rattle.scr_plan.specs.Scratch.{places_cursor}

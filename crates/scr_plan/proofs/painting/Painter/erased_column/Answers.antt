@@ -1,5 +1,4 @@
-use Rattle.std.proofs.Common.{arith, ap, inl, inr, option_map, refl, rules, sym, true, false, ◌≡◌, ◌∙◌, ◌<◌, ◌≤◌, ◌&&◌, Some, None, length, nat_le}
-use Rattle.std.proofs.lemmas.Bool.Decides.{nat_tests}
+use Rattle.std.proofs.Common.{arith, option_map, rules, sym, false, ◌≡◌, ◌∙◌, ◌&&◌, length, nat_le}
 use Rattle.scr_term.specs.declared.operations.operation.Op.TheVariants.{EraseLine}
 use Rattle.scr_term.specs.Operations.Texts.{bytes_of, has}
 use Rattle.scr_plan.proofs.LookingLaws.{erased_none, erased_some, not_blank, priced, rest_column, rest_look, too_few, unworthy}
@@ -21,11 +20,11 @@ returns-then-rest-price-clause-value c = λ memory shows.
     erased_none c.args.profile.now c.args.picture.now memory c.args.row (option_map (λ looks. looks.now) c.args.before) c.args.self c.requires.painter shows c.args.from c.args.end c.blank_rest-rest.result c.requires.end c.blank_rest-rest.ensures c.requires.outside
     (λ e first tail.
     elim c.then-rest-price.branch as (λ _. (has c.args.profile.now EraseLine && nat_le (length (bytes_of c.args.profile.now EraseLine)) c.blank_rest-rest.result.count) ≡ false) [
-      then-rest-price-via-then-rest-price w ↦ too_few c.args.profile.now c.blank_rest-rest.result.count c.in_ok-price.price at.1 w.if-rest-price.true
-    | then-rest-price-via-else-rest-price+then-not-is_blank_from w ↦
-        let none : w.is_blank_from.result ≡ false = search rules in
-        let found = w.is_blank_from.ensures.none none in
-        not_blank (look_eq (painter_look c.args.self c.args.picture.now (c.args.row, found.0)) blank) (tail found.0 found.1 found.2) found.3
+      | then-rest-price-via-then-rest-price w ↦ too_few c.args.profile.now c.blank_rest-rest.result.count c.in_ok-price.price at.1 w.if-rest-price.true
+      | then-rest-price-via-else-rest-price+then-not-is_blank_from w ↦
+          let none : w.is_blank_from.result ≡ false = search rules in
+          let found = w.is_blank_from.ensures.none none in
+          not_blank (look_eq (painter_look c.args.self c.args.picture.now (c.args.row, found.0)) blank) (tail found.0 found.1 found.2) found.3
     ])
 
 pub returns-clause-inside : goal.returns-clause-inside
