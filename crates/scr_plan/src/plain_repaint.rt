@@ -1,5 +1,5 @@
-//! Painting only what differs from what is remembered of the terminal, place by place: what an update is compared with. The
-//! definitions are in `specs/Repaints.antt`.
+//! Painting only what differs from what is remembered of the terminal, place by place: a bound that is easily said, and that the joined
+//! repaint keeps. The definitions are in `specs/Repaints.antt`.
 ghost use Rattle.std.specs.Prelude.{◌≡◌, ◌++◌, ◌<◌, ◌&&◌, ◌==◌, [], IfOk, OnOk, filter, length, if◌then◌else◌};
 ghost use Rattle.std.specs.List.{flat_map};
 ghost use Rattle.scr_plan.specs.Code.Painters.{painter_differs, painter_paints_place, painter_resets};

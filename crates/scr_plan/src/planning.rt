@@ -27,8 +27,8 @@ use std::alloc::Global;
 
 /// What an update sends: operations that bring a terminal of which this is remembered to the picture, in few bytes
 /// (curs_refresh(3X), doupdate()). From every state that agrees with what is remembered they show the picture, and all is known after
-/// them. Where all is known and the screen is not to be painted anew, they have no more bytes than the joined repaint, and none where no
-/// place differs and the cursor is as wished; else the screen is cleared, and they have no more than `scratch`.
+/// them where the profile's terminal can be as remembered. They have no more bytes than `scratch`, and where all is known and the screen
+/// is not to be painted anew, no more than the joined repaint, and none where no place differs and the cursor is as wished.
 ///
 /// Picture and memory have the profile's size, and a known row shows the picture but in the columns that may have changed
 /// (`Virtual::changed`). Fails only when memory runs out.
