@@ -6,6 +6,7 @@ mod laws;
 mod making;
 mod operation;
 mod pieces;
+mod prices;
 mod profile_faults;
 mod profiles;
 mod rendering;
@@ -17,6 +18,7 @@ pub use laws::{
     ecma48_laws, profiles_have, run_laws, steps_keep_states,
 };
 pub use operation::{Op, Ops, Spot};
+pub use prices::{FAR, Prices};
 pub use profile_faults::ProfileFault;
 pub use profiles::Profile;
 pub(crate) use steps::change_of;

@@ -61,7 +61,7 @@ impl Profile {
         if let Some(capability) = first_long(&programs, &Capability::EACH) {
             return Err(ProfileFault::LongString((Kind::Text, capability.slot())));
         }
-        Ok(profile(entry, size, programs))
+        Ok(profile(entry, size, programs).priced(entry))
     }
 
     /// The profile of the bundled ECMA-48 entry on a screen of this size: that which `admit` makes of it. The only

@@ -8,6 +8,7 @@ ghost use Rattle.scr_term.specs.Code.Admission.{ArePlanned, AreTexts, counted_bo
 use crate::Profile;
 use crate::operations::capability::Capability;
 use crate::operations::pieces::entering;
+use crate::operations::prices::Prices;
 use bitflags::Flags;
 use scr_cells::{Attrs, Size};
 use ti_caps::{Entry, slots};
@@ -32,6 +33,7 @@ pub(crate) fn profile(entry: &Entry, size: Size, programs: Vec<Option<Program>>)
         shown,
         colours,
         longest,
+        prices: Prices::none(),
     }
 }
 

@@ -10,6 +10,7 @@ ghost use Rattle.scr_term.specs.Operations.Texts.{bytes_of, has, is_attribute, i
 use crate::Op;
 use crate::operations::capability::Capability;
 use crate::operations::pieces::{Sent, entering};
+use crate::operations::prices::Prices;
 use bitflags::Flags;
 use scr_cells::{Attrs, Size, is_character};
 use std::marker::Model;
@@ -27,6 +28,7 @@ pub struct Profile {
     pub(crate) shown: Attrs,
     pub(crate) colours: bool,
     pub(crate) longest: usize,
+    pub(crate) prices: Prices,
 }
 
 impl Model for Profile {

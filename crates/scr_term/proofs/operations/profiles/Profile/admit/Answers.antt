@@ -53,5 +53,5 @@ returns-clause-ok c =
     let long = long_first entry c.deref.result.now c.first_long.result (c.deref.ensures.value ∙ c.in_ok-programs.ensures.programs) c.first_long.ensures in
     record {
       suits = none_refused entry c.args.size c.in_ok-is_suitable.ensures c.in_ok-keeps_its_margin.ensures c.in_ok-has_needed_texts.ensures c.in_ok-size.ensures.judged c.in_ok-programs.ensures.judged (sym long ∙ ap (option_map (λ x. LongString (named_text x))) c.in_default.is);
-      made = subst (λ s. admitted_on entry s c.profile.result) (sym c.in_ok-size.ensures.size) c.profile.ensures;
+      made = subst (λ s. admitted_on entry s c.priced.result) (sym c.in_ok-size.ensures.size) (c.priced.ensures ∙ c.profile.ensures);
     }

@@ -1,0 +1,352 @@
+//! What each operation of a terminal costs, in bytes: estimates that are looked up and not worked out, to choose between
+//! operations. How many bytes an operation has exactly is in `rendering`.
+ghost use Rattle.std.specs.Prelude.{◌≡◌};
+
+use crate::operations::capability::Capability;
+use crate::{Op, Profile};
+use bitflags::Flags;
+use scr_cells::Attrs;
+use ti_caps::Entry;
+
+/// What an operation costs that the terminal does not have: more than all others together.
+pub const FAR: u32 = 1_000_000;
+
+// What is priced of each text with a number: its operations with numbers of one digit, two and three, of which those of
+// `hpa` and `vpa` count from 1. A motion has one by a single place besides.
+const ERASURES: [Op; 3] = [Op::EraseChars(1), Op::EraseChars(10), Op::EraseChars(100)];
+
+const COLUMNS: [Op; 3] = [Op::Column(0), Op::Column(9), Op::Column(99)];
+
+const LINES: [Op; 3] = [Op::Line(0), Op::Line(9), Op::Line(99)];
+
+const UPS: [Op; 4] = [Op::Up(1), Op::Up(2), Op::Up(10), Op::Up(100)];
+
+const DOWNS: [Op; 4] = [Op::Down(1), Op::Down(2), Op::Down(10), Op::Down(100)];
+
+const LEFTS: [Op; 4] = [Op::Left(1), Op::Left(2), Op::Left(10), Op::Left(100)];
+
+const RIGHTS: [Op; 4] = [Op::Right(1), Op::Right(2), Op::Right(10), Op::Right(100)];
+
+// The same of `cup`, in the first column and in the first row.
+const ADDRESSED_ROWS: [Op; 3] = [Op::Move(0, 0), Op::Move(9, 0), Op::Move(99, 0)];
+
+const ADDRESSED_COLUMNS: [Op; 3] = [Op::Move(0, 0), Op::Move(0, 9), Op::Move(0, 99)];
+
+/// What each operation of a terminal costs, in bytes: an estimate, made when the entry was read.
+///
+/// The texts without a number are counted. A text with a number is counted for one number of one digit, one of two and
+/// one of three, and its price for another is that of a number with as many digits.
+#[derive(Clone, Copy)]
+pub struct Prices {
+    home: u32,
+    carriage_return: u32,
+    clear: u32,
+    erase_line: u32,
+    erase_below: u32,
+    erase_chars: ByDigits,
+    column: ByDigits,
+    line: ByDigits,
+    up: Counted,
+    down: Counted,
+    left: Counted,
+    right: Counted,
+    // Of `cup`: for the first place, and what a row and a column add to it.
+    address: u32,
+    address_row: ByDigits,
+    address_column: ByDigits,
+    reset: u32,
+    fore: u32,
+    back: u32,
+    // By the number of the attribute in `Attrs::EACH`.
+    enter: [u32; 7],
+    // Of `sgr`: for no attribute, and what each attribute adds to it.
+    set: u32,
+    set_more: [u32; 7],
+}
+
+// The price of a text with a number, by how many digits the number has that is sent.
+#[derive(Clone, Copy)]
+struct ByDigits {
+    one: u32,
+    two: u32,
+    three: u32,
+}
+
+// The price of a motion by so many places: one place can have a text of its own.
+#[derive(Clone, Copy)]
+struct Counted {
+    one: u32,
+    more: ByDigits,
+}
+
+impl ByDigits {
+    // Of a text that the terminal does not have.
+    fn far() -> ByDigits {
+        ByDigits {
+            one: FAR,
+            two: FAR,
+            three: FAR,
+        }
+    }
+
+    // The price with this number.
+    fn with(self, number: u32) -> u32 {
+        match number {
+            0..=9 => self.one,
+            10..=99 => self.two,
+            _ => self.three,
+        }
+    }
+
+    // The price with the number behind this one: `cup`, `hpa` and `vpa` count from 1.
+    fn with_next(self, number: u32) -> u32 {
+        self.with(number.saturating_add(1))
+    }
+}
+
+impl Counted {
+    // The price of a motion by so many places.
+    fn by(self, count: u32) -> u32 {
+        if count == 1 {
+            self.one
+        } else {
+            self.more.with(count)
+        }
+    }
+}
+
+impl Prices {
+    /// How many bytes an operation has, about; `FAR` where the terminal does not have it, or where its text has a line feed,
+    /// to which the terminal's driver could add a carriage return.
+    pub fn of(&self, op: Op) -> u32 {
+        match op {
+            Op::Home => self.home,
+            Op::Move(row, column) => self.of_address(row, column),
+            Op::Column(column) => self.column.with_next(column),
+            Op::Line(row) => self.line.with_next(row),
+            Op::Up(count) => self.up.by(count),
+            Op::Down(count) => self.down.by(count),
+            Op::Left(count) => self.left.by(count),
+            Op::Right(count) => self.right.by(count),
+            Op::Return => self.carriage_return,
+            Op::Clear => self.clear,
+            Op::EraseLine => self.erase_line,
+            Op::EraseBelow => self.erase_below,
+            Op::EraseChars(count) => self.erase_chars.with(count),
+            Op::Reset => self.reset,
+            Op::Enter(attribute) => self.enters(attribute),
+            Op::Set(attributes) => sum(self.set, &self.set_more, attributes),
+            Op::Fore(_) => self.fore,
+            Op::Back(_) => self.back,
+            Op::Put(_) => 1,
+        }
+    }
+
+    /// What it costs to turn on these attributes, one by one.
+    pub fn enters(&self, attributes: Attrs) -> u32 {
+        sum(0, &self.enter, attributes)
+    }
+
+    /// What a motion costs from one part of a row to another: the least of `Right(2)`, `Column(9)` and `Move(9, 9)`.
+    pub fn easy_motion(&self) -> u32 {
+        self.of(Op::Right(2))
+            .min(self.of(Op::Column(9)))
+            .min(self.of(Op::Move(9, 9)))
+    }
+
+    // The price of `cup` for a row and a column.
+    fn of_address(&self, row: u32, column: u32) -> u32 {
+        self.address
+            .saturating_add(self.address_row.with_next(row))
+            .saturating_add(self.address_column.with_next(column))
+    }
+
+    /// Those of a terminal without operations.
+    pub(crate) fn none() -> Prices {
+        let number = ByDigits::far();
+        let count = Counted {
+            one: FAR,
+            more: number,
+        };
+        Prices {
+            home: FAR,
+            carriage_return: FAR,
+            clear: FAR,
+            erase_line: FAR,
+            erase_below: FAR,
+            erase_chars: number,
+            column: number,
+            line: number,
+            up: count,
+            down: count,
+            left: count,
+            right: count,
+            address: FAR,
+            address_row: number,
+            address_column: number,
+            reset: FAR,
+            fore: FAR,
+            back: FAR,
+            enter: [FAR; 7],
+            set: FAR,
+            set_more: [FAR; 7],
+        }
+    }
+}
+
+// A price, and what each of these attributes adds to it.
+fn sum(first: u32, prices: &[u32; 7], attributes: Attrs) -> u32 {
+    let mut sum = first;
+    if attributes.is_empty() {
+        return sum;
+    }
+    for index in 0..7 {
+        if attributes.contains(Attrs::EACH[index]) {
+            sum = sum.saturating_add(prices[index]);
+        }
+    }
+    sum.min(FAR)
+}
+
+impl Profile {
+    /// What each operation costs, about: to choose between operations.
+    pub fn prices(&self) -> &Prices {
+        &self.prices
+    }
+
+    /// The same profile, with the prices of the texts of its entry.
+    pub(crate) fn priced(self, entry: &Entry) -> Profile
+        ensures { result ≡ self }
+    {
+        let prices = self.prices_by(entry);
+        let mut profile = self;
+        profile.prices = prices;
+        profile
+    }
+
+    // The prices of the texts of an entry.
+    fn prices_by(&self, entry: &Entry) -> Prices {
+        let address = self.price(Op::Move(0, 0));
+        let set = self.price(Op::Set(Attrs::empty()));
+        Prices {
+            home: self.price_of(entry, Capability::Home, Op::Home),
+            carriage_return: self.price_of(entry, Capability::Cr, Op::Return),
+            clear: self.price_of(entry, Capability::Clear, Op::Clear),
+            erase_line: self.price_of(entry, Capability::El, Op::EraseLine),
+            erase_below: self.price_of(entry, Capability::Ed, Op::EraseBelow),
+            erase_chars: self.prices_of(entry, Capability::Ech, ERASURES),
+            column: self.prices_of(entry, Capability::Hpa, COLUMNS),
+            line: self.prices_of(entry, Capability::Vpa, LINES),
+            up: self.motion_prices(entry, Capability::Cuu1, Capability::Cuu, UPS),
+            down: self.motion_prices(entry, Capability::Cud1, Capability::Cud, DOWNS),
+            left: self.motion_prices(entry, Capability::Cub1, Capability::Cub, LEFTS),
+            right: self.motion_prices(entry, Capability::Cuf1, Capability::Cuf, RIGHTS),
+            address,
+            address_row: self.prices_above(address, ADDRESSED_ROWS),
+            address_column: self.prices_above(address, ADDRESSED_COLUMNS),
+            reset: self.price(Op::Reset),
+            fore: self.price(Op::Fore(0)),
+            back: self.price(Op::Back(0)),
+            enter: self.enter_prices(),
+            set,
+            set_more: self.set_prices(set),
+        }
+    }
+
+    // How many bytes an operation has.
+    fn price(&self, op: Op) -> u32 {
+        match self.cost(op) {
+            Some(cost) => u32::try_from(cost).unwrap_or(FAR).min(FAR),
+            None => FAR,
+        }
+    }
+
+    // The same where the text of its capability has no line feed.
+    fn price_of(&self, entry: &Entry, capability: Capability, op: Op) -> u32 {
+        if has_line_feed(entry, capability) {
+            FAR
+        } else {
+            self.price(op)
+        }
+    }
+
+    // The prices of operations whose numbers have one digit, two and three. Where the screen is too small for the last, they
+    // cost what those before them do.
+    fn ladder(&self, ops: [Op; 3]) -> ByDigits {
+        let one = self.price(ops[0]);
+        let two = self.price(ops[1]);
+        let two = if two < FAR { two } else { one };
+        let three = self.price(ops[2]);
+        ByDigits {
+            one,
+            two,
+            three: if three < FAR { three } else { two },
+        }
+    }
+
+    // The same where the text of their capability has no line feed.
+    fn prices_of(&self, entry: &Entry, capability: Capability, ops: [Op; 3]) -> ByDigits {
+        if has_line_feed(entry, capability) {
+            ByDigits::far()
+        } else {
+            self.ladder(ops)
+        }
+    }
+
+    // What they cost more than another operation.
+    fn prices_above(&self, price: u32, ops: [Op; 3]) -> ByDigits {
+        let ladder = self.ladder(ops);
+        ByDigits {
+            one: ladder.one.saturating_sub(price),
+            two: ladder.two.saturating_sub(price),
+            three: ladder.three.saturating_sub(price),
+        }
+    }
+
+    // The prices of a motion with a text for one place and one for a number of places.
+    fn motion_prices(
+        &self,
+        entry: &Entry,
+        one: Capability,
+        many: Capability,
+        ops: [Op; 4],
+    ) -> Counted {
+        let [by_one, two, ten, hundred] = ops;
+        let sent = if self.is_there(one) { one } else { many };
+        Counted {
+            one: self.price_of(entry, sent, by_one),
+            more: self.prices_of(entry, many, [two, ten, hundred]),
+        }
+    }
+
+    // The prices of turning on each attribute.
+    fn enter_prices(&self) -> [u32; 7] {
+        let mut prices = [FAR; 7];
+        for index in 0..7 {
+            prices[index] = self.price(Op::Enter(Attrs::EACH[index]));
+        }
+        prices
+    }
+
+    // What each attribute adds to the price of `sgr` without attributes.
+    fn set_prices(&self, set: u32) -> [u32; 7] {
+        let mut prices = [FAR; 7];
+        for index in 0..7 {
+            let price = self.price(Op::Set(Attrs::EACH[index]));
+            prices[index] = if price < FAR {
+                price.saturating_sub(set)
+            } else {
+                FAR
+            };
+        }
+        prices
+    }
+}
+
+// Whether the text of a capability has a line feed.
+fn has_line_feed(entry: &Entry, capability: Capability) -> bool {
+    match entry.text(capability.slot()) {
+        Some(text) => text.contains(&b'\n'),
+        None => false,
+    }
+}
