@@ -3,6 +3,7 @@
 mod admission;
 mod capability;
 mod laws;
+mod leading;
 mod making;
 mod operation;
 mod pieces;

@@ -81,7 +81,7 @@ fn lines_below_erased(size: Size, spot: Spot) -> Option<Change>
 }
 
 // The pen behind an operation that turns attributes on or off.
-fn next_pen(pen: Pen, op: Op) -> Pen
+pub(crate) fn next_pen(pen: Pen, op: Op) -> Pen
     ensures { result ≡ next_pen pen op }
 {
     match op {

@@ -1,0 +1,78 @@
+//! Where operations lead that change no cell: motions to another spot, and those that turn attributes or set colours to
+//! another pen.
+ghost use Rattle.std.specs.Prelude.{◌↔◌, ℕ, IsTrue, IfSome};
+ghost use Rattle.scr_term.specs.Operations.Abilities.{full_abilities};
+ghost use Rattle.scr_term.specs.Operations.Leading.{GoesTo, TurnsTo};
+ghost use Rattle.scr_term.specs.Operations.States.{IsShownPen, IsSpot};
+
+use crate::displays::Change;
+use crate::operations::steps::{change_of, next_pen};
+use crate::{Op, Profile, Spot};
+use bitflags::Flags;
+use scr_cells::{Attrs, Pen};
+
+impl Profile {
+    /// Where the cursor is behind a motion, from a spot and with a pen: `Home`, `Move`, `Column`, `Line`, `Up`, `Down`,
+    /// `Left`, `Right` or `Return`. It changes nothing else.
+    ///
+    /// `None` where the operation is none of these, the terminal does not have it, or it is undefined: it leads off the
+    /// screen; it is not `Home` or `Move`, and the cursor is at the margin; or an attribute or a colour is on, and there is
+    /// no `msgr`. So too where the spot is off the screen, or the pen has an attribute that there is not.
+    pub fn moved(&self, spot: Spot, pen: Pen, op: Op) -> Option<Spot>
+        ensures { IfSome result (GoesTo self.now spot pen op) }
+    {
+        if !self.has(op) || !self.is_on_screen(spot) || !is_shown_by_all(pen) {
+            return None;
+        }
+        match op {
+            Op::Put(_) => None,
+            _ => match change_of(self, spot, pen, op) {
+                Some(Change::Moved(next)) => Some(next),
+                _ => None,
+            },
+        }
+    }
+
+    /// The pen behind an operation that turns attributes on or off or sets a colour, from a spot and with a pen: `Reset`,
+    /// `Enter`, `Set`, `Fore` or `Back`. It changes nothing else.
+    ///
+    /// `None` where the operation is none of these, the terminal does not have it, or it is undefined: it sets a colour,
+    /// and the cursor is at the margin.
+    #[tactic(auto, unfolding(crate::specs::Operations::Texts::has))]
+    pub fn turned(&self, spot: Spot, pen: Pen, op: Op) -> Option<Pen>
+        ensures { IfSome result (TurnsTo self.now spot pen op) }
+    {
+        if !self.has(op) {
+            return None;
+        }
+        match op {
+            Op::Reset | Op::Enter(_) | Op::Set(_) => Some(next_pen(pen, op)),
+            Op::Fore(colour) => match spot {
+                Spot::At(..) => Some(pen.with_foreground(Some(colour))),
+                Spot::Margin(_) => None,
+            },
+            Op::Back(colour) => match spot {
+                Spot::At(..) => Some(pen.with_background(Some(colour))),
+                Spot::Margin(_) => None,
+            },
+            _ => None,
+        }
+    }
+
+    // Whether a spot is on the screen.
+    fn is_on_screen(&self, spot: Spot) -> bool
+        ensures { IsTrue result ↔ IsSpot self.now.rows self.now.columns spot }
+    {
+        match spot {
+            Spot::At(row, column) => row < self.size.rows && column < self.size.columns,
+            Spot::Margin(row) => row < self.size.rows,
+        }
+    }
+}
+
+// Whether a terminal that shows everything shows a pen.
+fn is_shown_by_all(pen: Pen) -> bool
+    ensures { (rows columns : ℕ) → IsTrue result → IsShownPen (full_abilities rows columns) pen }
+{
+    Attrs::EVERY.contains(pen.attrs())
+}
