@@ -1,6 +1,7 @@
 pub mod ActLaws
 pub mod BriefLaws
 pub mod CountLaws
+pub mod DraftLaws
 pub mod FollowLaws
 pub mod FollowingLaws
 pub mod JoinLaws
@@ -19,6 +20,7 @@ pub mod PlanMadeLaws
 pub mod PlanningLaws
 pub mod RememberedRowLaws
 pub mod Rows
+pub mod RunLaws
 pub mod ScratchLaws
 pub mod ScratchTextLaws
 pub mod UpToDateLaws

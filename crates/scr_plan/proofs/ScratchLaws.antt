@@ -29,7 +29,7 @@ abbrev pub shown_after : Bool → LookView → LookView → LookView
 shown_after here look before = if here then look else before
 
 -- one place of a grid is changed
-place_changed : GridLaws LookView → (rows columns : ℕ) (grid : List (List LookView)) → IsGrid rows columns grid → (place : ℕ × ℕ) → IsPlace rows columns place → (look : LookView)
+pub place_changed : GridLaws LookView → (rows columns : ℕ) (grid : List (List LookView)) → IsGrid rows columns grid → (place : ℕ × ℕ) → IsPlace rows columns place → (look : LookView)
     → (r c : ℕ) → r < rows → c < columns
     → grid_at blank (grid_with grid place.0 place.1 look) r c ≡ shown_after (is_here r c place) look (grid_at blank grid r c)
 place_changed grids rows columns grid is place inside look r c high wide =

@@ -197,7 +197,7 @@ impl Joining {
 }
 
 // Where the cursor is behind a character.
-fn behind(row: u32, column: u32, columns: u32) -> Spot
+pub(crate) fn behind(row: u32, column: u32, columns: u32) -> Spot
     requires { column ≤ 1000 }
     ensures { result ≡ spot_after columns row column }
 {
@@ -209,7 +209,7 @@ fn behind(row: u32, column: u32, columns: u32) -> Spot
 }
 
 // How many bytes operations have.
-fn price_of(profile: &Profile, ops: &[Op]) -> usize
+pub(crate) fn price_of(profile: &Profile, ops: &[Op]) -> usize
     ensures { All (λ op. has profile.now op ≡ true) ops.now → result ≡ counted_up (length (all_bytes profile.now ops.now)) }
 {
     let mut bytes = 0usize;
@@ -221,7 +221,7 @@ fn price_of(profile: &Profile, ops: &[Op]) -> usize
 
 // How many bytes an operation has.
 #[inline(always)]
-fn price_of_one(profile: &Profile, op: Op) -> usize
+pub(crate) fn price_of_one(profile: &Profile, op: Op) -> usize
     ensures { has profile.now op ≡ true → result ≡ length (all_bytes profile.now (op ∷ [])) }
 {
     match op {

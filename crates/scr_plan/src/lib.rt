@@ -3,15 +3,24 @@
 
 mod joined_rows;
 mod joining;
+mod links;
 mod looking;
 mod memories;
+mod motions;
+mod orders;
 mod painting;
 mod plain_repaint;
 mod plan_laws;
 mod planning;
 mod remembering_laws;
+mod runs;
 mod scratch_laws;
 mod scratch_texts;
+mod strokes;
+mod turns;
+mod visiting;
+mod ways;
+mod wiping;
 
 pub use memories::Memory;
 pub use painting::scratch;

@@ -60,7 +60,7 @@ impl Painter {
     }
 
     // The blanks that a part of a row ends with: the first that differs, and how many do.
-    fn blank_rest(
+    pub(crate) fn blank_rest(
         self,
         picture: &Picture,
         row: u32,
@@ -80,6 +80,7 @@ impl Painter {
         let mut rest = Rest {
             begin: end,
             first: None,
+            last: None,
             count: 0,
         };
         while rest.begin > from {
@@ -93,14 +94,38 @@ impl Painter {
     }
 
     // Whether a row is seen blank from a column on.
-    fn is_blank_from(self, picture: &Picture, row: u32, cells: &[Cell], from: u32) -> bool
+    pub(crate) fn is_blank_from(
+        self,
+        picture: &Picture,
+        row: u32,
+        cells: &[Cell],
+        from: u32,
+    ) -> bool
         requires cells { cells.now ≡ grid_row picture.now.lines row }
         requires wide { length cells.now ≡ picture.now.columns }
         ensures all { result ≡ true → (c : ℕ) → from ≤ c → c < picture.now.columns → look_eq (painter_look self picture.now (row, c)) blank ≡ true }
         ensures none { result ≡ false → (c : ℕ) × (from ≤ c) × (c < picture.now.columns) × (look_eq (painter_look self picture.now (row, c)) blank ≡ false) }
     {
         let size = picture.size();
-        for column in from..size.columns {
+        self.is_blank(picture, row, cells, from, size.columns)
+    }
+
+    // Whether a row is seen blank from one column up to another.
+    pub(crate) fn is_blank(
+        self,
+        picture: &Picture,
+        row: u32,
+        cells: &[Cell],
+        from: u32,
+        end: u32,
+    ) -> bool
+        requires cells { cells.now ≡ grid_row picture.now.lines row }
+        requires wide { length cells.now ≡ picture.now.columns }
+        requires end { end ≤ picture.now.columns }
+        ensures all { result ≡ true → (c : ℕ) → from ≤ c → c < end → look_eq (painter_look self picture.now (row, c)) blank ≡ true }
+        ensures none { result ≡ false → (c : ℕ) × (from ≤ c) × (c < end) × (look_eq (painter_look self picture.now (row, c)) blank ≡ false) }
+    {
+        for column in from..end {
             let (byte, pen) = self.seen_in(picture, cells, column);
             if !is_blank(byte, pen) {
                 return false;
@@ -157,13 +182,14 @@ impl Painter {
     }
 }
 
-// Blanks at the end of a part of a row: from which column on there are blanks alone, the first of these that differs from what the row
-// shows, and how many do.
+// Blanks at the end of a part of a row: from which column on there are blanks alone, the first and the last of these that differ from what
+// the row shows, and how many do.
 #[derive(Clone, Copy)]
-struct Rest {
-    begin: u32,
-    first: Option<u32>,
-    count: u32,
+pub(crate) struct Rest {
+    pub(crate) begin: u32,
+    pub(crate) first: Option<u32>,
+    pub(crate) last: Option<u32>,
+    pub(crate) count: u32,
 }
 
 impl Rest {
@@ -181,12 +207,14 @@ impl Rest {
             return Rest {
                 begin,
                 first: self.first,
+                last: self.last,
                 count: self.count,
             };
         }
         Rest {
             begin,
             first: Some(begin),
+            last: self.last.or(Some(begin)),
             count: self.count + 1,
         }
     }

@@ -1,0 +1,10 @@
+use Rattle.scr_plan.specs.Code.Drafts.{KeepsEvery}
+use Rattle.scr_plan.proofs.DraftLaws.{gone}
+use Rattle.scr_plan.proofs.JoinedRowLaws.{on_ok}
+use Rattle.scr_plan.proofs.strokes.Draft.go.Goals as goal
+
+pub returns-in-Some : goal.returns-in-Some
+returns-in-Some c =
+    on_ok c.add.result _ (KeepsEvery c.args.profile.now c.args.self.now c.add.new.self)
+    (λ added. gone c.run_laws.ensures c.args.profile.now c.size-size.ensures.profile c.args.self.now c.add.new.self c.args.op c.in-Some.spot c.in-Some.ensures added)
+    c.add.ensures

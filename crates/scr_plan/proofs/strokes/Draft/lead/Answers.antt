@@ -1,0 +1,11 @@
+use Rattle.std.proofs.Common.{append_assoc, refl, rules, ◌∙◌}
+use Rattle.scr_plan.specs.Code.Painters.{painter_goes}
+use Rattle.scr_plan.specs.Scratch.{renders}
+use Rattle.scr_plan.proofs.DraftLaws.{counted}
+use Rattle.scr_plan.proofs.strokes.Draft.lead.Goals as goal
+
+pub returns : goal.returns
+returns c =
+    let goes = painter_goes c.args.painter (c.args.row, c.args.column) in
+    counted c.args.profile.now c.args.self.now _ c.count.new.self c.len-begun.result _ _ _ (search rules)
+    (c.in_ok-begin.ensures ∙ append_assoc c.args.self.now.ops.items goes (renders c.args.pen)) refl c.count.ensures

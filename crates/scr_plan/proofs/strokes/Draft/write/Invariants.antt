@@ -1,0 +1,5 @@
+use Rattle.scr_plan.specs.Code.Drafts.{Covers, in_part}
+use Rattle.scr_plan.proofs.strokes.Draft.write.Given as goal
+
+abbrev pub invariant-loop-column : goal.invariant-loop-column
+invariant-loop-column l = Covers l.profile l.picture (in_part l.row l.from l.column) l.fn.self l.self

@@ -1,0 +1,101 @@
+-- Making a short plan, operation by operation.
+use Rattle.std.specs.Prelude.{ℕ, ◌≡◌, ◌+◌, ◌<◌, ◌≤◌, ◌&&◌, not, leb, Bool, true, false, List, ◌++◌, All, drop, length, Option, Some}
+use Rattle.std.specs.List.{list_any}
+use Rattle.scr_cells.specs.Grids.{grid_at, is_in_run}
+use Rattle.scr_cells.specs.LookViews.{LookView, blank}
+use Rattle.scr_cells.specs.PenViews.{PenView, plain_pen}
+use Rattle.scr_cells.specs.PictureViews.{PictureView}
+use Rattle.scr_term.specs.declared.operations.operation.Op.{Op}
+use Rattle.scr_term.specs.declared.operations.operation.Spot.{Spot}
+use Rattle.scr_term.specs.Operations.Profiles.{ProfileView, abilities}
+use Rattle.scr_term.specs.Operations.States.{TerminalState, IsState}
+use Rattle.scr_term.specs.Operations.Steps.{runs}
+use Rattle.scr_term.specs.Operations.Texts.{all_bytes, has}
+use Rattle.scr_plan.specs.Code.Joinings.{counted_up}
+use Rattle.scr_plan.specs.Code.Painters.{row_differs}
+use Rattle.scr_plan.specs.Scratch.{look_at}
+use Rattle.scr_plan.specs.declared.painting.Painter.{Painter}
+use Rattle.scr_plan.specs.declared.runs.How.TheVariants.{Write}
+use Rattle.scr_plan.specs.declared.runs.Run.{Run}
+use Rattle.scr_plan.specs.declared.strokes.Draft.{Draft}
+
+-- Behind the first ones, a draft's operations lead from this state to one with the draft's spot and pen, in which every place that does not
+-- wait shows what is seen of the picture; counted are their bytes.
+pub record IsRight (profile : ProfileView) (picture : PictureView) (first : List Op) (start : TerminalState) (waits : ℕ × ℕ → Bool) (draft : Draft) : Type 0 where
+  pub own : List Op
+  pub ops : draft.ops.items ≡ first ++ own
+  pub now : TerminalState
+  pub run : runs profile start own ≡ Some now
+  pub state : IsState (abilities profile) now
+  pub bytes : draft.bytes ≡ counted_up (length (all_bytes profile own))
+  pub spot : now.spot ≡ draft.spot
+  pub pen : now.pen ≡ draft.pen
+  pub shows : (r c : ℕ) → r < picture.rows → c < picture.columns → waits (r, c) ≡ false → grid_at blank now.grid r c ≡ look_at profile picture (r, c)
+
+-- a draft with these operations more, counted, and with this spot and this pen
+pub record IsAdded (profile : ProfileView) (old new : Draft) (more : List Op) (spot : Spot) (pen : PenView) : Type 0 where
+  pub ops : new.ops.items ≡ old.ops.items ++ more
+  pub bytes : All (λ op. has profile op ≡ true) more → new.bytes ≡ counted_up (old.bytes + length (all_bytes profile more))
+  pub spot_is : new.spot ≡ spot
+  pub pen_is : new.pen ≡ pen
+
+-- the operations from one on are counted; they lead to this spot and this pen
+pub record IsPaid (profile : ProfileView) (old new : Draft) (begun : ℕ) (spot : Spot) (pen : PenView) : Type 0 where
+  pub bytes : All (λ op. has profile op ≡ true) (drop begun old.ops.items) → new.bytes ≡ counted_up (old.bytes + length (all_bytes profile (drop begun old.ops.items)))
+  pub ops : new.ops.items ≡ old.ops.items
+  pub spot_is : new.spot ≡ spot
+  pub pen_is : new.pen ≡ pen
+
+-- a draft that is right while some places wait becomes one that is right while others do
+abbrev pub Keeps : ProfileView → PictureView → (ℕ × ℕ → Bool) → (ℕ × ℕ → Bool) → Draft → Draft → Type 0
+Keeps profile picture waits less old new = (first : List Op) (start : TerminalState) → IsRight profile picture first start waits old → IsRight profile picture first start less new
+
+-- whatever waits goes on to wait; of a picture, and of every picture
+abbrev pub KeepsAll : ProfileView → PictureView → Draft → Draft → Type 0
+KeepsAll profile picture old new = (waits : ℕ × ℕ → Bool) → Keeps profile picture waits waits old new
+
+abbrev pub KeepsEvery : ProfileView → Draft → Draft → Type 0
+KeepsEvery profile old new = (picture : PictureView) → KeepsAll profile picture old new
+
+-- these places wait no more
+abbrev pub without : (ℕ × ℕ → Bool) → (ℕ × ℕ → Bool) → ℕ × ℕ → Bool
+without covers waits place = waits place && not (covers place)
+
+abbrev pub Covers : ProfileView → PictureView → (ℕ × ℕ → Bool) → Draft → Draft → Type 0
+Covers profile picture covers old new = (waits : ℕ × ℕ → Bool) → Keeps profile picture waits (without covers waits) old new
+
+-- the places of a row from one column up to another; those from a row on
+abbrev pub in_part : ℕ → ℕ → ℕ → ℕ × ℕ → Bool
+in_part row from end place = is_in_run row from end place.0 place.1
+
+abbrev pub from_row : ℕ → ℕ × ℕ → Bool
+from_row row place = leb row place.0
+
+-- ---- runs that wait
+
+-- a place is in a run, and in one of some runs
+abbrev pub is_in : Run → ℕ × ℕ → Bool
+is_in run place = in_part run.row run.start run.end place
+
+abbrev pub in_runs : List Run → ℕ × ℕ → Bool
+in_runs runs place = list_any (λ run. is_in run place) runs
+
+-- a run of no place
+abbrev pub no_run : Run
+no_run = record { row = 0; start = 0; end = 0; pen = plain_pen; how = Write }
+
+-- what is in one of some runs is in one of others
+abbrev pub KeepsRuns : List Run → List Run → Type 0
+KeepsRuns old new = (place : ℕ × ℕ) → in_runs old place ≡ true → in_runs new place ≡ true
+
+-- every place of a part of a row is in a run; every one that differs is
+abbrev pub HasPart : ℕ → ℕ → ℕ → List Run → Type 0
+HasPart row from end runs = (c : ℕ) → from ≤ c → c < end → in_runs runs (row, c) ≡ true
+
+abbrev pub HasDiffering : Painter → PictureView → ℕ → Option (List LookView) → ℕ → ℕ → List Run → Type 0
+HasDiffering painter picture row before from end runs =
+    (c : ℕ) → from ≤ c → c < end → row_differs painter picture before (row, c) ≡ true → in_runs runs (row, c) ≡ true
+
+-- runs that were visited wait no more: the draft is right while the others do
+abbrev pub Leaves : ProfileView → PictureView → List Run → List Run → Draft → Draft → Type 0
+Leaves profile picture runs left old new = Keeps profile picture (in_runs runs) (in_runs left) old new

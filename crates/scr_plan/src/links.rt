@@ -1,0 +1,238 @@
+//! Runs that wait to be painted as links: a ring of all of them, and for each of the first pens a chain of its own. A run is found, and
+//! taken out, in one step.
+
+use crate::runs::Run;
+use scr_cells::{NoMemory, Pen};
+use std::alloc::Global;
+
+// No run.
+pub(crate) const NONE: u32 = u32::MAX;
+
+// How many pens have chains.
+const MOST_CHAINS: usize = 16;
+
+// The neighbours of a run in the ring and in its chain, the number of that chain, and the run that an order has in this place.
+#[derive(Clone, Copy)]
+struct Link {
+    next: u32,
+    before: u32,
+    next_alike: u32,
+    before_alike: u32,
+    chain: u32,
+    ordered: u32,
+}
+
+impl Link {
+    // No neighbours.
+    fn alone() -> Link {
+        Link {
+            next: NONE,
+            before: NONE,
+            next_alike: NONE,
+            before_alike: NONE,
+            chain: NONE,
+            ordered: NONE,
+        }
+    }
+}
+
+// A pen, the first and the last run with it that wait, and whether an order has them already.
+#[derive(Clone, Copy)]
+pub(crate) struct Chain {
+    pub(crate) pen: Pen,
+    pub(crate) first: u32,
+    pub(crate) last: u32,
+    pub(crate) is_ordered: bool,
+}
+
+impl Chain {
+    // No run with a pen.
+    fn of(pen: Pen) -> Chain {
+        Chain {
+            pen,
+            first: NONE,
+            last: NONE,
+            is_ordered: false,
+        }
+    }
+}
+
+// The links of all runs, and the chains of pens.
+#[derive(Drop)]
+pub(crate) struct Links {
+    links: Vec<Link>,
+    chains: Vec<Chain>,
+}
+
+impl Links {
+    // All runs wait. The ring is in the order of their numbers.
+    pub(crate) fn new(alloc: Global, runs: &[Run]) -> Result<Links, NoMemory> {
+        let mut made = Links {
+            links: Vec::with_capacity(alloc, runs.len())?,
+            chains: Vec::with_capacity(alloc, MOST_CHAINS)?,
+        };
+        let mut before = NONE;
+        let mut number = 0u32;
+        for run in runs {
+            made.add(number, before, run.pen)?;
+            before = number;
+            number = number.saturating_add(1);
+        }
+        made.set_next(before, 0);
+        made.set_before(0, before);
+        Ok(made)
+    }
+
+    // One run more, behind the one before it in the ring.
+    fn add(&mut self, number: u32, before: u32, pen: Pen) -> Result<(), NoMemory> {
+        let mut link = Link::alone();
+        link.before = before;
+        link.chain = self.chain_with(pen)?;
+        let last = self.chain(link.chain).last;
+        link.before_alike = last;
+        self.links.push(link)?;
+        self.set_next(before, number);
+        self.set_next_alike(last, number);
+        self.extend(link.chain, number);
+        Ok(())
+    }
+
+    // The number of a pen's chain, which is begun if there is room for it; `NONE` where there is not.
+    fn chain_with(&mut self, pen: Pen) -> Result<u32, NoMemory> {
+        let number = self.chain_of(pen);
+        if number != NONE || self.chains.len() >= MOST_CHAINS {
+            return Ok(number);
+        }
+        let number = self.chains.len() as u32;
+        self.chains.push(Chain::of(pen))?;
+        Ok(number)
+    }
+
+    // The number of a pen's chain; `NONE` where it has none.
+    pub(crate) fn chain_of(&self, pen: Pen) -> u32 {
+        let mut number = 0u32;
+        for chain in &self.chains {
+            if chain.pen == pen {
+                return number;
+            }
+            number = number.saturating_add(1);
+        }
+        NONE
+    }
+
+    // How many chains there are.
+    pub(crate) fn chains(&self) -> u32 {
+        self.chains.len().min(MOST_CHAINS) as u32
+    }
+
+    // The chain of a number, or an empty one.
+    pub(crate) fn chain(&self, number: u32) -> Chain {
+        match self.chains.get(number as usize) {
+            Some(chain) => *chain,
+            None => Chain::of(Pen::plain()),
+        }
+    }
+
+    // A chain has this run at its end.
+    fn extend(&mut self, chain: u32, number: u32) {
+        if let Some(chain) = self.chains.get_mut(chain as usize) {
+            chain.last = number;
+            if chain.first == NONE {
+                chain.first = number;
+            }
+        }
+    }
+
+    // An order has the runs of a chain.
+    pub(crate) fn set_chain_ordered(&mut self, chain: u32) {
+        if let Some(chain) = self.chains.get_mut(chain as usize) {
+            chain.is_ordered = true;
+        }
+    }
+
+    // The link of a run, or one without neighbours.
+    fn at(&self, number: u32) -> Link {
+        match self.links.get(number as usize) {
+            Some(link) => *link,
+            None => Link::alone(),
+        }
+    }
+
+    // The run behind one in the ring.
+    pub(crate) fn next(&self, number: u32) -> u32 {
+        self.at(number).next
+    }
+
+    // The run before one in the ring.
+    pub(crate) fn before(&self, number: u32) -> u32 {
+        self.at(number).before
+    }
+
+    // The run behind one in its chain.
+    pub(crate) fn next_alike(&self, number: u32) -> u32 {
+        self.at(number).next_alike
+    }
+
+    // The run before one in its chain.
+    pub(crate) fn before_alike(&self, number: u32) -> u32 {
+        self.at(number).before_alike
+    }
+
+    // Whether a run has no chain.
+    pub(crate) fn has_no_chain(&self, number: u32) -> bool {
+        self.at(number).chain == NONE
+    }
+
+    // Takes a run out of the ring and out of its chain. Its own link stays as it is.
+    pub(crate) fn remove(&mut self, number: u32) {
+        let link = self.at(number);
+        self.set_next(link.before, link.next);
+        self.set_before(link.next, link.before);
+        self.set_next_alike(link.before_alike, link.next_alike);
+        self.set_before_alike(link.next_alike, link.before_alike);
+        if let Some(chain) = self.chains.get_mut(link.chain as usize) {
+            if chain.first == number {
+                chain.first = link.next_alike;
+            }
+            if chain.last == number {
+                chain.last = link.before_alike;
+            }
+        }
+    }
+
+    // The run that the order which is kept here has in a place.
+    pub(crate) fn ordered(&self, place: u32) -> u32 {
+        self.at(place).ordered
+    }
+
+    // Keeps the run that an order has in a place.
+    pub(crate) fn set_ordered(&mut self, place: u32, number: u32) {
+        if let Some(link) = self.links.get_mut(place as usize) {
+            link.ordered = number;
+        }
+    }
+
+    fn set_next(&mut self, number: u32, next: u32) {
+        if let Some(link) = self.links.get_mut(number as usize) {
+            link.next = next;
+        }
+    }
+
+    fn set_before(&mut self, number: u32, before: u32) {
+        if let Some(link) = self.links.get_mut(number as usize) {
+            link.before = before;
+        }
+    }
+
+    fn set_next_alike(&mut self, number: u32, next: u32) {
+        if let Some(link) = self.links.get_mut(number as usize) {
+            link.next_alike = next;
+        }
+    }
+
+    fn set_before_alike(&mut self, number: u32, before: u32) {
+        if let Some(link) = self.links.get_mut(number as usize) {
+            link.before_alike = before;
+        }
+    }
+}

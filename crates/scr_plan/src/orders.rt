@@ -1,0 +1,340 @@
+//! In which order runs are painted: the nearest next, or pen by pen, whichever is cheaper. Only prices are compared here: nothing depends
+//! on a choice but how many bytes an update has.
+
+use crate::links::{Links, NONE};
+use crate::runs::{How, Run};
+use crate::ways::{Chooser, Cursor};
+use scr_cells::{NoMemory, Pen};
+use std::alloc::Global;
+
+// How many waiting runs are looked at from where the last one was on, and how many before that.
+const AHEAD: u32 = 4;
+
+const BACK: u32 = 2;
+
+// What a run costs more in the row where the cursor is wished at the end.
+const WISHED_LAST: u32 = 3;
+
+// The numbers of the runs in the cheaper of the two orders, the nearest next where they cost the same.
+pub(crate) fn cheaper_order(
+    alloc: Global,
+    chooser: &Chooser<'_>,
+    cursor: &Cursor,
+    runs: &[Run],
+    wish: Option<(u32, u32)>,
+) -> Result<Vec<u32>, NoMemory> {
+    let mut numbers = Vec::with_capacity(alloc, runs.len())?;
+    if runs.len() < 2 {
+        if !runs.is_empty() {
+            numbers.push(0)?;
+        }
+        return Ok(numbers);
+    }
+    let task = Task {
+        chooser,
+        runs,
+        wish,
+    };
+    let mut links = Links::new(alloc, runs)?;
+    let price_by_pens = task.by_pens(cursor, &mut links);
+    let price_by_nearness = task.by_nearness(cursor, &mut links, &mut numbers, price_by_pens)?;
+    if price_by_pens < price_by_nearness {
+        numbers.clear();
+        copy_ordered(&links, runs.len(), &mut numbers)?;
+    }
+    Ok(numbers)
+}
+
+// The numbers of the order that is kept in the links.
+fn copy_ordered(links: &Links, count: usize, numbers: &mut Vec<u32>) -> Result<(), NoMemory> {
+    let mut place = 0u32;
+    for _ in 0..count {
+        numbers.push(links.ordered(place))?;
+        place = place.saturating_add(1);
+    }
+    Ok(())
+}
+
+// The run of a number, or an empty one.
+pub(crate) fn run_at(runs: &[Run], number: u32) -> Run {
+    match runs.get(number as usize) {
+        Some(run) => *run,
+        None => Run {
+            row: 0,
+            start: 0,
+            end: 0,
+            pen: Pen::plain(),
+            how: How::Write,
+        },
+    }
+}
+
+// What an order is for: the runs, in rows, and where the cursor is wished behind them.
+#[derive(Clone, Copy)]
+struct Task<'a> {
+    chooser: &'a Chooser<'a>,
+    runs: &'a [Run],
+    wish: Option<(u32, u32)>,
+}
+
+// A walk over runs as it is priced: where the cursor is, how many runs were painted, and how many bytes that takes.
+#[derive(Drop)]
+struct Walk {
+    cursor: Cursor,
+    count: u32,
+    price: u32,
+}
+
+impl Walk {
+    // None yet.
+    fn from(cursor: &Cursor) -> Walk {
+        Walk {
+            cursor: *cursor,
+            count: 0,
+            price: 0,
+        }
+    }
+
+    // One run more, to which the way is priced.
+    fn paint_behind(&mut self, chooser: &Chooser<'_>, run: &Run, price_of_way: u32) {
+        self.cursor = chooser.behind(run);
+        self.count = self.count.saturating_add(1);
+        self.price = self
+            .price
+            .saturating_add(price_of_way)
+            .saturating_add(chooser.price_of_painting(run));
+    }
+
+    // The run of a number, which the order has next.
+    fn paint(&mut self, task: &Task<'_>, links: &mut Links, number: u32) {
+        links.set_ordered(self.count, number);
+        let run = run_at(task.runs, number);
+        let way = task.chooser.way(&self.cursor, run.row, run.start, run.pen);
+        self.paint_behind(task.chooser, &run, way.price);
+    }
+
+    // What it takes with the way to where the cursor is wished.
+    fn price_to_wish(&self, task: &Task<'_>) -> u32 {
+        match task.wish {
+            Some((row, column)) => {
+                let way = task.chooser.way(&self.cursor, row, column, self.cursor.pen);
+                self.price.saturating_add(way.price)
+            }
+            None => self.price,
+        }
+    }
+}
+
+// The nearest next.
+impl<'a> Task<'a> {
+    // The price of painting the nearest run next, and the numbers of the runs; any price above the limit where it is above that.
+    fn by_nearness(
+        &self,
+        cursor: &Cursor,
+        links: &mut Links,
+        numbers: &mut Vec<u32>,
+        limit: u32,
+    ) -> Result<u32, NoMemory> {
+        let mut walk = Walk::from(cursor);
+        let mut from = self.first_in_or_below(cursor.row());
+        let mut next_alike = NONE;
+        for _ in 0..self.runs.len() {
+            let nearest = self.nearest(&walk.cursor, links, from, next_alike);
+            let run = run_at(self.runs, nearest.number);
+            walk.paint_behind(self.chooser, &run, nearest.price);
+            numbers.push(nearest.number)?;
+            from = links.next(nearest.number);
+            next_alike = links.next_alike(nearest.number);
+            links.remove(nearest.number);
+            if walk.price > limit {
+                return Ok(walk.price);
+            }
+        }
+        Ok(walk.price_to_wish(self))
+    }
+
+    // The first run in a row or below it; the first of all where there is none.
+    fn first_in_or_below(&self, row: u32) -> u32 {
+        let mut number = 0u32;
+        for run in self.runs {
+            if run.row >= row {
+                return number;
+            }
+            number = number.saturating_add(1);
+        }
+        0
+    }
+
+    // The nearest of the waiting runs that are looked at: a few around where the last one was, and of the pen that is on the next one
+    // and the first.
+    fn nearest(&self, cursor: &Cursor, links: &Links, from: u32, next_alike: u32) -> Nearest {
+        let mut nearest = Nearest::none();
+        let mut number = from;
+        for _ in 0..AHEAD {
+            nearest = self.nearer(cursor, nearest, number);
+            number = links.next(number);
+        }
+        number = from;
+        for _ in 0..BACK {
+            number = links.before(number);
+            nearest = self.nearer(cursor, nearest, number);
+        }
+        nearest = self.nearer(cursor, nearest, next_alike);
+        let alike = links.chain(links.chain_of(cursor.pen));
+        self.nearer(cursor, nearest, alike.first)
+    }
+
+    // The nearer of the nearest run so far and another one, if there is one; that so far where they are as near.
+    fn nearer(&self, cursor: &Cursor, nearest: Nearest, number: u32) -> Nearest {
+        if number == NONE || number == nearest.number {
+            return nearest;
+        }
+        let run = run_at(self.runs, number);
+        let more = self.price_of_wish(run.row);
+        // No way to it costs less than the turn.
+        let turn = self.chooser.price_of_turn(cursor.pen, run.pen);
+        if turn.saturating_add(more) >= nearest.compared {
+            return nearest;
+        }
+        let way = self.chooser.way(cursor, run.row, run.start, run.pen);
+        let compared = way.price.saturating_add(more);
+        if compared >= nearest.compared {
+            return nearest;
+        }
+        Nearest {
+            number,
+            price: way.price,
+            compared,
+        }
+    }
+
+    // What a run costs more since it is in this row.
+    fn price_of_wish(&self, row: u32) -> u32 {
+        match self.wish {
+            Some((wished, _)) if wished == row => WISHED_LAST,
+            _ => 0,
+        }
+    }
+}
+
+// The nearest of the runs that were looked at, the price of the way to it, and that price as it is compared.
+#[derive(Clone, Copy)]
+struct Nearest {
+    number: u32,
+    price: u32,
+    compared: u32,
+}
+
+impl Nearest {
+    // None was looked at.
+    fn none() -> Nearest {
+        Nearest {
+            number: NONE,
+            price: 0,
+            compared: u32::MAX,
+        }
+    }
+}
+
+// Pen by pen.
+impl<'a> Task<'a> {
+    // The price of painting the runs of one pen after those of another; the order is kept in the links.
+    fn by_pens(&self, cursor: &Cursor, links: &mut Links) -> u32 {
+        let mut walk = Walk::from(cursor);
+        let chains = links.chains();
+        for _ in 0..chains {
+            self.paint_cheapest_chain(&mut walk, links);
+        }
+        self.paint_others(&mut walk, links);
+        walk.price_to_wish(self)
+    }
+
+    // All runs of the chain with the cheapest turn, from the first, or row by row from the last where that is nearer.
+    fn paint_cheapest_chain(&self, walk: &mut Walk, links: &mut Links) {
+        let number = self.cheapest_chain(links, walk.cursor.pen);
+        let chain = links.chain(number);
+        links.set_chain_ordered(number);
+        let row = walk.cursor.row();
+        let to_first = rows_between(row, run_at(self.runs, chain.first).row);
+        let to_last = rows_between(row, run_at(self.runs, chain.last).row);
+        if to_last < to_first {
+            self.paint_upwards(walk, links, chain.last);
+        } else {
+            self.paint_part(walk, links, chain.first, chain.last);
+        }
+    }
+
+    // The chain with the cheapest turn from a pen, of those that are not painted yet.
+    fn cheapest_chain(&self, links: &Links, pen: Pen) -> u32 {
+        let mut best = NONE;
+        let mut price = u32::MAX;
+        for number in 0..links.chains() {
+            let chain = links.chain(number);
+            let turn = if chain.is_ordered {
+                u32::MAX
+            } else {
+                self.chooser.price_of_turn(pen, chain.pen)
+            };
+            if turn < price {
+                best = number;
+                price = turn;
+            }
+        }
+        best
+    }
+
+    // The runs of a chain up to one, row by row upwards, each row from the left.
+    fn paint_upwards(&self, walk: &mut Walk, links: &mut Links, last: u32) {
+        let mut end = last;
+        for _ in 0..self.runs.len() {
+            if end == NONE {
+                return;
+            }
+            let first = self.first_in_row(links, end);
+            self.paint_part(walk, links, first, end);
+            end = links.before_alike(first);
+        }
+    }
+
+    // The first run of a chain that is in the same row as one of them.
+    fn first_in_row(&self, links: &Links, last: u32) -> u32 {
+        let row = run_at(self.runs, last).row;
+        let mut first = last;
+        for _ in 0..self.runs.len() {
+            let before = links.before_alike(first);
+            if before == NONE || run_at(self.runs, before).row != row {
+                return first;
+            }
+            first = before;
+        }
+        first
+    }
+
+    // The runs of a chain from one up to another, both too.
+    fn paint_part(&self, walk: &mut Walk, links: &mut Links, first: u32, last: u32) {
+        let mut number = first;
+        for _ in 0..self.runs.len() {
+            walk.paint(self, links, number);
+            if number == last {
+                return;
+            }
+            number = links.next_alike(number);
+        }
+    }
+
+    // The runs without a chain, in rows.
+    fn paint_others(&self, walk: &mut Walk, links: &mut Links) {
+        let mut number = 0u32;
+        for _ in 0..self.runs.len() {
+            if links.has_no_chain(number) {
+                walk.paint(self, links, number);
+            }
+            number = number.saturating_add(1);
+        }
+    }
+}
+
+// How many rows are between two.
+fn rows_between(a: u32, b: u32) -> u32 {
+    if a < b { b - a } else { a - b }
+}

@@ -1,0 +1,348 @@
+//! The runs of a row: places that one visit paints with one pen. Each place that differs is in a run.
+ghost use Rattle.std.specs.Prelude.{◌≡◌, ◌<◌, ◌≤◌, IfOk, IfSome, OnOk, length, option_map};
+ghost use Rattle.scr_cells.specs.Grids.{grid_row};
+ghost use Rattle.scr_plan.specs.Code.Drafts.{HasDiffering, HasPart, KeepsRuns};
+
+use crate::looking::is_shown_in;
+use crate::painting::Painter;
+use scr_cells::{Cell, Look, NoMemory, Pen, Picture};
+use scr_term::{Op, Profile};
+
+// How the places of a run are painted.
+#[derive(Clone, Copy)]
+pub(crate) enum How {
+    // Each is written.
+    Write,
+    // The rest of the line is erased.
+    EraseLine,
+    // So many characters are erased.
+    EraseChars,
+}
+
+// Places of a row, from one column up to another, that are painted with one pen.
+#[derive(Clone, Copy)]
+pub(crate) struct Run {
+    pub(crate) row: u32,
+    pub(crate) start: u32,
+    pub(crate) end: u32,
+    pub(crate) pen: Pen,
+    pub(crate) how: How,
+}
+
+impl Painter {
+    // Adds the runs of a row's places that differ from what the row shows, these looks or blanks, between two columns.
+    pub(crate) fn add_row(
+        self,
+        profile: &Profile,
+        picture: &Picture,
+        row: u32,
+        before: Option<&[Look]>,
+        from: u32,
+        end: u32,
+        runs: &mut Vec<Run>,
+    ) -> Result<(), NoMemory>
+        requires row { row < picture.now.rows }
+        requires width { IfSome before (λ looks. length looks.now ≡ picture.now.columns) }
+        requires from { from ≤ end }
+        requires end { end ≤ picture.now.columns }
+        ensures kept { OnOk result (KeepsRuns runs.old.items runs.new.items) }
+        ensures has { OnOk result (HasDiffering self picture.now row (option_map (λ looks. looks.now) before.entry) from end runs.new.items) }
+    {
+        let size = picture.size();
+        let cells = picture.row(row);
+        match self.erased_rest(profile, picture, row, cells, before, from, end) {
+            Some(column) => {
+                self.add_part(profile, picture, row, cells, before, from, column, runs)?;
+                add(runs, rest_from(row, column, size.columns))
+            }
+            None => self.add_part(profile, picture, row, cells, before, from, end, runs),
+        }
+    }
+
+    // The column from which on the rest of a row is to be erased, if that costs less than to write it.
+    fn erased_rest(
+        self,
+        profile: &Profile,
+        picture: &Picture,
+        row: u32,
+        cells: &[Cell],
+        before: Option<&[Look]>,
+        from: u32,
+        end: u32,
+    ) -> Option<u32>
+        requires cells { cells.now ≡ grid_row picture.now.lines row }
+        requires wide { length cells.now ≡ picture.now.columns }
+        requires width { IfSome before (λ looks. length looks.now ≡ picture.now.columns) }
+        requires from { from ≤ end }
+        requires end { end ≤ picture.now.columns }
+        ensures { IfSome result (λ column. (from ≤ column) × (column < end)) }
+    {
+        let rest = self.blank_rest(picture, row, cells, before, from, end);
+        let column = rest.first?;
+        let last = rest.last?;
+        let price = profile.prices().of(Op::EraseLine);
+        if last.saturating_add(1).saturating_sub(column) <= price {
+            return None;
+        }
+        if !self.is_blank_from(picture, row, cells, end) {
+            return None;
+        }
+        Some(column)
+    }
+
+    // Adds the runs of a part of a row.
+    fn add_part(
+        self,
+        profile: &Profile,
+        picture: &Picture,
+        row: u32,
+        cells: &[Cell],
+        before: Option<&[Look]>,
+        from: u32,
+        end: u32,
+        runs: &mut Vec<Run>,
+    ) -> Result<(), NoMemory>
+        requires cells { cells.now ≡ grid_row picture.now.lines row }
+        requires wide { length cells.now ≡ picture.now.columns }
+        requires width { IfSome before (λ looks. length looks.now ≡ picture.now.columns) }
+        requires from { from ≤ end }
+        requires end { end ≤ picture.now.columns }
+        ensures kept { OnOk result (KeepsRuns runs.old.items runs.new.items) }
+        ensures has { OnOk result (HasDiffering self picture.now row (option_map (λ looks. looks.now) before.entry) from end runs.new.items) }
+    {
+        let mut column = from;
+        while column < end {
+            column = self.add_next(profile, picture, row, cells, before, column, end, runs)?;
+        }
+        Ok(())
+    }
+
+    // Adds the runs of the first stretch from a column on, and answers where to go on.
+    fn add_next(
+        self,
+        profile: &Profile,
+        picture: &Picture,
+        row: u32,
+        cells: &[Cell],
+        before: Option<&[Look]>,
+        column: u32,
+        end: u32,
+        runs: &mut Vec<Run>,
+    ) -> Result<u32, NoMemory>
+        requires cells { cells.now ≡ grid_row picture.now.lines row }
+        requires wide { length cells.now ≡ picture.now.columns }
+        requires width { IfSome before (λ looks. length looks.now ≡ picture.now.columns) }
+        requires column { column < end }
+        requires end { end ≤ picture.now.columns }
+        ensures more { IfOk result (λ next. column < next) }
+        ensures end { IfOk result (λ next. next ≤ end) }
+        ensures kept { OnOk result (KeepsRuns runs.old.items runs.new.items) }
+        ensures has { IfOk result (λ next. HasDiffering self picture.now row (option_map (λ looks. looks.now) before.entry) column next runs.new.items) }
+    {
+        let start = self.unlike_from(picture, row, cells, before, column, end);
+        if start >= end {
+            return Ok(end);
+        }
+        let behind = self.stretch_end(profile, picture, cells, before, start, end);
+        self.add_stretch(profile, picture, row, cells, start, behind, runs)?;
+        Ok(behind)
+    }
+
+    // Where a stretch ends that begins in a place that differs: behind its last one that does. It goes on as long as the pen is the same,
+    // over so many places that do not differ as an easy motion has bytes.
+    fn stretch_end(
+        self,
+        profile: &Profile,
+        picture: &Picture,
+        cells: &[Cell],
+        before: Option<&[Look]>,
+        start: u32,
+        end: u32,
+    ) -> u32
+        requires wide { end ≤ length cells.now }
+        requires width { IfSome before (λ looks. length looks.now ≡ length cells.now) }
+        requires start { start < end }
+        ensures more { start < result }
+        ensures end { result ≤ end }
+    {
+        let jump = profile.prices().easy_motion();
+        let (_, pen) = self.seen_in(picture, cells, start);
+        let mut behind = start + 1;
+        for column in start + 1..end {
+            let (byte, with) = self.seen_in(picture, cells, column);
+            if with != pen || column - behind > jump {
+                return behind;
+            }
+            if !is_shown_in(before, column, byte, with) {
+                behind = column + 1;
+            }
+        }
+        behind
+    }
+
+    // Adds the runs of a stretch: one, or several where it has long blanks.
+    fn add_stretch(
+        self,
+        profile: &Profile,
+        picture: &Picture,
+        row: u32,
+        cells: &[Cell],
+        start: u32,
+        end: u32,
+        runs: &mut Vec<Run>,
+    ) -> Result<(), NoMemory>
+        requires wide { end ≤ length cells.now }
+        requires start { start < end }
+        ensures kept { OnOk result (KeepsRuns runs.old.items runs.new.items) }
+        ensures has { OnOk result (HasPart row start end runs.new.items) }
+    {
+        let (_, pen) = self.seen_in(picture, cells, start);
+        if pen.is_plain() {
+            add_pieces(profile, row, cells, start, end, runs)
+        } else {
+            add(runs, written(row, start, end, pen))
+        }
+    }
+}
+
+// Adds the runs of places with a plain pen: long blanks are erased, what is before and behind them is written.
+fn add_pieces(
+    profile: &Profile,
+    row: u32,
+    cells: &[Cell],
+    start: u32,
+    end: u32,
+    runs: &mut Vec<Run>,
+) -> Result<(), NoMemory>
+    requires wide { end ≤ length cells.now }
+    requires start { start < end }
+    ensures kept { OnOk result (KeepsRuns runs.old.items runs.new.items) }
+    ensures has { OnOk result (HasPart row start end runs.new.items) }
+{
+    let mut begun = start;
+    let mut column = start;
+    while column < end {
+        let behind = blanks_end(cells, column, end);
+        begun = add_piece(profile, row, begun, column, behind, end, runs)?;
+        column = behind.max(column + 1);
+    }
+    add_written(runs, row, begun, end)
+}
+
+// Adds a run of blanks that is worth an erasure, and one of what is before it from a column on. The answer is up to where there are runs.
+fn add_piece(
+    profile: &Profile,
+    row: u32,
+    begun: u32,
+    column: u32,
+    behind: u32,
+    end: u32,
+    runs: &mut Vec<Run>,
+) -> Result<u32, NoMemory>
+    requires begun { begun ≤ column }
+    requires column { column ≤ behind }
+    ensures more { IfOk result (λ next. begun ≤ next) }
+    ensures end { IfOk result (λ next. next ≤ behind) }
+    ensures kept { OnOk result (KeepsRuns runs.old.items runs.new.items) }
+    ensures has { IfOk result (λ next. HasPart row begun next runs.new.items) }
+{
+    if !is_worth_erasing(profile, behind - column, behind < end) {
+        return Ok(begun);
+    }
+    add_written(runs, row, begun, column)?;
+    add(runs, erased(row, column, behind))?;
+    Ok(behind)
+}
+
+// Adds a run that is written with a plain pen, unless it is empty.
+fn add_written(runs: &mut Vec<Run>, row: u32, start: u32, end: u32) -> Result<(), NoMemory>
+    ensures kept { OnOk result (KeepsRuns runs.old.items runs.new.items) }
+    ensures has { OnOk result (HasPart row start end runs.new.items) }
+{
+    if start >= end {
+        return Ok(());
+    }
+    add(runs, written(row, start, end, Pen::plain()))
+}
+
+// Adds a run.
+fn add(runs: &mut Vec<Run>, run: Run) -> Result<(), NoMemory>
+    ensures kept { OnOk result (KeepsRuns runs.old.items runs.new.items) }
+    ensures has { OnOk result (HasPart run.row run.start run.end runs.new.items) }
+{
+    runs.push(run)?;
+    Ok(())
+}
+
+// Whether so many blanks cost more than their erasure, with the motion behind them where the run goes on there.
+fn is_worth_erasing(profile: &Profile, count: u32, goes_on: bool) -> bool {
+    let prices = profile.prices();
+    let erasure = prices.of(Op::EraseChars(count));
+    let motion = if goes_on {
+        prices.of(Op::Right(count))
+    } else {
+        0
+    };
+    count > erasure.saturating_add(motion)
+}
+
+// Where the blanks end that begin in a column, if any do.
+#[inline(always)]
+fn blanks_end(cells: &[Cell], column: u32, end: u32) -> u32
+    requires wide { end ≤ length cells.now }
+    requires column { column ≤ end }
+    ensures column { column ≤ result }
+    ensures end { result ≤ end }
+{
+    for behind in column..end {
+        if cells[behind as usize].byte() != b' ' {
+            return behind;
+        }
+    }
+    end
+}
+
+// A run that is written.
+fn written(row: u32, start: u32, end: u32, pen: Pen) -> Run
+    ensures row { result.row ≡ row }
+    ensures start { result.start ≡ start }
+    ensures end { result.end ≡ end }
+{
+    Run {
+        row,
+        start,
+        end,
+        pen,
+        how: How::Write,
+    }
+}
+
+// A run of characters that are erased.
+fn erased(row: u32, start: u32, end: u32) -> Run
+    ensures row { result.row ≡ row }
+    ensures start { result.start ≡ start }
+    ensures end { result.end ≡ end }
+{
+    Run {
+        row,
+        start,
+        end,
+        pen: Pen::plain(),
+        how: How::EraseChars,
+    }
+}
+
+// The rest of a row, erased.
+fn rest_from(row: u32, start: u32, end: u32) -> Run
+    ensures row { result.row ≡ row }
+    ensures start { result.start ≡ start }
+    ensures end { result.end ≡ end }
+{
+    Run {
+        row,
+        start,
+        end,
+        pen: Pen::plain(),
+        how: How::EraseLine,
+    }
+}

@@ -1,0 +1,214 @@
+//! Painting the runs that wait: in an order that was chosen before, whatever that is, and then each that is left.
+ghost use Rattle.std.specs.Prelude.{◌≡◌, ◌<◌, [], IfSome, OnOk, length, slice_index_or, slice_set};
+ghost use Rattle.scr_cells.specs.PenViews.{plain_pen};
+ghost use Rattle.scr_term.specs.declared.operations.operation.Spot.TheVariants.{At};
+ghost use Rattle.scr_plan.specs.Code.Drafts.{IsAdded, KeepsAll, Leaves, no_run};
+ghost use Rattle.scr_plan.specs.Code.Painters.{painter_begins, painter_of};
+ghost use Rattle.scr_plan.specs.Scratch.{Fits};
+ghost use Rattle.scr_plan.specs.declared.runs.Run.{Run};
+
+use crate::orders::cheaper_order;
+use crate::painting::Painter;
+use crate::runs::{How, Run};
+use crate::strokes::Draft;
+use crate::ways::Chooser;
+use scr_cells::{NoMemory, Pen, Picture};
+use scr_term::{Profile, Spot, profiles_have, run_laws};
+use std::alloc::Global;
+
+impl Draft {
+    // Paints all runs, in the cheaper of two orders, and leads the cursor to where the picture wishes it.
+    pub(crate) fn paint_all(
+        &mut self,
+        alloc: Global,
+        painter: Painter,
+        profile: &Profile,
+        picture: &Picture,
+        runs: &mut Vec<Run>,
+    ) -> Result<(), NoMemory>
+        requires painter { painter ≡ painter_of profile.now }
+        requires fits { Fits profile.now picture.now }
+        ensures right { OnOk result (Leaves profile.now picture.now runs.old.items [] self.old self.new) }
+        ensures spot { OnOk result (IfSome picture.now.wish (λ place. self.new.spot ≡ At place.0 place.1)) }
+    {
+        let numbers = chosen_order(alloc, painter, profile, picture, self, runs)?;
+        self.visit_all(painter, profile, picture, runs, &numbers)?;
+        self.place(painter, profile, picture)
+    }
+
+    // Visits the runs of these numbers one after another, and then all that are left.
+    fn visit_all(
+        &mut self,
+        painter: Painter,
+        profile: &Profile,
+        picture: &Picture,
+        runs: &mut Vec<Run>,
+        numbers: &[u32],
+    ) -> Result<(), NoMemory>
+        requires painter { painter ≡ painter_of profile.now }
+        requires fits { Fits profile.now picture.now }
+        ensures { OnOk result (Leaves profile.now picture.now runs.old.items [] self.old self.new) }
+    {
+        self.visit_each(painter, profile, picture, runs, numbers)?;
+        self.visit_rest(painter, profile, picture, runs)
+    }
+
+    // Visits the runs of these numbers one after another.
+    fn visit_each(
+        &mut self,
+        painter: Painter,
+        profile: &Profile,
+        picture: &Picture,
+        runs: &mut Vec<Run>,
+        numbers: &[u32],
+    ) -> Result<(), NoMemory>
+        requires painter { painter ≡ painter_of profile.now }
+        requires fits { Fits profile.now picture.now }
+        ensures { OnOk result (Leaves profile.now picture.now runs.old.items runs.new.items self.old self.new) }
+    {
+        let _size = picture.size();
+        for number in numbers {
+            self.visit_at(painter, profile, picture, runs, *number as usize)?;
+        }
+        Ok(())
+    }
+
+    // Visits the run of a number, if there is one. It waits no more.
+    fn visit_at(
+        &mut self,
+        painter: Painter,
+        profile: &Profile,
+        picture: &Picture,
+        runs: &mut [Run],
+        number: usize,
+    ) -> Result<(), NoMemory>
+        requires painter { painter ≡ painter_of profile.now }
+        requires fits { Fits profile.now picture.now }
+        ensures { OnOk result (Leaves profile.now picture.now runs.old runs.new self.old self.new) }
+    {
+        let _size = picture.size();
+        if number >= runs.len() {
+            return Ok(());
+        }
+        let run = run_at(runs, number);
+        self.visit(painter, profile, picture, run)?;
+        empty(runs, number);
+        Ok(())
+    }
+
+    // Visits each run that is left, from the last.
+    fn visit_rest(
+        &mut self,
+        painter: Painter,
+        profile: &Profile,
+        picture: &Picture,
+        runs: &mut Vec<Run>,
+    ) -> Result<(), NoMemory>
+        requires painter { painter ≡ painter_of profile.now }
+        requires fits { Fits profile.now picture.now }
+        ensures { OnOk result (Leaves profile.now picture.now runs.old.items [] self.old self.new) }
+    {
+        let _size = picture.size();
+        while let Some(run) = runs.pop() {
+            self.visit(painter, profile, picture, run)?;
+        }
+        Ok(())
+    }
+
+    // Leads the cursor to where the picture wishes it, with the pen that is on.
+    fn place(&mut self, painter: Painter, profile: &Profile, picture: &Picture) -> Result<(), NoMemory>
+        requires painter { painter ≡ painter_of profile.now }
+        requires fits { Fits profile.now picture.now }
+        ensures keeps { OnOk result (KeepsAll profile.now picture.now self.old self.new) }
+        ensures spot { OnOk result (IfSome picture.now.wish (λ place. self.new.spot ≡ At place.0 place.1)) }
+    {
+        let _size = picture.size();
+        match picture.wish() {
+            Some((row, column)) => self.place_at(painter, profile, picture, row, column),
+            None => Ok(()),
+        }
+    }
+
+    // Leads the cursor to a place, with the pen that is on if that is the way.
+    fn place_at(
+        &mut self,
+        painter: Painter,
+        profile: &Profile,
+        picture: &Picture,
+        row: u32,
+        column: u32,
+    ) -> Result<(), NoMemory>
+        requires painter { painter ≡ painter_of profile.now }
+        requires fits { Fits profile.now picture.now }
+        requires row { row < picture.now.rows }
+        requires column { column < picture.now.columns }
+        ensures keeps { OnOk result (KeepsAll profile.now picture.now self.old self.new) }
+        ensures spot { OnOk result (self.new.spot ≡ At row column) }
+    {
+        self.reach(painter, profile, picture, row, column, self.pen)?;
+        if self.spot == Spot::At(row, column) {
+            return Ok(());
+        }
+        self.jump(painter, profile, picture, row, column)
+    }
+
+    // Leads the cursor to a place with a plain pen, from wherever it is.
+    #[inline(never)]
+    fn jump(
+        &mut self,
+        painter: Painter,
+        profile: &Profile,
+        picture: &Picture,
+        row: u32,
+        column: u32,
+    ) -> Result<(), NoMemory>
+        requires painter { painter ≡ painter_of profile.now }
+        requires fits { Fits profile.now picture.now }
+        requires row { row < picture.now.rows }
+        requires column { column < picture.now.columns }
+        ensures keeps { OnOk result (KeepsAll profile.now picture.now self.old self.new) }
+        ensures spot { OnOk result (self.new.spot ≡ At row column) }
+    {
+        run_laws();
+        profiles_have();
+        let _size = profile.size();
+        let _picture = picture.size();
+        self.lead(painter, profile, row, column, Pen::plain())
+    }
+}
+
+// The numbers of the runs in the cheaper of two orders.
+fn chosen_order(
+    alloc: Global,
+    painter: Painter,
+    profile: &Profile,
+    picture: &Picture,
+    draft: &Draft,
+    runs: &[Run],
+) -> Result<Vec<u32>, NoMemory> {
+    let chooser = Chooser::new(painter, profile, picture);
+    let cursor = draft.cursor();
+    cheaper_order(alloc, &chooser, &cursor, runs, picture.wish())
+}
+
+// The run of a number.
+fn run_at(runs: &[Run], number: usize) -> Run
+    requires { number < length runs.now }
+    ensures { (other : Run) → slice_index_or runs.now number other ≡ result }
+{
+    runs[number]
+}
+
+// The run of a number becomes empty.
+fn empty(runs: &mut [Run], number: usize)
+    requires { number < length runs.old }
+    ensures { runs.new ≡ slice_set runs.old number no_run }
+{
+    runs[number] = Run {
+        row: 0,
+        start: 0,
+        end: 0,
+        pen: Pen::plain(),
+        how: How::Write,
+    };
+}

@@ -1,0 +1,204 @@
+//! The cheapest way to a place with a pen: by a motion and a turn, or by writing places with what they are to show. Only prices are
+//! compared here: nothing depends on a choice but how many bytes an update has.
+
+use crate::motions::{Motion, cheapest_motion};
+use crate::painting::Painter;
+use crate::runs::{How, Run};
+use crate::turns::cheapest_turn;
+use scr_cells::{Cell, Pen, Picture};
+use scr_term::{Op, Prices, Profile, Spot};
+
+// Where the cursor is, and what it writes with.
+#[derive(Clone, Copy)]
+pub(crate) struct Cursor {
+    pub(crate) spot: Spot,
+    pub(crate) pen: Pen,
+}
+
+impl Cursor {
+    // The row that the cursor is in.
+    pub(crate) fn row(&self) -> u32 {
+        match self.spot {
+            Spot::At(row, _) | Spot::Margin(row) => row,
+        }
+    }
+}
+
+// How a place is reached with a pen. Where motions want no attribute and default colours, a turn to these comes before each of them.
+#[derive(Clone, Copy)]
+pub(crate) enum Path {
+    // A motion to the place, then a turn to the pen.
+    Moving(Motion),
+    // The places of the row from this column on are written with the pen that is on, then comes a turn to the pen.
+    Writing(u32),
+    // A motion to the first column of the row, then a turn to the pen, with which the places up to the place are written.
+    MovingToWrite(Motion),
+}
+
+// A path, and how many bytes it has.
+#[derive(Clone, Copy)]
+pub(crate) struct Way {
+    pub(crate) path: Path,
+    pub(crate) price: u32,
+}
+
+impl Way {
+    // The cheaper of two, this one where they cost the same.
+    fn or(self, other: Option<Way>) -> Way {
+        match other {
+            Some(other) if other.price < self.price => other,
+            _ => self,
+        }
+    }
+}
+
+// What choosing asks of a profile and a picture, fetched once.
+#[derive(Clone, Copy)]
+pub(crate) struct Chooser<'a> {
+    pub(crate) painter: Painter,
+    pub(crate) prices: &'a Prices,
+    pub(crate) picture: &'a Picture,
+    pub(crate) columns: u32,
+    moves_in_any_rendition: bool,
+    pub(crate) jump: u32,
+}
+
+impl<'a> Chooser<'a> {
+    // What the profile and the picture say.
+    pub(crate) fn new(painter: Painter, profile: &'a Profile, picture: &'a Picture) -> Chooser<'a> {
+        let prices = profile.prices();
+        Chooser {
+            painter,
+            prices,
+            picture,
+            columns: picture.size().columns,
+            moves_in_any_rendition: profile.moves_in_any_rendition(),
+            jump: prices.easy_motion(),
+        }
+    }
+
+    // The cheapest way to a place with a pen.
+    pub(crate) fn way(&self, cursor: &Cursor, row: u32, column: u32, pen: Pen) -> Way {
+        let moving = self.moving(cursor, row, column, pen);
+        if cursor.row() == row {
+            moving.or(self.writing(cursor, row, column, pen, moving.price))
+        } else {
+            moving.or(self.moving_to_write(cursor, row, column, pen, moving.price))
+        }
+    }
+
+    // By a motion and a turn.
+    fn moving(&self, cursor: &Cursor, row: u32, column: u32, pen: Pen) -> Way {
+        let motion = cheapest_motion(self.prices, cursor.spot, row, column);
+        Way {
+            path: Path::Moving(motion),
+            price: self.price_of_moving(cursor.pen, motion, pen),
+        }
+    }
+
+    // What a motion and a turn cost, with the turn that may have to come before the motion.
+    fn price_of_moving(&self, now: Pen, motion: Motion, pen: Pen) -> u32 {
+        if self.moves_in_any_rendition || now.is_plain() || motion.is_none() {
+            return motion.price.saturating_add(self.price_of_turn(now, pen));
+        }
+        self.price_of_turn(now, Pen::plain())
+            .saturating_add(motion.price)
+            .saturating_add(self.price_of_turn(Pen::plain(), pen))
+    }
+
+    // What the cheapest turn from a pen to another costs.
+    pub(crate) fn price_of_turn(&self, from: Pen, to: Pen) -> u32 {
+        cheapest_turn(self.prices, from, to).price
+    }
+
+    // By writing the places of the row that are between, where this costs less than the limit.
+    fn writing(&self, cursor: &Cursor, row: u32, column: u32, pen: Pen, limit: u32) -> Option<Way> {
+        let Spot::At(_, from) = cursor.spot else {
+            return None;
+        };
+        if from >= column || column - from >= limit {
+            return None;
+        }
+        let price = (column - from).saturating_add(self.price_of_turn(cursor.pen, pen));
+        if price >= limit || !self.are_seen_with(cursor.pen, row, from, column) {
+            return None;
+        }
+        Some(Way {
+            path: Path::Writing(from),
+            price,
+        })
+    }
+
+    // By writing the places before it in its row, where this costs less than the limit.
+    fn moving_to_write(
+        &self,
+        cursor: &Cursor,
+        row: u32,
+        column: u32,
+        pen: Pen,
+        limit: u32,
+    ) -> Option<Way> {
+        if column == 0 || column > self.jump || column >= limit {
+            return None;
+        }
+        let motion = cheapest_motion(self.prices, cursor.spot, row, 0);
+        let price = self
+            .price_of_moving(cursor.pen, motion, pen)
+            .saturating_add(column);
+        if price >= limit || !self.are_seen_with(pen, row, 0, column) {
+            return None;
+        }
+        Some(Way {
+            path: Path::MovingToWrite(motion),
+            price,
+        })
+    }
+
+    // The cells of a row; none where there is no such row.
+    pub(crate) fn cells(&self, row: u32) -> &'a [Cell] {
+        if row < self.picture.size().rows {
+            self.picture.row(row)
+        } else {
+            &[]
+        }
+    }
+
+    // Whether the places of a row from one column up to another are all seen with a pen.
+    fn are_seen_with(&self, pen: Pen, row: u32, from: u32, end: u32) -> bool {
+        let cells = self.cells(row);
+        if from > end || end as usize > cells.len() {
+            return false;
+        }
+        self.have_pen(&cells[from as usize..end as usize], pen)
+    }
+
+    // Whether cells are all seen with a pen.
+    fn have_pen(&self, cells: &[Cell], pen: Pen) -> bool {
+        for cell in cells {
+            if self.painter.pen_of(self.picture, *cell) != pen {
+                return false;
+            }
+        }
+        true
+    }
+
+    // What a run costs once the cursor is at its first place with its pen.
+    pub(crate) fn price_of_painting(&self, run: &Run) -> u32 {
+        let count = run.end.saturating_sub(run.start);
+        match run.how {
+            How::Write => count,
+            How::EraseLine => self.prices.of(Op::EraseLine),
+            How::EraseChars => self.prices.of(Op::EraseChars(count)),
+        }
+    }
+
+    // Where the cursor is behind a run.
+    pub(crate) fn behind(&self, run: &Run) -> Cursor {
+        let spot = match run.how {
+            How::Write if run.end < self.columns => Spot::At(run.row, run.end),
+            How::Write => Spot::Margin(run.row),
+            How::EraseLine | How::EraseChars => Spot::At(run.row, run.start),
+        };
+        Cursor { spot, pen: run.pen }
+    }
+}

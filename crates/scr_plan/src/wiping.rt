@@ -1,0 +1,239 @@
+//! From which row on the screen is erased before anything is painted, where that is worth it. Only prices are compared here: nothing
+//! depends on a choice but how many bytes an update has.
+
+use crate::looking::is_that_pen;
+use crate::orders::run_at;
+use crate::runs::Run;
+use crate::ways::{Chooser, Cursor};
+use scr_cells::{Cell, Pen};
+use scr_term::Op;
+
+// How much more than the erasure has to be spared for it to be worth it.
+const WORTH: i64 = 8;
+
+// The first row that is erased, and by which operation.
+#[derive(Clone, Copy)]
+pub(crate) struct Wiping {
+    pub(crate) top: u32,
+    pub(crate) by: Op,
+}
+
+// From which row on the screen is to be erased first; `None` where it is not. The runs are in rows.
+pub(crate) fn cheapest_wiping(
+    chooser: &Chooser<'_>,
+    cursor: &Cursor,
+    runs: &[Run],
+) -> Option<Wiping> {
+    let differing = rows_with_runs(runs);
+    if differing < 2 || most_spared(chooser, runs) <= least_lost(chooser) {
+        return None;
+    }
+    let first = run_at(runs, 0).row;
+    let rows = chooser.picture.size().rows;
+    let mut walk = Upwards::from(runs.len());
+    for below in 0..rows {
+        let row = rows - 1 - below;
+        if row < first {
+            return walk.best;
+        }
+        let Some(next) = walk.with_row(chooser, runs, row, differing) else {
+            return walk.best;
+        };
+        walk = next.with_candidate(chooser, cursor, row);
+    }
+    walk.best
+}
+
+// What runs cost as they stand, and an easy motion for each: no erasure spares more.
+fn most_spared(chooser: &Chooser<'_>, runs: &[Run]) -> i64 {
+    let mut sum = 0i64;
+    for run in runs {
+        sum = sum.saturating_add(i64::from(price_as_it_stands(chooser, run)));
+    }
+    sum
+}
+
+// What a run costs as it stands, and an easy motion.
+fn price_as_it_stands(chooser: &Chooser<'_>, run: &Run) -> u32 {
+    chooser.price_of_painting(run).saturating_add(chooser.jump)
+}
+
+// What every erasure costs, and has to be worth.
+fn least_lost(chooser: &Chooser<'_>) -> i64 {
+    let below = chooser.prices.of(Op::EraseBelow);
+    i64::from(below.min(chooser.prices.of(Op::Clear))).saturating_add(WORTH)
+}
+
+// How many rows have runs. The runs are in rows.
+fn rows_with_runs(runs: &[Run]) -> u32 {
+    let mut rows = 0u32;
+    let mut last = None;
+    for run in runs {
+        if last != Some(run.row) {
+            rows = rows.saturating_add(1);
+            last = Some(run.row);
+        }
+    }
+    rows
+}
+
+// A walk over rows upwards: how many runs are left, how many rows without runs were met, what an erasure of the rows that were met
+// spares, and the best row so far with what its erasure gains.
+#[derive(Clone, Copy)]
+struct Upwards {
+    left: u32,
+    others: u32,
+    spared: i64,
+    best: Option<Wiping>,
+    gain: i64,
+}
+
+impl Upwards {
+    // No row was met yet.
+    fn from(count: usize) -> Upwards {
+        Upwards {
+            left: count.min(u32::MAX as usize) as u32,
+            others: 0,
+            spared: 0,
+            best: None,
+            gain: WORTH,
+        }
+    }
+
+    // One row more; `None` where the walk ends: at a row that shows something and does not differ, and where more rows that do not
+    // differ were met than differ at all.
+    fn with_row(
+        self,
+        chooser: &Chooser<'_>,
+        runs: &[Run],
+        row: u32,
+        differing: u32,
+    ) -> Option<Upwards> {
+        let cells = chooser.cells(row);
+        let mut walk = self.with_runs(chooser, runs, row);
+        if walk.left < self.left {
+            walk.spared = walk
+                .spared
+                .saturating_sub(i64::from(price_on_blanks(chooser, cells)));
+            return Some(walk);
+        }
+        walk.others = walk.others.saturating_add(1);
+        if walk.others > differing || !is_blank(chooser, cells) {
+            return None;
+        }
+        Some(walk)
+    }
+
+    // The runs of a row are met, the last ones that are left.
+    fn with_runs(self, chooser: &Chooser<'_>, runs: &[Run], row: u32) -> Upwards {
+        let mut walk = self;
+        for _ in 0..runs.len() {
+            if walk.left == 0 {
+                return walk;
+            }
+            let run = run_at(runs, walk.left - 1);
+            if run.row != row {
+                return walk;
+            }
+            walk.left -= 1;
+            walk.spared = walk
+                .spared
+                .saturating_add(i64::from(price_as_it_stands(chooser, &run)));
+        }
+        walk
+    }
+
+    // The row that was met last is the best one so far, if its erasure gains more than all before.
+    fn with_candidate(self, chooser: &Chooser<'_>, cursor: &Cursor, row: u32) -> Upwards {
+        let (by, price) = erasure(chooser, cursor, row);
+        let gain = self.spared.saturating_sub(i64::from(price));
+        if gain <= self.gain {
+            return self;
+        }
+        let mut walk = self;
+        walk.best = Some(Wiping { top: row, by });
+        walk.gain = gain;
+        walk
+    }
+}
+
+// The cheapest erasure of a row and all below it, and its price with what leads to it.
+fn erasure(chooser: &Chooser<'_>, cursor: &Cursor, row: u32) -> (Op, u32) {
+    let way = chooser.way(cursor, row, 0, Pen::plain());
+    let price = way.price.saturating_add(chooser.prices.of(Op::EraseBelow));
+    if row > 0 {
+        return (Op::EraseBelow, price);
+    }
+    let price_of_clear = chooser
+        .price_of_turn(cursor.pen, Pen::plain())
+        .saturating_add(chooser.prices.of(Op::Clear));
+    if price_of_clear < price {
+        (Op::Clear, price_of_clear)
+    } else {
+        (Op::EraseBelow, price)
+    }
+}
+
+// Whether cells are all seen blank.
+fn is_blank(chooser: &Chooser<'_>, cells: &[Cell]) -> bool {
+    for cell in cells {
+        if !is_blank_cell(chooser, *cell) {
+            return false;
+        }
+    }
+    true
+}
+
+// Whether a cell is seen blank.
+fn is_blank_cell(chooser: &Chooser<'_>, cell: Cell) -> bool {
+    cell.byte() == b' ' && chooser.painter.pen_of(chooser.picture, cell).is_plain()
+}
+
+// What the cells of a row cost on a blank row: its stretches, and an easy motion for each.
+fn price_on_blanks(chooser: &Chooser<'_>, cells: &[Cell]) -> u32 {
+    let mut stretches = Stretches::none(chooser.jump);
+    for cell in cells {
+        let pen = chooser.painter.pen_of(chooser.picture, *cell);
+        stretches = stretches.with(pen, cell.byte() == b' ' && pen.is_plain());
+    }
+    stretches.price
+}
+
+// The stretches of a blank row as they are priced: the pen of the last one, and how many blanks are behind it; so many may be inside.
+#[derive(Clone, Copy)]
+struct Stretches {
+    jump: u32,
+    pen: Option<Pen>,
+    blanks: u32,
+    price: u32,
+}
+
+impl Stretches {
+    // None yet.
+    fn none(jump: u32) -> Stretches {
+        Stretches {
+            jump,
+            pen: None,
+            blanks: 0,
+            price: 0,
+        }
+    }
+
+    // One place more.
+    fn with(self, pen: Pen, is_blank: bool) -> Stretches {
+        let mut stretches = self;
+        let goes_on = is_that_pen(self.pen, pen);
+        if is_blank {
+            stretches.blanks = self.blanks.saturating_add(1);
+            if !goes_on || stretches.blanks > self.jump {
+                stretches.pen = None;
+            }
+            return stretches;
+        }
+        let price = if goes_on { self.blanks } else { self.jump };
+        stretches.pen = Some(pen);
+        stretches.blanks = 0;
+        stretches.price = self.price.saturating_add(price).saturating_add(1);
+        stretches
+    }
+}
