@@ -37,8 +37,8 @@ use Rattle.scr_plan.specs.declared.strokes.Draft.{Draft}
 -- ---- whatever is added
 
 -- fewer places may wait, where those that do not are right
-pub weaker : (profile : ProfileView) (picture : PictureView) (waits less : ℕ × ℕ → Bool) (draft : Draft) → ((place : ℕ × ℕ) → less place ≡ false → waits place ≡ false) → Keeps profile picture waits less draft draft
-weaker profile picture waits less draft more first start right = record {
+pub weaker_inside : (profile : ProfileView) (picture : PictureView) (waits less : ℕ × ℕ → Bool) (draft : Draft) → ((r c : ℕ) → r < picture.rows → c < picture.columns → less (r, c) ≡ false → waits (r, c) ≡ false) → Keeps profile picture waits less draft draft
+weaker_inside profile picture waits less draft more first start right = record {
   own = right.own;
   ops = right.ops;
   now = right.now;
@@ -47,8 +47,11 @@ weaker profile picture waits less draft more first start right = record {
   bytes = right.bytes;
   spot = right.spot;
   pen = right.pen;
-  shows = λ r c high wide e. right.shows r c high wide (more (r, c) e);
+  shows = λ r c high wide e. right.shows r c high wide (more r c high wide e);
 }
+
+pub weaker : (profile : ProfileView) (picture : PictureView) (waits less : ℕ × ℕ → Bool) (draft : Draft) → ((place : ℕ × ℕ) → less place ≡ false → waits place ≡ false) → Keeps profile picture waits less draft draft
+weaker profile picture waits less draft more = weaker_inside profile picture waits less draft (λ r c high wide e. more (r, c) e)
 
 -- operations more, which lead to a state in which every place that does not wait is right
 pub drawn : RunLaws → (profile : ProfileView) → IsProfile profile → (picture : PictureView) (first : List Op) (start : TerminalState) (waits less : ℕ × ℕ → Bool) (old new : Draft) (more : List Op) (spot : Spot) (pen : PenView)
@@ -269,17 +272,7 @@ chars_covers laws grids profile p picture fits painter who row column end order 
 
 -- a run off the screen
 pub run_off : (profile : ProfileView) (picture : PictureView) (run : Run) (draft : Draft) → picture.rows ≤ run.row → Covers profile picture (is_in run) draft draft
-run_off profile picture run draft low waits first start right = record {
-  own = right.own;
-  ops = right.ops;
-  now = right.now;
-  run = right.run;
-  state = right.state;
-  bytes = right.bytes;
-  spot = right.spot;
-  pen = right.pen;
-  shows = λ r c high wide e. right.shows r c high wide (off r c high (waits (r, c)) e);
-}
+run_off profile picture run draft low waits = weaker_inside profile picture waits (without (is_in run) waits) draft (λ r c high wide e. off r c high (waits (r, c)) e)
   where
     off : (r c : ℕ) → r < picture.rows → (b : Bool) → (b && not (is_in run (r, c))) ≡ false → b ≡ false
     off r c high false e = refl
@@ -288,26 +281,15 @@ run_off profile picture run draft low waits first start right = record {
 -- a run up to the last column
 pub run_inside : (profile : ProfileView) (picture : PictureView) (run : Run) (end : ℕ) (old new : Draft) → ((c : ℕ) → c < picture.columns → c < run.end → c < end) → Covers profile picture (in_part run.row run.start end) old new → Covers profile picture (is_in run) old new
 run_inside profile picture run end old new ends covers waits first start before =
-    let right = covers waits first start before in
-    record {
-      own = right.own;
-      ops = right.ops;
-      now = right.now;
-      run = right.run;
-      state = right.state;
-      bytes = right.bytes;
-      spot = right.spot;
-      pen = right.pen;
-      shows = λ r c high wide e. right.shows r c high wide (less r c (ends c wide) (waits (r, c)) e);
-    }
+    weaker_inside profile picture (without (in_part run.row run.start end) waits) (without (is_in run) waits) new (λ r c high wide e. less r c (ends c wide) (waits (r, c)) e) first start (covers waits first start before)
   where
     less : (r c : ℕ) → (c < run.end → c < end) → (b : Bool) → (b && not (is_in run (r, c))) ≡ false → (b && not (in_part run.row run.start end (r, c))) ≡ false
     less r c below false e = refl
-    less r c below true e =
-        let inside : is_in run (r, c) ≡ true = grind (arith, nat_tests) in
-        let under : c < run.end = grind (arith, nat_tests) in
-        let here : c < end = below under in
-        grind (arith, nat_tests)
+    less r c below true e = by (ltb c run.end) refl
+      where
+        by : (t : Bool) → ltb c run.end ≡ t → (true && not (in_part run.row run.start end (r, c))) ≡ false
+        by true t = let under : c < run.end = grind (arith, nat_tests) in let here : c < end = below under in grind (arith, nat_tests)
+        by false t = grind (arith, nat_tests)
 
 -- an empty part
 pub covers_empty : (profile : ProfileView) (picture : PictureView) (row from end : ℕ) (draft : Draft) → end ≤ from → Covers profile picture (in_part row from end) draft draft

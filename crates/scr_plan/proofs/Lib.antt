@@ -20,8 +20,11 @@ pub mod PlanMadeLaws
 pub mod PlanningLaws
 pub mod RememberedRowLaws
 pub mod Rows
+pub mod RunChangeLaws
 pub mod RunLaws
 pub mod ScratchLaws
 pub mod ScratchTextLaws
 pub mod UpToDateLaws
+pub mod WipeLaws
+pub mod ShortPlanLaws
 pub mod SkipLaws

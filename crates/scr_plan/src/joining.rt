@@ -31,14 +31,14 @@ pub(crate) struct Joining {
 
 impl Joining {
     // None yet, on a terminal that was cleared by operations that were made before.
-    pub(crate) fn on_blanks(profile: &Profile, ops: Vec<Op>) -> Joining
-        ensures { IsJoining profile.now true ops.items (blank_state profile.now.rows profile.now.columns) [] result }
+    pub(crate) fn on_blanks(profile: &Profile, ops: Vec<Op>, keeps: bool) -> Joining
+        ensures { IsJoining profile.now keeps ops.items (blank_state profile.now.rows profile.now.columns) [] result }
     {
         blank_laws();
         let _size = profile.size();
         Joining {
             ops,
-            keeps: true,
+            keeps,
             bytes: 0,
             spot: Spot::At(0, 0),
             pen: Pen::plain(),
@@ -51,12 +51,13 @@ impl Joining {
         profile: &Profile,
         memory: &Memory,
         ops: Vec<Op>,
+        keeps: bool,
     ) -> Result<Joining, NoMemory>
         requires painter { painter ≡ painter_of profile.now }
         requires rows { memory.now.rows ≡ profile.now.rows }
         requires columns { memory.now.columns ≡ profile.now.columns }
         requires pen { (is_there profile.now Sgr0 ≡ true) ⊎ (is_plain_pen memory.now.state.pen ≡ true) }
-        ensures { IfOk result (IsJoining profile.now true ops.items memory.now.state (resets profile.now)) }
+        ensures { IfOk result (IsJoining profile.now keeps ops.items memory.now.state (resets profile.now)) }
     {
         run_laws();
         profiles_have();
@@ -68,7 +69,7 @@ impl Joining {
         let bytes = price_of(profile, &ops[begun..]);
         Ok(Joining {
             ops,
-            keeps: true,
+            keeps,
             bytes,
             spot: memory.remembered_spot(),
             pen: Pen::plain(),

@@ -16,6 +16,7 @@ mod remembering_laws;
 mod runs;
 mod scratch_laws;
 mod scratch_texts;
+mod short_plan;
 mod strokes;
 mod turns;
 mod visiting;

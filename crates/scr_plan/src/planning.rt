@@ -1,16 +1,18 @@
 //! What an update sends. The definitions are in `specs/Plans.antt` and `specs/Repaints.antt`.
-ghost use Rattle.std.specs.Prelude.{ℕ, ◌≡◌, ◌++◌, ◌∷◌, [], ◌<◌, ◌≤◌, ◌⊎◌, ◌&&◌, not, IfOk, IfSome, OnOk, false, filter, length, true};
+ghost use Rattle.std.specs.Prelude.{ℕ, ◌≡◌, ◌++◌, ◌∷◌, [], ◌<◌, ◌≤◌, ◌⊎◌, ◌==◌, ◌&&◌, ◌||◌, not, IfOk, IfSome, OnOk, bit_and, false, filter, length, true};
 ghost use Rattle.std.specs.List.{flat_map};
+ghost use Rattle.std.specs.Option.{is_none};
 ghost use Rattle.scr_cells.specs.PenViews.{is_plain_pen};
 ghost use Rattle.scr_term.specs.declared.operations.capability.Capability.TheVariants.{Sgr0};
 ghost use Rattle.scr_term.specs.declared.operations.operation.Op.TheVariants.{Clear};
-ghost use Rattle.scr_term.specs.Operations.Profiles.{abilities, is_there};
+ghost use Rattle.scr_term.specs.Operations.Profiles.{abilities, has_colours, is_there, shown_set};
 ghost use Rattle.scr_term.specs.Operations.States.{IsShownPen};
+ghost use Rattle.scr_term.specs.Operations.Texts.{all_bytes};
 ghost use Rattle.scr_virtual.specs.Ranges.{IsRange};
 ghost use Rattle.scr_virtual.specs.VirtualViews.{altered_at, range_at};
-ghost use Rattle.scr_plan.specs.Code.Joinings.{Continues, joined_at};
+ghost use Rattle.scr_plan.specs.Code.Joinings.{Continues, counted_up, joined_at};
 ghost use Rattle.scr_plan.specs.Code.Painters.{painter_of};
-ghost use Rattle.scr_plan.specs.Code.Planning.{AreNoneByOutside, range_by};
+ghost use Rattle.scr_plan.specs.Code.Planning.{AreNoneByOutside, painted_anew, range_by};
 ghost use Rattle.scr_plan.specs.Memories.{is_known};
 ghost use Rattle.scr_plan.specs.Plans.{IsPlan};
 ghost use Rattle.scr_plan.specs.Repaints.{IsSizeOf, IsUpToDate, ShowsOutside, anew_of, cleared, differing, differs, is_none_left, is_placed, joined_of, joined_places};
@@ -19,9 +21,11 @@ ghost use Rattle.scr_plan.specs.Scratch.{Fits, places_cursor, resets, row_places
 use crate::joining::Joining;
 use crate::memories::Memory;
 use crate::painting::Painter;
-use crate::plan_laws::plans_are_made;
-use scr_cells::{NoMemory, Picture, Size};
-use scr_term::{Op, Ops, Profile, profiles_have};
+use crate::plan_laws::{joined_is_cheap, plans_are_made};
+use crate::remembering_laws::{known_memories, memory_runs, plans_are_remembered};
+use crate::short_plan::{short_anew, short_changes};
+use scr_cells::{Look, NoMemory, Pen, Picture, Size, grid_laws};
+use scr_term::{Op, Ops, Profile, profiles_have, run_laws};
 use scr_virtual::Virtual;
 use std::alloc::Global;
 
@@ -64,7 +68,7 @@ pub fn plan_altered(
 
 // The columns of a row that are looked at where the row is known.
 #[derive(Clone, Copy)]
-enum Looked {
+pub(crate) enum Looked {
     // Those that may have changed.
     Changed,
     // Those that may look otherwise.
@@ -73,7 +77,7 @@ enum Looked {
 
 impl Looked {
     // The first and the last of them; `None` where there are none.
-    fn in_row(self, wanted: &Virtual, row: u32) -> Option<(u32, u32)>
+    pub(crate) fn in_row(self, wanted: &Virtual, row: u32) -> Option<(u32, u32)>
         requires { row < wanted.now.picture.rows }
         ensures value { result ≡ range_by self wanted.now row }
         ensures inside { IfSome result (IsRange wanted.now.picture.columns) }
@@ -85,7 +89,7 @@ impl Looked {
     }
 
     // The first row that has any, and the end of those that have.
-    fn rows(self, wanted: &Virtual) -> (u32, u32)
+    pub(crate) fn rows(self, wanted: &Virtual) -> (u32, u32)
         ensures order { result.0 ≤ result.1 }
         ensures end { result.1 ≤ wanted.now.picture.rows }
         ensures others { AreNoneByOutside self wanted.now result.0 result.1 }
@@ -115,7 +119,7 @@ fn plan_by(
     let _wanted = wanted.size();
     let _memory = memory.size();
     if !wants_changes_alone(memory, wanted) {
-        return anew(alloc, profile, wanted.picture());
+        return anew(alloc, profile, memory, wanted);
     }
     if !may_be(profile, memory) {
         return Ok(Ops(Vec::new(alloc)));
@@ -131,31 +135,95 @@ fn wants_changes_alone(memory: &Memory, wanted: &Virtual) -> bool
     memory.known() && !wanted.repaint()
 }
 
-// Whether a terminal of the profile can be as it is remembered: one that cannot turn attributes off has none, in default colours.
+// Whether a terminal of the profile can have the pen that is remembered: attributes that it shows, and colours if it shows them.
 fn may_be(profile: &Profile, memory: &Memory) -> bool
-    ensures yes { result ≡ true → (is_there profile.now Sgr0 ≡ true) ⊎ (is_plain_pen memory.now.state.pen ≡ true) }
+    ensures yes { result ≡ true → IsShownPen (abilities profile.now) memory.now.state.pen }
     ensures no { result ≡ false → IsShownPen (abilities profile.now) memory.now.state.pen → ⊥ }
 {
-    profiles_have();
-    let _profile = profile.size();
-    profile.can_reset() || memory.remembered_pen().is_plain()
+    let _memory = memory.size();
+    let pen = memory.remembered_pen();
+    shows_attributes(profile, pen) && shows_colours(profile, pen)
 }
 
-// The whole screen painted anew: it is cleared, and what differs from blanks is painted.
-fn anew(alloc: Global, profile: &Profile, picture: &Picture) -> Result<Ops, NoMemory>
-    requires { Fits profile.now picture.now }
+// Whether a terminal shows the attributes of a pen.
+fn shows_attributes(profile: &Profile, pen: Pen) -> bool
+    ensures { result ≡ (bit_and (shown_set profile.now) pen.attrs == pen.attrs) }
+{
+    profile.shows().0 & pen.attrs().0 == pen.attrs().0
+}
+
+// Whether a terminal shows the colours of a pen.
+fn shows_colours(profile: &Profile, pen: Pen) -> bool
+    ensures { result ≡ (has_colours profile.now || (is_none pen.foreground && is_none pen.background)) }
+{
+    profile.colours() || (pen.foreground().is_none() && pen.background().is_none())
+}
+
+// The whole screen painted anew: it is cleared, and what differs from blanks is painted, in the shorter of two ways.
+fn anew(
+    alloc: Global,
+    profile: &Profile,
+    memory: &Memory,
+    wanted: &Virtual,
+) -> Result<Ops, NoMemory>
+    requires fits { Fits profile.now wanted.now.picture }
+    requires due { (is_known memory.now && not wanted.now.repaint) ≡ false }
+    ensures { IfOk result (IsPlan profile.now memory.now wanted.now) }
+{
+    run_laws();
+    profiles_have();
+    plans_are_made();
+    joined_is_cheap();
+    plans_are_remembered();
+    grid_laws::<Look>();
+    let _profile = profile.size();
+    let _wanted = wanted.size();
+    let painter = Painter::of(profile);
+    let picture = wanted.picture();
+    let draft = short_anew(alloc, painter, profile, picture)?;
+    let bytes = bytes_anew(alloc, painter, profile, picture)?;
+    if draft.is_worth(bytes, picture.size()) {
+        return Ok(Ops(draft.ops));
+    }
+    joined_anew(alloc, painter, profile, picture)
+}
+
+// How many bytes the joined repaint of a cleared screen has, behind what clears it.
+fn bytes_anew(
+    alloc: Global,
+    painter: Painter,
+    profile: &Profile,
+    picture: &Picture,
+) -> Result<usize, NoMemory>
+    requires painter { painter ≡ painter_of profile.now }
+    requires fits { Fits profile.now picture.now }
+    ensures { IfOk result (λ bytes. bytes ≡ counted_up (length (all_bytes profile.now (painted_anew profile.now picture.now)))) }
+{
+    let mut joining = Joining::on_blanks(profile, Vec::new(alloc), false);
+    joining.join_all(painter, profile, picture)?;
+    Ok(joining.bytes)
+}
+
+// What clears the screen, and the joined repaint of it.
+fn joined_anew(
+    alloc: Global,
+    painter: Painter,
+    profile: &Profile,
+    picture: &Picture,
+) -> Result<Ops, NoMemory>
+    requires painter { painter ≡ painter_of profile.now }
+    requires fits { Fits profile.now picture.now }
     ensures { IfOk result (λ ops. ops ≡ anew_of profile.now picture.now) }
 {
-    let painter = Painter::of(profile);
     let mut ops = Vec::with_capacity(alloc, room_of(picture.size()))?;
     painter.reset(&mut ops)?;
     ops.push(Op::Clear)?;
-    let mut joining = Joining::on_blanks(profile, ops);
+    let mut joining = Joining::on_blanks(profile, ops, true);
     joining.join_all(painter, profile, picture)?;
     Ok(Ops(joining.ops))
 }
 
-// The joined repaint.
+// What differs is painted, in the shorter of two ways.
 fn changes(
     alloc: Global,
     profile: &Profile,
@@ -166,24 +234,100 @@ fn changes(
     requires fits { Fits profile.now wanted.now.picture }
     requires size { IsSizeOf wanted.now.picture memory.now }
     requires same { ShowsOutside (range_by by) profile.now memory.now wanted.now }
+    requires due { (is_known memory.now && not wanted.now.repaint) ≡ true }
     requires known { is_known memory.now ≡ true }
-    requires pen { (is_there profile.now Sgr0 ≡ true) ⊎ (is_plain_pen memory.now.state.pen ≡ true) }
-    ensures { IfOk result (λ ops. ops ≡ joined_of profile.now memory.now wanted.now.picture) }
+    requires pen { IsShownPen (abilities profile.now) memory.now.state.pen }
+    ensures { IfOk result (IsPlan profile.now memory.now wanted.now) }
 {
+    plans_are_made();
+    joined_is_cheap();
+    known_memories();
+    memory_runs();
+    profiles_have();
+    grid_laws::<Look>();
+    let _profile = profile.size();
+    let _wanted = wanted.size();
     let painter = Painter::of(profile);
-    let picture = wanted.picture();
-    if memory.is_placed(picture.wish()) && !differs(painter, profile, memory, wanted, by) {
+    if is_nothing_left(painter, profile, memory, wanted, by) {
         return Ok(Ops(Vec::new(alloc)));
     }
+    let draft = short_changes(alloc, painter, profile, memory, wanted, by)?;
+    let bytes = bytes_of_joined(alloc, painter, profile, memory, wanted, by)?;
+    if draft.is_worth(bytes, wanted.size()) {
+        return Ok(Ops(draft.ops));
+    }
+    joined(alloc, painter, profile, memory, wanted, by)
+}
+
+// Whether no place differs, and the cursor is as wished.
+fn is_nothing_left(
+    painter: Painter,
+    profile: &Profile,
+    memory: &Memory,
+    wanted: &Virtual,
+    by: Looked,
+) -> bool
+    requires painter { painter ≡ painter_of profile.now }
+    requires size { IsSizeOf wanted.now.picture memory.now }
+    requires same { ShowsOutside (range_by by) profile.now memory.now wanted.now }
+    requires known { is_known memory.now ≡ true }
+    ensures none { result ≡ true → is_none_left (differing profile.now wanted.now.picture memory.now) ≡ true }
+    ensures placed { result ≡ true → is_placed memory.now wanted.now.picture.wish ≡ true }
+    ensures some { result ≡ false → (is_none_left (differing profile.now wanted.now.picture memory.now) && is_placed memory.now wanted.now.picture.wish) ≡ false }
+{
+    memory.is_placed(wanted.picture().wish()) && !differs(painter, profile, memory, wanted, by)
+}
+
+// How many bytes the joined repaint has.
+fn bytes_of_joined(
+    alloc: Global,
+    painter: Painter,
+    profile: &Profile,
+    memory: &Memory,
+    wanted: &Virtual,
+    by: Looked,
+) -> Result<usize, NoMemory>
+    requires painter { painter ≡ painter_of profile.now }
+    requires fits { Fits profile.now wanted.now.picture }
+    requires size { IsSizeOf wanted.now.picture memory.now }
+    requires same { ShowsOutside (range_by by) profile.now memory.now wanted.now }
+    requires known { is_known memory.now ≡ true }
+    requires pen { (is_there profile.now Sgr0 ≡ true) ⊎ (is_plain_pen memory.now.state.pen ≡ true) }
+    requires some { (is_none_left (differing profile.now wanted.now.picture memory.now) && is_placed memory.now wanted.now.picture.wish) ≡ false }
+    ensures { IfOk result (λ bytes. bytes ≡ counted_up (length (all_bytes profile.now (joined_of profile.now memory.now wanted.now.picture)))) }
+{
+    let mut joining = Joining::behind(painter, profile, memory, Vec::new(alloc), false)?;
+    joining.join_changes(painter, profile, memory, wanted, by)?;
+    Ok(joining.bytes)
+}
+
+// The joined repaint.
+fn joined(
+    alloc: Global,
+    painter: Painter,
+    profile: &Profile,
+    memory: &Memory,
+    wanted: &Virtual,
+    by: Looked,
+) -> Result<Ops, NoMemory>
+    requires painter { painter ≡ painter_of profile.now }
+    requires fits { Fits profile.now wanted.now.picture }
+    requires size { IsSizeOf wanted.now.picture memory.now }
+    requires same { ShowsOutside (range_by by) profile.now memory.now wanted.now }
+    requires known { is_known memory.now ≡ true }
+    requires pen { (is_there profile.now Sgr0 ≡ true) ⊎ (is_plain_pen memory.now.state.pen ≡ true) }
+    requires some { (is_none_left (differing profile.now wanted.now.picture memory.now) && is_placed memory.now wanted.now.picture.wish) ≡ false }
+    ensures { IfOk result (λ ops. ops ≡ joined_of profile.now memory.now wanted.now.picture) }
+{
     let ops = Vec::with_capacity(alloc, room_of(wanted.size()))?;
-    let mut joining = Joining::behind(painter, profile, memory, ops)?;
+    let mut joining = Joining::behind(painter, profile, memory, ops, true)?;
     joining.join_changes(painter, profile, memory, wanted, by)?;
     Ok(Ops(joining.ops))
 }
 
 // How many operations a line mostly takes: each of its characters, and what leads to them. Room for them spares the lists of most
 // updates from growing.
-fn room_of(size: Size) -> usize {
+pub(crate) fn room_of(size: Size) -> usize {
     size.columns as usize + 12
 }
 

@@ -1,7 +1,7 @@
 //! The runs of a row: places that one visit paints with one pen. Each place that differs is in a run.
 ghost use Rattle.std.specs.Prelude.{◌≡◌, ◌<◌, ◌≤◌, IfOk, IfSome, OnOk, length, option_map};
 ghost use Rattle.scr_cells.specs.Grids.{grid_row};
-ghost use Rattle.scr_plan.specs.Code.Drafts.{HasDiffering, HasPart, KeepsRuns};
+ghost use Rattle.scr_plan.specs.Code.Drafts.{HasDiffering, HasMarks, HasPart, KeepsRuns};
 
 use crate::looking::is_shown_in;
 use crate::painting::Painter;
@@ -57,6 +57,24 @@ impl Painter {
             }
             None => self.add_part(profile, picture, row, cells, before, from, end, runs),
         }
+    }
+
+    // Adds the runs of all places of the rows from one on that are not seen blank.
+    pub(crate) fn add_rows(
+        self,
+        profile: &Profile,
+        picture: &Picture,
+        first: u32,
+        runs: &mut Vec<Run>,
+    ) -> Result<(), NoMemory>
+        ensures kept { OnOk result (KeepsRuns runs.old.items runs.new.items) }
+        ensures has { OnOk result (HasMarks self picture.now runs.new.items first picture.now.rows) }
+    {
+        let size = picture.size();
+        for row in first..size.rows {
+            self.add_row(profile, picture, row, None, 0, size.columns, runs)?;
+        }
+        Ok(())
     }
 
     // The column from which on the rest of a row is to be erased, if that costs less than to write it.

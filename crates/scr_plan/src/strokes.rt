@@ -28,7 +28,7 @@ pub(crate) struct Draft {
 
 impl Draft {
     // Adds an operation, behind which the cursor is here and this pen is on.
-    fn add(&mut self, profile: &Profile, op: Op, spot: Spot, pen: Pen) -> Result<(), NoMemory>
+    pub(crate) fn add(&mut self, profile: &Profile, op: Op, spot: Spot, pen: Pen) -> Result<(), NoMemory>
         ensures { OnOk result (IsAdded profile.now self.old self.new (op ∷ []) spot pen) }
     {
         self.ops.push(op)?;
@@ -285,7 +285,7 @@ impl Draft {
     }
 
     // Turns to a pen by the cheapest turn.
-    fn turn_to(&mut self, profile: &Profile, pen: Pen) -> Result<(), NoMemory>
+    pub(crate) fn turn_to(&mut self, profile: &Profile, pen: Pen) -> Result<(), NoMemory>
         ensures { OnOk result (KeepsEvery profile.now self.old self.new) }
     {
         if self.pen == pen {
@@ -592,7 +592,7 @@ impl Draft {
     }
 
     // Whether the terminal has an erasure, and the cursor is in a place with a plain pen.
-    fn can_erase(&self, profile: &Profile, row: u32, column: u32, op: Op) -> bool
+    pub(crate) fn can_erase(&self, profile: &Profile, row: u32, column: u32, op: Op) -> bool
         ensures has { result ≡ true → has profile.now op ≡ true }
         ensures spot { result ≡ true → self.now.spot ≡ At row column }
         ensures plain { result ≡ true → is_plain_pen self.now.pen ≡ true }

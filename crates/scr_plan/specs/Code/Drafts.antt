@@ -1,5 +1,5 @@
 -- Making a short plan, operation by operation.
-use Rattle.std.specs.Prelude.{ℕ, ◌≡◌, ◌+◌, ◌<◌, ◌≤◌, ◌&&◌, not, leb, Bool, true, false, List, ◌++◌, All, drop, length, Option, Some}
+use Rattle.std.specs.Prelude.{ℕ, ◌≡◌, ◌+◌, ◌<◌, ◌≤◌, ◌&&◌, not, leb, Bool, true, false, List, [], ◌++◌, All, IfSome, drop, length, Option, Some, None, if◌then◌else◌}
 use Rattle.std.specs.List.{list_any}
 use Rattle.scr_cells.specs.Grids.{grid_at, is_in_run}
 use Rattle.scr_cells.specs.LookViews.{LookView, blank}
@@ -7,12 +7,15 @@ use Rattle.scr_cells.specs.PenViews.{PenView, plain_pen}
 use Rattle.scr_cells.specs.PictureViews.{PictureView}
 use Rattle.scr_term.specs.declared.operations.operation.Op.{Op}
 use Rattle.scr_term.specs.declared.operations.operation.Spot.{Spot}
+use Rattle.scr_term.specs.declared.operations.operation.Spot.TheVariants.{At}
 use Rattle.scr_term.specs.Operations.Profiles.{ProfileView, abilities}
 use Rattle.scr_term.specs.Operations.States.{TerminalState, IsState}
 use Rattle.scr_term.specs.Operations.Steps.{runs}
 use Rattle.scr_term.specs.Operations.Texts.{all_bytes, has}
 use Rattle.scr_plan.specs.Code.Joinings.{counted_up}
 use Rattle.scr_plan.specs.Code.Painters.{row_differs}
+use Rattle.scr_plan.specs.Memories.{MemoryView}
+use Rattle.scr_plan.specs.Repaints.{look_eq, look_in}
 use Rattle.scr_plan.specs.Scratch.{look_at}
 use Rattle.scr_plan.specs.declared.painting.Painter.{Painter}
 use Rattle.scr_plan.specs.declared.runs.How.TheVariants.{Write}
@@ -64,12 +67,9 @@ without covers waits place = waits place && not (covers place)
 abbrev pub Covers : ProfileView → PictureView → (ℕ × ℕ → Bool) → Draft → Draft → Type 0
 Covers profile picture covers old new = (waits : ℕ × ℕ → Bool) → Keeps profile picture waits (without covers waits) old new
 
--- the places of a row from one column up to another; those from a row on
+-- the places of a row from one column up to another
 abbrev pub in_part : ℕ → ℕ → ℕ → ℕ × ℕ → Bool
 in_part row from end place = is_in_run row from end place.0 place.1
-
-abbrev pub from_row : ℕ → ℕ × ℕ → Bool
-from_row row place = leb row place.0
 
 -- ---- runs that wait
 
@@ -99,3 +99,32 @@ HasDiffering painter picture row before from end runs =
 -- runs that were visited wait no more: the draft is right while the others do
 abbrev pub Leaves : ProfileView → PictureView → List Run → List Run → Draft → Draft → Type 0
 Leaves profile picture runs left old new = Keeps profile picture (in_runs runs) (in_runs left) old new
+
+-- ---- what is found, and what is made of it
+
+-- a place of a row that is in no run is known to show what is seen of the picture; so in the first n rows
+abbrev pub HasChangesIn : ProfileView → PictureView → MemoryView → List Run → ℕ → Type 0
+HasChangesIn profile picture memory runs r = (c : ℕ) → c < picture.columns → in_runs runs (r, c) ≡ false → look_in memory (r, c) ≡ look_at profile picture (r, c)
+
+abbrev pub HasChanges : ProfileView → PictureView → MemoryView → List Run → ℕ → Type 0
+HasChanges profile picture memory runs n = (r : ℕ) → r < n → HasChangesIn profile picture memory runs r
+
+-- every place from a row on up to another that is not seen blank is in a run
+abbrev pub HasMarks : Painter → PictureView → List Run → ℕ → ℕ → Type 0
+HasMarks painter picture runs first end = (r c : ℕ) → first ≤ r → r < end → c < picture.columns → row_differs painter picture None (r, c) ≡ true → in_runs runs (r, c) ≡ true
+
+-- the rows from one on are blank: there every other place waits; the others wait as before
+abbrev pub wiped : ProfileView → PictureView → ℕ → (ℕ × ℕ → Bool) → ℕ × ℕ → Bool
+wiped profile picture top waits place = if leb top place.0 then not (look_eq blank (look_at profile picture place)) else waits place
+
+abbrev pub Wipes : ProfileView → PictureView → ℕ → Draft → Draft → Type 0
+Wipes profile picture top old new = (waits : ℕ × ℕ → Bool) → Keeps profile picture waits (wiped profile picture top waits) old new
+
+-- runs of rows above one are kept
+abbrev pub KeepsAbove : ℕ → List Run → List Run → Type 0
+KeepsAbove top old new = (place : ℕ × ℕ) → place.0 < top → in_runs old place ≡ true → in_runs new place ≡ true
+
+-- no place waits any more, and the cursor is as wished
+pub record IsDone (profile : ProfileView) (picture : PictureView) (first : List Op) (start : TerminalState) (draft : Draft) : Type 0 where
+  pub right : IsRight profile picture first start (in_runs []) draft
+  pub spot : IfSome picture.wish (λ place. draft.spot ≡ At place.0 place.1)

@@ -1,6 +1,12 @@
 -- Which columns a plan looks at.
-use Rattle.std.specs.Prelude.{ℕ, ◌≡◌, ◌<◌, ◌≤◌, ◌⊎◌, Option, None}
+use Rattle.std.specs.Prelude.{ℕ, ◌≡◌, ◌<◌, ◌≤◌, ◌⊎◌, ◌++◌, List, Option, None}
+use Rattle.scr_cells.specs.PictureViews.{PictureView}
+use Rattle.scr_term.specs.declared.operations.operation.Op.{Op}
+use Rattle.scr_term.specs.Operations.Profiles.{ProfileView}
+use Rattle.scr_term.specs.Operations.States.{blank_state}
 use Rattle.scr_virtual.specs.VirtualViews.{VirtualView, altered_at, range_at}
+use Rattle.scr_plan.specs.Repaints.{cleared, joined_places, without_idle}
+use Rattle.scr_plan.specs.Scratch.{places_cursor, resets}
 use Rattle.scr_plan.specs.declared.planning.Looked.{Looked}
 use Rattle.scr_plan.specs.declared.planning.Looked.TheVariants.{Altered, Changed}
 
@@ -12,3 +18,7 @@ range_by Altered = altered_at
 -- no row has any but those from a first up to an end
 abbrev pub AreNoneByOutside : Looked → VirtualView → ℕ → ℕ → Type 0
 AreNoneByOutside by virtual first end = (r : ℕ) → (r < first) ⊎ (end ≤ r) → r < virtual.picture.rows → range_by by virtual r ≡ None
+
+-- the joined repaint of a cleared screen, behind what clears it
+abbrev pub painted_anew : ProfileView → PictureView → List Op
+painted_anew profile picture = without_idle profile (blank_state profile.rows profile.columns) (joined_places profile picture (cleared picture) ++ resets profile ++ places_cursor picture.wish)

@@ -1,16 +1,29 @@
-use Rattle.std.proofs.Common.{ap, refl, true, [], ◌≡◌, ◌∙◌, ◌++◌, ◌∷◌}
+use Rattle.std.proofs.Common.{ap, false, length, rules, subst, IfOk, ◌≡◌, ◌∙◌, ◌≤◌, ◌+◌, ◌*◌, ◌++◌, ◌∷◌, []}
 use Rattle.scr_term.specs.declared.operations.operation.Op.TheVariants.{Clear}
 use Rattle.scr_term.specs.Operations.States.{blank_state}
-use Rattle.scr_plan.specs.Code.Painters.{painter_resets}
-use Rattle.scr_plan.specs.Repaints.{cleared, joined_places, without_idle}
-use Rattle.scr_plan.specs.Scratch.{places_cursor, resets}
+use Rattle.scr_term.specs.Operations.Texts.{all_bytes}
+use Rattle.scr_plan.specs.Code.Drafts.{IsDone}
+use Rattle.scr_plan.specs.Code.Joinings.{counted_up}
+use Rattle.scr_plan.specs.Code.Planning.{painted_anew}
+use Rattle.scr_plan.specs.Repaints.{anew_of}
+use Rattle.scr_plan.specs.Scratch.{resets}
+use Rattle.scr_plan.proofs.PlanMadeLaws.{sure_plans}
+use Rattle.scr_plan.proofs.ShortPlanLaws.{short_plan_anew}
 use Rattle.scr_plan.proofs.planning.anew.Goals as goal
+
+pub returns-then-is_worth : goal.returns-then-is_worth
+returns-then-is_worth c =
+    let profile = c.args.profile.now in
+    let same = c.picture-picture.ensures in
+    let n = length c.in_ok-draft.draft.ops.items in
+    short_plan_anew c.run_laws.ensures c.profiles_have.ensures c.plans_are_remembered.ensures c.joined_is_cheap.ensures c.grid_laws.ensures profile c.size-profile.ensures.profile c.args.wanted.now c.size-wanted.ensures.screen.picture c.requires.fits c.args.memory.now c.requires.due
+    c.in_ok-draft.draft (subst (λ picture. IsDone profile picture (resets profile ++ Clear ∷ []) (blank_state profile.rows profile.columns) c.in_ok-draft.draft) same c.in_ok-draft.ensures)
+    c.in_ok-bytes.bytes (c.is_worth.ensures.less (search rules)) (c.is_worth.ensures.exact (search rules)) (c.in_ok-bytes.ensures ∙ ap (λ picture. counted_up (length (all_bytes profile (painted_anew profile picture)))) same)
+    (subst (λ rows. n ≤ rows * c.args.wanted.now.picture.columns * 12 + 4) (c.size.ensures.rows ∙ ap (λ p. p.rows) same)
+    (subst (λ columns. n ≤ c.size.result.rows * columns * 12 + 4) (c.size.ensures.columns ∙ ap (λ p. p.columns) same) (c.is_worth.ensures.few (search rules))))
 
 pub returns : goal.returns
 returns c =
     let profile = c.args.profile.now in
-    let picture = c.args.picture.now in
-    let end = c.in_ok-join_all.ensures true c.push.new.self.items (blank_state profile.rows profile.columns) [] c.on_blanks-joining.ensures in
-    let first : c.push.new.self.items ≡ resets profile ++ Clear ∷ [] =
-    c.in_ok-push.ensures.items ∙ ap (λ ops. ops ++ Clear ∷ []) (c.in_ok-reset.ensures ∙ ap (λ ops. ops ++ painter_resets c.of-painter.result) c.in_ok-ops.ensures.items ∙ ap painter_resets c.of-painter.ensures) in
-    end.ops refl ∙ ap (λ ops. ops ++ without_idle profile (blank_state profile.rows profile.columns) (joined_places profile picture (cleared picture) ++ resets profile ++ places_cursor picture.wish)) first
+    sure_plans c.plans_are_made.ensures profile c.size-profile.ensures.profile c.args.wanted.now c.size-wanted.ensures.screen.picture c.requires.fits c.args.memory.now false c.requires.due c.joined_anew.result
+    (subst (λ picture. IfOk c.joined_anew.result (λ ops. ops ≡ anew_of profile picture)) c.picture-picture.ensures c.joined_anew.ensures)

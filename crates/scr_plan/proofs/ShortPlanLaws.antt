@@ -1,0 +1,213 @@
+-- The short plan is all that an update wants, where it has no more bytes than the joined repaint.
+use Rattle.std.proofs.Common.{◌≡◌, ℕ, ◌+◌, ◌*◌, ◌-◌, ◌^◌, ◌<◌, ◌≤◌, ◌==◌, ◌&&◌, ◌||◌, ◌⊎◌, inl, inr, not, leb, Bool, true, false, refl, sym, ◌∙◌, ap, subst, arith, bit_and, List, [], ◌∷◌, ◌++◌, append_assoc, length, Option, Some, None, IfSome}
+use Rattle.std.specs.Option.{is_none}
+use Rattle.std.proofs.lemmas.Bool.Decides.{nat_tests}
+use Rattle.std.proofs.lemmas.List.{append-nil, length-append}
+use Rattle.scr_cells.specs.Grids.{GridLaws, IsGrid, grid_at}
+use Rattle.scr_cells.specs.LookViews.{LookView, blank}
+use Rattle.scr_cells.specs.PenViews.{PenView, IsColour, is_plain_pen, plain_pen}
+use Rattle.scr_cells.specs.PictureViews.{PictureView, IsPicture}
+use Rattle.scr_virtual.specs.VirtualViews.{VirtualView}
+use Rattle.scr_term.specs.declared.operations.capability.Capability.TheVariants.{Sgr0}
+use Rattle.scr_term.specs.declared.operations.operation.Op.{Op}
+use Rattle.scr_term.specs.declared.operations.operation.Op.TheVariants.{Clear}
+use Rattle.scr_term.specs.declared.operations.operation.Spot.TheVariants.{At}
+use Rattle.scr_term.specs.Operations.Abilities.{full_abilities}
+use Rattle.scr_term.specs.Operations.Laws.{BlankLaws, ProfilesHave, RunLaws}
+use Rattle.scr_term.specs.Operations.Profiles.{ProfileView, IsProfile, abilities, has_colours, is_there, shown_set}
+use Rattle.scr_term.specs.Operations.States.{TerminalState, AreShownColours, IsShownPen, IsState, blank_state}
+use Rattle.scr_term.specs.Operations.Steps.{runs}
+use Rattle.scr_term.specs.Operations.Texts.{all_bytes}
+use Rattle.scr_plan.proofs.JoinLaws.{cleared_row}
+use Rattle.scr_plan.proofs.MemoryRunLaws.{agrees_itself}
+use Rattle.scr_plan.proofs.PlaceLaws.{plain_only, then_runs}
+use Rattle.scr_plan.proofs.PlainLaws.{look_same, not_false}
+use Rattle.scr_plan.proofs.RunChangeLaws.{not_in}
+use Rattle.scr_plan.proofs.RunLaws.{leaves_then}
+use Rattle.scr_plan.proofs.ScratchLaws.{cleared_run, grid_is_painted}
+use Rattle.scr_plan.specs.Code.Drafts.{HasChanges, HasMarks, IsDone, IsRight, Leaves, in_runs}
+use Rattle.scr_plan.specs.Code.Joinings.{counted_up}
+use Rattle.scr_plan.specs.Code.Painters.{painter_of, row_differs}
+use Rattle.scr_plan.specs.Code.Planning.{painted_anew}
+use Rattle.scr_plan.specs.Memories.{IsMemory, MemoryView, all_followed, is_known}
+use Rattle.scr_plan.specs.MemoryRuns.{KnownMemories, MemoryRuns, PlansAreRemembered}
+use Rattle.scr_plan.specs.Plans.{IsPlan}
+use Rattle.scr_plan.specs.Repaints.{IsSizeOf, JoinedIsCheap, anew_of, cleared, joined_of, look_eq}
+use Rattle.scr_plan.specs.Scratch.{Fits, RunsToShow, look_at, resets}
+use Rattle.scr_plan.specs.declared.painting.Painter.{Painter}
+use Rattle.scr_plan.specs.declared.runs.Run.{Run}
+use Rattle.scr_plan.specs.declared.strokes.Draft.{Draft}
+
+-- ---- where a draft begins
+
+-- a state that is remembered is one of the profile, where its pen can be shown
+pub state_of : (profile : ProfileView) (memory : MemoryView) → IsMemory memory → memory.rows ≡ profile.rows → memory.columns ≡ profile.columns → IsShownPen (abilities profile) memory.state.pen → IsState (abilities profile) memory.state
+state_of profile memory is rows columns shown =
+    let full : IsState (full_abilities profile.rows profile.columns) memory.state = subst (λ n. IsState (full_abilities profile.rows n) memory.state) columns (subst (λ n. IsState (full_abilities n memory.columns) memory.state) rows is.state) in
+    record { whole = full.whole; looks = full.looks; spot = full.spot; pen = shown }
+
+-- from what is remembered
+pub changes_done : (profile : ProfileView) (picture : PictureView) (memory : MemoryView) → IsState (abilities profile) memory.state → (all some : List Run) → HasChanges profile picture memory all picture.rows → (old mid new : Draft)
+    → old.ops.items ≡ [] → old.bytes ≡ 0 → old.spot ≡ memory.state.spot → old.pen ≡ memory.state.pen → Leaves profile picture all some old mid → Leaves profile picture some [] mid new
+    → IfSome picture.wish (λ place. new.spot ≡ At place.0 place.1) → IsDone profile picture [] memory.state new
+changes_done profile picture memory is all some found old mid new ops bytes spot pen wiped painted placed = record {
+  right =
+      leaves_then profile picture all some [] old mid new wiped painted [] memory.state (record {
+        own = [];
+        ops = ops;
+        now = memory.state;
+        run = refl;
+        state = is;
+        bytes = bytes;
+        spot = sym spot;
+        pen = sym pen;
+        shows = λ r c high wide e. found r high c wide e;
+      });
+  spot = placed;
+}
+
+-- from a cleared screen
+pub anew_done : BlankLaws → (profile : ProfileView) → IsProfile profile → (picture : PictureView) → Fits profile picture → (painter : Painter) → painter ≡ painter_of profile → (all : List Run) → HasMarks painter picture all 0 picture.rows → (old new : Draft) (first : List Op)
+    → old.ops.items ≡ first → old.bytes ≡ 0 → old.spot ≡ At 0 0 → old.pen ≡ plain_pen → Leaves profile picture all [] old new
+    → IfSome picture.wish (λ place. new.spot ≡ At place.0 place.1) → IsDone profile picture first (blank_state profile.rows profile.columns) new
+anew_done laws profile p picture fits painter who all marks old new first ops bytes spot pen painted placed = record {
+  right =
+      painted first (blank_state profile.rows profile.columns) (record {
+        own = [];
+        ops = ops ∙ sym (append-nil first);
+        now = blank_state profile.rows profile.columns;
+        run = refl;
+        state = laws.state profile p;
+        bytes = bytes;
+        spot = sym spot;
+        pen = sym pen;
+        shows = λ r c high wide e.
+            (λ i. grid_at blank (blank_state (sym fits.rows i) (sym fits.columns i)).grid r c)
+            ∙ (cleared_row picture r high).looks c
+            ∙ look_same blank (look_at profile picture (r, c)) (not_false (look_eq blank (look_at profile picture (r, c)))
+            (ap (λ p. row_differs p picture None (r, c)) (sym who) ∙ not_in (row_differs painter picture None (r, c)) (in_runs all (r, c)) (marks r c (omega arith) high wide) e));
+      });
+  spot = placed;
+}
+
+-- ---- what a finished draft shows
+
+done_shows : GridLaws LookView → (profile : ProfileView) (picture : PictureView) → IsPicture picture → Fits profile picture → (first : List Op) (start : TerminalState) (draft : Draft) → (done : IsDone profile picture first start draft) → RunsToShow profile start done.right.own picture
+done_shows grids profile picture k fits first start draft done =
+    let right = done.right in
+    let lines : IsGrid profile.rows profile.columns picture.lines = rw (← fits.rows, ← fits.columns) k.grid in
+    record {
+      new = right.now;
+      run = right.run;
+      shows = record {
+        grid = grid_is_painted grids profile picture lines right.now.grid right.state.whole (λ r c high wide. right.shows r c (omega (arith, high, fits.rows)) (omega (arith, wide, fits.columns)) refl);
+        spot = by picture.wish done.spot;
+      };
+      state = right.state;
+    }
+  where
+    by : (wish : Option (ℕ × ℕ)) → IfSome wish (λ place. draft.spot ≡ At place.0 place.1) → IfSome wish (λ place. done.right.now.spot ≡ At place.0 place.1)
+    by None placed = placed
+    by (Some place) placed = done.right.spot ∙ placed
+
+never : {R : Type 0} (b : Bool) → b ≡ true → b ≡ false → R
+never true e f = (cc)
+never false e f = (cc)
+
+both_true : (a b : Bool) → (a && b) ≡ true → (a ≡ true) × (b ≡ true)
+both_true true true e = (refl, refl)
+both_true true false e = (cc)
+both_true false b e = (cc)
+
+-- counted as no more than what is counted exactly
+few_bytes : (own whole bytes drafted : ℕ) → drafted ≡ counted_up own → drafted ≤ bytes → bytes < 2 ^ 64 - 1 → bytes ≡ counted_up whole → own ≤ whole
+few_bytes own whole bytes drafted counted less exact all = omega (arith, counted, less, exact, all)
+
+-- where all is known
+pub short_plan : KnownMemories → MemoryRuns → JoinedIsCheap → GridLaws LookView → (profile : ProfileView) → IsProfile profile → (virtual : VirtualView) → IsPicture virtual.picture → Fits profile virtual.picture
+    → (memory : MemoryView) → (is_known memory && not virtual.repaint) ≡ true → (draft : Draft) → IsDone profile virtual.picture [] memory.state draft → (bytes : ℕ) → draft.bytes ≤ bytes → bytes < 2 ^ 64 - 1
+    → bytes ≡ counted_up (length (all_bytes profile (joined_of profile memory virtual.picture))) → length draft.ops.items ≤ virtual.picture.rows * virtual.picture.columns * 12 + 4 → IsPlan profile memory virtual draft.ops.items
+short_plan known_laws memory_laws cheap grids profile p virtual k fits memory due draft done bytes less exact all few =
+    let parts = both_true (is_known memory) (not virtual.repaint) due in
+    let known : is_known memory ≡ true = parts.0 in
+    let shown = done_shows grids profile virtual.picture k fits [] memory.state draft done in
+    let ops : done.right.own ≡ draft.ops.items = sym done.right.ops in
+    let shows : RunsToShow profile memory.state draft.ops.items virtual.picture = subst (λ o. RunsToShow profile memory.state o virtual.picture) ops shown in
+    let fewer : length (all_bytes profile draft.ops.items) ≤ length (all_bytes profile (joined_of profile memory virtual.picture)) =
+    subst (λ o. length (all_bytes profile o) ≤ length (all_bytes profile (joined_of profile memory virtual.picture))) ops
+    (few_bytes (length (all_bytes profile done.right.own)) (length (all_bytes profile (joined_of profile memory virtual.picture))) bytes draft.bytes done.right.bytes less exact all) in
+    record {
+      shows = λ old agrees. subst (λ state. RunsToShow profile state draft.ops.items virtual.picture) (known_laws.state (abilities profile) memory old agrees known) shows;
+      anew = λ wished old state. never (not virtual.repaint) parts.1 (ap not wished);
+      known = λ may. memory_laws.stays_known profile p memory memory.state shows.new draft.ops.items (agrees_itself (abilities profile) memory may) shows.run known;
+      few = few;
+      scratch = omega (arith, fewer, cheap.joined profile memory virtual.picture, cheap.plain profile memory virtual.picture);
+      joined = λ _ _. fewer;
+    }
+
+-- where the screen is painted anew
+pub short_plan_anew : RunLaws → ProfilesHave → PlansAreRemembered → JoinedIsCheap → GridLaws LookView → (profile : ProfileView) → IsProfile profile → (virtual : VirtualView) → IsPicture virtual.picture → Fits profile virtual.picture
+    → (memory : MemoryView) → (is_known memory && not virtual.repaint) ≡ false → (draft : Draft) → IsDone profile virtual.picture (resets profile ++ Clear ∷ []) (blank_state profile.rows profile.columns) draft → (bytes : ℕ) → draft.bytes ≤ bytes → bytes < 2 ^ 64 - 1
+    → bytes ≡ counted_up (length (all_bytes profile (painted_anew profile virtual.picture))) → length draft.ops.items ≤ virtual.picture.rows * virtual.picture.columns * 12 + 4 → IsPlan profile memory virtual draft.ops.items
+short_plan_anew laws have remembered cheap grids profile p virtual k fits memory due draft done bytes less exact all few =
+    let picture : PictureView = virtual.picture in
+    let own : List Op = done.right.own in
+    let first : List Op = resets profile ++ Clear ∷ [] in
+    let blanks : TerminalState = blank_state profile.rows profile.columns in
+    let shown = done_shows grids profile picture k fits first blanks draft done in
+    let ops : draft.ops.items ≡ first ++ own = done.right.ops in
+    let anew : (old : TerminalState) → IsState (abilities profile) old → RunsToShow profile old draft.ops.items picture = λ old state. record {
+      new = shown.new;
+      run = ap (λ o. runs profile old o) ops ∙ then_runs laws profile old blanks shown.new first own (cleared_run laws profile (have profile p) old state.pen) shown.run;
+      shows = shown.shows;
+      state = shown.state;
+    } in
+    let fewer : length (all_bytes profile own) ≤ length (all_bytes profile (painted_anew profile picture)) = few_bytes (length (all_bytes profile own)) (length (all_bytes profile (painted_anew profile picture))) bytes draft.bytes done.right.bytes less exact all in
+    let mine : length (all_bytes profile draft.ops.items) ≡ length (all_bytes profile first) + length (all_bytes profile own) =
+    ap (λ o. length (all_bytes profile o)) ops ∙ ap length (laws.bytes profile first own) ∙ length-append (all_bytes profile first) (all_bytes profile own) in
+    let whole : length (all_bytes profile (anew_of profile picture)) ≡ length (all_bytes profile first) + length (all_bytes profile (painted_anew profile picture)) =
+    ap length (laws.bytes profile first (painted_anew profile picture)) ∙ length-append (all_bytes profile first) (all_bytes profile (painted_anew profile picture)) in
+    record {
+      shows = λ old agrees. anew old agrees.is_state;
+      anew = λ wished old state. anew old state;
+      known = λ may.
+          let run = anew memory.state may.state in
+          subst (λ o. is_known (all_followed profile o memory) ≡ true) (sym ops) (remembered.cleared profile p memory may run.new own (ap (λ o. runs profile memory.state o) (sym ops) ∙ run.run));
+      few = few;
+      scratch = omega (arith, fewer, mine, whole, cheap.anew profile picture);
+      joined = λ known calm. never (is_known memory && not virtual.repaint) (ap (λ b. b && not virtual.repaint) known ∙ ap not calm) due;
+    }
+
+-- ---- which pens a terminal can have
+
+shown_colours : (profile : ProfileView) (b : Bool) → has_colours profile ≡ b → (f g : Option ℕ) → AreShownColours true f g → (b || (is_none f && is_none g)) ≡ true → AreShownColours (has_colours profile) f g
+shown_colours profile true there f g full e = subst (λ b. AreShownColours b f g) (sym there) full
+shown_colours profile false there None None full e = subst (λ b. AreShownColours b None None) (sym there) (refl, refl)
+shown_colours profile false there (Some f) g full e = (cc)
+shown_colours profile false there None (Some g) full e = (cc)
+
+pub pen_shown : (profile : ProfileView) (memory : MemoryView) → IsMemory memory → (a b : Bool) → a ≡ (bit_and (shown_set profile) memory.state.pen.attrs == memory.state.pen.attrs) → b ≡ (has_colours profile || (is_none memory.state.pen.foreground && is_none memory.state.pen.background)) → a ≡ true → b ≡ true → IsShownPen (abilities profile) memory.state.pen
+pen_shown profile memory is a b attrs colours first second =
+    let same : (bit_and (shown_set profile) memory.state.pen.attrs == memory.state.pen.attrs) ≡ true = sym attrs ∙ first in
+    record {
+      attrs = grind (arith, nat_tests, same);
+      colours = shown_colours profile (has_colours profile) refl memory.state.pen.foreground memory.state.pen.background is.state.pen.colours (sym colours ∙ second);
+    }
+
+no_colours : (b : Bool) (f g : Option ℕ) → AreShownColours b f g → (b || (is_none f && is_none g)) ≡ true
+no_colours true f g shown = refl
+no_colours false f g shown = λ i. is_none (shown.0 i) && is_none (shown.1 i)
+
+pub pen_not_shown : (profile : ProfileView) (pen : PenView) (a b : Bool) → a ≡ (bit_and (shown_set profile) pen.attrs == pen.attrs) → b ≡ (has_colours profile || (is_none pen.foreground && is_none pen.background)) → (a && b) ≡ false → IsShownPen (abilities profile) pen → ⊥
+pen_not_shown profile pen a b attrs colours wrong shown =
+    let same : (bit_and (shown_set profile) pen.attrs == pen.attrs) ≡ true = grind (arith, nat_tests, shown.attrs) in
+    let all : (a && b) ≡ true = (λ i. (attrs ∙ same) i && (colours ∙ no_colours (has_colours profile) pen.foreground pen.background shown.colours) i) in
+    never (a && b) all wrong
+
+-- a terminal that cannot turn attributes off has a plain pen
+pub resets_or_plain : ProfilesHave → (profile : ProfileView) → IsProfile profile → (pen : PenView) → IsShownPen (abilities profile) pen → (is_there profile Sgr0 ≡ true) ⊎ (is_plain_pen pen ≡ true)
+resets_or_plain have profile p pen shown = by (is_there profile Sgr0) refl
+  where
+    by : (b : Bool) → is_there profile Sgr0 ≡ b → (is_there profile Sgr0 ≡ true) ⊎ (is_plain_pen pen ≡ true)
+    by true there = inl there
+    by false there = inr (ap is_plain_pen (plain_only profile (have profile p) there pen shown))

@@ -1,0 +1,154 @@
+//! The short plan: what differs is found as runs, many lines are erased at once where that is worth it, and the runs are painted.
+ghost use Rattle.std.specs.Prelude.{◌≡◌, ◌<◌, ◌≤◌, ◌+◌, ◌*◌, ◌^◌, ◌-◌, ◌++◌, ◌∷◌, [], IfOk, OnOk, length, true};
+ghost use Rattle.scr_term.specs.declared.operations.operation.Op.TheVariants.{Clear};
+ghost use Rattle.scr_term.specs.Operations.Profiles.{abilities};
+ghost use Rattle.scr_term.specs.Operations.States.{IsShownPen, blank_state};
+ghost use Rattle.scr_plan.specs.Code.Drafts.{HasChanges, HasChangesIn, IsDone, KeepsRuns};
+ghost use Rattle.scr_plan.specs.Code.Painters.{painter_of};
+ghost use Rattle.scr_plan.specs.Code.Planning.{range_by};
+ghost use Rattle.scr_plan.specs.Memories.{is_known};
+ghost use Rattle.scr_plan.specs.Repaints.{IsSizeOf, ShowsOutside};
+ghost use Rattle.scr_plan.specs.Scratch.{Fits, resets};
+
+use crate::memories::Memory;
+use crate::painting::Painter;
+use crate::planning::{Looked, room_of};
+use crate::runs::Run;
+use crate::strokes::Draft;
+use scr_cells::{NoMemory, Pen, Picture, Size};
+use scr_term::{Op, Profile, Spot, blank_laws};
+use scr_virtual::Virtual;
+use std::alloc::Global;
+
+// The short plan of what differs from what is remembered.
+pub(crate) fn short_changes(
+    alloc: Global,
+    painter: Painter,
+    profile: &Profile,
+    memory: &Memory,
+    wanted: &Virtual,
+    by: Looked,
+) -> Result<Draft, NoMemory>
+    requires painter { painter ≡ painter_of profile.now }
+    requires fits { Fits profile.now wanted.now.picture }
+    requires size { IsSizeOf wanted.now.picture memory.now }
+    requires same { ShowsOutside (range_by by) profile.now memory.now wanted.now }
+    requires known { is_known memory.now ≡ true }
+    requires pen { IsShownPen (abilities profile.now) memory.now.state.pen }
+    ensures { IfOk result (IsDone profile.now wanted.now.picture [] memory.now.state) }
+{
+    let _profile = profile.size();
+    let _memory = memory.size();
+    let mut runs = Vec::new(alloc);
+    find_changes(painter, profile, memory, wanted, by, &mut runs)?;
+    let picture = wanted.picture();
+    let mut draft = Draft {
+        ops: Vec::with_capacity(alloc, room_of(picture.size()))?,
+        bytes: 0,
+        spot: memory.remembered_spot(),
+        pen: memory.remembered_pen(),
+    };
+    draft.wipe_if_worth(painter, profile, picture, &mut runs)?;
+    draft.paint_all(alloc, painter, profile, picture, &mut runs)?;
+    Ok(draft)
+}
+
+// The short plan of a cleared screen, behind what clears it.
+pub(crate) fn short_anew(
+    alloc: Global,
+    painter: Painter,
+    profile: &Profile,
+    picture: &Picture,
+) -> Result<Draft, NoMemory>
+    requires painter { painter ≡ painter_of profile.now }
+    requires fits { Fits profile.now picture.now }
+    ensures { IfOk result (IsDone profile.now picture.now (resets profile.now ++ Clear ∷ []) (blank_state profile.now.rows profile.now.columns)) }
+{
+    blank_laws();
+    let _profile = profile.size();
+    let mut runs = Vec::new(alloc);
+    painter.add_rows(profile, picture, 0, &mut runs)?;
+    let mut ops = Vec::with_capacity(alloc, room_of(picture.size()))?;
+    painter.reset(&mut ops)?;
+    ops.push(Op::Clear)?;
+    let mut draft = Draft {
+        ops,
+        bytes: 0,
+        spot: Spot::At(0, 0),
+        pen: Pen::plain(),
+    };
+    draft.paint_all(alloc, painter, profile, picture, &mut runs)?;
+    Ok(draft)
+}
+
+// Finds the runs of all places that differ from what is known of them.
+fn find_changes(
+    painter: Painter,
+    profile: &Profile,
+    memory: &Memory,
+    wanted: &Virtual,
+    by: Looked,
+    runs: &mut Vec<Run>,
+) -> Result<(), NoMemory>
+    requires painter { painter ≡ painter_of profile.now }
+    requires size { IsSizeOf wanted.now.picture memory.now }
+    requires same { ShowsOutside (range_by by) profile.now memory.now wanted.now }
+    requires known { is_known memory.now ≡ true }
+    ensures { OnOk result (HasChanges profile.now wanted.now.picture memory.now runs.new.items wanted.now.picture.rows) }
+{
+    let _size = wanted.size();
+    let (first, end) = by.rows(wanted);
+    for row in first..end {
+        find_in_row(painter, profile, memory, wanted, by, row, runs)?;
+    }
+    Ok(())
+}
+
+// Finds the runs of a row's places that differ from what is known of them.
+fn find_in_row(
+    painter: Painter,
+    profile: &Profile,
+    memory: &Memory,
+    wanted: &Virtual,
+    by: Looked,
+    row: u32,
+    runs: &mut Vec<Run>,
+) -> Result<(), NoMemory>
+    requires painter { painter ≡ painter_of profile.now }
+    requires size { IsSizeOf wanted.now.picture memory.now }
+    requires same { ShowsOutside (range_by by) profile.now memory.now wanted.now }
+    requires known { is_known memory.now ≡ true }
+    requires row { row < wanted.now.picture.rows }
+    ensures kept { OnOk result (KeepsRuns runs.old.items runs.new.items) }
+    ensures has { OnOk result (HasChangesIn profile.now wanted.now.picture memory.now runs.new.items row) }
+{
+    let _size = wanted.size();
+    match by.in_row(wanted, row) {
+        Some((from, last)) => {
+            let looks = Some(memory.looks(row));
+            painter.add_row(
+                profile,
+                wanted.picture(),
+                row,
+                looks,
+                from,
+                last + 1,
+                runs,
+            )
+        }
+        None => Ok(()),
+    }
+}
+
+impl Draft {
+    // Whether a short plan is to be sent: it has no more bytes than the joined repaint, which are known exactly, and not too many
+    // operations.
+    pub(crate) fn is_worth(&self, bytes: usize, size: Size) -> bool
+        ensures less { result ≡ true → self.now.bytes ≤ bytes }
+        ensures exact { result ≡ true → bytes < 2 ^ 64 - 1 }
+        ensures few { result ≡ true → length self.now.ops.items ≤ size.rows * size.columns * 12 + 4 }
+    {
+        let places = size.rows as usize * size.columns as usize;
+        self.bytes <= bytes && bytes < usize::MAX && self.ops.len() <= places * 12 + 4
+    }
+}
