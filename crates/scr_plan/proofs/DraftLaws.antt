@@ -1,22 +1,22 @@
 -- The short plan: what each stroke does to the terminal.
-use Rattle.std.proofs.Common.{◌≡◌, ℕ, ◌+◌, ◌-◌, ◌<◌, ◌≤◌, ◌==◌, ◌&&◌, ◌||◌, not, leb, ltb, nat_le, Bool, true, false, All, refl, sym, ◌∙◌, ap, subst, arith, List, [], ◌∷◌, ◌++◌, append_assoc, drop, length, Option, Some, None, option_and_then, if◌then◌else◌}
+use Rattle.std.proofs.Common.{◌≡◌, ℕ, ◌+◌, ◌-◌, ◌<◌, ◌≤◌, ◌&&◌, not, ltb, nat_le, Bool, true, false, All, refl, sym, ◌∙◌, ap, subst, arith, List, [], ◌∷◌, ◌++◌, append_assoc, drop, length, Some, None, option_and_then, if◌then◌else◌}
 use Rattle.std.proofs.lemmas.Bool.Decides.{nat_tests}
 use Rattle.std.proofs.lemmas.List.{append-nil}
 use Rattle.std.proofs.lemmas.List.Elements.{recursion_from_All}
 use Rattle.std.proofs.Math.Seq.{drop-append_seam}
-use Rattle.scr_cells.specs.CellViews.{CellView, IsCell, blank_cell}
+use Rattle.scr_cells.specs.CellViews.{IsCell, blank_cell}
 use Rattle.scr_cells.specs.Grids.{GridLaws, grid_at, grid_with, is_in_run}
 use Rattle.scr_cells.specs.LookViews.{LookView, blank}
 use Rattle.scr_cells.specs.PenViews.{PenView, is_plain_pen, plain_pen}
 use Rattle.scr_cells.specs.PictureViews.{PictureView, IsPicture, IsPlace}
 use Rattle.scr_term.specs.declared.operations.operation.Op.{Op}
-use Rattle.scr_term.specs.declared.operations.operation.Op.TheVariants.{Clear, EraseBelow, EraseChars, EraseLine, Move, Put}
+use Rattle.scr_term.specs.declared.operations.operation.Op.TheVariants.{EraseChars, EraseLine, Put}
 use Rattle.scr_term.specs.declared.operations.operation.Spot.{Spot}
 use Rattle.scr_term.specs.declared.operations.operation.Spot.TheVariants.{At}
-use Rattle.scr_term.specs.Operations.Laws.{HasLaws, ProfilesHave, RunLaws}
+use Rattle.scr_term.specs.Operations.Laws.{ProfilesHave, RunLaws}
 use Rattle.scr_term.specs.Operations.Leading.{GoesTo, TurnsTo}
-use Rattle.scr_term.specs.Operations.Profiles.{ProfileView, IsProfile, abilities}
-use Rattle.scr_term.specs.Operations.States.{TerminalState, IsState, characters_erased, erased, from_place, rest_of_line_erased, spot_after, written_at}
+use Rattle.scr_term.specs.Operations.Profiles.{ProfileView, IsProfile}
+use Rattle.scr_term.specs.Operations.States.{TerminalState, characters_erased, erased, from_place, rest_of_line_erased, spot_after, written_at}
 use Rattle.scr_term.specs.Operations.Steps.{act, runs, step}
 use Rattle.scr_term.specs.Operations.Texts.{all_bytes, has}
 use Rattle.scr_plan.proofs.JoinedPriceLaws.{price, price_is}

@@ -1,5 +1,5 @@
 -- Runs of all that differs.
-use Rattle.std.proofs.Common.{◌≡◌, ℕ, ◌+◌, ◌<◌, ◌≤◌, ◌==◌, ◌⊎◌, inl, inr, leb, ltb, Bool, true, false, sym, ◌∙◌, ap, subst, arith, List, Option, Some, None}
+use Rattle.std.proofs.Common.{◌≡◌, ℕ, ◌+◌, ◌<◌, ◌≤◌, ◌==◌, inl, inr, leb, ltb, Bool, true, false, sym, ◌∙◌, ap, subst, arith, List, Option, Some, None}
 use Rattle.std.proofs.lemmas.Bool.Decides.{nat_tests}
 use Rattle.scr_cells.specs.Grids.{grid_row}
 use Rattle.scr_cells.specs.LookViews.{LookView}
@@ -8,12 +8,12 @@ use Rattle.scr_virtual.specs.Ranges.{in_range}
 use Rattle.scr_virtual.specs.VirtualViews.{VirtualView}
 use Rattle.scr_term.specs.Operations.Profiles.{ProfileView}
 use Rattle.scr_plan.proofs.JoinedRowLaws.{outside_looks, shows_row}
-use Rattle.scr_plan.proofs.PartLaws.{row_known, same_place}
+use Rattle.scr_plan.proofs.PartLaws.{row_known}
 use Rattle.scr_plan.proofs.PlainLaws.{look_same, not_false}
 use Rattle.scr_plan.specs.Code.Drafts.{HasChanges, HasChangesIn, HasDiffering, KeepsRuns, in_runs}
 use Rattle.scr_plan.specs.Code.Painters.{painter_look, painter_of, row_differs, shown_in}
-use Rattle.scr_plan.specs.Memories.{MemoryView, is_known, is_known_row}
-use Rattle.scr_plan.specs.Repaints.{IsSizeOf, ShowsOutside, differs, look_eq, look_in}
+use Rattle.scr_plan.specs.Memories.{MemoryView, is_known}
+use Rattle.scr_plan.specs.Repaints.{IsSizeOf, ShowsOutside, look_eq, look_in}
 use Rattle.scr_plan.specs.Scratch.{look_at}
 use Rattle.scr_plan.specs.declared.painting.Painter.{Painter}
 use Rattle.scr_plan.specs.declared.runs.Run.{Run}

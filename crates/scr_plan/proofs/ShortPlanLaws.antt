@@ -1,11 +1,11 @@
 -- The short plan is all that an update wants, where it has no more bytes than the joined repaint.
-use Rattle.std.proofs.Common.{◌≡◌, ℕ, ◌+◌, ◌*◌, ◌-◌, ◌^◌, ◌<◌, ◌≤◌, ◌==◌, ◌&&◌, ◌||◌, ◌⊎◌, inl, inr, not, leb, Bool, true, false, refl, sym, ◌∙◌, ap, subst, arith, bit_and, List, [], ◌∷◌, ◌++◌, append_assoc, length, Option, Some, None, IfSome}
+use Rattle.std.proofs.Common.{◌≡◌, ℕ, ◌+◌, ◌*◌, ◌-◌, ◌^◌, ◌<◌, ◌≤◌, ◌==◌, ◌&&◌, ◌||◌, ◌⊎◌, inl, inr, not, Bool, true, false, refl, sym, ◌∙◌, ap, subst, arith, bit_and, List, [], ◌∷◌, ◌++◌, length, Option, Some, None, IfSome}
 use Rattle.std.specs.Option.{is_none}
 use Rattle.std.proofs.lemmas.Bool.Decides.{nat_tests}
 use Rattle.std.proofs.lemmas.List.{append-nil, length-append}
 use Rattle.scr_cells.specs.Grids.{GridLaws, IsGrid, grid_at}
 use Rattle.scr_cells.specs.LookViews.{LookView, blank}
-use Rattle.scr_cells.specs.PenViews.{PenView, IsColour, is_plain_pen, plain_pen}
+use Rattle.scr_cells.specs.PenViews.{PenView, is_plain_pen, plain_pen}
 use Rattle.scr_cells.specs.PictureViews.{PictureView, IsPicture}
 use Rattle.scr_virtual.specs.VirtualViews.{VirtualView}
 use Rattle.scr_term.specs.declared.operations.capability.Capability.TheVariants.{Sgr0}
@@ -25,14 +25,14 @@ use Rattle.scr_plan.proofs.PlainLaws.{look_same, not_false}
 use Rattle.scr_plan.proofs.RunChangeLaws.{not_in}
 use Rattle.scr_plan.proofs.RunLaws.{leaves_then}
 use Rattle.scr_plan.proofs.ScratchLaws.{cleared_run, grid_is_painted}
-use Rattle.scr_plan.specs.Code.Drafts.{HasChanges, HasMarks, IsDone, IsRight, Leaves, in_runs}
+use Rattle.scr_plan.specs.Code.Drafts.{HasChanges, HasMarks, IsDone, Leaves, in_runs}
 use Rattle.scr_plan.specs.Code.Joinings.{counted_up}
 use Rattle.scr_plan.specs.Code.Painters.{painter_of, row_differs}
 use Rattle.scr_plan.specs.Code.Planning.{painted_anew}
 use Rattle.scr_plan.specs.Memories.{IsMemory, MemoryView, all_followed, is_known}
 use Rattle.scr_plan.specs.MemoryRuns.{KnownMemories, MemoryRuns, PlansAreRemembered}
 use Rattle.scr_plan.specs.Plans.{IsPlan}
-use Rattle.scr_plan.specs.Repaints.{IsSizeOf, JoinedIsCheap, anew_of, cleared, joined_of, look_eq}
+use Rattle.scr_plan.specs.Repaints.{JoinedIsCheap, anew_of, joined_of, look_eq}
 use Rattle.scr_plan.specs.Scratch.{Fits, RunsToShow, look_at, resets}
 use Rattle.scr_plan.specs.declared.painting.Painter.{Painter}
 use Rattle.scr_plan.specs.declared.runs.Run.{Run}

@@ -1,5 +1,5 @@
 -- Many lines erased at once.
-use Rattle.std.proofs.Common.{◌≡◌, ℕ, zero, suc, ◌+◌, ◌-◌, ◌<◌, ◌≤◌, ◌==◌, ◌&&◌, ◌||◌, not, leb, ltb, nat_le, nat_lt, Bool, true, false, refl, sym, ◌∙◌, ap, subst, arith, List, [], ◌∷◌, ◌++◌, get_or, length, take, Option, Some, None, Result, Ok, Err, OnOk, if◌then◌else◌}
+use Rattle.std.proofs.Common.{◌≡◌, ℕ, ◌+◌, ◌-◌, ◌<◌, ◌≤◌, ◌==◌, ◌||◌, not, leb, Bool, true, false, refl, sym, ◌∙◌, ap, subst, arith, List, [], ◌∷◌, ◌++◌, get_or, length, take, Some, None, Result, Ok, Err, OnOk, if◌then◌else◌}
 use Rattle.std.proofs.lemmas.Bool.Decides.{nat_tests}
 use Rattle.std.proofs.lemmas.List.{take_more, take_all}
 use Rattle.scr_cells.specs.Grids.{GridLaws, grid_at}
@@ -48,9 +48,13 @@ pub clear_wipes : RunLaws → ProfilesHave → GridLaws LookView → (profile : 
 clear_wipes laws have grids profile p picture fits old new plain added =
     wiped_by laws profile p picture fits 0 old new Clear 0 0
     (λ state at with.
-    let next : TerminalState = record { grid = blank_grid profile.rows profile.columns; spot = At 0 0; pen = state.pen } in
-    (next, one_run profile state next Clear ((have profile p).clear) (ap (λ b. if b then Some next else None) (ap is_plain_pen with ∙ plain)), refl, with,
-    λ r c high wide. blank_there r c high wide ∙ ap (λ b. if b then blank else grid_at blank state.grid r c) (sym (from_first r))))
+    let next : TerminalState = record { grid = blank_grid profile.rows profile.columns; spot = At 0 0; pen = state.pen } in (
+      next,
+      one_run profile state next Clear ((have profile p).clear) (ap (λ b. if b then Some next else None) (ap is_plain_pen with ∙ plain)),
+      refl,
+      with,
+      λ r c high wide. blank_there r c high wide ∙ ap (λ b. if b then blank else grid_at blank state.grid r c) (sym (from_first r)),
+    ))
     added
   where
     blank_there : (r c : ℕ) → r < profile.rows → c < profile.columns → grid_at blank (blank_grid profile.rows profile.columns) r c ≡ blank
@@ -67,10 +71,14 @@ below_wipes laws grids profile p picture fits top old new had here plain added =
     let next : TerminalState = erased profile.rows profile.columns (is_from_place top 0) state in
     let acted : act profile state EraseBelow ≡ Some next =
     ap (λ b. if b then lines_below_erased profile.rows profile.columns state else None) (ap is_plain_pen with ∙ plain)
-    ∙ ap (λ spot. from_place spot (λ r c. if c == 0 then Some (erased profile.rows profile.columns (is_from_place r c) state) else None)) (at ∙ here) in
-    (next, one_run profile state next EraseBelow had acted, at ∙ here, with,
-    λ r c high wide. grids.formula blank profile.rows profile.columns (λ r c. if is_from_place top 0 r c then blank else grid_at blank state.grid r c) r c high wide
-    ∙ ap (λ b. if b then blank else grid_at blank state.grid r c) (inside r c)))
+    ∙ ap (λ spot. from_place spot (λ r c. if c == 0 then Some (erased profile.rows profile.columns (is_from_place r c) state) else None)) (at ∙ here) in (
+      next,
+      one_run profile state next EraseBelow had acted,
+      at ∙ here,
+      with,
+      λ r c high wide. grids.formula blank profile.rows profile.columns (λ r c. if is_from_place top 0 r c then blank else grid_at blank state.grid r c) r c high wide
+          ∙ ap (λ b. if b then blank else grid_at blank state.grid r c) (inside r c),
+    ))
     (subst (λ spot. IsAdded profile old new (EraseBelow ∷ []) spot old.pen) here added)
   where
     inside : (r c : ℕ) → is_from_place top 0 r c ≡ leb top r

@@ -126,15 +126,7 @@ fn find_in_row(
     match by.in_row(wanted, row) {
         Some((from, last)) => {
             let looks = Some(memory.looks(row));
-            painter.add_row(
-                profile,
-                wanted.picture(),
-                row,
-                looks,
-                from,
-                last + 1,
-                runs,
-            )
+            painter.add_row(profile, wanted.picture(), row, looks, from, last + 1, runs)
         }
         None => Ok(()),
     }

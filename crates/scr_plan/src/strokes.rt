@@ -28,7 +28,13 @@ pub(crate) struct Draft {
 
 impl Draft {
     // Adds an operation, behind which the cursor is here and this pen is on.
-    pub(crate) fn add(&mut self, profile: &Profile, op: Op, spot: Spot, pen: Pen) -> Result<(), NoMemory>
+    pub(crate) fn add(
+        &mut self,
+        profile: &Profile,
+        op: Op,
+        spot: Spot,
+        pen: Pen,
+    ) -> Result<(), NoMemory>
         ensures { OnOk result (IsAdded profile.now self.old self.new (op ∷ []) spot pen) }
     {
         self.ops.push(op)?;
@@ -216,7 +222,12 @@ impl Draft {
         grid_laws::<Look>();
         let size = profile.size();
         let _picture = picture.size();
-        self.add(profile, Op::Put(byte), behind(row, column, size.columns), self.pen)
+        self.add(
+            profile,
+            Op::Put(byte),
+            behind(row, column, size.columns),
+            self.pen,
+        )
     }
 
     // Adds a motion, if there is one and it is defined from here.

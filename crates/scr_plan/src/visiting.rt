@@ -116,7 +116,12 @@ impl Draft {
     }
 
     // Leads the cursor to where the picture wishes it, with the pen that is on.
-    fn place(&mut self, painter: Painter, profile: &Profile, picture: &Picture) -> Result<(), NoMemory>
+    fn place(
+        &mut self,
+        painter: Painter,
+        profile: &Profile,
+        picture: &Picture,
+    ) -> Result<(), NoMemory>
         requires painter { painter ≡ painter_of profile.now }
         requires fits { Fits profile.now picture.now }
         ensures keeps { OnOk result (KeepsAll profile.now picture.now self.old self.new) }

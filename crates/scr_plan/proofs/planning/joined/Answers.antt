@@ -1,4 +1,4 @@
-use Rattle.std.proofs.Common.{ap, refl, sym, true, [], ◌≡◌, ◌∙◌, ◌++◌, ◌&&◌, if◌then◌else◌}
+use Rattle.std.proofs.Common.{ap, refl, sym, true, [], ◌∙◌, ◌++◌, if◌then◌else◌}
 use Rattle.scr_plan.specs.Repaints.{joined_places, without_idle}
 use Rattle.scr_plan.specs.Scratch.{places_cursor, resets}
 use Rattle.scr_plan.proofs.JoinedLaws.{joined_assoc}

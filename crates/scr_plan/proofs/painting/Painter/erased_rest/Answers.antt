@@ -1,4 +1,4 @@
-use Rattle.std.proofs.Common.{◌∙◌, option_map}
+use Rattle.std.proofs.Common.{option_map}
 use Rattle.scr_plan.proofs.LookingLaws.{rest_column}
 use Rattle.scr_plan.proofs.painting.Painter.erased_rest.Goals as goal
 

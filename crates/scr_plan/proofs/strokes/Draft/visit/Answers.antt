@@ -1,6 +1,6 @@
 use Rattle.std.proofs.Common.{arith}
 use Rattle.scr_plan.specs.Code.Drafts.{Covers, in_part, is_in}
-use Rattle.scr_plan.proofs.DraftLaws.{covers_empty, run_inside, run_off, then_covers}
+use Rattle.scr_plan.proofs.DraftLaws.{run_inside, then_covers}
 use Rattle.scr_plan.proofs.JoinedRowLaws.{on_ok}
 use Rattle.scr_plan.proofs.strokes.Draft.visit.Goals as goal
 
