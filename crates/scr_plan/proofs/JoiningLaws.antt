@@ -23,7 +23,7 @@ use Rattle.scr_term.specs.Operations.States.{TerminalState, AreShownColours, IsS
 use Rattle.scr_term.specs.Operations.Steps.{act, runs, step}
 use Rattle.scr_term.specs.Operations.Texts.{has}
 use Rattle.scr_plan.proofs.JoinedLaws.{idle_same, plain_is}
-use Rattle.scr_plan.proofs.JoinedPriceLaws.{price, price_is}
+use Rattle.scr_plan.proofs.JoinedPriceLaws.{price, price_is, put_price}
 use Rattle.scr_plan.proofs.PlaceLaws.{at_place, begun_run, move_run, one_run, plain, resets_run, then_runs}
 use Rattle.scr_plan.specs.Code.Joinings.{Continues, IsCounted, IsJoining, counted_up}
 use Rattle.scr_plan.specs.Code.Painters.{moves_unless_there, painter_begins, painter_leads, painter_of, resets_unless_plain}
@@ -139,30 +139,37 @@ busy_becomes profile old new ops run less = record { run = run; kept_run = run; 
 
 -- ---- what a joining becomes
 
--- operations that were added behind the others, and counted
-pub went : RunLaws → (profile : ProfileView) → IsProfile profile → (stores : Bool) (first : List Op) (start : TerminalState) (all : List Op) (old mid new : Joining) (begun : ℕ) (more kept : List Op) (spot : Spot) (pen : PenView) (next : TerminalState)
-    → begun ≡ length old.ops.items → mid.ops.items ≡ old.ops.items ++ kept → mid.bytes ≡ old.bytes → mid.keeps ≡ old.keeps → IsCounted profile mid new begun spot pen
-    → (joining : IsJoining profile stores first start all old) → Becomes profile joining.now next more kept → next.spot ≡ spot → next.pen ≡ pen → IsJoining profile stores first start (all ++ more) new
-went laws profile p stores first start all old mid new begun more kept spot pen next at added bytes keeps counted joining becomes spot_is pen_is =
+-- operations that were added behind the others: counted, and kept where that is asked for
+pub led : RunLaws → (profile : ProfileView) → IsProfile profile → (stores : Bool) (first : List Op) (start : TerminalState) (all : List Op) (old new : Joining) (more kept : List Op) (next : TerminalState)
+    → (old.keeps ≡ true → new.ops.items ≡ old.ops.items ++ kept) → new.bytes ≡ counted_up (old.bytes + price profile kept) → new.keeps ≡ old.keeps
+    → (joining : IsJoining profile stores first start all old) → Becomes profile joining.now next more kept → next.spot ≡ new.spot → next.pen ≡ new.pen → IsJoining profile stores first start (all ++ more) new
+led laws profile p stores first start all old new more kept next added paid keeps joining becomes spot_is pen_is =
     let before : List Op = without_idle profile start all in
     let less : without_idle profile start (all ++ more) ≡ before ++ kept = idle_joined profile start joining.now all more joining.run ∙ ap (λ ops. before ++ ops) becomes.less in
-    let new_ones : drop begun mid.ops.items ≡ kept = (λ i. drop (at i) (added i)) ∙ drop-append_seam old.ops.items kept in
-    let had : All (λ op. has profile op ≡ true) (drop begun mid.ops.items) = subst (All (λ op. has profile op ≡ true)) (sym new_ones) (laws.had profile joining.now next kept becomes.kept_run) in
     let sum : price profile (before ++ kept) ≡ price profile before + price profile kept = (price_is laws profile).joined before kept in
-    let paid : new.bytes ≡ counted_up (mid.bytes + price profile kept) = counted.bytes had ∙ ap (λ ops. counted_up (mid.bytes + price profile ops)) new_ones in
     record {
       now = next;
       run = then_runs laws profile start joining.now next all more joining.run becomes.run;
       state = laws.kept profile p joining.now next joining.state more becomes.run;
-      spot = spot_is ∙ sym counted.spot_is;
-      pen = pen_is ∙ sym counted.pen_is;
-      bytes = paid ∙ omega (arith, bytes, joining.bytes, sum) ∙ sym (ap (λ ops. counted_up (price profile ops)) less);
-      stored = counted.keeps ∙ keeps ∙ joining.stored;
+      spot = spot_is;
+      pen = pen_is;
+      bytes = paid ∙ omega (arith, joining.bytes, sum) ∙ sym (ap (λ ops. counted_up (price profile ops)) less);
+      stored = keeps ∙ joining.stored;
       ops = λ storing.
-          counted.ops (keeps ∙ joining.stored ∙ storing) ∙ added
+          added (joining.stored ∙ storing)
           ∙ ap (λ ops. ops ++ kept) (joining.ops storing) ∙ append_assoc first before kept
           ∙ sym (ap (λ ops. first ++ ops) less);
     }
+
+-- the same of operations that were pushed first and then counted
+pub went : RunLaws → (profile : ProfileView) → IsProfile profile → (stores : Bool) (first : List Op) (start : TerminalState) (all : List Op) (old mid new : Joining) (begun : ℕ) (more kept : List Op) (spot : Spot) (pen : PenView) (next : TerminalState)
+    → begun ≡ length old.ops.items → mid.ops.items ≡ old.ops.items ++ kept → mid.bytes ≡ old.bytes → mid.keeps ≡ old.keeps → IsCounted profile mid new begun spot pen
+    → (joining : IsJoining profile stores first start all old) → Becomes profile joining.now next more kept → next.spot ≡ spot → next.pen ≡ pen → IsJoining profile stores first start (all ++ more) new
+went laws profile p stores first start all old mid new begun more kept spot pen next at added bytes keeps counted joining becomes spot_is pen_is =
+    let new_ones : drop begun mid.ops.items ≡ kept = (λ i. drop (at i) (added i)) ∙ drop-append_seam old.ops.items kept in
+    let had : All (λ op. has profile op ≡ true) (drop begun mid.ops.items) = subst (All (λ op. has profile op ≡ true)) (sym new_ones) (laws.had profile joining.now next kept becomes.kept_run) in
+    led laws profile p stores first start all old new more kept next
+    (λ storing. counted.ops (keeps ∙ storing) ∙ added) (counted.bytes had ∙ (λ i. counted_up (bytes i + price profile (new_ones i)))) (counted.keeps ∙ keeps) joining becomes (spot_is ∙ sym counted.spot_is) (pen_is ∙ sym counted.pen_is)
 
 -- ---- motions and turns
 
@@ -227,15 +234,15 @@ begin_goes laws have profile p picture k painter who place inside pen is old mid
     (begins_become laws have profile p picture k place inside joining.now joining.state) refl (sym is))
 
 -- a character
-pub put_goes : RunLaws → ProfilesHave → (profile : ProfileView) → IsProfile profile → (byte : ℕ) → IsCharacter byte → (old mid new : Joining) (begun r c : ℕ) (spot : Spot) → old.spot ≡ At r c
-    → begun ≡ length old.ops.items → mid.ops.items ≡ old.ops.items ++ Put byte ∷ [] → mid.bytes ≡ old.bytes → mid.keeps ≡ old.keeps → IsCounted profile mid new begun spot old.pen → spot ≡ spot_after profile.columns r c
+pub put_goes : RunLaws → ProfilesHave → (profile : ProfileView) → IsProfile profile → (byte : ℕ) → IsCharacter byte → (old new : Joining) (r c : ℕ) → old.spot ≡ At r c
+    → (old.keeps ≡ true → new.ops.items ≡ old.ops.items ++ Put byte ∷ []) → new.bytes ≡ counted_up (old.bytes + 1) → new.keeps ≡ old.keeps → new.spot ≡ spot_after profile.columns r c → new.pen ≡ old.pen
     → Continues profile old new (Put byte ∷ [])
-put_goes laws have profile p byte is old mid new begun r c spot here at added bytes keeps counted behind stores first start all joining =
+put_goes laws have profile p byte is old new r c here added paid keeps behind pen stores first start all joining =
     let now : TerminalState = joining.now in
     let next : TerminalState = record { grid = grid_with now.grid r c (record { byte = byte; pen = now.pen }); spot = spot_after profile.columns r c; pen = now.pen } in
     let run : runs profile now (Put byte ∷ []) ≡ Some next = one_run profile now next (Put byte) ((have profile p).put byte is) (ap (written_at profile.columns now byte) (joining.spot ∙ here)) in
-    went laws profile p stores first start all old mid new begun (Put byte ∷ []) (Put byte ∷ []) spot old.pen next at added bytes keeps counted joining
-    (busy_becomes profile now next (Put byte ∷ []) run (busy profile now (Put byte) (λ s. refl) [] (λ s. refl))) (sym behind) joining.pen
+    led laws profile p stores first start all old new (Put byte ∷ []) (Put byte ∷ []) next added (paid ∙ ap (λ n. counted_up (old.bytes + n)) (sym (put_price profile byte))) keeps joining
+    (busy_becomes profile now next (Put byte ∷ []) run (busy profile now (Put byte) (λ s. refl) [] (λ s. refl))) (sym behind) (joining.pen ∙ sym pen)
 
 -- the rest of a line is erased
 pub erase_goes : RunLaws → (profile : ProfileView) → IsProfile profile → has profile EraseLine ≡ true → (old mid new : Joining) (begun r c : ℕ) → old.spot ≡ At r c → is_plain_pen old.pen ≡ true

@@ -133,7 +133,7 @@ impl Joining {
         Ok(())
     }
 
-    // A character where the cursor is.
+    // A character where the cursor is: it is counted as one byte, and kept where that is asked for.
     pub(crate) fn put(
         &mut self,
         profile: &Profile,
@@ -151,9 +151,23 @@ impl Joining {
         run_laws();
         profiles_have();
         let size = profile.size();
-        let begun = self.ops.len();
-        self.ops.push(Op::Put(byte))?;
-        self.count(profile, begun, behind(row, column, size.columns), self.pen);
+        self.keep(Op::Put(byte))?;
+        self.bytes = self.bytes.saturating_add(1);
+        self.spot = behind(row, column, size.columns);
+        Ok(())
+    }
+
+    // Keeps an operation, where that is asked for.
+    #[inline(always)]
+    fn keep(&mut self, op: Op) -> Result<(), NoMemory>
+        ensures ops { OnOk result (self.old.keeps ≡ true → self.new.ops.items ≡ self.old.ops.items ++ op ∷ []) }
+        ensures keeps { OnOk result (self.new.keeps ≡ self.old.keeps) }
+        ensures bytes { OnOk result (self.new.bytes ≡ self.old.bytes) }
+        ensures pen { OnOk result (self.new.pen ≡ self.old.pen) }
+    {
+        if self.keeps {
+            self.ops.push(op)?;
+        }
         Ok(())
     }
 
