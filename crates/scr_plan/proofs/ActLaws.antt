@@ -46,7 +46,7 @@ pen_by (Back colour) pen = record pen { background = Some colour }
 pen_by op pen = pen
 
 -- some places are blank then
-abbrev erased_grid : ProfileView → (ℕ → ℕ → Bool) → List (List LookView) → List (List LookView)
+abbrev pub erased_grid : ProfileView → (ℕ → ℕ → Bool) → List (List LookView) → List (List LookView)
 erased_grid profile inside grid = grid_filled profile.rows profile.columns inside (λ _ _. blank) (grid_at blank grid)
 
 -- what is shown then

@@ -1,25 +1,26 @@
 -- What is remembered goes on to agree with the terminal.
-use Rattle.std.proofs.Common.{◌≡◌, ℕ, ◌+◌, ◌<◌, ◌==◌, ◌&&◌, ◌||◌, not, leb, ltb, Bool, true, false, refl, sym, ◌∙◌, ap, subst, arith, bit_and, List, [], ◌∷◌, get_or, length, Option, Some, None, replicate, zero, suc, if◌then◌else◌}
+use Rattle.std.proofs.Common.{◌≡◌, ◌≢◌, ℕ, ◌+◌, ◌<◌, ◌==◌, ◌&&◌, ◌||◌, not, leb, ltb, Bool, true, false, refl, sym, ◌∙◌, ap, subst, arith, bit_and, List, [], ◌∷◌, get_or, length, map, set, Option, Some, None, replicate, zero, suc, if◌then◌else◌}
 use Rattle.std.specs.List.{list_all, range_with_len}
 use Rattle.std.proofs.lemmas.Bool.Decides.{nat_tests}
-use Rattle.std.proofs.lemmas.List.{length-map, length-replicate}
+use Rattle.std.proofs.lemmas.List.{get_or-set_other, length-map, length-replicate, length-set}
 use Rattle.std.proofs.lemmas.List.FromFn.{get_or-map-range_with_len, length-range_with_len}
 use Rattle.std.proofs.lemmas.Nat.{and_le_l}
-use Rattle.scr_cells.specs.Grids.{GridLaws, grid_at, grid_row}
+use Rattle.scr_cells.specs.Grids.{GridLaws, IsGrid, grid_at, grid_row, is_in_run}
 use Rattle.scr_cells.specs.LookViews.{LookView, blank}
 use Rattle.scr_cells.specs.PenViews.{PenView, plain_pen}
 use Rattle.scr_term.specs.declared.operations.operation.Op.{Op}
 use Rattle.scr_term.specs.declared.operations.operation.Op.TheVariants.{Home, Move, Clear, EraseLine, EraseBelow, EraseChars, Reset, Set, Put}
 use Rattle.scr_term.specs.declared.operations.operation.Spot.{Spot}
+use Rattle.scr_term.specs.declared.operations.operation.Spot.TheVariants.{At, Margin}
 use Rattle.scr_term.specs.Operations.Abilities.{Abilities}
 use Rattle.scr_term.specs.Operations.Laws.{StepsKeepStates}
 use Rattle.scr_term.specs.Operations.Profiles.{ProfileView, IsProfile, abilities}
 use Rattle.scr_term.specs.Operations.States.{TerminalState, AreShownColours, IsShownPen, IsState}
 use Rattle.scr_term.specs.Operations.Steps.{act, step}
 use Rattle.scr_term.specs.Operations.Texts.{has}
-use Rattle.scr_plan.proofs.ActLaws.{Acts, acts, grid_by, pen_by, rows_same, spot_by}
-use Rattle.scr_plan.proofs.ScratchLaws.{grid_same}
-use Rattle.scr_plan.specs.Memories.{Agrees, IsDisturbance, IsWithout, MemoryLaws, MemoryView, changes_cells, clears, disturbed, followed, forgotten, has_one_pen, is_known, is_known_row, places_spot, sets_pen, stepped}
+use Rattle.scr_plan.proofs.ActLaws.{Acts, acts, erased_grid, grid_by, pen_by, rows_same, spot_by}
+use Rattle.scr_plan.proofs.ScratchLaws.{grid_same, map_same}
+use Rattle.scr_plan.specs.Memories.{Agrees, IsDisturbance, IsWithout, MemoryLaws, MemoryView, changes_cells, clears, disturbed, followed, forgotten, has_one_pen, is_known, is_known_row, places_spot, rows_erased, sets_pen, stepped}
 
 -- ---- truth values
 
@@ -149,17 +150,46 @@ had profile old new op e = there (has profile op) e
     there true e = e
     there false e = (cc)
 
+-- every place of a row is erased
+whole_row : (profile : ProfileView) (inside : ℕ → ℕ → Bool) (a b : List (List LookView)) (r : ℕ) → r < profile.rows → ((c : ℕ) → c < profile.columns → inside r c ≡ true) → grid_row (erased_grid profile inside a) r ≡ grid_row (erased_grid profile inside b) r
+whole_row profile inside a b r high all =
+    let at : 0 + r ≡ r = omega arith in
+    get_or-map-range_with_len (λ r. map (λ c. if inside r c then blank else grid_at blank a r c) (range_with_len 0 profile.columns)) 0 profile.rows r r [] high at
+    ∙ map_same (λ c. if inside r c then blank else grid_at blank a r c) (λ c. if inside r c then blank else grid_at blank b r c) profile.columns 0
+    (λ c wide. ap (λ t. if t then blank else grid_at blank a r c) (all c (omega (arith, wide))) ∙ sym (ap (λ t. if t then blank else grid_at blank b r c) (all c (omega (arith, wide)))))
+    ∙ sym (get_or-map-range_with_len (λ r. map (λ c. if inside r c then blank else grid_at blank b r c) (range_with_len 0 profile.columns)) 0 profile.rows r r [] high at)
+
+-- a row that is known after an operation where the cursor and the pen are known
+erased_after : (profile : ProfileView) (op : Op) (spot : Spot) (pen : PenView) (a b : List (List LookView)) → IsGrid profile.rows profile.columns a → IsGrid profile.rows profile.columns b → (rows : List Bool) (r : ℕ) → r < profile.rows
+    → (get_or rows r false ≡ true → grid_row a r ≡ grid_row b r) → get_or (rows_erased op (spot_by profile.columns op spot) rows) r false ≡ true
+    → grid_row (grid_by profile op spot pen a) r ≡ grid_row (grid_by profile op spot pen b) r
+erased_after profile EraseLine (At r0 zero) pen a b first second rows r high same known = by (r == r0) refl
+  where
+    by : (t : Bool) → (r == r0) ≡ t → grid_row (grid_by profile EraseLine (At r0 0) pen a) r ≡ grid_row (grid_by profile EraseLine (At r0 0) pen b) r
+    by true e = whole_row profile (is_in_run r0 0 profile.columns) a b r high (λ c wide. grind (arith, nat_tests))
+    by false e =
+        let other : r ≢ r0 = λ at. false_is_not (r == r0) e (grind (arith, nat_tests)) in
+        rows_same profile EraseLine (At r0 0) pen a b first second r high (same (sym (get_or-set_other rows r0 r true false other) ∙ known))
+erased_after profile EraseLine (At r0 (suc c)) pen a b first second rows r high same known = rows_same profile EraseLine (At r0 (suc c)) pen a b first second r high (same known)
+erased_after profile EraseLine (Margin r0) pen a b first second rows r high same known = rows_same profile EraseLine (Margin r0) pen a b first second r high (same known)
+erased_after profile op spot pen a b first second rows r high same known = rows_same profile op spot pen a b first second r high (same known)
+
+-- an operation that changes no cell erases no row
+not_erased : (op : Op) (spot : Spot) (rows : List Bool) → changes_cells op ≡ false → rows_erased op spot rows ≡ rows
+not_erased EraseLine spot rows e = (cc)
+not_erased op spot rows e = refl
+
 -- both states after an operation, from two that it was defined from
 rows_after : (profile : ProfileView) (memory : MemoryView) (old new next : TerminalState) (op : Op) → Agrees (abilities profile) memory old
     → Acts profile op old.grid old.spot old.pen new → Acts profile op memory.state.grid memory.state.spot memory.state.pen next
     → (r : ℕ) → r < profile.rows → (clear change know : Bool) → clears op ≡ clear → changes_cells op ≡ change → (memory.known_spot && memory.known_pen) ≡ know
-    → get_or (if clear then replicate (length memory.known_rows) true else (if change && not know then replicate (length memory.known_rows) false else memory.known_rows)) r false ≡ true
+    → get_or (if clear then replicate (length memory.known_rows) true else (if change && not know then replicate (length memory.known_rows) false else rows_erased op next.spot memory.known_rows)) r false ≡ true
     → grid_row new.grid r ≡ grid_row next.grid r
 rows_after profile memory old new next op agrees a b r h true change know ce he ke known =
     ap (λ g. grid_row g r) (a.grid_is ∙ cleared_same profile op old.spot memory.state.spot old.pen memory.state.pen old.grid memory.state.grid ce ∙ sym b.grid_is)
 rows_after profile memory old new next op agrees a b r h false false know ce he ke known =
     ap (λ g. grid_row g r) (a.grid_is ∙ kept_same profile op old.spot old.pen old.grid ce he)
-    ∙ agrees.rows r h known
+    ∙ agrees.rows r h (sym (ap (λ rows. get_or rows r false) (not_erased op next.spot memory.known_rows he)) ∙ known)
     ∙ ap (λ g. grid_row g r) (sym (b.grid_is ∙ kept_same profile op memory.state.spot memory.state.pen memory.state.grid ce he))
 rows_after profile memory old new next op agrees a b r h false true false ce he ke known = false_is_not _ (no_row (length memory.known_rows) r) known
 rows_after profile memory old new next op agrees a b r h false true true ce he ke known =
@@ -167,13 +197,20 @@ rows_after profile memory old new next op agrees a b r h false true true ce he k
     let spot : old.spot ≡ memory.state.spot = agrees.spot parts.0 in
     let pen : old.pen ≡ memory.state.pen = agrees.pen parts.1 in
     ap (λ g. grid_row g r) (a.grid_is ∙ (λ i. grid_by profile op (spot i) (pen i) old.grid))
-    ∙ rows_same profile op memory.state.spot memory.state.pen old.grid memory.state.grid agrees.is_state.whole agrees.may_be.whole r h (agrees.rows r h known)
+    ∙ erased_after profile op memory.state.spot memory.state.pen old.grid memory.state.grid agrees.is_state.whole agrees.may_be.whole memory.known_rows r h (agrees.rows r h)
+    (ap (λ s. get_or (rows_erased op s memory.known_rows) r false) (sym b.spot_is) ∙ known)
     ∙ ap (λ g. grid_row g r) (sym b.grid_is)
 
-high_after : (op : Op) (memory : MemoryView) (a b : Bool) → length (if a then replicate (length memory.known_rows) true else (if b then replicate (length memory.known_rows) false else memory.known_rows)) ≡ length memory.known_rows
-high_after op memory true b = length-replicate (length memory.known_rows) true
-high_after op memory false true = length-replicate (length memory.known_rows) false
-high_after op memory false false = refl
+as_many : (op : Op) (spot : Spot) (rows : List Bool) → length (rows_erased op spot rows) ≡ length rows
+as_many EraseLine (At r zero) rows = length-set rows r true
+as_many EraseLine (At r (suc c)) rows = refl
+as_many EraseLine (Margin r) rows = refl
+as_many op spot rows = refl
+
+high_after : (op : Op) (spot : Spot) (memory : MemoryView) (a b : Bool) → length (if a then replicate (length memory.known_rows) true else (if b then replicate (length memory.known_rows) false else rows_erased op spot memory.known_rows)) ≡ length memory.known_rows
+high_after op spot memory true b = length-replicate (length memory.known_rows) true
+high_after op spot memory false true = length-replicate (length memory.known_rows) false
+high_after op spot memory false false = as_many op spot memory.known_rows
 
 stepped_agrees : StepsKeepStates → (profile : ProfileView) → IsProfile profile → (memory : MemoryView) (old new : TerminalState) (op : Op)
     → Agrees (abilities profile) memory old → step profile old op ≡ Some new → (next : Option TerminalState) → step profile memory.state op ≡ next
@@ -188,7 +225,7 @@ stepped_agrees keep profile p memory old new op agrees e (Some next) n =
     record {
       is_state = new_is;
       may_be = next_is;
-      high = high_after op memory (clears op) (changes_cells op && not (memory.known_spot && memory.known_pen)) ∙ agrees.high;
+      high = high_after op next.spot memory (clears op) (changes_cells op && not (memory.known_spot && memory.known_pen)) ∙ agrees.high;
       rows = λ r h known. rows_after profile memory old new next op agrees a b r h (clears op) (changes_cells op) (memory.known_spot && memory.known_pen) refl refl refl known;
       spot = λ known. a.spot_is ∙ either memory.known_spot (places_spot op) known
           (λ k. ap (spot_by profile.columns op) (agrees.spot k))
@@ -226,12 +263,24 @@ known_state grids abilities memory old agrees e =
     let pen : old.pen ≡ memory.state.pen = agrees.pen most.1 in
     λ i. record { grid = grid i; spot = sym spot i; pen = sym pen i }
 
-still_known : (op : Op) (memory : MemoryView) (a b c d : Bool) → list_all (λ known. known) memory.known_rows ≡ true → memory.known_spot ≡ true → memory.known_pen ≡ true
-    → (list_all (λ known. known) (if a then replicate (length memory.known_rows) true else (if b && not (memory.known_spot && memory.known_pen) then replicate (length memory.known_rows) false else memory.known_rows))
+still_set : (rows : List Bool) (r : ℕ) → list_all (λ known. known) rows ≡ true → list_all (λ known. known) (set rows r true) ≡ true
+still_set [] r e = refl
+still_set (known ∷ rows) zero e = (both known (list_all (λ known. known) rows) e).1
+still_set (true ∷ rows) (suc r) e = still_set rows r e
+still_set (false ∷ rows) (suc r) e = (cc)
+
+still_erased : (op : Op) (spot : Spot) (rows : List Bool) → list_all (λ known. known) rows ≡ true → list_all (λ known. known) (rows_erased op spot rows) ≡ true
+still_erased EraseLine (At r zero) rows e = still_set rows r e
+still_erased EraseLine (At r (suc c)) rows e = e
+still_erased EraseLine (Margin r) rows e = e
+still_erased op spot rows e = e
+
+still_known : (op : Op) (spot : Spot) (memory : MemoryView) (a b c d : Bool) → list_all (λ known. known) memory.known_rows ≡ true → memory.known_spot ≡ true → memory.known_pen ≡ true
+    → (list_all (λ known. known) (if a then replicate (length memory.known_rows) true else (if b && not (memory.known_spot && memory.known_pen) then replicate (length memory.known_rows) false else rows_erased op spot memory.known_rows))
     && (memory.known_spot || c) && (memory.known_pen || sets_pen op || d)) ≡ true
-still_known op memory true b c d rows spot pen = rw (spot, pen) (ap (λ x. x && true && true) (known_all (length memory.known_rows)))
-still_known op memory false true c d rows spot pen = rw (spot, pen) (ap (λ x. x && true && true) rows)
-still_known op memory false false c d rows spot pen = rw (spot, pen) (ap (λ x. x && true && true) rows)
+still_known op s memory true b c d rows spot pen = rw (spot, pen) (ap (λ x. x && true && true) (known_all (length memory.known_rows)))
+still_known op s memory false true c d rows spot pen = rw (spot, pen) (ap (λ x. x && true && true) (still_erased op s memory.known_rows rows))
+still_known op s memory false false c d rows spot pen = rw (spot, pen) (ap (λ x. x && true && true) (still_erased op s memory.known_rows rows))
 
 pub stays_known : GridLaws LookView → (profile : ProfileView) → IsProfile profile → (memory : MemoryView) (old new : TerminalState) (op : Op)
     → Agrees (abilities profile) memory old → step profile old op ≡ Some new → is_known memory ≡ true → is_known (followed profile op memory) ≡ true
@@ -241,7 +290,7 @@ stays_known grids profile p memory old new op agrees e known =
     let most = both (list_all (λ known. known) memory.known_rows && memory.known_spot) memory.known_pen known in
     let parts = both (list_all (λ known. known) memory.known_rows) memory.known_spot most.0 in
     ap (λ next. is_known (stepped (abilities profile) op memory next)) there
-    ∙ still_known op memory (clears op) (changes_cells op) (places_spot op) (has_one_pen (abilities profile)) parts.0 parts.1 most.1
+    ∙ still_known op new.spot memory (clears op) (changes_cells op) (places_spot op) (has_one_pen (abilities profile)) parts.0 parts.1 most.1
 
 pub memory_laws : StepsKeepStates → GridLaws LookView → MemoryLaws
 memory_laws keep grids = record { follows = follows keep; stays_known = stays_known grids; forgets = forgets; others = others; marks = marks; marks_join = marks_join }

@@ -1,5 +1,5 @@
 -- Steps on what is remembered, and what is true of it after them.
-use Rattle.std.proofs.Common.{◌≡◌, ℕ, ◌+◌, Bool, true, false, sym, ◌∙◌, ap, refl, arith, List, length, Option, Some, None, replicate, ◌<◌, ◌&&◌, leb, ltb}
+use Rattle.std.proofs.Common.{◌≡◌, ℕ, ◌+◌, Bool, true, false, sym, ◌∙◌, ap, refl, arith, List, [], ◌∷◌, length, set, zero, suc, Option, Some, None, replicate, ◌<◌, ◌&&◌, leb, ltb}
 use Rattle.std.specs.List.{list_all}
 use Rattle.std.specs.Option.{is_some}
 use Rattle.std.proofs.lemmas.List.{length-replicate}
@@ -50,3 +50,18 @@ pub same_size : (abilities : Abilities) (op : Op) (memory : MemoryView) (next : 
     → ((stepped abilities op memory next).rows ≡ memory.rows) × ((stepped abilities op memory next).columns ≡ memory.columns)
 same_size abilities op memory None = (refl, refl)
 same_size abilities op memory (Some next) = (refl, refl)
+
+-- ---- one row
+
+set_known : (rows : List Bool) (r : ℕ) → list_all (λ k. k) rows ≡ true → rows ≡ set rows r true
+set_known [] r e = refl
+set_known (true ∷ rows) zero e = refl
+set_known (false ∷ rows) zero e = (cc)
+set_known (true ∷ rows) (suc r) e = ap (λ more. true ∷ more) (set_known rows r e)
+set_known (false ∷ rows) (suc r) e = (cc)
+
+-- where all rows are known, to know one changes nothing
+pub one_kept : (memory view : MemoryView) (all : Bool) (r : ℕ) → memory ≡ view → IsKept memory all → all ≡ true → view ≡ record view { known_rows = set view.known_rows r true }
+one_kept memory view all r is kept e =
+    let known : list_all (λ k. k) view.known_rows ≡ true = ap (λ (m : MemoryView). list_all (λ k. k) m.known_rows) (sym is) ∙ sym kept.every ∙ e in
+    ap (λ rows. record view { known_rows = rows }) (set_known view.known_rows r known)

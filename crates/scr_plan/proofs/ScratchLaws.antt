@@ -84,7 +84,7 @@ each_painted laws place_law grids profile p picture k (place ∷ list) inside ol
 
 -- ---- the grid is then the painted picture
 
-map_same : {A : Type 0} (f g : ℕ → A) (n a : ℕ) → ((k : ℕ) → k < a + n → f k ≡ g k) → map f (range_with_len a n) ≡ map g (range_with_len a n)
+pub map_same : {A : Type 0} (f g : ℕ → A) (n a : ℕ) → ((k : ℕ) → k < a + n → f k ≡ g k) → map f (range_with_len a n) ≡ map g (range_with_len a n)
 map_same f g zero a same = refl
 map_same f g (suc n) a same = λ i. same a (omega arith) i ∷ map_same f g n (a + 1) (λ k below. same k (omega (arith, below))) i
 

@@ -1,6 +1,6 @@
 -- What is remembered of a terminal between updates. curs_refresh(3X), 'physical screen'; X/Open Curses Issue 7, clearok(),
 -- redrawwin().
-use Rattle.std.specs.Prelude.{ℕ, ◌≡◌, ◌+◌, ◌<◌, ◌==◌, ◌&&◌, ◌||◌, not, leb, ltb, Bool, true, false, List, [], ◌∷◌, length, map, replicate, slice_index_or, Option, Some, None, if◌then◌else◌}
+use Rattle.std.specs.Prelude.{ℕ, zero, ◌≡◌, ◌+◌, ◌<◌, ◌==◌, ◌&&◌, ◌||◌, not, leb, ltb, Bool, true, false, List, [], ◌∷◌, length, map, replicate, slice_index_or, slice_set, Option, Some, None, if◌then◌else◌}
 use Rattle.std.specs.List.{list_all, range_with_len}
 use Rattle.scr_cells.specs.Grids.{grid_row}
 use Rattle.scr_cells.specs.LookViews.{LookView}
@@ -9,6 +9,7 @@ use Rattle.scr_cells.specs.PictureViews.{IsSize}
 use Rattle.scr_term.specs.declared.operations.operation.Op.{Op}
 use Rattle.scr_term.specs.declared.operations.operation.Op.TheVariants.{Home, Move, Clear, EraseLine, EraseBelow, EraseChars, Reset, Set, Put}
 use Rattle.scr_term.specs.declared.operations.operation.Spot.{Spot}
+use Rattle.scr_term.specs.declared.operations.operation.Spot.TheVariants.{At}
 use Rattle.scr_term.specs.Operations.Abilities.{Abilities, full_abilities}
 use Rattle.scr_term.specs.Operations.Profiles.{ProfileView, IsProfile, abilities}
 use Rattle.scr_term.specs.Operations.States.{TerminalState, IsState, blank_state}
@@ -126,19 +127,24 @@ clears op = false
 abbrev pub has_one_pen : Abilities → Bool
 has_one_pen abilities = abilities.shown == 0 && not abilities.colours
 
--- The rows that are known after an operation: all of a screen that was cleared; none where it is not known where or how cells
--- were changed.
-abbrev pub rows_followed : Op → MemoryView → List Bool
-rows_followed op memory =
+-- a row that is erased from its first column on is known then
+abbrev pub rows_erased : Op → Spot → List Bool → List Bool
+rows_erased EraseLine (At r zero) rows = slice_set rows r true
+rows_erased op spot rows = rows
+
+-- The rows that are known after an operation that led to a state: all of a screen that was cleared; none where it is not known where or how
+-- cells were changed; else those that were, and one that was erased whole.
+abbrev pub rows_followed : Op → MemoryView → TerminalState → List Bool
+rows_followed op memory next =
     if clears op then replicate (length memory.known_rows) true
-    else (if changes_cells op && not (memory.known_spot && memory.known_pen) then replicate (length memory.known_rows) false else memory.known_rows)
+    else (if changes_cells op && not (memory.known_spot && memory.known_pen) then replicate (length memory.known_rows) false else rows_erased op next.spot memory.known_rows)
 
 -- a state that the terminal may be in, and what is known of it, after an operation that it made
 abbrev pub stepped : Abilities → Op → MemoryView → Option TerminalState → MemoryView
 stepped abilities op memory None = forgotten memory
 stepped abilities op memory (Some next) = record memory {
   state = next;
-  known_rows = rows_followed op memory;
+  known_rows = rows_followed op memory next;
   known_spot = memory.known_spot || places_spot op;
   known_pen = memory.known_pen || sets_pen op || has_one_pen abilities;
 }

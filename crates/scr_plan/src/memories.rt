@@ -1,11 +1,11 @@
 //! What is remembered of a terminal between updates. What is true of it is in `specs/Memories.antt`.
-ghost use Rattle.std.specs.Prelude.{ℕ, ◌≡◌, ◌+◌, ◌≤◌, ◌<◌, ◌&&◌, leb, ltb, false, true, Some, IfOk, IfSome, length, option_map, replicate, take};
+ghost use Rattle.std.specs.Prelude.{ℕ, ◌≡◌, ◌+◌, ◌≤◌, ◌<◌, ◌&&◌, leb, ltb, false, true, Some, IfOk, IfSome, length, option_map, replicate, slice_set, take};
 ghost use Rattle.std.specs.List.{list_all};
 ghost use Rattle.std.specs.Option.{is_some};
 ghost use Rattle.scr_term.specs.Operations.Profiles.{abilities};
 ghost use Rattle.scr_term.specs.Operations.States.{IsSpot};
 ghost use Rattle.scr_term.specs.Operations.Steps.{step};
-ghost use Rattle.scr_plan.specs.Memories.{IsMemory, all_followed, changes_cells, clears, disturbed, followed, forgotten, has_one_pen, is_known, is_known_row, pen_if_known, places_spot, row_looks, rows_followed, sets_pen, spot_if_known, stepped, unknown};
+ghost use Rattle.scr_plan.specs.Memories.{IsMemory, all_followed, changes_cells, clears, disturbed, followed, forgotten, has_one_pen, is_known, is_known_row, pen_if_known, places_spot, row_looks, rows_erased, rows_followed, sets_pen, spot_if_known, stepped, unknown};
 ghost use Rattle.scr_plan.specs.Repaints.{is_placed};
 ghost use Rattle.scr_cells.specs.Grids.{grid_row};
 ghost use Rattle.scr_plan.specs.Code.Remembering.{gone_to, is_character_op, without_run};
@@ -284,15 +284,40 @@ impl Memory {
         self.pen = self.pen || sets_pen(op) || has_one_pen(profile);
     }
 
-    // Which rows are known after an operation that was defined.
+    // Which rows are known after an operation that was defined, and that led to the remembered state.
     fn learn_rows(&mut self, op: Op)
-        ensures { self.new ≡ record self.old { known_rows = rows_followed op self.old } }
+        ensures { self.new ≡ record self.old { known_rows = rows_followed op self.old self.old.state } }
     {
         if clears(op) {
             self.know_rows();
         } else if changes_cells(op) && !(self.spot && self.pen) {
             self.set_rows(false);
+        } else {
+            self.learn_erased(op);
         }
+    }
+
+    // A row that was erased from its first column on is known.
+    fn learn_erased(&mut self, op: Op)
+        ensures { self.new ≡ record self.old { known_rows = rows_erased op self.old.state.spot self.old.known_rows } }
+    {
+        if op != Op::EraseLine {
+            return;
+        }
+        if let Spot::At(row, 0) = self.terminal.spot() {
+            self.know_row(row);
+        }
+    }
+
+    // A row is known; where all were, nothing is done.
+    fn know_row(&mut self, row: u32)
+        ensures { self.new ≡ record self.old { known_rows = slice_set self.old.known_rows row true } }
+    {
+        if self.all_rows {
+            return;
+        }
+        set_one(&mut self.rows, row as usize);
+        self.all_rows = are_all(&self.rows);
     }
 
     // Every row is known; where all were, nothing is done.
@@ -329,6 +354,15 @@ fn set_all(rows: &mut [bool], known: bool)
 {
     for row in 0..rows.len() {
         rows[row] = known;
+    }
+}
+
+// True in one place, if there is one.
+fn set_one(rows: &mut [bool], row: usize)
+    ensures { rows.new ≡ slice_set rows.old row true }
+{
+    if row < rows.len() {
+        rows[row] = true;
     }
 }
 
