@@ -38,7 +38,7 @@ use Rattle.scr_plan.specs.declared.strokes.Draft.{Draft}
 
 -- fewer places may wait, where those that do not are right
 pub weaker_inside : (profile : ProfileView) (picture : PictureView) (waits less : ℕ × ℕ → Bool) (draft : Draft) → ((r c : ℕ) → r < picture.rows → c < picture.columns → less (r, c) ≡ false → waits (r, c) ≡ false) → Keeps profile picture waits less draft draft
-weaker_inside profile picture waits less draft more first start right = record {
+weaker_inside profile picture waits less draft more paid first start right = record {
   own = right.own;
   ops = right.ops;
   now = right.now;
@@ -54,11 +54,11 @@ pub weaker : (profile : ProfileView) (picture : PictureView) (waits less : ℕ �
 weaker profile picture waits less draft more = weaker_inside profile picture waits less draft (λ r c high wide e. more (r, c) e)
 
 -- operations more, which lead to a state in which every place that does not wait is right
-pub drawn : RunLaws → (profile : ProfileView) → IsProfile profile → (picture : PictureView) (first : List Op) (start : TerminalState) (waits less : ℕ × ℕ → Bool) (old new : Draft) (more : List Op) (spot : Spot) (pen : PenView)
-    → IsAdded profile old new more spot pen → (right : IsRight profile picture first start waits old) → (next : TerminalState) → runs profile right.now more ≡ Some next → next.spot ≡ spot → next.pen ≡ pen
+pub drawn : RunLaws → (profile : ProfileView) → IsProfile profile → (picture : PictureView) (paid : ℕ) (first : List Op) (start : TerminalState) (waits less : ℕ × ℕ → Bool) (old new : Draft) (more : List Op) (spot : Spot) (pen : PenView)
+    → IsAdded profile old new more spot pen → (right : IsRight profile picture paid first start waits old) → (next : TerminalState) → runs profile right.now more ≡ Some next → next.spot ≡ spot → next.pen ≡ pen
     → ((r c : ℕ) → r < picture.rows → c < picture.columns → less (r, c) ≡ false → grid_at blank next.grid r c ≡ look_at profile picture (r, c))
-    → IsRight profile picture first start less new
-drawn laws profile p picture first start waits less old new more spot pen added right next run spot_is pen_is shows =
+    → IsRight profile picture paid first start less new
+drawn laws profile p picture paid first start waits less old new more spot pen added right next run spot_is pen_is shows =
     let had : All (λ op. has profile op ≡ true) more = laws.had profile right.now next more run in
     let sum : price profile (right.own ++ more) ≡ price profile right.own + price profile more = (price_is laws profile).joined right.own more in
     record {
@@ -77,9 +77,9 @@ drawn laws profile p picture first start waits less old new more spot pen added 
 pub led : RunLaws → (profile : ProfileView) → IsProfile profile → (old new : Draft) (op : Op) (spot : Spot) (pen : PenView) → IsAdded profile old new (op ∷ []) spot pen
     → ((state : TerminalState) → state.spot ≡ old.spot → state.pen ≡ old.pen → step profile state op ≡ Some (record { grid = state.grid; spot = spot; pen = pen }))
     → KeepsEvery profile old new
-led laws profile p old new op spot pen added leads picture waits first start right =
+led laws profile p old new op spot pen added leads picture waits paid first start right =
     let next : TerminalState = record { grid = right.now.grid; spot = spot; pen = pen } in
-    drawn laws profile p picture first start waits waits old new (op ∷ []) spot pen added right next
+    drawn laws profile p picture paid first start waits waits old new (op ∷ []) spot pen added right next
     (ap (option_and_then (λ s. runs profile s [])) (leads right.now right.spot right.pen)) refl refl right.shows
 
 pub gone : RunLaws → (profile : ProfileView) → IsProfile profile → (old new : Draft) (op : Op) (spot : Spot) → GoesTo profile old.spot old.pen op spot → IsAdded profile old new (op ∷ []) spot old.pen → KeepsEvery profile old new
@@ -107,24 +107,24 @@ counted profile old mid new begun more spot pen at added bytes paid =
 -- ---- one behind another
 
 pub keeps_itself : (profile : ProfileView) (picture : PictureView) (draft : Draft) → KeepsAll profile picture draft draft
-keeps_itself profile picture draft waits first start right = right
+keeps_itself profile picture draft waits paid first start right = right
 
 pub keeps_both : (profile : ProfileView) (picture : PictureView) (old mid new : Draft) → KeepsAll profile picture old mid → KeepsAll profile picture mid new → KeepsAll profile picture old new
-keeps_both profile picture old mid new one other waits first start right = other waits first start (one waits first start right)
+keeps_both profile picture old mid new one other waits paid first start right = other waits paid first start (one waits paid first start right)
 
 pub every_itself : (profile : ProfileView) (draft : Draft) → KeepsEvery profile draft draft
-every_itself profile draft picture waits first start right = right
+every_itself profile draft picture waits paid first start right = right
 
 pub covers_then : (profile : ProfileView) (picture : PictureView) (covers : ℕ × ℕ → Bool) (old mid new : Draft) → Covers profile picture covers old mid → KeepsAll profile picture mid new → Covers profile picture covers old new
-covers_then profile picture covers old mid new one other waits first start right = other (without covers waits) first start (one waits first start right)
+covers_then profile picture covers old mid new one other waits paid first start right = other (without covers waits) paid first start (one waits paid first start right)
 
 pub then_covers : (profile : ProfileView) (picture : PictureView) (covers : ℕ × ℕ → Bool) (old mid new : Draft) → KeepsAll profile picture old mid → Covers profile picture covers mid new → Covers profile picture covers old new
-then_covers profile picture covers old mid new one other waits first start right = other waits first start (one waits first start right)
+then_covers profile picture covers old mid new one other waits paid first start right = other waits paid first start (one waits paid first start right)
 
 -- what covers places keeps those that wait beside them
 pub covers_keep : (profile : ProfileView) (picture : PictureView) (covers : ℕ × ℕ → Bool) (old new : Draft) → Covers profile picture covers old new → KeepsAll profile picture old new
-covers_keep profile picture covers old new one waits first start right =
-    weaker profile picture (without covers waits) waits new (λ place e. ap (λ b. b && not (covers place)) e) first start (one waits first start right)
+covers_keep profile picture covers old new one waits paid first start right =
+    weaker profile picture (without covers waits) waits new (λ place e. ap (λ b. b && not (covers place)) e) paid first start (one waits paid first start right)
 
 -- no place of an empty part
 pub covers_none : (profile : ProfileView) (picture : PictureView) (row column : ℕ) (draft : Draft) → Covers profile picture (in_part row column column) draft draft
@@ -138,9 +138,9 @@ covers_none profile picture row column draft waits =
 -- a part, and the place behind it
 pub covers_more : (profile : ProfileView) (picture : PictureView) (row from column : ℕ) (old mid new : Draft) → from ≤ column → Covers profile picture (in_part row from column) old mid → Covers profile picture (in_part row column (column + 1)) mid new
     → Covers profile picture (in_part row from (column + 1)) old new
-covers_more profile picture row from column old mid new order one other waits first start right =
-    weaker profile picture (without (in_part row column (column + 1)) (without (in_part row from column) waits)) (without (in_part row from (column + 1)) waits) new (λ place e. either place (waits place) e) first start
-    (other (without (in_part row from column) waits) first start (one waits first start right))
+covers_more profile picture row from column old mid new order one other waits paid first start right =
+    weaker profile picture (without (in_part row column (column + 1)) (without (in_part row from column) waits)) (without (in_part row from (column + 1)) waits) new (λ place e. either place (waits place) e) paid first start
+    (other (without (in_part row from column) waits) paid first start (one waits paid first start right))
   where
     either : (place : ℕ × ℕ) (b : Bool) → (b && not (in_part row from (column + 1) place)) ≡ false → ((b && not (in_part row from column place)) && not (in_part row column (column + 1) place)) ≡ false
     either place false e = refl
@@ -151,7 +151,7 @@ covers_more profile picture row from column old mid new order one other waits fi
 -- what leads to a place from anywhere
 pub begin_keeps : RunLaws → ProfilesHave → (profile : ProfileView) → IsProfile profile → (picture : PictureView) → IsPicture picture → Fits profile picture → (painter : Painter) → painter ≡ painter_of profile → (place : ℕ × ℕ) → place.0 < picture.rows → place.1 < picture.columns
     → (pen : PenView) → pen ≡ (painter_look painter picture place).pen → (old new : Draft) → IsAdded profile old new (painter_begins painter place pen) (At place.0 place.1) pen → KeepsAll profile picture old new
-begin_keeps laws have profile p picture k fits painter who place high wide pen is old new added waits first start right =
+begin_keeps laws have profile p picture k fits painter who place high wide pen is old new added waits paid first start right =
     let can = have profile p in
     let own : PenView = (look_at profile picture place).pen in
     let same : pen ≡ own = is ∙ ap (λ painter. (painter_look painter picture place).pen) who in
@@ -161,24 +161,24 @@ begin_keeps laws have profile p picture k fits painter who place high wide pen i
     let run : runs profile right.now (goes profile place ++ renders own) ≡ Some next =
     then_runs laws profile right.now there next (goes profile place) (renders own)
     (goes_by laws profile can right.now right.state.pen place inside profile.msgr refl) (begun_run laws have profile p picture k place right.now) in
-    drawn laws profile p picture first start waits waits old new (painter_begins painter place pen) (At place.0 place.1) pen added right next
+    drawn laws profile p picture paid first start waits waits old new (painter_begins painter place pen) (At place.0 place.1) pen added right next
     (ap (λ ops. runs profile right.now ops) (λ i. painter_begins (who i) place (same i)) ∙ run) refl (sym same) right.shows
 
 -- what leads to a place with a plain pen
 pub jump_keeps : RunLaws → ProfilesHave → (profile : ProfileView) → IsProfile profile → (picture : PictureView) → Fits profile picture → (painter : Painter) → painter ≡ painter_of profile → (place : ℕ × ℕ) → place.0 < picture.rows → place.1 < picture.columns
     → (pen : PenView) → pen ≡ plain_pen → (old new : Draft) → IsAdded profile old new (painter_begins painter place pen) (At place.0 place.1) pen → KeepsAll profile picture old new
-jump_keeps laws have profile p picture fits painter who place high wide pen is old new added waits first start right =
+jump_keeps laws have profile p picture fits painter who place high wide pen is old new added waits paid first start right =
     let inside : IsPlace profile.rows profile.columns place = (omega (arith, high, fits.rows), omega (arith, wide, fits.columns)) in
     let there : TerminalState = plain (at_place right.now place) in
     let run : runs profile right.now (goes profile place) ≡ Some there = goes_by laws profile (have profile p) right.now right.state.pen place inside profile.msgr refl in
-    drawn laws profile p picture first start waits waits old new (painter_begins painter place pen) (At place.0 place.1) pen added right there
+    drawn laws profile p picture paid first start waits waits old new (painter_begins painter place pen) (At place.0 place.1) pen added right there
     (ap (λ ops. runs profile right.now ops) ((λ i. painter_begins (who i) place (is i)) ∙ append-nil (goes profile place)) ∙ run) refl (sym is) right.shows
 
 -- a character where the cursor is
 pub put_covers : RunLaws → ProfilesHave → GridLaws LookView → (profile : ProfileView) → IsProfile profile → (picture : PictureView) → IsPicture picture → Fits profile picture → (painter : Painter) → painter ≡ painter_of profile → (row column : ℕ) → row < picture.rows → column < picture.columns
     → (byte : ℕ) (old new : Draft) (spot : Spot) → old.spot ≡ At row column → old.pen ≡ (painter_look painter picture (row, column)).pen → byte ≡ (painter_look painter picture (row, column)).byte → spot ≡ spot_after profile.columns row column
     → IsAdded profile old new (Put byte ∷ []) spot old.pen → Covers profile picture (in_part row column (column + 1)) old new
-put_covers laws have grids profile p picture k fits painter who row column high wide byte old new spot here pen is behind added waits first start right =
+put_covers laws have grids profile p picture k fits painter who row column high wide byte old new spot here pen is behind added waits paid first start right =
     let look : LookView = look_at profile picture (row, column) in
     let byte_is : byte ≡ look.byte = is ∙ ap (λ painter. (painter_look painter picture (row, column)).byte) who in
     let pen_is : old.pen ≡ look.pen = pen ∙ ap (λ painter. (painter_look painter picture (row, column)).pen) who in
@@ -189,7 +189,7 @@ put_covers laws have grids profile p picture k fits painter who row column high 
     let next : TerminalState = record { grid = grid_with now.grid row column shown; spot = spot_after profile.columns row column; pen = now.pen } in
     let had : has profile (Put byte) ≡ true = ap (λ b. has profile (Put b)) byte_is ∙ (have profile p).put look.byte cell.character in
     let run : runs profile now (Put byte ∷ []) ≡ Some next = one_run profile now next (Put byte) had (ap (written_at profile.columns now byte) (right.spot ∙ here)) in
-    drawn laws profile p picture first start waits (without (in_part row column (column + 1)) waits) old new (Put byte ∷ []) spot old.pen added right next run (sym behind) right.pen
+    drawn laws profile p picture paid first start waits (without (in_part row column (column + 1)) waits) old new (Put byte ∷ []) spot old.pen added right next run (sym behind) right.pen
     (λ r c up left e.
     place_changed grids profile.rows profile.columns now.grid right.state.whole (row, column) (omega (arith, high, fits.rows), omega (arith, wide, fits.columns)) shown r c (omega (arith, up, fits.rows)) (omega (arith, left, fits.columns))
     ∙ by r c (is_here r c (row, column)) refl (waits (r, c)) refl e shown same (λ w. right.shows r c up left w))
@@ -218,11 +218,11 @@ pub erasure_covers : RunLaws → GridLaws LookView → (profile : ProfileView) �
     → ((c : ℕ) → column ≤ c → c < end → c < picture.columns → look_eq (look_at profile picture (row, c)) blank ≡ true)
     → ((place : ℕ × ℕ) → place.1 < picture.columns → covers place ≡ true → in_part row column end place ≡ true)
     → IsAdded profile old new (op ∷ []) old.spot old.pen → Covers profile picture covers old new
-erasure_covers laws grids profile p picture fits row column end covers old new op acts had here plain blanks within added waits first start right =
+erasure_covers laws grids profile p picture fits row column end covers old new op acts had here plain blanks within added waits paid first start right =
     let now : TerminalState = right.now in
     let next : TerminalState = erased profile.rows profile.columns (is_in_run row column end) now in
     let run : runs profile now (op ∷ []) ≡ Some next = one_run profile now next op had (acts now (right.spot ∙ here) (ap is_plain_pen right.pen ∙ plain)) in
-    drawn laws profile p picture first start waits (without covers waits) old new (op ∷ []) old.spot old.pen added right next run right.spot right.pen
+    drawn laws profile p picture paid first start waits (without covers waits) old new (op ∷ []) old.spot old.pen added right next run right.spot right.pen
     (λ r c up left e.
     grids.formula blank profile.rows profile.columns (λ r c. if is_in_run row column end r c then blank else grid_at blank now.grid r c) r c (omega (arith, up, fits.rows)) (omega (arith, left, fits.columns))
     ∙ by r c left (is_in_run row column end r c) refl (waits (r, c)) refl e (λ w. right.shows r c up left w))
@@ -280,8 +280,8 @@ run_off profile picture run draft low waits = weaker_inside profile picture wait
 
 -- a run up to the last column
 pub run_inside : (profile : ProfileView) (picture : PictureView) (run : Run) (end : ℕ) (old new : Draft) → ((c : ℕ) → c < picture.columns → c < run.end → c < end) → Covers profile picture (in_part run.row run.start end) old new → Covers profile picture (is_in run) old new
-run_inside profile picture run end old new ends covers waits first start before =
-    weaker_inside profile picture (without (in_part run.row run.start end) waits) (without (is_in run) waits) new (λ r c high wide e. less r c (ends c wide) (waits (r, c)) e) first start (covers waits first start before)
+run_inside profile picture run end old new ends covers waits paid first start before =
+    weaker_inside profile picture (without (in_part run.row run.start end) waits) (without (is_in run) waits) new (λ r c high wide e. less r c (ends c wide) (waits (r, c)) e) paid first start (covers waits paid first start before)
   where
     less : (r c : ℕ) → (c < run.end → c < end) → (b : Bool) → (b && not (is_in run (r, c))) ≡ false → (b && not (in_part run.row run.start end (r, c))) ≡ false
     less r c below false e = refl

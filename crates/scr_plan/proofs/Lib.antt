@@ -24,6 +24,7 @@ pub mod RunChangeLaws
 pub mod RunLaws
 pub mod ScratchLaws
 pub mod ScratchTextLaws
+pub mod UnknownRowLaws
 pub mod UpToDateLaws
 pub mod WipeLaws
 pub mod ShortPlanLaws

@@ -44,14 +44,14 @@ set_left (run ∷ runs) (suc number) place e = by (is_in run place) (in_runs (se
     by false b d g e rest = rest e
 
 pub visited : (profile : ProfileView) (picture : PictureView) (runs left : List Run) (number : ℕ) (run : Run) (old new : Draft) → get_or runs number no_run ≡ run → left ≡ set runs number no_run → Covers profile picture (is_in run) old new → Leaves profile picture runs left old new
-visited profile picture runs left number run old new is emptied covers first start right =
+visited profile picture runs left number run old new is emptied covers paid first start right =
     weaker profile picture (without (is_in run) (in_runs runs)) (in_runs left) new
-    (λ place e. ap (λ r. in_runs runs place && not (is_in r place)) (sym is) ∙ set_left runs number place (ap (λ runs. in_runs runs place) (sym emptied) ∙ e)) first start (covers (in_runs runs) first start right)
+    (λ place e. ap (λ r. in_runs runs place && not (is_in r place)) (sym is) ∙ set_left runs number place (ap (λ runs. in_runs runs place) (sym emptied) ∙ e)) paid first start (covers (in_runs runs) paid first start right)
 
 -- the last run is visited and goes
 pub popped : (profile : ProfileView) (picture : PictureView) (runs left : List Run) (run : Run) (old new : Draft) → runs ≡ left ++ run ∷ [] → Covers profile picture (is_in run) old new → Leaves profile picture runs left old new
-popped profile picture runs left run old new is covers first start right =
-    weaker profile picture (without (is_in run) (in_runs runs)) (in_runs left) new (λ place e. by place (in_runs left place) e (is_in run place) refl) first start (covers (in_runs runs) first start right)
+popped profile picture runs left run old new is covers paid first start right =
+    weaker profile picture (without (is_in run) (in_runs runs)) (in_runs left) new (λ place e. by place (in_runs left place) e (is_in run place) refl) paid first start (covers (in_runs runs) paid first start right)
   where
     all : (place : ℕ × ℕ) → in_runs runs place ≡ (in_runs left place || is_in run place)
     all place = ap (λ runs. in_runs runs place) is ∙ in_both left (run ∷ []) place ∙ ap (λ b. in_runs left place || b) (or_nothing (is_in run place))
@@ -64,10 +64,10 @@ popped profile picture runs left run old new is covers first start right =
         one false = refl
 
 pub leaves_itself : (profile : ProfileView) (picture : PictureView) (runs : List Run) (draft : Draft) → Leaves profile picture runs runs draft draft
-leaves_itself profile picture runs draft first start right = right
+leaves_itself profile picture runs draft paid first start right = right
 
 pub leaves_then : (profile : ProfileView) (picture : PictureView) (runs some left : List Run) (old mid new : Draft) → Leaves profile picture runs some old mid → Leaves profile picture some left mid new → Leaves profile picture runs left old new
-leaves_then profile picture runs some left old mid new one other first start right = other first start (one first start right)
+leaves_then profile picture runs some left old mid new one other paid first start right = other paid first start (one paid first start right)
 
 pub leaves_keeps : (profile : ProfileView) (picture : PictureView) (runs left : List Run) (old mid new : Draft) → Leaves profile picture runs left old mid → KeepsAll profile picture mid new → Leaves profile picture runs left old new
-leaves_keeps profile picture runs left old mid new one other first start right = other (in_runs left) first start (one first start right)
+leaves_keeps profile picture runs left old mid new one other paid first start right = other (in_runs left) paid first start (one paid first start right)

@@ -1,5 +1,5 @@
 -- The short plan is all that an update wants, where it has no more bytes than the joined repaint.
-use Rattle.std.proofs.Common.{◌≡◌, ℕ, ◌+◌, ◌*◌, ◌-◌, ◌^◌, ◌<◌, ◌≤◌, ◌==◌, ◌&&◌, ◌||◌, ◌⊎◌, inl, inr, not, Bool, true, false, refl, sym, ◌∙◌, ap, subst, arith, bit_and, List, [], ◌∷◌, ◌++◌, length, Option, Some, None, IfSome}
+use Rattle.std.proofs.Common.{◌≡◌, ℕ, ◌+◌, ◌*◌, ◌-◌, ◌^◌, ◌<◌, ◌≤◌, ◌==◌, ◌&&◌, ◌||◌, ◌⊎◌, inl, inr, not, Bool, true, false, All, refl, sym, ◌∙◌, ap, subst, arith, bit_and, List, [], ◌∷◌, ◌++◌, length, Option, Some, None, IfSome}
 use Rattle.std.specs.Option.{is_none}
 use Rattle.std.proofs.lemmas.Bool.Decides.{nat_tests}
 use Rattle.std.proofs.lemmas.List.{append-nil, length-append}
@@ -17,7 +17,7 @@ use Rattle.scr_term.specs.Operations.Laws.{BlankLaws, ProfilesHave, RunLaws}
 use Rattle.scr_term.specs.Operations.Profiles.{ProfileView, IsProfile, abilities, has_colours, is_there, shown_set}
 use Rattle.scr_term.specs.Operations.States.{TerminalState, AreShownColours, IsShownPen, IsState, blank_state}
 use Rattle.scr_term.specs.Operations.Steps.{runs}
-use Rattle.scr_term.specs.Operations.Texts.{all_bytes}
+use Rattle.scr_term.specs.Operations.Texts.{all_bytes, has}
 use Rattle.scr_plan.proofs.JoinLaws.{cleared_row}
 use Rattle.scr_plan.proofs.MemoryRunLaws.{agrees_itself}
 use Rattle.scr_plan.proofs.PlaceLaws.{plain_only, then_runs}
@@ -25,12 +25,12 @@ use Rattle.scr_plan.proofs.PlainLaws.{look_same, not_false}
 use Rattle.scr_plan.proofs.RunChangeLaws.{not_in}
 use Rattle.scr_plan.proofs.RunLaws.{leaves_then}
 use Rattle.scr_plan.proofs.ScratchLaws.{cleared_run, grid_is_painted}
-use Rattle.scr_plan.specs.Code.Drafts.{HasChanges, HasMarks, IsDone, Leaves, in_runs}
+use Rattle.scr_plan.specs.Code.Drafts.{HasChanges, HasMarks, IsDone, IsPartly, Leaves, in_runs}
 use Rattle.scr_plan.specs.Code.Joinings.{counted_up}
 use Rattle.scr_plan.specs.Code.Painters.{painter_of, row_differs}
 use Rattle.scr_plan.specs.Code.Planning.{painted_anew}
-use Rattle.scr_plan.specs.Memories.{IsMemory, MemoryView, all_followed, is_known}
-use Rattle.scr_plan.specs.MemoryRuns.{KnownMemories, MemoryRuns, PlansAreRemembered}
+use Rattle.scr_plan.specs.Memories.{Agrees, IsMemory, MemoryView, all_followed, is_known}
+use Rattle.scr_plan.specs.MemoryRuns.{KnownMemories, MayBe, MemoryRuns, PlansAreRemembered}
 use Rattle.scr_plan.specs.Plans.{IsPlan}
 use Rattle.scr_plan.specs.Repaints.{JoinedIsCheap, anew_of, joined_of, look_eq}
 use Rattle.scr_plan.specs.Scratch.{Fits, RunsToShow, look_at, resets}
@@ -52,7 +52,7 @@ pub changes_done : (profile : ProfileView) (picture : PictureView) (memory : Mem
     → IfSome picture.wish (λ place. new.spot ≡ At place.0 place.1) → IsDone profile picture [] memory.state new
 changes_done profile picture memory is all some found old mid new ops bytes spot pen wiped painted placed = record {
   right =
-      leaves_then profile picture all some [] old mid new wiped painted [] memory.state (record {
+      leaves_then profile picture all some [] old mid new wiped painted 0 [] memory.state (record {
         own = [];
         ops = ops;
         now = memory.state;
@@ -72,7 +72,7 @@ pub anew_done : BlankLaws → (profile : ProfileView) → IsProfile profile → 
     → IfSome picture.wish (λ place. new.spot ≡ At place.0 place.1) → IsDone profile picture first (blank_state profile.rows profile.columns) new
 anew_done laws profile p picture fits painter who all marks old new first ops bytes spot pen painted placed = record {
   right =
-      painted first (blank_state profile.rows profile.columns) (record {
+      painted 0 first (blank_state profile.rows profile.columns) (record {
         own = [];
         ops = ops ∙ sym (append-nil first);
         now = blank_state profile.rows profile.columns;
@@ -120,7 +120,7 @@ both_true true false e = (cc)
 both_true false b e = (cc)
 
 -- counted as no more than what is counted exactly
-few_bytes : (own whole bytes drafted : ℕ) → drafted ≡ counted_up own → drafted ≤ bytes → bytes < 2 ^ 64 - 1 → bytes ≡ counted_up whole → own ≤ whole
+few_bytes : (own whole bytes drafted : ℕ) → drafted ≡ counted_up (0 + own) → drafted ≤ bytes → bytes < 2 ^ 64 - 1 → bytes ≡ counted_up whole → own ≤ whole
 few_bytes own whole bytes drafted counted less exact all = omega (arith, counted, less, exact, all)
 
 -- where all is known
@@ -176,6 +176,29 @@ short_plan_anew laws have remembered cheap grids profile p virtual k fits memory
       few = few;
       scratch = omega (arith, fewer, mine, whole, cheap.anew profile picture);
       joined = λ known calm. never (is_known memory && not virtual.repaint) (ap (λ b. b && not virtual.repaint) known ∙ ap not calm) due;
+    }
+
+-- where some rows are not known, and a plan that clears the screen has no fewer bytes
+pub partly_plan : RunLaws → GridLaws LookView → (profile : ProfileView) → IsProfile profile → (virtual : VirtualView) → IsPicture virtual.picture → Fits profile virtual.picture
+    → (memory : MemoryView) → MayBe (abilities profile) memory → (is_known memory && not virtual.repaint) ≡ false → virtual.repaint ≡ false → (draft : Draft) → IsPartly profile virtual.picture memory draft → (whole : List Op) → IsPlan profile memory virtual whole
+    → (bytes : ℕ) → draft.bytes ≤ bytes → bytes < 2 ^ 64 - 1 → (All (λ op. has profile op ≡ true) whole → bytes ≡ counted_up (length (all_bytes profile whole))) → length draft.ops.items ≤ virtual.picture.rows * virtual.picture.columns * 12 + 4 → IsPlan profile memory virtual draft.ops.items
+partly_plan laws grids profile p virtual k fits memory may due calm draft partly whole plan bytes less exact priced few =
+    let here : Agrees (abilities profile) memory memory.state = agrees_itself (abilities profile) memory may in
+    let shown = plan.shows memory.state here in
+    let all : bytes ≡ counted_up (length (all_bytes profile whole)) = priced (laws.had profile memory.state shown.new whole shown.run) in
+    let done = partly.done memory.state here in
+    let fewer : length (all_bytes profile draft.ops.items) ≤ length (all_bytes profile whole) =
+    subst (λ o. length (all_bytes profile o) ≤ length (all_bytes profile whole)) (sym done.right.ops)
+    (few_bytes (length (all_bytes profile done.right.own)) (length (all_bytes profile whole)) bytes draft.bytes done.right.bytes less exact all) in
+    record {
+      shows = λ old agrees.
+          let own = partly.done old agrees in
+          subst (λ o. RunsToShow profile old o virtual.picture) (sym own.right.ops) (done_shows grids profile virtual.picture k fits [] old draft own);
+      anew = λ wished old state. never virtual.repaint wished calm;
+      known = partly.known;
+      few = few;
+      scratch = omega (arith, fewer, plan.scratch);
+      joined = λ known _. never (is_known memory && not virtual.repaint) (λ i. known i && not (calm i)) due;
     }
 
 -- ---- which pens a terminal can have

@@ -33,9 +33,9 @@ wiped_by : RunLaws → (profile : ProfileView) → IsProfile profile → (pictur
     → ((state : TerminalState) → state.spot ≡ old.spot → state.pen ≡ old.pen → (next : TerminalState) × (runs profile state (op ∷ []) ≡ Some next) × (next.spot ≡ At r0 c0) × (next.pen ≡ old.pen)
     × ((r c : ℕ) → r < profile.rows → c < profile.columns → grid_at blank next.grid r c ≡ (if leb top r then blank else grid_at blank state.grid r c)))
     → IsAdded profile old new (op ∷ []) (At r0 c0) old.pen → Wipes profile picture top old new
-wiped_by laws profile p picture fits top old new op r0 c0 does added waits first start right =
+wiped_by laws profile p picture fits top old new op r0 c0 does added waits paid first start right =
     let led = does right.now right.spot right.pen in
-    drawn laws profile p picture first start waits (wiped profile picture top waits) old new (op ∷ []) (At r0 c0) old.pen added right led.0 led.1 led.2 led.3
+    drawn laws profile p picture paid first start waits (wiped profile picture top waits) old new (op ∷ []) (At r0 c0) old.pen added right led.0 led.1 led.2 led.3
     (λ r c up left e. led.4 r c (omega (arith, up, fits.rows)) (omega (arith, left, fits.columns)) ∙ by r c (leb top r) (λ w. right.shows r c up left w) e)
   where
     by : (r c : ℕ) (b : Bool) → (waits (r, c) ≡ false → grid_at blank right.now.grid r c ≡ look_at profile picture (r, c)) → (if b then not (look_eq blank (look_at profile picture (r, c))) else waits (r, c)) ≡ false
@@ -99,9 +99,9 @@ rows_marked painter picture some more first row keeps above own r c low high wid
 -- where a place is in no run of the screen that was wiped, it is right on that screen
 pub wipe_leaves : (profile : ProfileView) (picture : PictureView) (painter : Painter) → painter ≡ painter_of profile → (top : ℕ) (all some more : List Run) (old mid new : Draft) → KeepsAbove top all some → KeepsRuns some more → HasMarks painter picture more top picture.rows
     → KeepsAll profile picture old mid → Wipes profile picture top mid new → Leaves profile picture all more old new
-wipe_leaves profile picture painter who top all some more old mid new above keeps marks reached wipes first start right =
-    weaker_inside profile picture (wiped profile picture top (in_runs all)) (in_runs more) new (λ r c high wide e. by r c high wide e (leb top r) refl) first start
-    (wipes (in_runs all) first start (reached (in_runs all) first start right))
+wipe_leaves profile picture painter who top all some more old mid new above keeps marks reached wipes paid first start right =
+    weaker_inside profile picture (wiped profile picture top (in_runs all)) (in_runs more) new (λ r c high wide e. by r c high wide e (leb top r) refl) paid first start
+    (wipes (in_runs all) paid first start (reached (in_runs all) paid first start right))
   where
     not_in : (a b : Bool) → (a ≡ true → b ≡ true) → b ≡ false → a ≡ false
     not_in true b h e = sym (h refl) ∙ e

@@ -19,6 +19,7 @@ mod scratch_texts;
 mod short_plan;
 mod strokes;
 mod turns;
+mod unknown_rows;
 mod visiting;
 mod ways;
 mod wiping;

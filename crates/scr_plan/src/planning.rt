@@ -18,12 +18,13 @@ ghost use Rattle.scr_plan.specs.Plans.{IsPlan};
 ghost use Rattle.scr_plan.specs.Repaints.{IsSizeOf, IsUpToDate, ShowsOutside, anew_of, cleared, differing, differs, is_none_left, is_placed, joined_of, joined_places};
 ghost use Rattle.scr_plan.specs.Scratch.{Fits, places_cursor, resets, row_places};
 
-use crate::joining::Joining;
+use crate::joining::{Joining, price_of};
 use crate::memories::Memory;
 use crate::painting::Painter;
 use crate::plan_laws::{joined_is_cheap, plans_are_made};
 use crate::remembering_laws::{known_memories, memory_runs, plans_are_remembered};
 use crate::short_plan::{short_anew, short_changes};
+use crate::unknown_rows::short_partly;
 use scr_cells::{Look, NoMemory, Pen, Picture, Size, grid_laws};
 use scr_term::{Op, Ops, Profile, profiles_have, run_laws};
 use scr_virtual::Virtual;
@@ -119,7 +120,7 @@ fn plan_by(
     let _wanted = wanted.size();
     let _memory = memory.size();
     if !wants_changes_alone(memory, wanted) {
-        return anew(alloc, profile, memory, wanted);
+        return anew_or_partly(alloc, profile, memory, wanted, by);
     }
     if !may_be(profile, memory) {
         return Ok(Ops(Vec::new(alloc)));
@@ -157,6 +158,61 @@ fn shows_colours(profile: &Profile, pen: Pen) -> bool
     ensures { result ≡ (has_colours profile.now || (is_none pen.foreground && is_none pen.background)) }
 {
     profile.colours() || (pen.foreground().is_none() && pen.background().is_none())
+}
+
+// Not all is known, or the whole screen is to be painted anew.
+fn anew_or_partly(
+    alloc: Global,
+    profile: &Profile,
+    memory: &Memory,
+    wanted: &Virtual,
+    by: Looked,
+) -> Result<Ops, NoMemory>
+    requires fits { Fits profile.now wanted.now.picture }
+    requires size { IsSizeOf wanted.now.picture memory.now }
+    requires same { ShowsOutside (range_by by) profile.now memory.now wanted.now }
+    requires due { (is_known memory.now && not wanted.now.repaint) ≡ false }
+    ensures { IfOk result (IsPlan profile.now memory.now wanted.now) }
+{
+    let whole = anew(alloc, profile, memory, wanted)?;
+    if wanted.repaint() || !may_be(profile, memory) {
+        return Ok(whole);
+    }
+    partly_if_shorter(alloc, profile, memory, wanted, by, whole)
+}
+
+// What erases and paints the rows that are not known, and what differs of the others, where that is shorter than a plan that clears the
+// screen.
+fn partly_if_shorter(
+    alloc: Global,
+    profile: &Profile,
+    memory: &Memory,
+    wanted: &Virtual,
+    by: Looked,
+    whole: Ops,
+) -> Result<Ops, NoMemory>
+    requires fits { Fits profile.now wanted.now.picture }
+    requires size { IsSizeOf wanted.now.picture memory.now }
+    requires same { ShowsOutside (range_by by) profile.now memory.now wanted.now }
+    requires due { (is_known memory.now && not wanted.now.repaint) ≡ false }
+    requires calm { wanted.now.repaint ≡ false }
+    requires pen { IsShownPen (abilities profile.now) memory.now.state.pen }
+    requires plan { IsPlan profile.now memory.now wanted.now whole }
+    ensures { IfOk result (IsPlan profile.now memory.now wanted.now) }
+{
+    run_laws();
+    grid_laws::<Look>();
+    let _profile = profile.size();
+    let _memory = memory.size();
+    let size = wanted.size();
+    let painter = Painter::of(profile);
+    let Some(draft) = short_partly(alloc, painter, profile, memory, wanted, by)? else {
+        return Ok(whole);
+    };
+    if draft.is_worth(price_of(profile, &whole.0), size) {
+        return Ok(Ops(draft.ops));
+    }
+    Ok(whole)
 }
 
 // The whole screen painted anew: it is cleared, and what differs from blanks is painted, in the shorter of two ways.

@@ -6,7 +6,7 @@ ghost use Rattle.scr_term.specs.Operations.States.{IsShownPen, blank_state};
 ghost use Rattle.scr_plan.specs.Code.Drafts.{HasChanges, HasChangesIn, IsDone, KeepsRuns};
 ghost use Rattle.scr_plan.specs.Code.Painters.{painter_of};
 ghost use Rattle.scr_plan.specs.Code.Planning.{range_by};
-ghost use Rattle.scr_plan.specs.Memories.{is_known};
+ghost use Rattle.scr_plan.specs.Memories.{is_known, is_known_row};
 ghost use Rattle.scr_plan.specs.Repaints.{IsSizeOf, ShowsOutside};
 ghost use Rattle.scr_plan.specs.Scratch.{Fits, resets};
 
@@ -105,7 +105,7 @@ fn find_changes(
 }
 
 // Finds the runs of a row's places that differ from what is known of them.
-fn find_in_row(
+pub(crate) fn find_in_row(
     painter: Painter,
     profile: &Profile,
     memory: &Memory,
@@ -117,8 +117,8 @@ fn find_in_row(
     requires painter { painter ≡ painter_of profile.now }
     requires size { IsSizeOf wanted.now.picture memory.now }
     requires same { ShowsOutside (range_by by) profile.now memory.now wanted.now }
-    requires known { is_known memory.now ≡ true }
     requires row { row < wanted.now.picture.rows }
+    requires known { is_known_row memory.now row ≡ true }
     ensures kept { OnOk result (KeepsRuns runs.old.items runs.new.items) }
     ensures has { OnOk result (HasChangesIn profile.now wanted.now.picture memory.now runs.new.items row) }
 {

@@ -1,5 +1,5 @@
 -- Making a short plan, operation by operation.
-use Rattle.std.specs.Prelude.{ℕ, ◌≡◌, ◌+◌, ◌<◌, ◌≤◌, ◌&&◌, not, leb, Bool, true, false, List, [], ◌++◌, All, IfSome, drop, length, Option, Some, None, if◌then◌else◌}
+use Rattle.std.specs.Prelude.{ℕ, ◌≡◌, ◌+◌, ◌<◌, ◌≤◌, ◌==◌, ◌&&◌, ◌||◌, not, leb, ltb, Bool, true, false, List, [], ◌++◌, All, IfSome, drop, length, Option, Some, None, if◌then◌else◌}
 use Rattle.std.specs.List.{list_any}
 use Rattle.scr_cells.specs.Grids.{grid_at, is_in_run}
 use Rattle.scr_cells.specs.LookViews.{LookView, blank}
@@ -14,7 +14,8 @@ use Rattle.scr_term.specs.Operations.Steps.{runs}
 use Rattle.scr_term.specs.Operations.Texts.{all_bytes, has}
 use Rattle.scr_plan.specs.Code.Joinings.{counted_up}
 use Rattle.scr_plan.specs.Code.Painters.{row_differs}
-use Rattle.scr_plan.specs.Memories.{MemoryView}
+use Rattle.scr_plan.specs.Memories.{Agrees, MemoryView, all_followed, is_known, is_known_row}
+use Rattle.scr_plan.specs.MemoryRuns.{MayBe}
 use Rattle.scr_plan.specs.Repaints.{look_eq, look_in}
 use Rattle.scr_plan.specs.Scratch.{look_at}
 use Rattle.scr_plan.specs.declared.painting.Painter.{Painter}
@@ -23,14 +24,14 @@ use Rattle.scr_plan.specs.declared.runs.Run.{Run}
 use Rattle.scr_plan.specs.declared.strokes.Draft.{Draft}
 
 -- Behind the first ones, a draft's operations lead from this state to one with the draft's spot and pen, in which every place that does not
--- wait shows what is seen of the picture; counted are their bytes.
-pub record IsRight (profile : ProfileView) (picture : PictureView) (first : List Op) (start : TerminalState) (waits : ℕ × ℕ → Bool) (draft : Draft) : Type 0 where
+-- wait shows what is seen of the picture; their bytes are counted beside so many others.
+pub record IsRight (profile : ProfileView) (picture : PictureView) (paid : ℕ) (first : List Op) (start : TerminalState) (waits : ℕ × ℕ → Bool) (draft : Draft) : Type 0 where
   pub own : List Op
   pub ops : draft.ops.items ≡ first ++ own
   pub now : TerminalState
   pub run : runs profile start own ≡ Some now
   pub state : IsState (abilities profile) now
-  pub bytes : draft.bytes ≡ counted_up (length (all_bytes profile own))
+  pub bytes : draft.bytes ≡ counted_up (paid + length (all_bytes profile own))
   pub spot : now.spot ≡ draft.spot
   pub pen : now.pen ≡ draft.pen
   pub shows : (r c : ℕ) → r < picture.rows → c < picture.columns → waits (r, c) ≡ false → grid_at blank now.grid r c ≡ look_at profile picture (r, c)
@@ -51,7 +52,7 @@ pub record IsPaid (profile : ProfileView) (old new : Draft) (begun : ℕ) (spot 
 
 -- a draft that is right while some places wait becomes one that is right while others do
 abbrev pub Keeps : ProfileView → PictureView → (ℕ × ℕ → Bool) → (ℕ × ℕ → Bool) → Draft → Draft → Type 0
-Keeps profile picture waits less old new = (first : List Op) (start : TerminalState) → IsRight profile picture first start waits old → IsRight profile picture first start less new
+Keeps profile picture waits less old new = (paid : ℕ) (first : List Op) (start : TerminalState) → IsRight profile picture paid first start waits old → IsRight profile picture paid first start less new
 
 -- whatever waits goes on to wait; of a picture, and of every picture
 abbrev pub KeepsAll : ProfileView → PictureView → Draft → Draft → Type 0
@@ -126,5 +127,59 @@ KeepsAbove top old new = (place : ℕ × ℕ) → place.0 < top → in_runs old 
 
 -- no place waits any more, and the cursor is as wished
 pub record IsDone (profile : ProfileView) (picture : PictureView) (first : List Op) (start : TerminalState) (draft : Draft) : Type 0 where
-  pub right : IsRight profile picture first start (in_runs []) draft
+  pub right : IsRight profile picture 0 first start (in_runs []) draft
   pub spot : IfSome picture.wish (λ place. draft.spot ≡ At place.0 place.1)
+
+-- ---- where not all is known
+
+-- places that are not known to show what is seen of the picture, where the rows up to one that were not known are blank
+abbrev pub unsettled : ProfileView → PictureView → MemoryView → ℕ → ℕ × ℕ → Bool
+unsettled profile picture memory n place =
+    if is_known_row memory place.0 then not (look_eq (look_in memory place) (look_at profile picture place))
+    else (if ltb place.0 n then not (look_eq blank (look_at profile picture place)) else true)
+
+-- one row is blank: there every other place waits; the others wait as before
+abbrev pub row_wiped : ProfileView → PictureView → ℕ → (ℕ × ℕ → Bool) → ℕ × ℕ → Bool
+row_wiped profile picture row waits place = if place.0 == row then not (look_eq blank (look_at profile picture place)) else waits place
+
+abbrev pub WipesRow : ProfileView → PictureView → ℕ → Draft → Draft → Type 0
+WipesRow profile picture row old new = (waits : ℕ × ℕ → Bool) → Keeps profile picture waits (row_wiped profile picture row waits) old new
+
+-- from every state that agrees with what is remembered, the draft is right while these places wait
+abbrev pub RightFrom : ProfileView → PictureView → MemoryView → (ℕ × ℕ → Bool) → Draft → Type 0
+RightFrom profile picture memory waits draft = (old : TerminalState) → Agrees (abilities profile) memory old → IsRight profile picture 0 [] old waits draft
+
+-- After the draft's operations this is remembered: the cursor's spot and the pen are known to be the draft's, and so are these rows.
+pub record Knows (profile : ProfileView) (memory : MemoryView) (known : ℕ → Bool) (draft : Draft) : Type 0 where
+  pub may : MayBe (abilities profile) (all_followed profile draft.ops.items memory)
+  pub known_spot : (all_followed profile draft.ops.items memory).known_spot ≡ true
+  pub known_pen : (all_followed profile draft.ops.items memory).known_pen ≡ true
+  pub spot : (all_followed profile draft.ops.items memory).state.spot ≡ draft.spot
+  pub pen : (all_followed profile draft.ops.items memory).state.pen ≡ draft.pen
+  pub bytes : draft.bytes ≡ counted_up draft.bytes
+  pub rows : (r : ℕ) → known r ≡ true → is_known_row (all_followed profile draft.ops.items memory) r ≡ true
+
+abbrev pub or_row : (ℕ → Bool) → ℕ → ℕ → Bool
+or_row known row r = known r || r == row
+
+abbrev pub or_below : (ℕ → Bool) → ℕ → ℕ → Bool
+or_below known n r = known r || ltb r n
+
+-- one row more is known, some rows more are
+abbrev pub LearnsRow : ProfileView → ℕ → Draft → Draft → Type 0
+LearnsRow profile row old new = (memory : MemoryView) (known : ℕ → Bool) → Knows profile memory known old → Knows profile memory (or_row known row) new
+
+abbrev pub LearnsBelow : ProfileView → MemoryView → ℕ → Draft → Draft → Type 0
+LearnsBelow profile memory n old new = Knows profile memory (is_known_row memory) old → Knows profile memory (or_below (is_known_row memory) n) new
+
+-- the runs have what is still unsettled of the first n rows when all rows are known or blank
+abbrev pub HasUnsettledIn : ProfileView → PictureView → MemoryView → List Run → ℕ → Type 0
+HasUnsettledIn profile picture memory runs r = (c : ℕ) → c < picture.columns → in_runs runs (r, c) ≡ false → unsettled profile picture memory picture.rows (r, c) ≡ false
+
+abbrev pub HasUnsettled : ProfileView → PictureView → MemoryView → List Run → ℕ → Type 0
+HasUnsettled profile picture memory runs n = (r : ℕ) → r < n → HasUnsettledIn profile picture memory runs r
+
+-- a finished draft where not all was known: it is done from every state that agrees, and all is known after it
+pub record IsPartly (profile : ProfileView) (picture : PictureView) (memory : MemoryView) (draft : Draft) : Type 0 where
+  pub done : (old : TerminalState) → Agrees (abilities profile) memory old → IsDone profile picture [] old draft
+  pub known : MayBe (abilities profile) memory → is_known (all_followed profile draft.ops.items memory) ≡ true

@@ -1,5 +1,6 @@
 use Rattle.std.proofs.Common.{arith, inl, inr, ◌≡◌}
 use Rattle.scr_plan.specs.Code.Planning.{range_by}
+use Rattle.scr_plan.proofs.PartLaws.{row_known}
 use Rattle.scr_plan.proofs.RunChangeLaws.{none_looked, one_row_found, rest_looked}
 use Rattle.scr_plan.proofs.short_plan.find_changes.Goals as goal
 
@@ -11,6 +12,10 @@ loop-row-init c =
 pub loop-row-preserved : goal.loop-row-preserved
 loop-row-preserved c =
     one_row_found c.args.profile.now c.args.wanted.now.picture c.args.memory.now c.loop-row.runs.items c.find_in_row.new.runs.items c.loop-row.row c.in_ok-find_in_row.ensures.kept c.loop-row.invariant c.in_ok-find_in_row.ensures.has
+
+pub find_in_row-requires-clause-known : goal.find_in_row-requires-clause-known
+find_in_row-requires-clause-known c =
+    row_known c.args.memory.now c.requires.known c.loop-row.row (omega (arith, c.loop-row-test.true, c.rows-first.ensures.end, c.requires.size.known_rows))
 
 pub returns : goal.returns
 returns c =

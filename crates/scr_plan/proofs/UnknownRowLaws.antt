@@ -1,0 +1,441 @@
+-- Rows that are not known: they are erased, and all is known then.
+use Rattle.std.proofs.Common.{◌≡◌, ℕ, zero, suc, ◌+◌, ◌<◌, ◌≤◌, ◌==◌, ◌&&◌, ◌||◌, not, leb, ltb, Bool, true, false, All, refl, sym, ◌∙◌, ap, subst, arith, List, [], ◌∷◌, ◌++◌, get_or, length, set, Option, Some, None, IfSome, Result, Ok, Err, IfOk, option_and_then, replicate, if◌then◌else◌}
+use Rattle.std.specs.List.{list_all}
+use Rattle.std.proofs.lemmas.Bool.Decides.{nat_tests}
+use Rattle.std.proofs.lemmas.List.{append-nil, get_or-set_other, get_or-set_same, length-replicate}
+use Rattle.scr_cells.specs.Grids.{GridLaws, grid_at, is_in_run}
+use Rattle.scr_cells.specs.LookViews.{LookView, blank}
+use Rattle.scr_cells.specs.PenViews.{PenView, is_plain_pen, plain_pen}
+use Rattle.scr_cells.specs.PictureViews.{PictureView, IsPlace}
+use Rattle.scr_term.specs.declared.operations.capability.Capability.TheVariants.{Sgr0}
+use Rattle.scr_term.specs.declared.operations.operation.Op.{Op}
+use Rattle.scr_term.specs.declared.operations.operation.Op.TheVariants.{EraseLine, Move, Reset}
+use Rattle.scr_term.specs.declared.operations.operation.Spot.{Spot}
+use Rattle.scr_term.specs.declared.operations.operation.Spot.TheVariants.{At, Margin}
+use Rattle.scr_term.specs.Operations.Laws.{HasLaws, ProfilesHave, RunLaws}
+use Rattle.scr_term.specs.Operations.Profiles.{ProfileView, IsProfile, abilities, is_there}
+use Rattle.scr_term.specs.Operations.States.{TerminalState, IsState, erased, from_place, rest_of_line_erased}
+use Rattle.scr_term.specs.Operations.Steps.{act, runs, step}
+use Rattle.scr_term.specs.Operations.Texts.{all_bytes, has}
+use Rattle.scr_plan.proofs.DraftLaws.{drawn, weaker, weaker_inside}
+use Rattle.scr_plan.proofs.MemoryRunLaws.{agrees_itself}
+use Rattle.scr_plan.proofs.PartLaws.{look_refl}
+use Rattle.scr_plan.proofs.PlaceLaws.{at_place, goes_by, one_run, plain}
+use Rattle.scr_plan.proofs.PlainLaws.{look_same, not_false}
+use Rattle.scr_plan.proofs.RunChangeLaws.{not_in}
+use Rattle.scr_plan.specs.Code.Drafts.{HasChangesIn, HasDiffering, HasUnsettled, HasUnsettledIn, IsAdded, IsDone, IsPartly, IsRight, Keeps, KeepsAll, KeepsRuns, Knows, Leaves, RightFrom, WipesRow, in_runs, or_below, or_row, row_wiped, unsettled}
+use Rattle.scr_plan.specs.Code.Joinings.{counted_up}
+use Rattle.scr_plan.specs.Code.Painters.{painter_begins, painter_of, row_differs}
+use Rattle.scr_plan.specs.Memories.{Agrees, MemoryView, all_followed, changes_cells, clears, followed, has_one_pen, is_known, is_known_row, places_spot, rows_erased, sets_pen, stepped}
+use Rattle.scr_plan.specs.MemoryRuns.{MayBe, MemoryRuns}
+use Rattle.scr_plan.specs.Repaints.{look_eq, look_in}
+use Rattle.scr_plan.specs.Scratch.{Fits, goes, look_at, resets}
+use Rattle.scr_plan.specs.declared.painting.Painter.{Painter}
+use Rattle.scr_plan.specs.declared.runs.Run.{Run}
+use Rattle.scr_plan.specs.declared.strokes.Draft.{Draft}
+
+never : {R : Type 0} (b : Bool) → b ≡ true → b ≡ false → R
+never true e f = (cc)
+never false e f = (cc)
+
+-- ---- what is known goes on to be known, where the cursor and the pen are
+
+-- a row that is there is known in a list of which all are
+known_there : (n r : ℕ) (rows : List Bool) → n ≡ length rows → get_or rows r false ≡ true → get_or (replicate n true) r false ≡ true
+known_there zero r [] same known = (cc)
+known_there zero r (row ∷ rows) same known = absurd (omega (arith, same))
+known_there (suc n) r [] same known = absurd (omega (arith, same))
+known_there (suc n) zero (row ∷ rows) same known = refl
+known_there (suc n) (suc r) (row ∷ rows) same known = known_there n r rows (omega (arith, same)) known
+
+stays_set : (rows : List Bool) (row r : ℕ) → get_or rows r false ≡ true → get_or (set rows row true) r false ≡ true
+stays_set [] row r known = known
+stays_set (k ∷ rows) zero zero known = refl
+stays_set (k ∷ rows) zero (suc r) known = known
+stays_set (k ∷ rows) (suc row) zero known = known
+stays_set (k ∷ rows) (suc row) (suc r) known = stays_set rows row r known
+
+stays_erased : (op : Op) (spot : Spot) (rows : List Bool) (r : ℕ) → get_or rows r false ≡ true → get_or (rows_erased op spot rows) r false ≡ true
+stays_erased EraseLine (At row zero) rows r known = stays_set rows row r known
+stays_erased EraseLine (At row (suc c)) rows r known = known
+stays_erased EraseLine (Margin row) rows r known = known
+stays_erased op spot rows r known = known
+
+stays_followed : (op : Op) (spot : Spot) (rows : List Bool) (r : ℕ) (a b : Bool) → get_or rows r false ≡ true
+    → get_or (if a then replicate (length rows) true else (if b && not (true && true) then replicate (length rows) false else rows_erased op spot rows)) r false ≡ true
+stays_followed op spot rows r true b known = known_there (length rows) r rows refl known
+stays_followed op spot rows r false true known = stays_erased op spot rows r known
+stays_followed op spot rows r false false known = stays_erased op spot rows r known
+
+-- what stays after operations
+record Still (profile : ProfileView) (memory : MemoryView) (ops : List Op) : Type 0 where
+  pub known_spot : (all_followed profile ops memory).known_spot ≡ true
+  pub known_pen : (all_followed profile ops memory).known_pen ≡ true
+  pub rows : (r : ℕ) → is_known_row memory r ≡ true → is_known_row (all_followed profile ops memory) r ≡ true
+
+still : (profile : ProfileView) (memory : MemoryView) (ops : List Op) (now : TerminalState) → memory.known_spot ≡ true → memory.known_pen ≡ true → runs profile memory.state ops ≡ Some now → Still profile memory ops
+still profile memory [] now spot pen run = record { known_spot = spot; known_pen = pen; rows = λ r known. known }
+still profile memory (op ∷ ops) now spot pen run = by (step profile memory.state op) refl (λ m s p e. still profile m ops now s p e) run
+  where
+    nothing : {R : Type 0} → None ≡ Some now → R
+    nothing e = (cc)
+
+    by : (next : Option TerminalState) → step profile memory.state op ≡ next → ((m : MemoryView) → m.known_spot ≡ true → m.known_pen ≡ true → runs profile m.state ops ≡ Some now → Still profile m ops)
+        → option_and_then (λ s. runs profile s ops) next ≡ Some now → Still profile memory (op ∷ ops)
+    by None at on e = nothing e
+    by (Some next) at on e =
+        let after : MemoryView = stepped (abilities profile) op memory (Some next) in
+        let same : followed profile op memory ≡ after = ap (λ n. stepped (abilities profile) op memory n) at in
+        let rest : Still profile after ops = on after (ap (λ b. b || places_spot op) spot) (ap (λ b. b || sets_pen op || has_one_pen (abilities profile)) pen) e in
+        let kept : (r : ℕ) → is_known_row memory r ≡ true → is_known_row after r ≡ true = λ r known.
+        (λ i. get_or (if clears op then replicate (length memory.known_rows) true else (if changes_cells op && not (spot i && pen i) then replicate (length memory.known_rows) false else rows_erased op next.spot memory.known_rows)) r false)
+        ∙ stays_followed op next.spot memory.known_rows r (clears op) (changes_cells op) known in
+        record {
+          known_spot = ap (λ m. (all_followed profile ops m).known_spot) same ∙ rest.known_spot;
+          known_pen = ap (λ m. (all_followed profile ops m).known_pen) same ∙ rest.known_pen;
+          rows = λ r known. ap (λ m. is_known_row (all_followed profile ops m) r) same ∙ rest.rows r (kept r known);
+        }
+
+-- ---- what a draft's operations make known
+
+pub knows_weaker : (profile : ProfileView) (memory : MemoryView) (known less : ℕ → Bool) (draft : Draft) → ((r : ℕ) → less r ≡ true → known r ≡ true) → Knows profile memory known draft → Knows profile memory less draft
+knows_weaker profile memory known less draft fewer knows = record {
+  may = knows.may;
+  known_spot = knows.known_spot;
+  known_pen = knows.known_pen;
+  spot = knows.spot;
+  pen = knows.pen;
+  bytes = knows.bytes;
+  rows = λ r e. knows.rows r (fewer r e);
+}
+
+-- operations more that are defined from what is remembered
+knows_more : MemoryRuns → (profile : ProfileView) → IsProfile profile → (memory : MemoryView) (known : ℕ → Bool) (old new : Draft) (own : List Op) (now : TerminalState) → Knows profile memory known old → new.ops.items ≡ old.ops.items ++ own
+    → runs profile (all_followed profile old.ops.items memory).state own ≡ Some now → now.spot ≡ new.spot → now.pen ≡ new.pen → new.bytes ≡ counted_up new.bytes → Knows profile memory known new
+knows_more laws profile p memory known old new own now knows ops run spot pen bytes =
+    let m : MemoryView = all_followed profile old.ops.items memory in
+    let same : all_followed profile new.ops.items memory ≡ all_followed profile own m = ap (λ o. all_followed profile o memory) ops ∙ laws.joined profile memory old.ops.items own in
+    let state : (all_followed profile new.ops.items memory).state ≡ now = ap (λ (m : MemoryView). m.state) same ∙ laws.state profile m now own run in
+    let stays : Still profile m own = still profile m own now knows.known_spot knows.known_pen run in
+    let agrees : Agrees (abilities profile) (all_followed profile own m) now = laws.follows profile p m m.state now own (agrees_itself (abilities profile) m knows.may) run in
+    record {
+      may = subst (MayBe (abilities profile)) (sym same) (record { state = agrees.may_be; high = agrees.high });
+      known_spot = ap (λ (m : MemoryView). m.known_spot) same ∙ stays.known_spot;
+      known_pen = ap (λ (m : MemoryView). m.known_pen) same ∙ stays.known_pen;
+      spot = ap (λ (s : TerminalState). s.spot) state ∙ spot;
+      pen = ap (λ (s : TerminalState). s.pen) state ∙ pen;
+      bytes = bytes;
+      rows = λ r e. ap (λ m. is_known_row m r) same ∙ stays.rows r (knows.rows r e);
+    }
+
+-- strokes keep what is known
+pub knows_kept : MemoryRuns → (profile : ProfileView) → IsProfile profile → (picture : PictureView) (memory : MemoryView) (known : ℕ → Bool) (old new : Draft) → KeepsAll profile picture old new → Knows profile memory known old → Knows profile memory known new
+knows_kept laws profile p picture memory known old new keeps knows =
+    let m : MemoryView = all_followed profile old.ops.items memory in
+    let right : IsRight profile picture old.bytes old.ops.items m.state (λ _. true) new =
+    keeps (λ _. true) old.bytes old.ops.items m.state (record {
+      own = [];
+      ops = sym (append-nil old.ops.items);
+      now = m.state;
+      run = refl;
+      state = knows.may.state;
+      bytes = knows.bytes ∙ omega arith;
+      spot = knows.spot;
+      pen = knows.pen;
+      shows = λ r c high wide e. never true refl e;
+    }) in
+    knows_more laws profile p memory known old new right.own right.now knows right.ops right.run right.spot right.pen (omega (arith, right.bytes))
+
+-- an erasure of the row where the cursor is in its first column
+pub knows_erased : RunLaws → MemoryRuns → (profile : ProfileView) → IsProfile profile → (memory : MemoryView) (known : ℕ → Bool) (row : ℕ) → row < profile.rows → (old new : Draft) → has profile EraseLine ≡ true → old.spot ≡ At row 0 → is_plain_pen old.pen ≡ true
+    → IsAdded profile old new (EraseLine ∷ []) old.spot old.pen → Knows profile memory known old → Knows profile memory (or_row known row) new
+knows_erased run_laws laws profile p memory known row high old new had here plain added knows =
+    let m : MemoryView = all_followed profile old.ops.items memory in
+    let next : TerminalState = erased profile.rows profile.columns (is_in_run row 0 profile.columns) m.state in
+    let acted : act profile m.state EraseLine ≡ Some next =
+    ap (λ b. if b then rest_of_line_erased profile.rows profile.columns m.state else None) (ap is_plain_pen knows.pen ∙ plain)
+    ∙ ap (λ spot. from_place spot (λ r c. Some (erased profile.rows profile.columns (is_in_run r c profile.columns) m.state))) (knows.spot ∙ here) in
+    let stepped_to : step profile m.state EraseLine ≡ Some next = ap (λ b. if b then act profile m.state EraseLine else None) had ∙ acted in
+    let run : runs profile m.state (EraseLine ∷ []) ≡ Some next = one_run profile m.state next EraseLine had acted in
+    let bytes : new.bytes ≡ counted_up new.bytes = omega (arith, added.bytes (run_laws.had profile m.state next (EraseLine ∷ []) run)) in
+    let more = knows_more laws profile p memory known old new (EraseLine ∷ []) next knows added.ops run (knows.spot ∙ sym added.spot_is) (knows.pen ∙ sym added.pen_is) bytes in
+    let same : all_followed profile new.ops.items memory ≡ stepped (abilities profile) EraseLine m (Some next) =
+    ap (λ o. all_followed profile o memory) added.ops ∙ laws.joined profile memory old.ops.items (EraseLine ∷ []) ∙ ap (λ n. stepped (abilities profile) EraseLine m n) stepped_to in
+    let rows : (all_followed profile new.ops.items memory).known_rows ≡ set m.known_rows row true =
+    ap (λ (m : MemoryView). m.known_rows) same
+    ∙ (λ i. if not (knows.known_spot i && knows.known_pen i) then replicate (length m.known_rows) false else rows_erased EraseLine ((knows.spot ∙ here) i) m.known_rows) in
+    record {
+      may = more.may;
+      known_spot = more.known_spot;
+      known_pen = more.known_pen;
+      spot = more.spot;
+      pen = more.pen;
+      bytes = bytes;
+      rows = λ r e. by r (known r) refl e more.rows (ap (λ rows. get_or rows r false) rows);
+    }
+  where
+    by : (r : ℕ) (b : Bool) → known r ≡ b → (known r || r == row) ≡ true → ((r : ℕ) → known r ≡ true → is_known_row (all_followed profile new.ops.items memory) r ≡ true)
+        → is_known_row (all_followed profile new.ops.items memory) r ≡ get_or (set (all_followed profile old.ops.items memory).known_rows row true) r false → is_known_row (all_followed profile new.ops.items memory) r ≡ true
+    by r true at e rows is = rows r at
+    by r false at e rows is =
+        let same : (r == row) ≡ true = sym (ap (λ b. b || r == row) at) ∙ e in
+        let here : r ≡ row = grind (arith, nat_tests) in
+        is ∙ ap (λ k. get_or (set (all_followed profile old.ops.items memory).known_rows row true) k false) here
+        ∙ get_or-set_same (all_followed profile old.ops.items memory).known_rows row true false (omega (arith, high, knows.may.high))
+
+-- ---- where the draft begins
+
+-- no attribute, default colours, and the cursor at the beginning of a row
+begun_run : RunLaws → ProfilesHave → (profile : ProfileView) → IsProfile profile → (painter : Painter) → painter ≡ painter_of profile → (row : ℕ) → row < profile.rows → 0 < profile.columns → (pen : PenView) → pen ≡ plain_pen → (start : TerminalState) → IsState (abilities profile) start
+    → runs profile start (painter_begins painter (row, 0) pen) ≡ Some (plain (at_place start (row, 0)))
+begun_run laws have profile p painter who row high wide pen is start state =
+    ap (λ ops. runs profile start ops) ((λ i. painter_begins (who i) (row, 0) (is i)) ∙ append-nil (goes profile (row, 0)))
+    ∙ goes_by laws profile (have profile p) start state.pen (row, 0) (high, wide) profile.msgr refl
+
+pub begun_right : RunLaws → ProfilesHave → (profile : ProfileView) → IsProfile profile → (picture : PictureView) → Fits profile picture → (painter : Painter) → painter ≡ painter_of profile → (memory : MemoryView) → (row : ℕ) → row < profile.rows → 0 < profile.columns → (pen : PenView) → pen ≡ plain_pen
+    → (old new : Draft) → old.ops.items ≡ [] → old.bytes ≡ 0 → IsAdded profile old new (painter_begins painter (row, 0) pen) (At row 0) pen → RightFrom profile picture memory (unsettled profile picture memory 0) new
+begun_right laws have profile p picture fits painter who memory row high wide pen is old new ops bytes added start agrees =
+    let begins : List Op = painter_begins painter (row, 0) pen in
+    let next : TerminalState = plain (at_place start (row, 0)) in
+    let run : runs profile start begins ≡ Some next = begun_run laws have profile p painter who row high wide pen is start agrees.is_state in
+    record {
+      own = begins;
+      ops = added.ops ∙ ap (λ o. o ++ begins) ops;
+      now = next;
+      run = run;
+      state = laws.kept profile p start next agrees.is_state begins run;
+      bytes = added.bytes (laws.had profile start next begins run) ∙ ap (λ n. counted_up (n + length (all_bytes profile begins))) bytes;
+      spot = sym added.spot_is;
+      pen = sym is ∙ sym added.pen_is;
+      shows = λ r c up left e. by r c (omega (arith, up, fits.rows)) (is_known_row memory r) refl e;
+    }
+  where
+    by : (r c : ℕ) → r < profile.rows → (b : Bool) → is_known_row memory r ≡ b → (if b then not (look_eq (look_in memory (r, c)) (look_at profile picture (r, c))) else (if ltb r 0 then not (look_eq blank (look_at profile picture (r, c))) else true)) ≡ false
+        → grid_at blank start.grid r c ≡ look_at profile picture (r, c)
+    by r c up true known e =
+        ap (λ line. get_or line c blank) (agrees.rows r up known)
+        ∙ look_same (look_in memory (r, c)) (look_at profile picture (r, c)) (not_false (look_eq (look_in memory (r, c)) (look_at profile picture (r, c))) e)
+    by r c up false known e = never (ltb r 0) (first (ltb r 0) e) none
+      where
+        none : ltb r 0 ≡ false
+        none = grind (arith, nat_tests)
+
+        first : (b : Bool) → (if b then not (look_eq blank (look_at profile picture (r, c))) else true) ≡ false → b ≡ true
+        first true e = refl
+        first false e = (cc)
+
+-- what is known of the terminal then
+or_true : (b : Bool) → (b || true) ≡ true
+or_true true = refl
+or_true false = refl
+
+then_step : (first : Option TerminalState) (rest : TerminalState → Option TerminalState) (now : TerminalState) → option_and_then rest first ≡ Some now → (next : TerminalState) × (first ≡ Some next) × (rest next ≡ Some now)
+then_step None rest now e = (cc)
+then_step (Some next) rest now e = (next, refl, e)
+
+pub knows_begun : RunLaws → ProfilesHave → MemoryRuns → (profile : ProfileView) → IsProfile profile → (painter : Painter) → painter ≡ painter_of profile → (memory : MemoryView) → MayBe (abilities profile) memory → (row : ℕ) → row < profile.rows → 0 < profile.columns → (pen : PenView) → pen ≡ plain_pen
+    → (old new : Draft) → old.ops.items ≡ [] → old.bytes ≡ 0 → IsAdded profile old new (painter_begins painter (row, 0) pen) (At row 0) pen → Knows profile memory (is_known_row memory) new
+knows_begun laws have memories profile p painter who memory may row high wide pen is old new ops bytes added =
+    let begins : List Op = painter_begins painter (row, 0) pen in
+    let next : TerminalState = plain (at_place memory.state (row, 0)) in
+    let run : runs profile memory.state begins ≡ Some next = begun_run laws have profile p painter who row high wide pen is memory.state may.state in
+    let all : new.ops.items ≡ begins = added.ops ∙ ap (λ o. o ++ begins) ops in
+    let same : all_followed profile new.ops.items memory ≡ all_followed profile begins memory = ap (λ o. all_followed profile o memory) all in
+    let state : (all_followed profile new.ops.items memory).state ≡ next = ap (λ (m : MemoryView). m.state) same ∙ memories.state profile memory next begins run in
+    let agrees : Agrees (abilities profile) (all_followed profile begins memory) next = memories.follows profile p memory memory.state next begins (agrees_itself (abilities profile) memory may) run in
+    let cut : begins ≡ goes profile (row, 0) = (λ i. painter_begins (who i) (row, 0) (is i)) ∙ append-nil (goes profile (row, 0)) in
+    let learnt = learnt_by profile.msgr (is_there profile Sgr0) refl (ap (λ o. runs profile memory.state o) (sym cut) ∙ run) in
+    record {
+      may = subst (MayBe (abilities profile)) (sym same) (record { state = agrees.may_be; high = agrees.high });
+      known_spot = ap (λ o. (all_followed profile o memory).known_spot) (all ∙ cut) ∙ learnt.0;
+      known_pen = ap (λ o. (all_followed profile o memory).known_pen) (all ∙ cut) ∙ learnt.1;
+      spot = ap (λ (s : TerminalState). s.spot) state ∙ sym added.spot_is;
+      pen = ap (λ (s : TerminalState). s.pen) state ∙ sym is ∙ sym added.pen_is;
+      bytes = omega (arith, added.bytes (laws.had profile memory.state next begins run));
+      rows = λ r e. ap (λ o. is_known_row (all_followed profile o memory) r) (all ∙ cut) ∙ ap (λ rows. get_or rows r false) learnt.2 ∙ e;
+    }
+  where
+    can : HasLaws profile
+    can = have profile p
+
+    one : is_there profile Sgr0 ≡ false → has_one_pen (abilities profile) ≡ true
+    one there = (λ i. can.plain_set there i == 0 && not (can.plain_colours there i))
+
+    Learnt : List Op → Type 0
+    Learnt ops = ((all_followed profile ops memory).known_spot ≡ true) × ((all_followed profile ops memory).known_pen ≡ true) × ((all_followed profile ops memory).known_rows ≡ memory.known_rows)
+
+    now : TerminalState
+    now = plain (at_place memory.state (row, 0))
+
+    two : (a b : Op) (first second : TerminalState) → step profile memory.state a ≡ Some first → step profile first b ≡ Some second
+        → all_followed profile (a ∷ b ∷ []) memory ≡ stepped (abilities profile) b (stepped (abilities profile) a memory (Some first)) (Some second)
+    two a b first second at then_at =
+        ap (λ n. followed profile b (stepped (abilities profile) a memory n)) at
+        ∙ ap (λ n. stepped (abilities profile) b (stepped (abilities profile) a memory (Some first)) n) then_at
+
+    learnt_by : (msgr sgr0 : Bool) → is_there profile Sgr0 ≡ sgr0 → runs profile memory.state (if msgr then Move row 0 ∷ (if sgr0 then Reset ∷ [] else []) else (if sgr0 then Reset ∷ [] else []) ++ Move row 0 ∷ []) ≡ Some now
+        → Learnt (if msgr then Move row 0 ∷ (if sgr0 then Reset ∷ [] else []) else (if sgr0 then Reset ∷ [] else []) ++ Move row 0 ∷ [])
+    learnt_by true true there e =
+        let first = then_step (step profile memory.state (Move row 0)) (λ s. runs profile s (Reset ∷ [])) now e in
+        let second = then_step (step profile first.0 Reset) (λ s. runs profile s []) now first.2 in
+        let is = two (Move row 0) Reset first.0 second.0 first.1 second.1 in
+        (ap (λ (m : MemoryView). m.known_spot) is ∙ ap (λ b. b || false) (or_true memory.known_spot), ap (λ (m : MemoryView). m.known_pen) is ∙ ap (λ b. b || has_one_pen (abilities profile)) (or_true (memory.known_pen || false || has_one_pen (abilities profile))), ap (λ (m : MemoryView). m.known_rows) is)
+    learnt_by true false there e =
+        let first = then_step (step profile memory.state (Move row 0)) (λ s. runs profile s []) now e in
+        let is : all_followed profile (Move row 0 ∷ []) memory ≡ stepped (abilities profile) (Move row 0) memory (Some first.0) = ap (λ n. stepped (abilities profile) (Move row 0) memory n) first.1 in
+        (ap (λ (m : MemoryView). m.known_spot) is ∙ or_true memory.known_spot, ap (λ (m : MemoryView). m.known_pen) is ∙ ap (λ b. memory.known_pen || false || b) (one there) ∙ or_true (memory.known_pen || false), ap (λ (m : MemoryView). m.known_rows) is)
+    learnt_by false true there e =
+        let first = then_step (step profile memory.state Reset) (λ s. runs profile s (Move row 0 ∷ [])) now e in
+        let second = then_step (step profile first.0 (Move row 0)) (λ s. runs profile s []) now first.2 in
+        let is = two Reset (Move row 0) first.0 second.0 first.1 second.1 in
+        (ap (λ (m : MemoryView). m.known_spot) is ∙ or_true (memory.known_spot || false), ap (λ (m : MemoryView). m.known_pen) is ∙ ap (λ b. b || has_one_pen (abilities profile) || false || has_one_pen (abilities profile)) (or_true memory.known_pen), ap (λ (m : MemoryView). m.known_rows) is)
+    learnt_by false false there e =
+        let first = then_step (step profile memory.state (Move row 0)) (λ s. runs profile s []) now e in
+        let is : all_followed profile (Move row 0 ∷ []) memory ≡ stepped (abilities profile) (Move row 0) memory (Some first.0) = ap (λ n. stepped (abilities profile) (Move row 0) memory n) first.1 in
+        (ap (λ (m : MemoryView). m.known_spot) is ∙ or_true memory.known_spot, ap (λ (m : MemoryView). m.known_pen) is ∙ ap (λ b. memory.known_pen || false || b) (one there) ∙ or_true (memory.known_pen || false), ap (λ (m : MemoryView). m.known_rows) is)
+
+-- ---- a row is erased
+
+pub row_wipes : RunLaws → GridLaws LookView → (profile : ProfileView) → IsProfile profile → (picture : PictureView) → Fits profile picture → (row : ℕ) → (old new : Draft) → has profile EraseLine ≡ true → old.spot ≡ At row 0 → is_plain_pen old.pen ≡ true
+    → IsAdded profile old new (EraseLine ∷ []) old.spot old.pen → WipesRow profile picture row old new
+row_wipes laws grids profile p picture fits row old new had here plain added waits paid first start right =
+    let now : TerminalState = right.now in
+    let next : TerminalState = erased profile.rows profile.columns (is_in_run row 0 profile.columns) now in
+    let acted : act profile now EraseLine ≡ Some next =
+    ap (λ b. if b then rest_of_line_erased profile.rows profile.columns now else None) (ap is_plain_pen right.pen ∙ plain)
+    ∙ ap (λ spot. from_place spot (λ r c. Some (erased profile.rows profile.columns (is_in_run r c profile.columns) now))) (right.spot ∙ here) in
+    drawn laws profile p picture paid first start waits (row_wiped profile picture row waits) old new (EraseLine ∷ []) old.spot old.pen added right next (one_run profile now next EraseLine had acted) right.spot right.pen
+    (λ r c up left e.
+    grids.formula blank profile.rows profile.columns (λ r c. if is_in_run row 0 profile.columns r c then blank else grid_at blank now.grid r c) r c (omega (arith, up, fits.rows)) (omega (arith, left, fits.columns))
+    ∙ ap (λ b. if b then blank else grid_at blank now.grid r c) (inside r c (omega (arith, left, fits.columns)))
+    ∙ by r c (r == row) (λ w. right.shows r c up left w) e)
+  where
+    inside : (r c : ℕ) → c < profile.columns → is_in_run row 0 profile.columns r c ≡ (r == row)
+    inside r c wide = grind (arith, nat_tests)
+
+    by : (r c : ℕ) (b : Bool) → (waits (r, c) ≡ false → grid_at blank right.now.grid r c ≡ look_at profile picture (r, c)) → (if b then not (look_eq blank (look_at profile picture (r, c))) else waits (r, c)) ≡ false
+        → (if b then blank else grid_at blank right.now.grid r c) ≡ look_at profile picture (r, c)
+    by r c true was e = look_same blank (look_at profile picture (r, c)) (not_false (look_eq blank (look_at profile picture (r, c))) e)
+    by r c false was e = was e
+
+-- ---- one row more
+
+-- a row that was known
+pub known_passed : (profile : ProfileView) (picture : PictureView) (memory : MemoryView) (row : ℕ) (draft : Draft) → is_known_row memory row ≡ true → Keeps profile picture (unsettled profile picture memory row) (unsettled profile picture memory (row + 1)) draft draft
+known_passed profile picture memory row draft known =
+    weaker profile picture (unsettled profile picture memory row) (unsettled profile picture memory (row + 1)) draft (λ place e. by place (is_known_row memory place.0) refl e)
+  where
+    by : (place : ℕ × ℕ) (b : Bool) → is_known_row memory place.0 ≡ b → (if b then not (look_eq (look_in memory place) (look_at profile picture place)) else (if ltb place.0 (row + 1) then not (look_eq blank (look_at profile picture place)) else true)) ≡ false
+        → (if b then not (look_eq (look_in memory place) (look_at profile picture place)) else (if ltb place.0 row then not (look_eq blank (look_at profile picture place)) else true)) ≡ false
+    by place true at e = e
+    by place false at e = ap (λ t. if t then not (look_eq blank (look_at profile picture place)) else true) (other (place.0 == row) refl) ∙ e
+      where
+        other : (t : Bool) → (place.0 == row) ≡ t → ltb place.0 row ≡ ltb place.0 (row + 1)
+        other true same = let here : row ≡ place.0 = grind (arith, nat_tests) in never (is_known_row memory place.0) (ap (is_known_row memory) (sym here) ∙ known) at
+        other false same = grind (arith, nat_tests)
+
+-- a row that was not known, and was erased
+pub unknown_wiped : (profile : ProfileView) (picture : PictureView) (memory : MemoryView) (row : ℕ) (old new : Draft) → is_known_row memory row ≡ false → WipesRow profile picture row old new
+    → Keeps profile picture (unsettled profile picture memory row) (unsettled profile picture memory (row + 1)) old new
+unknown_wiped profile picture memory row old new unknown wipes paid first start right =
+    weaker profile picture (row_wiped profile picture row (unsettled profile picture memory row)) (unsettled profile picture memory (row + 1)) new (λ place e. by place (place.0 == row) refl (is_known_row memory place.0) refl e) paid first start
+    (wipes (unsettled profile picture memory row) paid first start right)
+  where
+    by : (place : ℕ × ℕ) (t : Bool) → (place.0 == row) ≡ t → (b : Bool) → is_known_row memory place.0 ≡ b → (if b then not (look_eq (look_in memory place) (look_at profile picture place)) else (if ltb place.0 (row + 1) then not (look_eq blank (look_at profile picture place)) else true)) ≡ false
+        → (if t then not (look_eq blank (look_at profile picture place)) else (if b then not (look_eq (look_in memory place) (look_at profile picture place)) else (if ltb place.0 row then not (look_eq blank (look_at profile picture place)) else true))) ≡ false
+    by place true same true at e = let here : row ≡ place.0 = grind (arith, nat_tests) in never (is_known_row memory place.0) at (ap (is_known_row memory) (sym here) ∙ unknown)
+    by place true same false at e =
+        let under : ltb place.0 (row + 1) ≡ true = grind (arith, nat_tests) in
+        sym (ap (λ t. if t then not (look_eq blank (look_at profile picture place)) else true) under) ∙ e
+    by place false same true at e = e
+    by place false same false at e =
+        let alike : ltb place.0 row ≡ ltb place.0 (row + 1) = grind (arith, nat_tests) in
+        ap (λ t. if t then not (look_eq blank (look_at profile picture place)) else true) alike ∙ e
+
+pub below_more : (known : ℕ → Bool) (row r : ℕ) → or_below known (row + 1) r ≡ true → or_row (or_below known row) row r ≡ true
+below_more known row r e = by (known r) e
+  where
+    by : (b : Bool) → (b || ltb r (row + 1)) ≡ true → ((b || ltb r row) || r == row) ≡ true
+    by true e = refl
+    by false e = grind (arith, nat_tests)
+
+pub below_passed : (known : ℕ → Bool) (row r : ℕ) → known row ≡ true → or_below known (row + 1) r ≡ true → or_below known row r ≡ true
+below_passed known row r at e = by (r == row) refl (known r) refl e
+  where
+    by : (t : Bool) → (r == row) ≡ t → (b : Bool) → known r ≡ b → (b || ltb r (row + 1)) ≡ true → (b || ltb r row) ≡ true
+    by t same true is e = refl
+    by true same false is e = let here : row ≡ r = grind (arith, nat_tests) in never (known r) (ap known (sym here) ∙ at) is
+    by false same false is e = grind (arith, nat_tests)
+
+-- ---- what is found
+
+pub known_unsettled : (profile : ProfileView) (picture : PictureView) (memory : MemoryView) (runs : List Run) (row : ℕ) → is_known_row memory row ≡ true → HasChangesIn profile picture memory runs row → HasUnsettledIn profile picture memory runs row
+known_unsettled profile picture memory runs row known found c wide e =
+    ap (λ b. if b then not (look_eq (look_in memory (row, c)) (look_at profile picture (row, c))) else (if ltb row picture.rows then not (look_eq blank (look_at profile picture (row, c))) else true)) known
+    ∙ ap (λ look. not (look_eq look (look_at profile picture (row, c)))) (found c wide e)
+    ∙ ap not (look_refl (look_at profile picture (row, c)))
+
+pub blank_unsettled : (profile : ProfileView) (picture : PictureView) (painter : Painter) → painter ≡ painter_of profile → (memory : MemoryView) (runs : List Run) (row : ℕ) → row < picture.rows → is_known_row memory row ≡ false → HasDiffering painter picture row None 0 picture.columns runs → HasUnsettledIn profile picture memory runs row
+blank_unsettled profile picture painter who memory runs row high unknown has c wide e =
+    let under : ltb row picture.rows ≡ true = grind (arith, nat_tests) in
+    ap (λ b. if b then not (look_eq (look_in memory (row, c)) (look_at profile picture (row, c))) else (if ltb row picture.rows then not (look_eq blank (look_at profile picture (row, c))) else true)) unknown
+    ∙ ap (λ t. if t then not (look_eq blank (look_at profile picture (row, c))) else true) under
+    ∙ ap (λ p. row_differs p picture None (row, c)) (sym who)
+    ∙ not_in (row_differs painter picture None (row, c)) (in_runs runs (row, c)) (has c (omega arith) wide) e
+
+pub one_row_unsettled : (profile : ProfileView) (picture : PictureView) (memory : MemoryView) (some more : List Run) (row : ℕ) → KeepsRuns some more → HasUnsettled profile picture memory some row → HasUnsettledIn profile picture memory more row → HasUnsettled profile picture memory more (row + 1)
+one_row_unsettled profile picture memory some more row keeps above own r high c wide e = by (r == row) refl
+  where
+    by : (b : Bool) → (r == row) ≡ b → unsettled profile picture memory picture.rows (r, c) ≡ false
+    by true at =
+        let here : row ≡ r = grind (arith, nat_tests) in
+        subst (λ r. in_runs more (r, c) ≡ false → unsettled profile picture memory picture.rows (r, c) ≡ false) here (own c wide) e
+    by false at = let under : r < row = grind (arith, nat_tests) in above r under c wide (not_in (in_runs some (r, c)) (in_runs more (r, c)) (keeps (r, c)) e)
+
+-- ---- at the end
+
+all_known : (n : ℕ) (rows : List Bool) → n ≡ length rows → ((r : ℕ) → r < n → get_or rows r false ≡ true) → list_all (λ known. known) rows ≡ true
+all_known n [] same each = refl
+all_known zero (row ∷ rows) same each = absurd (omega (arith, same))
+all_known (suc n) (row ∷ rows) same each = (λ i. each 0 (omega arith) i && all_known n rows (omega (arith, same)) (λ r below. each (suc r) (omega (arith, below))) i)
+
+pub partly_done : MemoryRuns → (profile : ProfileView) → IsProfile profile → (picture : PictureView) → Fits profile picture → (memory : MemoryView) (runs : List Run) → HasUnsettled profile picture memory runs picture.rows → (old mid new : Draft)
+    → RightFrom profile picture memory (unsettled profile picture memory 0) old → (MayBe (abilities profile) memory → Knows profile memory (is_known_row memory) old)
+    → Keeps profile picture (unsettled profile picture memory 0) (unsettled profile picture memory picture.rows) old mid → (Knows profile memory (is_known_row memory) old → Knows profile memory (or_below (is_known_row memory) picture.rows) mid)
+    → Leaves profile picture runs [] mid new → IfSome picture.wish (λ place. new.spot ≡ At place.0 place.1) → IsPartly profile picture memory new
+partly_done laws profile p picture fits memory runs found old mid new begun knows wiped learns painted placed = record {
+  done = λ start agrees. record { right = painted 0 [] start (settled 0 [] start (wiped 0 [] start (begun start agrees))); spot = placed };
+  known = λ may.
+      let m : MemoryView = all_followed profile mid.ops.items memory in
+      let here : Knows profile memory (or_below (is_known_row memory) picture.rows) mid = learns (knows may) in
+      let there : IsRight profile picture 0 [] memory.state (in_runs runs) mid = settled 0 [] memory.state (wiped 0 [] memory.state (begun memory.state (agrees_itself (abilities profile) memory may))) in
+      let state : m.state ≡ there.now = ap (λ o. (all_followed profile o memory).state) there.ops ∙ laws.state profile memory there.now there.own there.run in
+      let rows : list_all (λ known. known) m.known_rows ≡ true = all_known profile.rows m.known_rows (sym here.may.high) (λ r below. here.rows r (low r (omega (arith, below, fits.rows)))) in
+      let known : is_known m ≡ true = (λ i. rows i && here.known_spot i && here.known_pen i) in
+      let right : IsRight profile picture mid.bytes mid.ops.items m.state (in_runs []) new =
+      painted mid.bytes mid.ops.items m.state (record {
+        own = [];
+        ops = sym (append-nil mid.ops.items);
+        now = m.state;
+        run = refl;
+        state = here.may.state;
+        bytes = here.bytes ∙ omega arith;
+        spot = here.spot;
+        pen = here.pen;
+        shows = λ r c high wide e. ap (λ s. grid_at blank s.grid r c) state ∙ there.shows r c high wide e;
+      }) in
+      ap (λ o. is_known (all_followed profile o memory)) right.ops ∙ ap is_known (laws.joined profile memory mid.ops.items right.own)
+      ∙ laws.stays_known profile p m m.state right.now right.own (agrees_itself (abilities profile) m here.may) right.run known;
+}
+  where
+    settled : Keeps profile picture (unsettled profile picture memory picture.rows) (in_runs runs) mid mid
+    settled = weaker_inside profile picture (unsettled profile picture memory picture.rows) (in_runs runs) mid (λ r c high wide e. found r high c wide e)
+
+    low : (r : ℕ) → r < picture.rows → (is_known_row memory r || ltb r picture.rows) ≡ true
+    low r below = let under : ltb r picture.rows ≡ true = grind (arith, nat_tests) in ap (λ b. is_known_row memory r || b) under ∙ or_true (is_known_row memory r)
+
+-- ---- answers
+
+pub if_ok_then : {E : Type 0} (r : Result Bool E) (P Q : Type 0) → (P → Q) → IfOk r (λ done. done ≡ true → P) → IfOk r (λ done. done ≡ true → Q)
+if_ok_then (Ok done) P Q f h = λ e. f (h e)
+if_ok_then (Err e) P Q f h = h

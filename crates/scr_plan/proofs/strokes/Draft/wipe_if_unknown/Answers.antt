@@ -1,0 +1,18 @@
+use Rattle.std.proofs.Common.{false, rules, true, IfOk, ◌≡◌, ◌+◌}
+use Rattle.scr_plan.specs.Code.Drafts.{Keeps, Knows, LearnsRow, WipesRow, or_below, unsettled}
+use Rattle.scr_plan.specs.Memories.{is_known_row}
+use Rattle.scr_plan.proofs.UnknownRowLaws.{below_more, if_ok_then, knows_weaker, unknown_wiped}
+use Rattle.scr_plan.proofs.strokes.Draft.wipe_if_unknown.Goals as goal
+
+pub returns-clause-right : goal.returns-clause-right
+returns-clause-right c =
+    if_ok_then c.wipe_row.result (WipesRow c.args.profile.now c.args.picture.now c.args.row c.args.self.now c.wipe_row.new.self)
+    (Keeps c.args.profile.now c.args.picture.now (unsettled c.args.profile.now c.args.picture.now c.args.memory.now c.args.row) (unsettled c.args.profile.now c.args.picture.now c.args.memory.now (c.args.row + 1)) c.args.self.now c.wipe_row.new.self)
+    (unknown_wiped c.args.profile.now c.args.picture.now c.args.memory.now c.args.row c.args.self.now c.wipe_row.new.self (search rules)) c.wipe_row.ensures.right
+
+pub returns-clause-knows : goal.returns-clause-knows
+returns-clause-knows c =
+    let known = is_known_row c.args.memory.now in
+    if_ok_then c.wipe_row.result (LearnsRow c.args.profile.now c.args.row c.args.self.now c.wipe_row.new.self)
+    (Knows c.args.profile.now c.args.memory.now (or_below known c.args.row) c.args.self.now → Knows c.args.profile.now c.args.memory.now (or_below known (c.args.row + 1)) c.wipe_row.new.self)
+    (λ learns knows. knows_weaker c.args.profile.now c.args.memory.now _ (or_below known (c.args.row + 1)) c.wipe_row.new.self (below_more known c.args.row) (learns c.args.memory.now (or_below known c.args.row) knows)) c.wipe_row.ensures.knows

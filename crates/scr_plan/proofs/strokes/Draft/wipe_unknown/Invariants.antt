@@ -1,0 +1,9 @@
+use Rattle.scr_plan.specs.Code.Drafts.{Keeps, Knows, or_below, unsettled}
+use Rattle.scr_plan.specs.Memories.{is_known_row}
+use Rattle.scr_plan.proofs.strokes.Draft.wipe_unknown.Given as goal
+
+abbrev pub invariant-loop-row : goal.invariant-loop-row
+invariant-loop-row l = record {
+  right : Keeps l.profile l.picture (unsettled l.profile l.picture l.memory 0) (unsettled l.profile l.picture l.memory l.row) l.fn.self l.self;
+  knows : Knows l.profile l.memory (is_known_row l.memory) l.fn.self → Knows l.profile l.memory (or_below (is_known_row l.memory) l.row) l.self;
+}
