@@ -1,28 +1,30 @@
-//! How many bytes an update may send at most: the price of painting each place that differs, counted place by place.
+//! How many bytes an update may send at most.
 
+use crate::counting::{Row, Tally, price};
 use crate::shown::{is_placed, look_of};
 use check_scripts::troubles::Trouble;
 use scr_cells::{Attrs, Look, Picture, Size};
-use scr_term::{Op, Profile, Spot};
+use scr_term::{EcmaScreen, Op, Profile, Spot};
 use std::alloc::Global;
 
-// Each attribute by itself.
-const ATTRIBUTES: [Attrs; 7] = [
-    Attrs::STANDOUT,
-    Attrs::UNDERLINE,
-    Attrs::REVERSE,
-    Attrs::BLINK,
-    Attrs::DIM,
-    Attrs::BOLD,
-    Attrs::INVIS,
-];
-
-/// What the terminal shows since an update that ended well, as long as an update may send only what differs.
+/// What the terminal shows since an update that ended well.
 #[derive(Drop)]
 pub struct Left {
     looks: Vec<Look>,
     spot: Spot,
-    known: bool,
+    is_plain: bool,
+    allowed: Allowed,
+}
+
+// What the next update may send.
+#[derive(Clone, Copy)]
+enum Allowed {
+    // What is owed, and what paints the screen anew.
+    Owed,
+    // What paints the screen anew.
+    Anew,
+    // Only what differs.
+    Differing,
 }
 
 impl Left {
@@ -32,21 +34,29 @@ impl Left {
         Ok(Left {
             looks: Vec::with_capacity(alloc, places)?,
             spot: Spot::At(0, 0),
-            known: false,
+            is_plain: false,
+            allowed: Allowed::Anew,
         })
     }
 
     /// The next update may paint everything.
     pub fn forget(&mut self) {
-        self.known = false;
+        if matches!(self.allowed, Allowed::Differing) {
+            self.allowed = Allowed::Anew;
+        }
     }
 
-    /// An update ended well: the terminal shows the picture, and its cursor is here.
+    /// A write failed: the next update may send what is owed, and paint everything.
+    pub fn owe(&mut self) {
+        self.allowed = Allowed::Owed;
+    }
+
+    /// An update ended well: this terminal shows the picture.
     pub fn learn(
         &mut self,
         profile: &Profile,
         picture: &Picture,
-        spot: Spot,
+        emulated: &EcmaScreen,
     ) -> Result<(), Trouble> {
         self.looks.clear();
         for row in 0..picture.size().rows {
@@ -54,68 +64,97 @@ impl Left {
                 self.looks.push(look_of(profile, picture, *cell))?;
             }
         }
-        self.spot = spot;
-        self.known = true;
+        self.spot = emulated.spot();
+        self.is_plain = emulated.rendition().0 == 0 && emulated.colours() == (None, None);
+        self.allowed = Allowed::Differing;
         Ok(())
     }
 
-    /// How many bytes it takes at most to bring the terminal to a picture, if that is known: for each place that differs the cursor
-    /// there, a reset, its attributes and colours and its byte; two resets and the cursor's place around them. Nothing where no
-    /// place differs and the cursor is where it is wished.
+    /// How many bytes an update to a picture may send, as far as that is known: where only what differs may be sent, those of the
+    /// joined repaint, else those of painting from scratch.
     pub fn most(&self, profile: &Profile, picture: &Picture) -> Option<usize> {
-        if !self.known {
-            return None;
+        match self.allowed {
+            Allowed::Owed => None,
+            Allowed::Anew => Some(scratch_bytes(profile, picture)),
+            Allowed::Differing => Some(self.joined_bytes(profile, picture)),
         }
-        let wish = picture.wish();
-        let places = self.places_price(profile, picture);
-        if places == 0 && is_placed(self.spot, wish) {
-            return Some(0);
-        }
-        let last = match wish {
-            Some((row, column)) => price(profile, Op::Move(row, column)),
-            None => 0,
-        };
-        let resets = price(profile, Op::Reset).saturating_mul(2);
-        Some(places.saturating_add(resets).saturating_add(last))
     }
 
-    // The price of all places that differ.
-    fn places_price(&self, profile: &Profile, picture: &Picture) -> usize {
-        let size = picture.size();
-        let mut sum: usize = 0;
-        for row in 0..size.rows {
-            let from = (row as usize).saturating_mul(size.columns as usize);
-            let looks = self.looks.get(from..).unwrap_or(&[]);
-            sum = sum.saturating_add(row_price(profile, picture, row, looks));
+    // Nothing where no place differs and the cursor is as wished; else a reset, the places that differ, a reset, and the cursor.
+    fn joined_bytes(&self, profile: &Profile, picture: &Picture) -> usize {
+        let wish = picture.wish();
+        if !self.differs(profile, picture) && is_placed(self.spot, wish) {
+            return 0;
         }
-        sum
+        let mut tally = Tally::new(profile, self.spot, self.is_plain);
+        tally.reset();
+        for number in 0..picture.size().rows {
+            tally.paint(&self.row(profile, picture, number));
+        }
+        tally.reset();
+        if let Some((row, column)) = wish {
+            tally.go(row, column);
+        }
+        tally.bytes
+    }
+
+    // Whether a place differs.
+    fn differs(&self, profile: &Profile, picture: &Picture) -> bool {
+        let size = picture.size();
+        for number in 0..size.rows {
+            let row = self.row(profile, picture, number);
+            for column in 0..size.columns {
+                if row.differs(column) {
+                    return true;
+                }
+            }
+        }
+        false
+    }
+
+    // A row of a picture, and what is shown of it.
+    fn row<'a>(&'a self, profile: &'a Profile, picture: &'a Picture, number: u32) -> Row<'a> {
+        let size = picture.size();
+        let from = (number as usize).saturating_mul(size.columns as usize);
+        Row {
+            profile,
+            picture,
+            number,
+            cells: if number < size.rows {
+                picture.row(number)
+            } else {
+                &[]
+            },
+            shown: self.looks.get(from..).unwrap_or(&[]),
+        }
     }
 }
 
-// The price of the places of a row that differ from these looks.
-fn row_price(profile: &Profile, picture: &Picture, row: u32, looks: &[Look]) -> usize {
-    if row >= picture.size().rows {
-        return 0;
-    }
-    let mut sum: usize = 0;
-    let mut column: u32 = 0;
-    for (cell, look) in picture.row(row).iter().zip(looks.iter()) {
-        let wanted = look_of(profile, picture, *cell);
-        if wanted != *look {
-            let begin = price(profile, Op::Move(row, column));
+// How many bytes painting from scratch has: two resets, a blank screen, for each place the cursor there, a reset, its attributes and
+// colours and its byte, and the cursor.
+fn scratch_bytes(profile: &Profile, picture: &Picture) -> usize {
+    let resets = price(profile, Op::Reset).saturating_mul(2);
+    let mut sum = resets.saturating_add(price(profile, Op::Clear));
+    for row in 0..picture.size().rows {
+        let mut column: u32 = 0;
+        for cell in picture.row(row) {
+            let look = look_of(profile, picture, *cell);
             sum = sum
-                .saturating_add(begin)
-                .saturating_add(look_price(profile, wanted));
+                .saturating_add(price(profile, Op::Move(row, column)))
+                .saturating_add(look_price(profile, look));
+            column = column.saturating_add(1);
         }
-        column = column.saturating_add(1);
     }
-    sum
+    match picture.wish() {
+        Some((row, column)) => sum.saturating_add(price(profile, Op::Move(row, column))),
+        None => sum,
+    }
 }
 
 // The price of a reset, what a look has to turn on, and its byte.
 fn look_price(profile: &Profile, look: Look) -> usize {
     let mut sum = price(profile, Op::Reset).saturating_add(price(profile, Op::Put(look.byte())));
-    for attribute in ATTRIBUTES {
+    for attribute in Attrs::EACH {
         if look.attrs().0 & attribute.0 != 0 {
             sum = sum.saturating_add(price(profile, Op::Enter(attribute)));
         }
@@ -127,9 +166,4 @@ fn look_price(profile: &Profile, look: Look) -> usize {
         sum = sum.saturating_add(price(profile, Op::Back(colour)));
     }
     sum
-}
-
-// How many bytes an operation sends; 0 where the terminal has none.
-fn price(profile: &Profile, op: Op) -> usize {
-    profile.cost(op).unwrap_or(0)
 }

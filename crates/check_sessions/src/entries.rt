@@ -1,5 +1,6 @@
-//! Entries of a screen: the bundled one, without some of its texts and with other numbers.
+//! Entries of a screen: the bundled one, without some of its texts and flags, with others, and with other numbers.
 
+use check_scripts::buffers::Buffer;
 use check_scripts::troubles::Trouble;
 use check_scripts::words::Words;
 use std::alloc::Global;
@@ -8,14 +9,14 @@ use ti_caps::{CapFault, Entry, Kind, Slot, bundled, find_name};
 // How many names a line has at most.
 const MOST: usize = 64;
 
-/// The bundled entry without the texts that a line names, up to its `=`, and with the numbers that it names and gives; `None` where
-/// the library was refused memory.
+/// The bundled entry without the flags and the texts that a line names, up to its `=`, and with the numbers that it names and gives; a
+/// text that stands behind its name is taken in place of the bundled one. `None` where the library was refused memory.
 pub fn read_entry(alloc: Global, words: &mut Words<'_>) -> Option<Entry> {
     let Ok(mut entry) = bundled(alloc) else {
         pass_names(words);
         return None;
     };
-    if change_all(&mut entry, words) {
+    if change_all(alloc, &mut entry, words) {
         Some(entry)
     } else {
         pass_names(words);
@@ -34,28 +35,43 @@ fn pass_names(words: &mut Words<'_>) {
 }
 
 // Changes an entry as a line says, and tells whether there was memory for it.
-fn change_all(entry: &mut Entry, words: &mut Words<'_>) -> bool {
+fn change_all(alloc: Global, entry: &mut Entry, words: &mut Words<'_>) -> bool {
     for _ in 0..MOST {
         if matches!(words.peek(), b"" | b"=") {
             break;
         }
-        if change(entry, words).is_err() {
+        if change(alloc, entry, words).is_err() {
             return false;
         }
     }
     true
 }
 
-// Has an entry no text of the name that follows, or the number that stands behind the name.
-fn change(entry: &mut Entry, words: &mut Words<'_>) -> Result<(), CapFault> {
+// Has an entry no flag of the name that follows, or the text or the number that stands behind the name, or no text.
+fn change(alloc: Global, entry: &mut Entry, words: &mut Words<'_>) -> Result<(), CapFault> {
     match find_name(words.next()) {
-        Some((Kind::Text, slot)) => entry.set_text(slot, None),
+        Some((Kind::Flag, slot)) => entry.set_flag(slot, false),
+        Some((Kind::Text, slot)) => set_text(alloc, entry, slot, words),
         Some((Kind::Number, slot)) => set_number(entry, slot, words),
-        _ => {
-            words.fail(Trouble::Bad("no such text or number"));
+        None => {
+            words.fail(Trouble::Bad("no such capability"));
             Ok(())
         }
     }
+}
+
+fn set_text(
+    alloc: Global,
+    entry: &mut Entry,
+    slot: Slot,
+    words: &mut Words<'_>,
+) -> Result<(), CapFault> {
+    if !words.peek().starts_with(b"\"") {
+        return entry.set_text(slot, None);
+    }
+    let mut text = Buffer::new(alloc);
+    words.text(&mut text);
+    entry.set_text(slot, Some(text.bytes()))
 }
 
 fn set_number(entry: &mut Entry, slot: Slot, words: &mut Words<'_>) -> Result<(), CapFault> {

@@ -14,8 +14,8 @@ use scr_term::{EcmaScreen, Op, Ops, Profile, ProfileFault};
 use std::alloc::Global;
 use ti_caps::{Entry, bundled};
 
-// How many bytes the writer has room for: more than an update sends here.
-const ROOM: usize = 4096;
+// How many bytes the writer has room for: more than an update of a line sends.
+const ROOM: usize = 8192;
 
 /// A screen, its terminal, and what was called, answered and sent since it was opened.
 #[derive(Drop)]
@@ -29,7 +29,7 @@ pub struct Recorded {
     pub screen: Screen,
     /// What the terminal shows.
     pub emulated: EcmaScreen,
-    // What the last update left there, if the next one may send only what differs.
+    // What the last update left there.
     left: Left,
     device: Device<Planned>,
     calls: Vec<Call>,
@@ -105,8 +105,8 @@ impl Recorded {
     }
 
     /// Updates with a writer that fails so, adds what the update answers, and tells whether all is as it has to be. Where that
-    /// is Ok, the terminal has to show the picture, what was sent may not be more than what differs, and where that is nothing, the writer
-    /// may not be called; adds what is not so.
+    /// is Ok, the terminal has to show the picture, no more may be sent than the joined repaint, or than painting from scratch, and where
+    /// nothing is sent, the writer may not be called; adds what is not so.
     pub fn update(&mut self, fails: Fails, came: &mut Buffer) -> Result<bool, Trouble> {
         self.device.writer.plan(fails)?;
         self.device.writer.calls = 0;
@@ -120,7 +120,7 @@ impl Recorded {
             Ended::RanOut => Ok(true),
             Ended::Failed => {
                 self.last_ok = false;
-                self.left.forget();
+                self.left.owe();
                 Ok(true)
             }
         }
@@ -152,6 +152,11 @@ impl Recorded {
             Err(OpenFault::NoMemory) => Ok(None),
             Err(_) => Err(Trouble::Bad("no profile")),
         }
+    }
+
+    /// How many bytes the next update may send, as far as that is known.
+    pub fn most(&self) -> Option<usize> {
+        self.left.most(&self.profile, self.screen.picture())
     }
 
     /// What the last update sent.
@@ -220,9 +225,9 @@ impl Recorded {
     // Adds what is wrong with an update that ended well, and tells whether nothing is.
     fn end_well(&mut self, bytes: u64, came: &mut Buffer) -> Result<bool, Trouble> {
         let trouble = self.trouble_of(bytes);
-        let spot = self.emulated.spot();
         self.last_ok = true;
-        self.left.learn(&self.profile, self.screen.picture(), spot)?;
+        self.left
+            .learn(&self.profile, self.screen.picture(), &self.emulated)?;
         if let Some(words) = trouble {
             add_word(words, came);
         }
@@ -232,11 +237,11 @@ impl Recorded {
     // What is wrong with an update that ended well, and sent so many bytes.
     fn trouble_of(&self, bytes: u64) -> Option<&'static str> {
         let picture = self.screen.picture();
-        let most = self.left.most(&self.profile, picture);
+        let most = self.most();
         if !shows(&self.emulated, &self.profile, picture) {
             Some("and the terminal shows something else")
         } else if most.is_some_and(|most| bytes > most as u64) {
-            Some("and more than what differs")
+            Some("and more than it may")
         } else if bytes == 0 && self.device.writer.calls > 0 {
             Some("and the writer was called")
         } else {

@@ -15,7 +15,8 @@ use scr_windows::{Desk, Win, WinFault};
 use std::alloc::Global;
 
 /// The lines `shown_rows`, `shown_cursor`, `shown R C` about the emulated screen, `picture_rows`, `picture_at R C` and `wish`
-/// about the picture, and `first_sent N`, the first N bytes that the last update sent. Tells whether a line is one of them.
+/// about the picture, `most`, how many bytes the next update may send, `sent`, what the last one sent, and `first_sent N`, the first N bytes
+/// of that. Tells whether a line is one of them.
 pub fn answer_of_shown(
     opened: &Recorded,
     word: &str,
@@ -30,6 +31,8 @@ pub fn answer_of_shown(
         "picture_rows" => add_picture_rows(picture, came),
         "picture_at" => add_picture_at(picture, words, came),
         "wish" => add_wish(picture, came),
+        "most" => add_most(opened.most(), came),
+        "sent" => add_text(opened.last_sent(), came),
         "first_sent" => add_first_sent(opened, words, came),
         _ => return false,
     }
@@ -84,6 +87,13 @@ fn add_wish(picture: &Picture, came: &mut Buffer) {
     match picture.wish() {
         Some((row, column)) => add_place(row, column, came),
         None => add_word("none", came),
+    }
+}
+
+fn add_most(most: Option<usize>, came: &mut Buffer) {
+    match most {
+        Some(bytes) => add_number(i64::try_from(bytes).unwrap_or(-1), came),
+        None => add_word("unknown", came),
     }
 }
 

@@ -64,8 +64,8 @@ impl Stage for SessionStage {
     }
 }
 
-// The line `screen R C NAME ..`, which opens a screen of so many rows and columns on the bundled entry without the texts of these
-// names; a number's name has its value behind it.
+// The line `screen R C NAME ..`, which opens a screen of so many rows and columns on the bundled entry without the texts and flags of these
+// names; a number's name has its value behind it, and that of a text that is another has this text.
 fn open(
     alloc: Global,
     opened: &mut Option<Recorded>,
