@@ -1,19 +1,33 @@
-//! Generated calls on a screen, with updates whose writer fails now and then.
+//! Generated calls on a screen, and generated updates.
 
+use crate::changing::next_change;
+use crate::entries::read_entry;
 use crate::generating::{COLUMNS, ROWS, next_call, next_fails, next_window};
 use crate::recorded::Recorded;
-use check_scripts::answers::{add_number, add_word};
+use crate::writers::Fails;
+use check_scripts::answers::{add_number, add_word, read_size};
 use check_scripts::buffers::Buffer;
 use check_scripts::random::Random;
 use check_scripts::troubles::Trouble;
 use check_scripts::words::Words;
 use curses::Call;
 use scr_cells::Size;
+use scr_windows::Win;
 use std::alloc::Global;
+use std::io::Write;
 
-/// The line `generated COUNT SEED`: so many calls on a screen, every fifth of them or so an update. After each update that
-/// is Ok the terminal has to show the picture, and no more may be sent than what differs; one session has to give the same answers and
-/// send the same bytes. Adds `agrees`, or the number of the update that is not so.
+// What is made up.
+#[derive(Clone, Copy)]
+enum Made {
+    // Any calls, every fifth of them or so an update.
+    Calls,
+    // Changes of the first window, with an update behind a few of them.
+    Updates,
+}
+
+/// The line `generated COUNT SEED`: so many calls on a screen, every fifth of them or so an update whose writer may fail. After each
+/// update that is Ok the terminal has to show the picture, and no more may be sent than what differs; one session has to give the same
+/// answers and send the same bytes. Adds `agrees`, or the number of the update that is not so.
 pub fn check_generated(
     alloc: Global,
     tried: &mut Option<Recorded>,
@@ -22,36 +36,71 @@ pub fn check_generated(
 ) -> Result<(), Trouble> {
     let (count, seed) = (words.number(), words.number());
     let size = Size::new(ROWS, COLUMNS).ok_or(Trouble::Bad("no size"))?;
-    if !Recorded::open_bundled(alloc, size, tried)? {
-        add_word("NoMemory", came);
+    let is_open = Recorded::open_bundled(alloc, size, tried)?;
+    make_opened(alloc, is_open, tried, Made::Calls, count, seed, came)
+}
+
+/// The line `updates R C COUNT SEED NAME ..`: a screen as with `screen R C NAME ..`, and so many updates, each behind a few changes of its
+/// window, and now and then behind others' bytes on a row that is marked, or with a writer that fails. The same is wanted as with
+/// `generated`.
+pub fn check_updates(
+    alloc: Global,
+    tried: &mut Option<Recorded>,
+    words: &mut Words<'_>,
+    came: &mut Buffer,
+) -> Result<(), Trouble> {
+    let Some(size) = read_size(words) else {
         return Ok(());
-    }
+    };
+    let (count, seed) = (words.number(), words.number());
+    let is_open = match read_entry(alloc, words) {
+        Some(entry) => Recorded::open_into(alloc, entry, size, tried)?,
+        None => false,
+    };
+    make_opened(alloc, is_open, tried, Made::Updates, count, seed, came)
+}
+
+// Makes what is made up, where there was memory for a screen.
+fn make_opened(
+    alloc: Global,
+    is_open: bool,
+    tried: &mut Option<Recorded>,
+    made: Made,
+    count: u32,
+    seed: u32,
+    came: &mut Buffer,
+) -> Result<(), Trouble> {
     match tried {
-        Some(opened) => make_all(alloc, opened, count, Random::new(seed), came),
-        None => Ok(()),
+        Some(opened) if is_open => make_all(alloc, opened, made, count, Random::new(seed), came),
+        _ => {
+            add_word("NoMemory", came);
+            Ok(())
+        }
     }
 }
 
-// Makes so many calls, and all of them again by one session.
+// Makes so many steps, and all calls again by one session.
 fn make_all(
     alloc: Global,
     opened: &mut Recorded,
+    made: Made,
     count: u32,
     random: Random,
     came: &mut Buffer,
 ) -> Result<(), Trouble> {
     let mut answer = Buffer::new(alloc);
-    if make_each(alloc, opened, count, random, &mut answer, came)? {
+    if make_each(alloc, opened, made, count, random, &mut answer, came)? {
         opened.add_session(came)
     } else {
         Ok(())
     }
 }
 
-// Makes so many calls, and tells whether all are as they have to be. Adds what is not.
+// Makes so many steps, and tells whether all are as they have to be. Adds what is not.
 fn make_each(
     alloc: Global,
     opened: &mut Recorded,
+    made: Made,
     count: u32,
     mut random: Random,
     answer: &mut Buffer,
@@ -59,7 +108,7 @@ fn make_each(
 ) -> Result<bool, Trouble> {
     for number in 0..count {
         answer.clear();
-        let is_well = step(alloc, opened, &mut random, answer)?;
+        let is_well = step(alloc, opened, made, &mut random, answer)?;
         answer.done()?;
         if answer.bytes().ends_with(b" NoMemory") {
             add_word("NoMemory", came);
@@ -74,8 +123,22 @@ fn make_each(
     Ok(true)
 }
 
-// Makes the next call, where it is an update behind the taking of a window, and tells whether it is as it has to be.
+// Makes the next step, and tells whether an update in it is as it has to be.
 fn step(
+    alloc: Global,
+    opened: &mut Recorded,
+    made: Made,
+    random: &mut Random,
+    answer: &mut Buffer,
+) -> Result<bool, Trouble> {
+    match made {
+        Made::Calls => make_call(alloc, opened, random, answer),
+        Made::Updates => make_update(alloc, opened, random, answer),
+    }
+}
+
+// Makes the next call, where it is an update behind the taking of a window.
+fn make_call(
     alloc: Global,
     opened: &mut Recorded,
     random: &mut Random,
@@ -87,4 +150,51 @@ fn step(
     }
     opened.call(next_call(alloc, random)?, answer)?;
     Ok(true)
+}
+
+// Makes a few changes and an update.
+fn make_update(
+    alloc: Global,
+    opened: &mut Recorded,
+    random: &mut Random,
+    answer: &mut Buffer,
+) -> Result<bool, Trouble> {
+    let size = opened.profile.size();
+    for _ in 0..random.below(6) {
+        opened.call(next_change(alloc, size, random)?, answer)?;
+        if answer.bytes().ends_with(b" NoMemory") {
+            return Ok(true);
+        }
+    }
+    // Where a write failed, the terminal may wait for the rest of a text.
+    if random.below(16) == 0 && !opened.emulated.waiting() {
+        write_as_others(alloc, opened, random, answer)?;
+    }
+    opened.call(Call::Noutrefresh(Win(0)), answer)?;
+    let fails = match random.below(16) {
+        0 => next_fails(random),
+        _ => Fails::Never,
+    };
+    opened.update(fails, answer)
+}
+
+// Has others write on a row, which is marked: the cursor to its first place, an attribute where it can be turned off, and a character.
+fn write_as_others(
+    alloc: Global,
+    opened: &mut Recorded,
+    random: &mut Random,
+    answer: &mut Buffer,
+) -> Result<(), Trouble> {
+    let row = random.below(opened.profile.size().rows);
+    let number = row.saturating_add(1);
+    let mut text = Buffer::new(alloc);
+    let written = write!(text.vector(), "\x1b[{number}H");
+    text.check(written.is_ok());
+    if opened.profile.can_reset() {
+        text.extend(b"\x1b[7;32m");
+    }
+    text.extend(b"?");
+    text.done()?;
+    opened.others(text.bytes(), answer);
+    opened.call(Call::RedrawLines(Win(0), row, 1), answer)
 }

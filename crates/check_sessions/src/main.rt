@@ -7,6 +7,7 @@
 mod answers;
 mod bounds;
 mod call_lines;
+mod changing;
 mod counting;
 mod cuts;
 mod dumps;

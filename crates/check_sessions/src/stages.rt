@@ -5,7 +5,7 @@ use crate::call_lines::read_call;
 use crate::cuts::check_cuts;
 use crate::dumps::dump_recorded;
 use crate::entries::read_entry;
-use crate::generated::check_generated;
+use crate::generated::{check_generated, check_updates};
 use crate::recorded::Recorded;
 use crate::shown_lines::{answer_of_shown, check_changed};
 use crate::writers::Fails;
@@ -40,6 +40,7 @@ impl Stage for SessionStage {
             "screen" => open(alloc, &mut self.opened, words, came),
             "cuts" => check_cuts(alloc, &mut self.tried, words, came),
             "generated" => check_generated(alloc, &mut self.tried, words, came),
+            "updates" => check_updates(alloc, &mut self.tried, words, came),
             "changed" => check_changed(alloc, words, came),
             _ => match &mut self.opened {
                 Some(opened) => answer_of_opened(alloc, opened, word, words, came),
@@ -59,7 +60,7 @@ impl Stage for SessionStage {
     fn leaves_all(word: &[u8]) -> bool {
         matches!(
             str::from_utf8(word),
-            Ok("changed" | "cuts" | "generated" | "session")
+            Ok("changed" | "cuts" | "generated" | "session" | "updates")
         )
     }
 }
