@@ -51,20 +51,22 @@ fn add_joining(
         return Err(Trouble::Bad("the terminal has another size"));
     }
     match joined(alloc, profile, terminal, picture) {
-        Ok(ops) => add_joined(profile, &ops, word, came),
+        Ok(ops) => add_joined(profile, &ops, word == "joined", came),
         Err(NoMemory) => add_word("NoMemory", came),
     }
     Ok(())
 }
 
-fn add_joined(profile: &Profile, ops: &Ops, word: &str, came: &mut Buffer) {
-    match word {
-        "joined" => add_scratch(ops, came),
-        _ => add_count(profile, ops, came),
+/// Adds the operations, or how many they are and how many bytes they have.
+pub fn add_joined(profile: &Profile, ops: &Ops, is_each: bool, came: &mut Buffer) {
+    if is_each {
+        add_scratch(ops, came);
+    } else {
+        add_count(profile, ops, came);
     }
 }
 
-// Adds how many operations there are, and how many bytes in all. No memory is asked for, since the terminal has done them.
+// Adds how many operations there are, and how many bytes in all. No memory is asked for, since a terminal may have done them.
 fn add_count(profile: &Profile, ops: &Ops, came: &mut Buffer) {
     let mut bytes: usize = 0;
     for op in &ops.0 {

@@ -9,6 +9,7 @@ mod joining_lines;
 mod operation_lines;
 mod painting_lines;
 mod picture_lines;
+mod plain_lines;
 mod repaints;
 mod screen_lines;
 mod script_lines;

@@ -1,5 +1,5 @@
-//! What the lines of a script work on: one entry, one profile, one terminal, one picture and one screen, each from the line
-//! that makes it on.
+//! What the lines of a script work on: one entry, one profile, one terminal, what is remembered of one, one picture and one screen,
+//! each from the line that makes it on.
 
 use crate::dumps::{dump_entry, dump_picture, dump_profile};
 use crate::emulated_lines::{answer_of_emulated, dump_terminal};
@@ -7,6 +7,7 @@ use crate::entry_lines::answer_of_entry;
 use crate::joining_lines::answer_of_joining;
 use crate::painting_lines::answer_of_painting;
 use crate::picture_lines::answer_of_picture;
+use crate::plain_lines::{answer_of_plain, dump_memory};
 use crate::screen_lines::{answer_of_screen, print_state};
 use crate::script_lines::answer_of_script;
 use crate::terminal_lines::answer_of_terminal;
@@ -16,6 +17,7 @@ use check_scripts::checking::Stage;
 use check_scripts::troubles::Trouble;
 use check_scripts::words::Words;
 use scr_cells::Picture;
+use scr_plan::Memory;
 use scr_term::{EcmaScreen, Profile, Terminal};
 use std::alloc::Global;
 use ti_caps::Entry;
@@ -27,6 +29,7 @@ pub struct TerminalStage {
     entry: Option<Entry>,
     profile: Option<Profile>,
     terminal: Option<Terminal>,
+    memory: Option<Memory>,
     picture: Option<Picture>,
     screen: Option<EcmaScreen>,
     // Room for texts of a line.
@@ -41,6 +44,7 @@ impl Stage for TerminalStage {
             entry: None,
             profile: None,
             terminal: None,
+            memory: None,
             picture: None,
             screen: None,
             text: Buffer::new(alloc),
@@ -64,6 +68,9 @@ impl Stage for TerminalStage {
         }
         if let Some(terminal) = &self.terminal {
             dump_terminal(terminal, bytes);
+        }
+        if let Some(memory) = &self.memory {
+            dump_memory(memory, bytes);
         }
         if let Some(picture) = &self.picture {
             dump_picture(picture, bytes);
@@ -103,6 +110,7 @@ impl TerminalStage {
                 words,
                 came,
             )
+            || answer_of_plain(alloc, &mut self.memory, picture, profile, word, words, came)
             || answer_of_screen(alloc, screen, text, &mut self.other_text, word, words, came)
             || answer_of_script(alloc, screen, text, word, words, came)
     }
