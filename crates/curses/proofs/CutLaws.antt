@@ -99,7 +99,7 @@ operations_more profile ops k d old mid new n m rest inside a b =
 pub rest_of_owed : (owed rest : List ℕ) (old new : Option (List ℕ)) (n : ℕ) → IsCut owed [] old new n rest → length rest ≤ length owed
 rest_of_owed owed rest old new n h = omega (arith, ap length (sym (append-nil owed) ∙ h.whole), length-append h.taken rest)
 
-rest_of_text : (text rest : List ℕ) (old new : Option (List ℕ)) (n : ℕ) → IsCut [] text old new n rest → length rest ≤ length text
+pub rest_of_text : (text rest : List ℕ) (old new : Option (List ℕ)) (n : ℕ) → IsCut [] text old new n rest → length rest ≤ length text
 rest_of_text text rest old new n h = omega (arith, ap length h.whole, length-append h.taken rest)
 
 -- the last operation was cut

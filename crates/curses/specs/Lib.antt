@@ -10,6 +10,7 @@ pub mod Opening
 pub mod Refreshing
 pub mod ScreenStates
 pub mod Sessions
+pub mod Starting
 pub mod Texts
 pub mod Updates
 pub mod Writers

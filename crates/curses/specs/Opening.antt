@@ -2,6 +2,7 @@
 use Rattle.std.specs.Prelude.{◌≡◌, ◌≢◌, [], Option, Some, None}
 use Rattle.scr_cells.specs.declared.sizes.Size.{Size}
 use Rattle.ti_caps.specs.Description.{Description}
+use Rattle.ti_caps.specs.declared.slots.TheConstants.{RMCUP, RMKX, SMCUP, SMKX}
 use Rattle.ti_caps.specs.declared.table.Slot.{Slot}
 use Rattle.scr_term.specs.declared.operations.profile_faults.ProfileFault.{ProfileFault}
 use Rattle.scr_term.specs.declared.operations.profile_faults.ProfileFault.TheVariants as profile_faults
@@ -13,9 +14,11 @@ use Rattle.scr_keys.specs.Tables.{AreKeysOf, too_long}
 use Rattle.curses.specs.declared.faults.OpenFault.{OpenFault}
 use Rattle.curses.specs.declared.faults.OpenFault.TheVariants.{KeyTooLong, NoMemory, Profile}
 use Rattle.curses.specs.ScreenStates.{ScreenState}
+use Rattle.curses.specs.Texts.{texts_or_none}
 
 -- a screen on the terminal that an entry describes: one window over the whole screen, blank, a blank virtual screen, nothing known of
--- what the terminal shows, nothing owed, and the keys of the entry, none of which was pressed
+-- what the terminal shows, nothing owed, the keys of the entry, none of which was pressed, and its opening and its closing text, either
+-- of which is nothing where something is against it
 pub record IsOpened (entry : Description) (size : Option Size) (screen : ScreenState) : Type 0 where
   pub profile : IsAdmitted entry size screen.profile
   pub desk : screen.desk ≡ first_desk screen.profile.rows screen.profile.columns
@@ -25,6 +28,8 @@ pub record IsOpened (entry : Description) (size : Option Size) (screen : ScreenS
   pub keys : AreKeysOf entry screen.keys.keys
   pub queue : screen.keys.queue ≡ []
   pub waiting : screen.keys.waiting ≡ []
+  pub opening : screen.opening ≡ texts_or_none entry SMCUP SMKX
+  pub closing : screen.closing ≡ texts_or_none entry RMKX RMCUP
 
 -- an entry and a size make no profile, for this first reason
 pub record IsUnsuited (entry : Description) (size : Option Size) (fault : ProfileFault) : Type 0 where

@@ -11,8 +11,9 @@ use Rattle.scr_plan.specs.Repaints.{IsSizeOf, IsUpToDate}
 use Rattle.scr_plan.specs.Scratch.{Fits}
 use Rattle.scr_keys.specs.Readers.{ReaderView}
 
--- the windows, the virtual screen onto which they are taken, the terminal's profile and what is remembered of it, the bytes that an
--- update began to send and has still to send, and what came from the keyboard
+-- the windows, the virtual screen onto which they are taken, the terminal's profile and what is remembered of it, the bytes that were
+-- begun to be sent and have still to be, what came from the keyboard, and the texts that are sent before the first update and behind
+-- the last
 pub record ScreenState : Type 0 where
   pub desk : DeskView
   pub virtual : VirtualView
@@ -20,6 +21,8 @@ pub record ScreenState : Type 0 where
   pub memory : MemoryView
   pub owed : List ℕ
   pub keys : ReaderView
+  pub opening : List ℕ
+  pub closing : List ℕ
 
 -- what is remembered of a terminal is of its size, one of its states, and up to date
 pub record IsRemembered (profile : ProfileView) (memory : MemoryView) (virtual : VirtualView) : Type 0 where
@@ -39,9 +42,17 @@ pub record IsScreen (screen : ScreenState) : Type 0 where
 abbrev pub HasRoom : ProfileView → ℕ → Type 0
 HasRoom profile room = (op : Op) → length (bytes_of profile op) ≤ room
 
+-- and for each of the texts that are sent before the first update and behind the last, which are short
+pub record HasTextRoom (opening closing : List ℕ) (room : ℕ) : Type 0 where
+  pub opening_room : length opening ≤ room
+  pub closing_room : length closing ≤ room
+  pub opening_short : length opening ≤ 2048
+  pub closing_short : length closing ≤ 2048
+
 -- a screen is stored as its fields, one beside another
 abbrev pub screen_code : Coded DeskView → Coded VirtualView → Coded ProfileView → Coded MemoryView → Coded ReaderView → Coded ScreenState
 screen_code desk virtual profile memory keys =
-    code_by (DeskView × (VirtualView × (ProfileView × (MemoryView × (List ℕ × ReaderView))))) (coded× desk (coded× virtual (coded× profile (coded× memory (coded× (coded_list coded_ℕ) keys)))))
-    (λ s. (s.desk, (s.virtual, (s.profile, (s.memory, (s.owed, s.keys))))))
-    (λ t. record { desk = t.0; virtual = t.1.0; profile = t.1.1.0; memory = t.1.1.1.0; owed = t.1.1.1.1.0; keys = t.1.1.1.1.1 }) (λ _. refl)
+    code_by (DeskView × (VirtualView × (ProfileView × (MemoryView × (List ℕ × (ReaderView × (List ℕ × List ℕ)))))))
+    (coded× desk (coded× virtual (coded× profile (coded× memory (coded× (coded_list coded_ℕ) (coded× keys (coded× (coded_list coded_ℕ) (coded_list coded_ℕ))))))))
+    (λ s. (s.desk, (s.virtual, (s.profile, (s.memory, (s.owed, (s.keys, (s.opening, s.closing))))))))
+    (λ t. record { desk = t.0; virtual = t.1.0; profile = t.1.1.0; memory = t.1.1.1.0; owed = t.1.1.1.1.0; keys = t.1.1.1.1.1.0; opening = t.1.1.1.1.1.1.0; closing = t.1.1.1.1.1.1.1 }) (λ _. refl)

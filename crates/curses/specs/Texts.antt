@@ -1,7 +1,7 @@
 -- What a program sends to a terminal before its first update and behind its last. terminfo(5), 'Cursor Motions' (enter_ca_mode,
 -- exit_ca_mode) and 'Keypad and Function Keys' (keypad_xmit, keypad_local).
 use Rattle.std.specs.Prelude.{◌≡◌, ◌&&◌, ℕ, List, [], ◌∷◌, ◌++◌, Option, Some, None, option_and_then, option_map, if◌then◌else◌}
-use Rattle.std.specs.Option.{is_some}
+use Rattle.std.specs.Option.{is_none, is_some}
 use Rattle.ti_caps.specs.Description.{Description, text_at}
 use Rattle.ti_caps.specs.declared.slots.TheConstants.{RMCUP, RMKX, SMCUP, SMKX}
 use Rattle.ti_caps.specs.declared.table.Kind.TheVariants.{Text}
@@ -64,3 +64,9 @@ IsClosingText entry bytes = AreTexts entry RMKX RMCUP bytes
 
 abbrev pub IsNoClosingText : Description → OpenFault → Type 0
 IsNoClosingText entry fault = AreRefused entry RMKX RMCUP fault
+
+-- ---- what a screen sends
+
+-- one text and then another, where nothing is against them; else nothing
+abbrev pub texts_or_none : Description → Slot → Slot → List ℕ
+texts_or_none entry first second = if is_none (texts_refusal entry first second) then bytes_at entry first ++ bytes_at entry second else []

@@ -1,4 +1,5 @@
-//! Why a screen is not opened; and what an update answers: what it sent, or why it ended early.
+//! Why a screen is not opened; what an update answers: what it sent, or why it ended early; and why what begins or ends a program's
+//! use of a screen was not sent whole.
 use scr_cells::NoMemory;
 use scr_term::{Ops, ProfileFault};
 use std::alloc::{AllocError, AllocFailed};
@@ -25,7 +26,7 @@ pub enum OpenFault {
 pub struct Sent {
     /// The operations that it began, all of them taken whole by the writer.
     pub begun: Ops,
-    /// How many bytes the writer took, including those that an earlier update owed.
+    /// How many bytes the writer took, including those that were owed before.
     pub bytes: u64,
 }
 
@@ -35,14 +36,14 @@ pub enum UpdateFault {
     /// Memory ran out before anything was sent.
     #[error("out of memory")]
     NoMemory,
-    /// A write failed or took nothing. What was not taken of the text that it cut is owed, and the next update sends it
-    /// first.
+    /// A write failed or took nothing. What was not taken of the text that it cut is owed, and the next call that sends
+    /// something sends it first.
     #[error("write failed")]
     Write {
         /// The operations whose text was tried, the last of them perhaps taken in part; none where the write of owed bytes
         /// failed.
         begun: Ops,
-        /// How many bytes the writer took, including those that an earlier update owed.
+        /// How many bytes the writer took, including those that were owed before.
         sent: u64,
         /// What the write answered; `WriteZero` where it took nothing.
         kind: ErrorKind,
@@ -52,6 +53,28 @@ pub enum UpdateFault {
     Flush {
         /// The operations that were begun.
         begun: Ops,
+        /// How many bytes the writer took.
+        sent: u64,
+        /// What the flush answered.
+        kind: ErrorKind,
+    },
+}
+
+/// Why what begins or ends a program's use of a screen was not sent whole. Windows, virtual screen and wishes stay as they were.
+#[derive(Clone, Copy, Debug, PartialEq, Eq, Error)]
+pub enum SendFault {
+    /// A write failed or took nothing. What was not taken of the text that it cut is owed, and the next call that sends
+    /// something sends it first.
+    #[error("write failed")]
+    Write {
+        /// How many bytes the writer took, including those that were owed before.
+        sent: u64,
+        /// What the write answered; `WriteZero` where it took nothing.
+        kind: ErrorKind,
+    },
+    /// All was taken, and the flush failed. Nothing is owed.
+    #[error("flush failed")]
+    Flush {
         /// How many bytes the writer took.
         sent: u64,
         /// What the flush answered.

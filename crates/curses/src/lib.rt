@@ -11,15 +11,17 @@ mod refreshing;
 mod screens;
 mod sending;
 mod sessions;
+mod starting;
 mod texts;
 mod updates;
 mod writers;
 
 pub use answers::Answer;
 pub use calls::Call;
-pub use faults::{OpenFault, Sent, UpdateFault};
+pub use faults::{OpenFault, SendFault, Sent, UpdateFault};
 pub use faulty::{Failure, Faulty};
 pub use screens::Screen;
 pub use sessions::{Answers, Report, session};
+pub use starting::closing_laws;
 pub use texts::{closing_text, opening_text};
 pub use writers::{Counted, Device};

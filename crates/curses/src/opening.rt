@@ -1,8 +1,10 @@
 //! Opening a screen on a terminal. The definitions are in `specs/Opening.antt`.
-ghost use Rattle.std.specs.Prelude.{◌≡◌, [], IfErr, IfOk, vec_capacity};
+ghost use Rattle.std.specs.Prelude.{◌≡◌, ◌≤◌, [], IfErr, IfOk, length, vec_capacity};
 ghost use Rattle.curses.specs.Code.Openings.{IsReaderOf, first_screen};
 ghost use Rattle.curses.specs.Opening.{IsOpened, IsUnopened};
-ghost use Rattle.curses.specs.ScreenStates.{HasRoom};
+ghost use Rattle.curses.specs.ScreenStates.{HasRoom, HasTextRoom};
+ghost use Rattle.curses.specs.Texts.{texts_or_none};
+ghost use Rattle.ti_caps.specs.declared.slots.TheConstants.{RMCUP, RMKX, SMCUP, SMKX};
 ghost use Rattle.scr_term.specs.Operations.Admission.{IsAdmitted};
 ghost use Rattle.scr_windows.specs.DeskViews.{first_desk};
 ghost use Rattle.scr_virtual.specs.VirtualViews.{blank_virtual};
@@ -10,6 +12,7 @@ ghost use Rattle.scr_plan.specs.Memories.{unknown};
 
 use crate::faults::OpenFault;
 use crate::screens::Screen;
+use crate::texts::texts_or_none;
 use scr_cells::{NoMemory, Size};
 use scr_keys::{KeyFault, KeyReader, KeyTable};
 use scr_plan::{Memory, memory_runs, up_to_date_laws};
@@ -17,12 +20,13 @@ use scr_term::{Profile, ProfileFault, blank_laws};
 use scr_virtual::Virtual;
 use scr_windows::Desk;
 use std::alloc::Global;
-use ti_caps::Entry;
+use ti_caps::{Entry, slots};
 
 impl Screen {
     /// A screen on the terminal of an entry, of this size, or of the entry's `lines` and `cols` where none is given: one
     /// window over all of it, a blank virtual screen, and nothing known of what the terminal shows. Its keys are those of the
-    /// entry, and none was pressed.
+    /// entry, and none was pressed. `start` and `close` send the entry's opening and closing text, or nothing in place of one that
+    /// `opening_text` or `closing_text` refuses. Opening sends nothing.
     ///
     /// Refused: Profile where the entry makes no profile, for the first reason that `Profile::admit` has; KeyTooLong with the
     /// lowest position of a key whose text has more than 64 bytes; NoMemory where memory runs out. X/Open Curses Issue 7,
@@ -33,19 +37,27 @@ impl Screen {
     {
         let profile = admitted(alloc, entry, size)?;
         let keys = keys_of(alloc, entry, size, &profile)?;
-        let screen = Screen::on(alloc, profile, keys)?;
+        let texts = texts_of(alloc, entry)?;
+        let screen = Screen::on(alloc, profile, keys, texts)?;
         Ok(screen)
     }
 
     // A screen on the terminal of a profile. Fails only when memory runs out.
-    fn on(alloc: Global, profile: Profile, keys: KeyReader) -> Result<Screen, NoMemory>
-        ensures { IfOk result (λ screen. screen ≡ first_screen profile keys) }
+    fn on(
+        alloc: Global,
+        profile: Profile,
+        keys: KeyReader,
+        texts: Texts,
+    ) -> Result<Screen, NoMemory>
+        requires opening { length texts.opening.items ≤ 2048 }
+        requires closing { length texts.closing.items ≤ 2048 }
+        ensures { IfOk result (λ screen. screen ≡ first_screen profile keys texts.opening.items texts.closing.items) }
     {
         memory_runs();
         up_to_date_laws();
         blank_laws();
         let _size = profile.size();
-        let blank = blank_on(alloc, &profile)?;
+        let blank = blank_on(alloc, &profile, &texts)?;
         Ok(Screen {
             desk: blank.surfaces.desk,
             wanted: blank.surfaces.wanted,
@@ -53,8 +65,29 @@ impl Screen {
             memory: blank.memory,
             owed: blank.owed,
             keys,
+            opening: texts.opening,
+            closing: texts.closing,
         })
     }
+}
+
+// What is sent before the first update and behind the last.
+#[derive(Drop)]
+struct Texts {
+    opening: Vec<u8>,
+    closing: Vec<u8>,
+}
+
+// The texts of an entry. Fails only when memory runs out.
+fn texts_of(alloc: Global, entry: &Entry) -> Result<Texts, NoMemory>
+    ensures opening { IfOk result (λ texts. texts.opening.items ≡ texts_or_none entry.now SMCUP SMKX) }
+    ensures closing { IfOk result (λ texts. texts.closing.items ≡ texts_or_none entry.now RMKX RMCUP) }
+    ensures opening_few { IfOk result (λ texts. length texts.opening.items ≤ 2048) }
+    ensures closing_few { IfOk result (λ texts. length texts.closing.items ≤ 2048) }
+{
+    let opening = texts_or_none(alloc, entry, slots::SMCUP, slots::SMKX)?;
+    let closing = texts_or_none(alloc, entry, slots::RMKX, slots::RMCUP)?;
+    Ok(Texts { opening, closing })
 }
 
 // The windows and the virtual screen.
@@ -73,15 +106,18 @@ struct Blank {
 }
 
 // What a screen on the terminal of a profile has at first. Fails only when memory runs out.
-fn blank_on(alloc: Global, profile: &Profile) -> Result<Blank, NoMemory>
+fn blank_on(alloc: Global, profile: &Profile, texts: &Texts) -> Result<Blank, NoMemory>
+    requires opening { length texts.now.opening.items ≤ 2048 }
+    requires closing { length texts.now.closing.items ≤ 2048 }
     ensures desk { IfOk result (λ blank. blank.surfaces.desk ≡ first_desk profile.now.rows profile.now.columns) }
     ensures wanted { IfOk result (λ blank. blank.surfaces.wanted ≡ blank_virtual profile.now.rows profile.now.columns) }
     ensures memory { IfOk result (λ blank. blank.memory ≡ unknown profile.now.rows profile.now.columns) }
     ensures owed { IfOk result (λ blank. blank.owed.items ≡ []) }
     ensures room { IfOk result (λ blank. HasRoom profile.now (vec_capacity blank.owed)) }
+    ensures text_room { IfOk result (λ blank. HasTextRoom texts.now.opening.items texts.now.closing.items (vec_capacity blank.owed)) }
 {
     let size = profile.size();
-    let owed = buffer_for(alloc, profile)?;
+    let owed = buffer_for(alloc, profile, texts)?;
     let memory = Memory::unknown(alloc, size)?;
     let surfaces = surfaces_of(alloc, size)?;
     Ok(Blank {
@@ -103,12 +139,19 @@ fn surfaces_of(alloc: Global, size: Size) -> Result<Surfaces, NoMemory>
     Ok(Surfaces { desk, wanted })
 }
 
-// A buffer with room for the text of each operation. Fails only when memory runs out.
-fn buffer_for(alloc: Global, profile: &Profile) -> Result<Vec<u8>, NoMemory>
+// A buffer with room for the text of each operation, and for each of two others. Fails only when memory runs out.
+fn buffer_for(alloc: Global, profile: &Profile, texts: &Texts) -> Result<Vec<u8>, NoMemory>
+    requires opening { length texts.now.opening.items ≤ 2048 }
+    requires closing { length texts.now.closing.items ≤ 2048 }
     ensures empty { IfOk result (λ buffer. buffer.items ≡ []) }
     ensures room { IfOk result (λ buffer. HasRoom profile.now (vec_capacity buffer)) }
+    ensures text_room { IfOk result (λ buffer. HasTextRoom texts.now.opening.items texts.now.closing.items (vec_capacity buffer)) }
 {
-    let buffer = Vec::with_capacity(alloc, profile.longest())?;
+    let most = profile
+        .longest()
+        .max(texts.opening.len())
+        .max(texts.closing.len());
+    let buffer = Vec::with_capacity(alloc, most)?;
     Ok(buffer)
 }
 

@@ -20,9 +20,12 @@ pub struct Screen {
     pub(crate) profile: Profile,
     // What is known of what the terminal shows.
     pub(crate) memory: Memory,
-    // What an update began to send and has still to send, with room for the text of each operation.
+    // What was begun to be sent and has still to be, with room for the text of each operation and for each of the two texts below.
     pub(crate) owed: Vec<u8>,
     pub(crate) keys: KeyReader,
+    // What is sent before the first update and behind the last.
+    pub(crate) opening: Vec<u8>,
+    pub(crate) closing: Vec<u8>,
 }
 
 impl Model for Screen {
@@ -32,13 +35,13 @@ impl Model for Screen {
     ghost use Rattle.scr_windows.specs.contracts.desks.Desk as the_desk;
     ghost use Rattle.scr_plan.specs.contracts.memories.Memory as the_memory;
     ghost use Rattle.scr_keys.specs.contracts.readers.KeyReader as the_reader;
-    ghost use Rattle.curses.specs.ScreenStates.{ScreenState, HasRoom, IsScreen, screen_code};
+    ghost use Rattle.curses.specs.ScreenStates.{ScreenState, HasRoom, HasTextRoom, IsScreen, screen_code};
 
     ghost Value = { ScreenState };
 
     ghost coded = { screen_code the_desk.the_row.coded the_virtual.the_row.coded the_profile.the_row.coded the_memory.the_row.coded the_reader.the_row.coded };
 
-    ghost view = { λ a. record { desk = a.desk; virtual = a.wanted; profile = a.profile; memory = a.memory; owed = a.owed.items; keys = a.keys } };
+    ghost view = { λ a. record { desk = a.desk; virtual = a.wanted; profile = a.profile; memory = a.memory; owed = a.owed.items; keys = a.keys; opening = a.opening.items; closing = a.closing.items } };
 
-    ghost invariant = { λ a. IsScreen (record { desk = a.desk; virtual = a.wanted; profile = a.profile; memory = a.memory; owed = a.owed.items; keys = a.keys }) × HasRoom a.profile (vec_capacity a.owed) };
+    ghost invariant = { λ a. IsScreen (record { desk = a.desk; virtual = a.wanted; profile = a.profile; memory = a.memory; owed = a.owed.items; keys = a.keys; opening = a.opening.items; closing = a.closing.items }) × HasRoom a.profile (vec_capacity a.owed) × HasTextRoom a.opening.items a.closing.items (vec_capacity a.owed) };
 }

@@ -1,5 +1,5 @@
 //! Sending: one text at a time goes to a writer, whole, and what a failed put did not take of it waits in a buffer.
-ghost use Rattle.std.specs.Prelude.{◌≡◌, ◌≢◌, ◌≤◌, ◌<◌, ◌^◌, [], ◌∷◌, All, None, true, length, take, drop, vec_capacity};
+ghost use Rattle.std.specs.Prelude.{◌≡◌, ◌≢◌, ◌≤◌, ◌<◌, ◌+◌, ◌^◌, [], ◌∷◌, All, None, true, length, take, drop, vec_capacity};
 ghost use Rattle.std.specs.Option.{is_some};
 ghost use Rattle.std.specs.Io.KnownBytes.{Appends};
 ghost use Rattle.scr_term.specs.declared.operations.operation.Op.{Op};
@@ -33,6 +33,7 @@ pub(crate) fn send_all<W: Counted>(
     ensures begun { result.begun ≤ length ops.now }
     ensures cut { IsCut waiting.old.items (all_bytes profile.now (take result.begun ops.now)) (W.told out.old).taken (W.told out.new).taken result.bytes waiting.new.items }
     ensures one { result.fault ≢ None → IsOfOneText profile.now waiting.old.items (take result.begun ops.now) waiting.new.items }
+    ensures few { result.bytes ≤ length waiting.old.items + 2 ^ 43 }
     ensures whole { result.fault ≡ None → result.begun ≡ length ops.now }
     ensures nothing { result.fault ≡ None → waiting.new.items ≡ [] }
     ensures fault { result.fault ≢ None → waiting.new.items ≢ [] }
@@ -159,11 +160,37 @@ fn append(profile: &Profile, op: Op, waiting: &mut Vec<u8>)
     let _rendered = profile.render(op, waiting);
 }
 
+// Sends a text from an empty buffer that has room for it.
+pub(crate) fn send_text<W: Counted>(text: &[u8], waiting: &mut Vec<u8>, out: &mut W) -> Taken
+    requires nothing { waiting.old.items ≡ [] }
+    requires room { length text.now ≤ vec_capacity waiting.old }
+    ensures cut { IsCut [] text.now (W.told out.old).taken (W.told out.new).taken result.bytes waiting.new.items }
+    ensures nothing { result.fault ≡ None → waiting.new.items ≡ [] }
+    ensures fault { result.fault ≢ None → waiting.new.items ≢ [] }
+    ensures room { vec_capacity waiting.old ≤ vec_capacity waiting.new }
+    ensures few { result.bytes ≤ length text.now }
+    ensures puts { (W.told out.new).failed_puts ≡ counted (is_some result.fault) (W.told out.old).failed_puts }
+    ensures finishes { (W.told out.new).failed_finishes ≡ (W.told out.old).failed_finishes }
+{
+    wait(text, waiting);
+    send_waiting(waiting, out)
+}
+
+// Has a text wait in an empty buffer that has room for it, so that this cannot fail.
+fn wait(text: &[u8], waiting: &mut Vec<u8>)
+    requires nothing { waiting.old.items ≡ [] }
+    requires room { length text.now ≤ vec_capacity waiting.old }
+    ensures text { waiting.new.items ≡ text.now }
+    ensures room { vec_capacity waiting.old ≤ vec_capacity waiting.new }
+{
+    let _extended = waiting.extend_from_slice(text);
+}
+
 // How many bytes a writer took, and why it took no more.
 #[derive(Clone, Copy)]
-struct Taken {
-    bytes: usize,
-    fault: Option<ErrorKind>,
+pub(crate) struct Taken {
+    pub bytes: usize,
+    pub fault: Option<ErrorKind>,
 }
 
 // Sends what waits in a buffer. What a failed put did not take goes on waiting.

@@ -1,12 +1,12 @@
 //! What a program sends to a terminal before its first update and behind its last. The definitions are in
 //! `specs/Texts.antt`.
-ghost use Rattle.std.specs.Prelude.{◌≡◌, ◌++◌, ◌∷◌, ◌≤◌, [], IfErr, IfOk, IfSome, OnOk, option_map};
+ghost use Rattle.std.specs.Prelude.{◌≡◌, ◌++◌, ◌∷◌, ◌≤◌, [], length, IfErr, IfOk, IfSome, OnOk, option_map};
 ghost use Rattle.ti_param.specs.Parsed.{parsed};
 ghost use Rattle.ti_param.specs.Tree.{depth};
 ghost use Rattle.scr_term.specs.Operations.Admission.{first_some};
 ghost use Rattle.scr_term.specs.Operations.Texts.{nine, written};
 ghost use Rattle.curses.specs.Code.Texts.{Judges, long_program};
-ghost use Rattle.curses.specs.Texts.{AreRefused, AreTexts, IsClosingText, IsNoClosingText, IsNoOpeningText, IsOpeningText, bad_text, long_text, plain_text, text_program};
+ghost use Rattle.curses.specs.Texts.{AreRefused, AreTexts, IsClosingText, IsNoClosingText, IsNoOpeningText, IsOpeningText, bad_text, long_text, plain_text, text_program, texts_or_none};
 
 use crate::faults::OpenFault;
 use scr_cells::NoMemory;
@@ -15,7 +15,7 @@ use std::alloc::Global;
 use ti_caps::{Bytes, Entry, Kind, Slot, slots};
 use ti_param::{
     ParamFault, Program, RunFault, Vars, padding_is_removed, stack_is_enough, strip_padding,
-    text_is_parsed,
+    text_is_bounded, text_is_parsed,
 };
 
 // The greatest stack that a text may need.
@@ -26,7 +26,8 @@ const MOST_BYTES: usize = 1_024;
 
 /// The bytes that a program sends before its first update: the text of `smcup`, which enters the mode for cursor addresses,
 /// and then that of `smkx`, which has the keypad transmit (terminfo(5), 'Cursor Motions', 'Keypad and Function Keys').
-/// Each is without padding, and run with all parameters and variables 0; an absent one gives nothing.
+/// Each is without padding, and run with all parameters and variables 0; an absent one gives nothing. `Screen::start` sends
+/// them; they are at most 2,048.
 ///
 /// Refused: Profile with BadString where the text of `smcup`, or else of `smkx`, is no parameter string, or its stack could
 /// hold more than 20 values; Profile with LongString where that of `smcup`, or else of `smkx`, could give more than 1,024
@@ -34,25 +35,45 @@ const MOST_BYTES: usize = 1_024;
 pub fn opening_text(alloc: Global, entry: &Entry) -> Result<Bytes, OpenFault>
     ensures ok { IfOk result (IsOpeningText entry.now) }
     ensures err { IfErr result (IsNoOpeningText entry.now) }
+    ensures few { IfOk result (λ text. length text ≤ 2048) }
 {
     two_texts(alloc, entry, slots::SMCUP, slots::SMKX)
 }
 
 /// The bytes that a program sends behind its last update: the text of `rmkx`, and then that of `rmcup`, which end what
-/// the opening text began (terminfo(5), as there). Each is as in `opening_text`.
+/// the opening text began (terminfo(5), as there). Each is as in `opening_text`. `Screen::close` sends them.
 ///
 /// Refused as `opening_text` is, for `rmkx` before `rmcup`.
 pub fn closing_text(alloc: Global, entry: &Entry) -> Result<Bytes, OpenFault>
     ensures ok { IfOk result (IsClosingText entry.now) }
     ensures err { IfErr result (IsNoClosingText entry.now) }
+    ensures few { IfOk result (λ text. length text ≤ 2048) }
 {
     two_texts(alloc, entry, slots::RMKX, slots::RMCUP)
+}
+
+// One text and then another, or nothing where there is something against them. Fails only when memory runs out.
+pub(crate) fn texts_or_none(
+    alloc: Global,
+    entry: &Entry,
+    first: Slot,
+    second: Slot,
+) -> Result<Vec<u8>, NoMemory>
+    ensures texts { IfOk result (λ text. text.items ≡ texts_or_none entry.now first second) }
+    ensures few { IfOk result (λ text. length text.items ≤ 2048) }
+{
+    match two_texts(alloc, entry, first, second) {
+        Ok(text) => Ok(text.0),
+        Err(OpenFault::NoMemory) => Err(NoMemory),
+        Err(_) => Ok(Vec::new(alloc)),
+    }
 }
 
 // One text and then another.
 fn two_texts(alloc: Global, entry: &Entry, first: Slot, second: Slot) -> Result<Bytes, OpenFault>
     ensures ok { IfOk result (AreTexts entry.now first second) }
     ensures err { IfErr result (AreRefused entry.now first second) }
+    ensures few { IfOk result (λ text. length text ≤ 2048) }
 {
     let begin = text_program(alloc, entry, first)?;
     let end = text_program(alloc, entry, second)?;
@@ -71,7 +92,9 @@ fn both(
     requires end { IfSome end.now (λ p. depth p ≤ 20) }
     ensures bytes { IfOk result (λ bytes. bytes ≡ written begin.now (nine []) ++ written end.now (nine [])) }
     ensures judged { Judges result (first_some (long_program begin.now first ∷ long_program end.now second ∷ [])) }
+    ensures few { IfOk result (λ text. length text ≤ 2048) }
 {
+    text_is_bounded();
     is_short(begin, first)?;
     is_short(end, second)?;
     let mut bytes = Vec::new(alloc);

@@ -25,7 +25,7 @@ use std::alloc::Global;
 use std::io::ErrorKind;
 
 impl Screen {
-    /// Brings the terminal to the virtual screen: sends what an earlier update owed, then the operations that lead from what is
+    /// Brings the terminal to the virtual screen: sends what is owed of an earlier call, then the operations that lead from what is
     /// known of the terminal to the picture, and flushes the writer if it took something. Nothing is sent where nothing differs
     /// and the cursor is as wished; the whole screen is painted where not all is known or this is wished. After Ok the terminal
     /// shows the picture with its cursor where it is wished, all that it shows is known, nothing is owed, and no repaint is wished.
@@ -78,7 +78,7 @@ impl Screen {
     }
 
     // Nothing is known of the terminal any more.
-    fn forget(&mut self)
+    pub(crate) fn forget(&mut self)
         ensures { self.new ≡ record self.old { memory = forgotten self.old.memory } }
     {
         memory_laws();
@@ -147,7 +147,7 @@ fn planned(
 }
 
 // Has what was sent reach its end, where something was sent, and answers why it failed, if it did.
-fn finish_after<W: Counted>(sent: u64, out: &mut W) -> Option<ErrorKind>
+pub(crate) fn finish_after<W: Counted>(sent: u64, out: &mut W) -> Option<ErrorKind>
     ensures bytes { Keeps (W.told out.old).taken (W.told out.new).taken }
     ensures puts { (W.told out.new).failed_puts ≡ (W.told out.old).failed_puts }
     ensures finishes { (W.told out.new).failed_finishes ≡ counted (is_some result) (W.told out.old).failed_finishes }

@@ -1,5 +1,5 @@
 -- A screen as it is opened.
-use Rattle.std.specs.Prelude.{◌≡◌, []}
+use Rattle.std.specs.Prelude.{ℕ, ◌≡◌, List, []}
 use Rattle.ti_caps.specs.Description.{Description}
 use Rattle.scr_term.specs.Operations.Profiles.{ProfileView}
 use Rattle.scr_windows.specs.DeskViews.{first_desk}
@@ -9,15 +9,17 @@ use Rattle.scr_keys.specs.Readers.{ReaderView}
 use Rattle.scr_keys.specs.Tables.{AreKeysOf}
 use Rattle.curses.specs.ScreenStates.{ScreenState}
 
--- a screen on the terminal of a profile, with a keyboard
-abbrev pub first_screen : ProfileView → ReaderView → ScreenState
-first_screen profile keys = record {
+-- a screen on the terminal of a profile, with a keyboard, and its opening and its closing text
+abbrev pub first_screen : ProfileView → ReaderView → List ℕ → List ℕ → ScreenState
+first_screen profile keys opening closing = record {
   desk = first_desk profile.rows profile.columns;
   virtual = blank_virtual profile.rows profile.columns;
   profile = profile;
   memory = unknown profile.rows profile.columns;
   owed = [];
   keys = keys;
+  opening = opening;
+  closing = closing;
 }
 
 -- a reader of an entry's keys, which has read nothing

@@ -15,4 +15,5 @@ invariant_of-self c = (
         c.self.invariant.0.memory (subst (λ s. IsPlan s.profile s.memory s.virtual c.args.ops.now) (sym c.self.view_is) c.requires)));
   },
   c.self.invariant.1,
+  c.self.invariant.2,
 )

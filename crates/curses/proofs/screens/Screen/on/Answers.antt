@@ -14,4 +14,5 @@ invariant_of-result c =
             (record { rows = ap (λ v. v.picture.rows) c.in_ok-blank.ensures.wanted; columns = ap (λ v. v.picture.columns) c.in_ok-blank.ensures.wanted }));
       },
       c.in_ok-blank.ensures.room,
+      c.in_ok-blank.ensures.text_room,
     )

@@ -17,6 +17,7 @@ invariant_of-self c =
             (remembers_disturbed c.up_to_date_laws.ensures c.memory_laws.ensures c.self.inside.profile c.self.inside.memory c.mark.new.self _ _ held);
       },
       c.self.invariant.1,
+      c.self.invariant.2,
     )
 
 pub returns : goal.returns

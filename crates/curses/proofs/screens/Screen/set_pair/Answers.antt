@@ -15,4 +15,5 @@ invariant_of-self c =
             (ap (λ v. v.picture.rows) set ∙ sizes.rows) (ap (λ v. v.picture.columns) set ∙ sizes.columns);
       },
       c.self.invariant.1,
+      c.self.invariant.2,
     )

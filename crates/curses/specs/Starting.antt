@@ -1,0 +1,107 @@
+-- What begins and what ends a program's use of a screen: what is sent, and what a fault leaves. X/Open Curses Issue 7, initscr(),
+-- endwin(); terminfo(5), 'Cursor Motions' and 'Keypad and Function Keys'.
+use Rattle.std.specs.Prelude.{ℕ, ◌≡◌, ◌≢◌, ◌≤◌, ◌-◌, ◌⊎◌, true, List, [], ◌∷◌, ◌++◌, length, take, Some}
+use Rattle.scr_cells.specs.PenViews.{plain_pen}
+use Rattle.scr_term.specs.declared.operations.operation.Op.{Op}
+use Rattle.scr_term.specs.declared.operations.operation.Op.TheVariants.{Move}
+use Rattle.scr_term.specs.declared.operations.operation.Spot.TheVariants.{At}
+use Rattle.scr_term.specs.Ecma.Meanings.{Leads}
+use Rattle.scr_term.specs.Operations.Admission.{IsEcma48}
+use Rattle.scr_term.specs.Operations.Profiles.{ProfileView, IsProfile, abilities}
+use Rattle.scr_term.specs.Operations.States.{TerminalState, IsState, negative_state}
+use Rattle.scr_term.specs.Operations.Steps.{runs}
+use Rattle.scr_term.specs.Operations.Texts.{all_bytes}
+use Rattle.scr_plan.specs.Memories.{forgotten}
+use Rattle.scr_plan.specs.Scratch.{resets}
+use Rattle.curses.specs.Cuts.{IsCut}
+use Rattle.curses.specs.declared.faults.SendFault.{SendFault}
+use Rattle.curses.specs.declared.faults.SendFault.TheVariants.{Flush, Write}
+use Rattle.curses.specs.ScreenStates.{ScreenState}
+use Rattle.curses.specs.Updates.{IsDefined, IsOfOneText}
+use Rattle.curses.specs.Writers.{WriterView, counted}
+
+-- ---- the operations in front of the closing text
+
+-- no attribute on and default colours, and then the cursor at the beginning of the last line
+abbrev pub closing_ops : ProfileView → List Op
+closing_ops profile = resets profile ++ Move (profile.rows - 1) 0 ∷ []
+
+-- what a terminal is in after them
+abbrev pub closed_state : ProfileView → TerminalState → TerminalState
+closed_state profile state = record state { spot = At (profile.rows - 1) 0; pen = plain_pen }
+
+-- From a state they are defined and lead there, and so is each beginning of them; on the bundled ECMA-48 entry their bytes lead there.
+pub record ClosesPlain (profile : ProfileView) (state : TerminalState) : Type 0 where
+  pub run : runs profile state (closing_ops profile) ≡ Some (closed_state profile state)
+  pub beginnings : (k : ℕ) → IsDefined profile state (take k (closing_ops profile))
+  pub leads : IsEcma48 profile → Leads profile.rows profile.columns (negative_state state) (all_bytes profile (closing_ops profile)) (negative_state (closed_state profile state))
+
+-- so it is from every state of a profile, and of every profile
+abbrev pub AlwaysClosesPlain : ProfileView → Type 0
+AlwaysClosesPlain profile = (state : TerminalState) → IsState (abilities profile) state → ClosesPlain profile state
+
+abbrev pub ClosingLaws : Type 0
+ClosingLaws = (profile : ProfileView) → IsProfile profile → AlwaysClosesPlain profile
+
+-- ---- operations, and a text behind them
+
+-- what was owed before, the texts of the operations and the text were taken whole
+pub record AreSent (profile : ProfileView) (ops : List Op) (text owed : List ℕ) (old new : WriterView) (count : ℕ) (rest : List ℕ) : Type 0 where
+  pub cut : IsCut owed (all_bytes profile ops ++ text) old.taken new.taken count rest
+  pub nothing : rest ≡ []
+  pub puts : new.failed_puts ≡ old.failed_puts
+
+-- a write failed: that of the last of so many operations, or of what was owed before where this is none, and nothing behind was begun
+pub record IsCutInOps (profile : ProfileView) (ops : List Op) (owed : List ℕ) (old new : WriterView) (count : ℕ) (rest : List ℕ) : Type 0 where
+  pub begun : ℕ
+  pub cut : IsCut owed (all_bytes profile (take begun ops)) old.taken new.taken count rest
+  pub one : IsOfOneText profile owed (take begun ops) rest
+
+-- or that of the text
+pub record IsCutInText (profile : ProfileView) (ops : List Op) (text owed : List ℕ) (old new : WriterView) (count : ℕ) (rest : List ℕ) : Type 0 where
+  pub cut : IsCut owed (all_bytes profile ops ++ text) old.taken new.taken count rest
+  pub one : length rest ≤ length text
+
+-- either way the rest of the text that was cut is owed
+pub record IsStopped (profile : ProfileView) (ops : List Op) (text owed : List ℕ) (old new : WriterView) (count : ℕ) (rest : List ℕ) : Type 0 where
+  pub place : IsCutInOps profile ops owed old new count rest ⊎ IsCutInText profile ops text owed old new count rest
+  pub something : rest ≢ []
+  pub puts : new.failed_puts ≡ counted true old.failed_puts
+  pub finishes : new.failed_finishes ≡ old.failed_finishes
+
+-- what an answer says of what was sent
+abbrev pub AfterSending : ProfileView → List Op → List ℕ → List ℕ → WriterView → WriterView → ℕ → List ℕ → Type 0
+AfterSending profile ops text owed old new count rest =
+    AreSent profile ops text owed old new count rest × (new.failed_finishes ≡ old.failed_finishes)
+
+abbrev pub AfterSendFault : ProfileView → List Op → List ℕ → List ℕ → WriterView → WriterView → SendFault → List ℕ → Type 0
+AfterSendFault profile ops text owed old new (Write sent kind) rest = IsStopped profile ops text owed old new sent rest
+AfterSendFault profile ops text owed old new (Flush sent kind) rest =
+    AreSent profile ops text owed old new sent rest × (new.failed_finishes ≡ counted true old.failed_finishes)
+
+-- ---- of a screen
+
+-- Operations and a text were sent whole, so many bytes with what was owed before: nothing is owed, nothing is known of the terminal any more,
+-- and everything else of the screen stays.
+pub record HasSent (ops : List Op) (text : List ℕ) (old new : ScreenState) (before after : WriterView) (count : ℕ) : Type 0 where
+  pub sent : AfterSending old.profile ops text old.owed before after count new.owed
+  pub screen : new ≡ record old { memory = forgotten old.memory; owed = [] }
+
+-- they were not: what a write cut is owed, nothing is known of the terminal any more, and everything else of the screen stays
+pub record HasNotSent (ops : List Op) (text : List ℕ) (old new : ScreenState) (before after : WriterView) (fault : SendFault) : Type 0 where
+  pub fault_told : AfterSendFault old.profile ops text old.owed before after fault new.owed
+  pub screen : new ≡ record old { memory = forgotten old.memory; owed = new.owed }
+
+-- the opening text was sent, or not whole
+abbrev pub IsStarted : ScreenState → ScreenState → WriterView → WriterView → ℕ → Type 0
+IsStarted old new before after count = HasSent [] old.opening old new before after count
+
+abbrev pub IsNotStarted : ScreenState → ScreenState → WriterView → WriterView → SendFault → Type 0
+IsNotStarted old new before after fault = HasNotSent [] old.opening old new before after fault
+
+-- nothing on, default colours, the cursor at the beginning of the last line, and then the closing text were sent, or not whole
+abbrev pub IsClosed : ScreenState → ScreenState → WriterView → WriterView → ℕ → Type 0
+IsClosed old new before after count = HasSent (closing_ops old.profile) old.closing old new before after count
+
+abbrev pub IsNotClosed : ScreenState → ScreenState → WriterView → WriterView → SendFault → Type 0
+IsNotClosed old new before after fault = HasNotSent (closing_ops old.profile) old.closing old new before after fault
