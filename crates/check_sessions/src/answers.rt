@@ -68,7 +68,8 @@ pub fn add_count(count: u64, words: &mut Buffer) {
     add_number(i64::try_from(count).unwrap_or(-1), words);
 }
 
-fn kind_name(kind: ErrorKind) -> &'static str {
+/// The name of a kind of error.
+pub fn kind_name(kind: ErrorKind) -> &'static str {
     match kind {
         ErrorKind::BrokenPipe => "BrokenPipe",
         ErrorKind::WriteZero => "WriteZero",

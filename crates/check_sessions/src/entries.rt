@@ -60,6 +60,7 @@ fn change(alloc: Global, entry: &mut Entry, words: &mut Words<'_>) -> Result<(),
     }
 }
 
+// Sets the text that follows in quotation marks, or none.
 fn set_text(
     alloc: Global,
     entry: &mut Entry,

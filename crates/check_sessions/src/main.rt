@@ -11,6 +11,7 @@ mod changing;
 mod counting;
 mod cuts;
 mod dumps;
+mod ends;
 mod entries;
 mod generated;
 mod generating;

@@ -2,6 +2,7 @@
 
 use crate::answers::{add_answer, ran_out};
 use crate::bounds::Left;
+use crate::ends::{End, add_sent};
 use crate::shown::shows;
 use crate::writers::{Fails, Planned};
 use check_scripts::answers::add_word;
@@ -12,7 +13,7 @@ use curses::{Answer, Call, Counted, Device, OpenFault, Report, Screen, session};
 use scr_cells::Size;
 use scr_term::{EcmaScreen, Op, Ops, Profile, ProfileFault};
 use std::alloc::Global;
-use ti_caps::{Entry, bundled};
+use ti_caps::{Entry, bundled, slots};
 
 // How many bytes the writer has room for: more than an update of a line sends.
 const ROOM: usize = 8192;
@@ -126,6 +127,27 @@ impl Recorded {
         }
     }
 
+    /// Begins or ends the use of the screen with a writer that fails so, and adds what that answers. The emulated screen is fed what was
+    /// sent where the entry has no text for it: others are no ECMA-48 texts.
+    pub fn send_end(&mut self, end: End, fails: Fails, came: &mut Buffer) -> Result<(), Trouble> {
+        self.left.forget();
+        self.device.writer.plan(fails)?;
+        self.device.writer.calls = 0;
+        let sent = match end {
+            End::Start => self.screen.start(&mut self.device),
+            End::Close => self.screen.close(&mut self.device),
+        };
+        add_sent(&sent, came);
+        if sent == Ok(0) && self.device.writer.calls > 0 {
+            add_word("and the writer was called", came);
+        }
+        let fed = !has_ends(&self.entry);
+        if fed && !self.feed()? {
+            add_word("and an undefined text", came);
+        }
+        if fed { Ok(()) } else { self.keep_sent() }
+    }
+
     /// Feeds the terminal what others write.
     pub fn others(&mut self, text: &[u8], came: &mut Buffer) {
         let fed = self.emulated.feed(text);
@@ -214,12 +236,18 @@ impl Recorded {
 
     // Feeds the terminal what the writer took, and tells whether that is defined.
     fn feed(&mut self) -> Result<bool, Trouble> {
+        let fed = self.emulated.feed(&self.device.writer.taken);
+        self.keep_sent()?;
+        Ok(fed.is_ok())
+    }
+
+    // Keeps what the writer took.
+    fn keep_sent(&mut self) -> Result<(), Trouble> {
         let taken = &mut self.device.writer.taken;
-        let fed = self.emulated.feed(taken);
         self.before = self.sent.len();
         self.sent.extend_from_slice(taken)?;
         taken.clear();
-        Ok(fed.is_ok())
+        Ok(())
     }
 
     // Adds what is wrong with an update that ended well, and tells whether nothing is.
@@ -266,6 +294,13 @@ fn add_answers(report: &Report, answers: &mut Buffer) -> bool {
         add_answer(answer, answers);
     }
     true
+}
+
+// Whether an entry has a text for the beginning or the end of a program's use of the screen.
+fn has_ends(entry: &Entry) -> bool {
+    [slots::SMCUP, slots::SMKX, slots::RMKX, slots::RMCUP]
+        .iter()
+        .any(|slot| entry.text(*slot).is_some())
 }
 
 // How an update ended.

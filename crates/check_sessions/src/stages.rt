@@ -4,6 +4,7 @@ use crate::answers::add_count;
 use crate::call_lines::read_call;
 use crate::cuts::check_cuts;
 use crate::dumps::dump_recorded;
+use crate::ends::read_end;
 use crate::entries::read_entry;
 use crate::generated::{check_generated, check_updates};
 use crate::recorded::Recorded;
@@ -113,6 +114,9 @@ fn call(
 ) -> Result<(), Trouble> {
     if let Some(fails) = read_update(word, words) {
         return opened.update(fails, came).map(|_is_well| ());
+    }
+    if let Some((end, fails)) = read_end(word, words) {
+        return opened.send_end(end, fails, came);
     }
     if let Some(call) = read_call(alloc, word, words) {
         return opened.call(call, came);

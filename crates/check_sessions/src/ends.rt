@@ -1,0 +1,53 @@
+//! Lines that begin a program's use of a screen, and that end it.
+
+use crate::answers::{add_count, kind_name};
+use crate::writers::Fails;
+use check_scripts::answers::add_word;
+use check_scripts::buffers::Buffer;
+use check_scripts::words::Words;
+use curses::SendFault;
+
+/// Which of the two it is.
+#[derive(Clone, Copy, PartialEq, Eq)]
+pub enum End {
+    Start,
+    Close,
+}
+
+/// Reads `start`, `start_writing K`, `start_stuck K` and `start_flushing`, and the same of `close`: which end it is, and how the writer
+/// fails.
+pub fn read_end(word: &str, words: &mut Words<'_>) -> Option<(End, Fails)> {
+    let (end, how) = match (word.strip_prefix("start"), word.strip_prefix("close")) {
+        (Some(how), _) => (End::Start, how),
+        (_, Some(how)) => (End::Close, how),
+        _ => return None,
+    };
+    let fails = match how {
+        "" => Fails::Never,
+        "_writing" => Fails::Behind(words.number()),
+        "_stuck" => Fails::StuckBehind(words.number()),
+        "_flushing" => Fails::Flushed,
+        _ => return None,
+    };
+    Some((end, fails))
+}
+
+/// Adds how many bytes were sent, or why not all were, and how many.
+pub fn add_sent(sent: &Result<u64, SendFault>, came: &mut Buffer) {
+    match sent {
+        Ok(bytes) => {
+            add_word("Ok", came);
+            add_count(*bytes, came)
+        }
+        Err(SendFault::Write { sent, kind }) => {
+            add_word("Write", came);
+            add_word(kind_name(*kind), came);
+            add_count(*sent, came)
+        }
+        Err(SendFault::Flush { sent, kind }) => {
+            add_word("Flush", came);
+            add_word(kind_name(*kind), came);
+            add_count(*sent, came)
+        }
+    }
+}
