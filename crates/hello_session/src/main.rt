@@ -1,11 +1,12 @@
 //! A test of a full-screen program without a terminal: a dialog is drawn, its bytes are fed to an emulated terminal, and the
-//! rows that this shows are compared with text.
+//! rows that this shows are compared with text. Then a program from its start to its close, which has to leave the terminal without
+//! attributes and on its last line.
 #![tactic(auto)]
 
 use anyhow::{Context, Result, bail};
-use curses::{Call, Device, session};
+use curses::{Call, Device, Screen, session};
 use scr_cells::{Attrs, Look, Size};
-use scr_term::EcmaScreen;
+use scr_term::{EcmaScreen, Spot};
 use scr_windows::Win;
 use std::alloc::Global;
 use ti_caps::{Bytes, bundled};
@@ -63,6 +64,28 @@ fn shown(alloc: Global, size: Size) -> Result<EcmaScreen> {
     Ok(terminal)
 }
 
+// A program on a screen that is opened: it starts, shows a word in reverse video, and closes.
+fn run(alloc: Global, screen: &mut Screen, out: &mut Device<Vec<u8>>) -> Result<()> {
+    screen.start(out)?;
+    screen.attr_on(Win(0), Attrs::REVERSE)?;
+    let _ = screen.add_text(Win(0), b"Goodbye")?;
+    screen.noutrefresh(Win(0))?;
+    let _ = screen.doupdate(alloc, out)?;
+    screen.close(out)?;
+    Ok(())
+}
+
+// Whether a terminal that was sent all that such a program writes has its cursor at the beginning of the last line, and no attribute on.
+fn is_left_plain(alloc: Global, size: Size) -> Result<bool> {
+    let mut screen = Screen::open(alloc, &bundled(alloc)?, Some(size))?;
+    let mut out = Device::new(Vec::new(alloc));
+    run(alloc, &mut screen, &mut out)?;
+    let mut terminal = EcmaScreen::new(alloc, size)?;
+    terminal.feed(&out.writer)?;
+    let last = terminal.size().rows - 1;
+    Ok(terminal.spot() == Spot::At(last, 0) && terminal.rendition() == Attrs(0))
+}
+
 // The text of a row, with its stars.
 fn text_of(alloc: Global, looks: &[Look]) -> Result<String> {
     let mut text = String::new(alloc);
@@ -93,5 +116,9 @@ fn compare(rt: &HostRuntime, terminal: &EcmaScreen) -> Result<()> {
 fn main(rt: HostRuntime) -> Result<()> {
     let size = Size::new(5, 24).context("no size")?;
     let terminal = shown(rt.alloc(), size)?;
-    compare(&rt, &terminal)
+    compare(&rt, &terminal)?;
+    if is_left_plain(rt.alloc(), size)? {
+        println!(rt; "left plain")?;
+    }
+    Ok(())
 }
