@@ -171,9 +171,10 @@ impl Row<'_> {
     fn erased_column(&self, profile: &Profile) -> Option<u32> {
         let mut first = None;
         let mut count: usize = 0;
-        let mut column = self.columns();
-        while column > 0 && self.seen(column - 1) == Look::blank() {
-            column -= 1;
+        for column in (0..self.columns()).rev() {
+            if self.seen(column) != Look::blank() {
+                break;
+            }
             if self.differs(column) {
                 first = Some(column);
                 count = count.saturating_add(1);
