@@ -1,12 +1,12 @@
 -- Rows that are not known: they are erased, and all is known then.
-use Rattle.std.proofs.Common.{◌≡◌, ℕ, zero, suc, ◌+◌, ◌<◌, ◌≤◌, ◌==◌, ◌&&◌, ◌||◌, not, leb, ltb, Bool, true, false, All, refl, sym, ◌∙◌, ap, subst, arith, List, [], ◌∷◌, ◌++◌, get_or, length, set, Option, Some, None, IfSome, Result, Ok, Err, IfOk, option_and_then, replicate, if◌then◌else◌}
+use Rattle.std.proofs.Common.{◌≡◌, ℕ, zero, suc, ◌+◌, ◌<◌, ◌==◌, ◌&&◌, ◌||◌, not, ltb, Bool, true, false, refl, sym, ◌∙◌, ap, subst, arith, List, [], ◌∷◌, ◌++◌, get_or, length, set, Option, Some, None, IfSome, Result, Ok, Err, IfOk, option_and_then, replicate, if◌then◌else◌}
 use Rattle.std.specs.List.{list_all}
 use Rattle.std.proofs.lemmas.Bool.Decides.{nat_tests}
-use Rattle.std.proofs.lemmas.List.{append-nil, get_or-set_other, get_or-set_same, length-replicate}
+use Rattle.std.proofs.lemmas.List.{append-nil, get_or-set_same}
 use Rattle.scr_cells.specs.Grids.{GridLaws, grid_at, is_in_run}
 use Rattle.scr_cells.specs.LookViews.{LookView, blank}
 use Rattle.scr_cells.specs.PenViews.{PenView, is_plain_pen, plain_pen}
-use Rattle.scr_cells.specs.PictureViews.{PictureView, IsPlace}
+use Rattle.scr_cells.specs.PictureViews.{PictureView}
 use Rattle.scr_term.specs.declared.operations.capability.Capability.TheVariants.{Sgr0}
 use Rattle.scr_term.specs.declared.operations.operation.Op.{Op}
 use Rattle.scr_term.specs.declared.operations.operation.Op.TheVariants.{EraseLine, Move, Reset}
@@ -23,13 +23,13 @@ use Rattle.scr_plan.proofs.PartLaws.{look_refl}
 use Rattle.scr_plan.proofs.PlaceLaws.{at_place, goes_by, one_run, plain}
 use Rattle.scr_plan.proofs.PlainLaws.{look_same, not_false}
 use Rattle.scr_plan.proofs.RunChangeLaws.{not_in}
-use Rattle.scr_plan.specs.Code.Drafts.{HasChangesIn, HasDiffering, HasUnsettled, HasUnsettledIn, IsAdded, IsDone, IsPartly, IsRight, Keeps, KeepsAll, KeepsRuns, Knows, Leaves, RightFrom, WipesRow, in_runs, or_below, or_row, row_wiped, unsettled}
+use Rattle.scr_plan.specs.Code.Drafts.{HasChangesIn, HasDiffering, HasUnsettled, HasUnsettledIn, IsAdded, IsPartly, IsRight, Keeps, KeepsAll, KeepsRuns, Knows, Leaves, RightFrom, WipesRow, in_runs, or_below, or_row, row_wiped, unsettled}
 use Rattle.scr_plan.specs.Code.Joinings.{counted_up}
 use Rattle.scr_plan.specs.Code.Painters.{painter_begins, painter_of, row_differs}
 use Rattle.scr_plan.specs.Memories.{Agrees, MemoryView, all_followed, changes_cells, clears, followed, has_one_pen, is_known, is_known_row, places_spot, rows_erased, sets_pen, stepped}
 use Rattle.scr_plan.specs.MemoryRuns.{MayBe, MemoryRuns}
 use Rattle.scr_plan.specs.Repaints.{look_eq, look_in}
-use Rattle.scr_plan.specs.Scratch.{Fits, goes, look_at, resets}
+use Rattle.scr_plan.specs.Scratch.{Fits, goes, look_at}
 use Rattle.scr_plan.specs.declared.painting.Painter.{Painter}
 use Rattle.scr_plan.specs.declared.runs.Run.{Run}
 use Rattle.scr_plan.specs.declared.strokes.Draft.{Draft}

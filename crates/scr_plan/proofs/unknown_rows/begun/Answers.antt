@@ -1,4 +1,4 @@
-use Rattle.std.proofs.Common.{arith, refl, sym, ◌∙◌}
+use Rattle.std.proofs.Common.{arith, refl}
 use Rattle.scr_plan.proofs.UnknownRowLaws.{begun_right, knows_begun}
 use Rattle.scr_plan.proofs.unknown_rows.begun.Goals as goal
 

@@ -1,4 +1,4 @@
-use Rattle.std.proofs.Common.{ap, refl, rules, ◌∙◌}
+use Rattle.std.proofs.Common.{ap, rules, ◌∙◌}
 use Rattle.scr_term.specs.Operations.States.{spot_after}
 use Rattle.scr_plan.proofs.JoiningLaws.{put_goes}
 use Rattle.scr_plan.proofs.joining.Joining.put.Goals as goal
