@@ -293,7 +293,11 @@ fn add(runs: &mut Vec<Run>, run: Run) -> Result<(), NoMemory>
 }
 
 // Whether so many blanks cost more than their erasure, with the motion behind them where the run goes on there.
+#[inline(always)]
 fn is_worth_erasing(profile: &Profile, count: u32, goes_on: bool) -> bool {
+    if count <= 1 {
+        return false;
+    }
     let prices = profile.prices();
     let erasure = prices.of(Op::EraseChars(count));
     let motion = if goes_on {
