@@ -1,6 +1,7 @@
 //! Which operations bring a terminal to a picture.
 #![tactic(auto)]
 
+mod joined_changes;
 mod joined_rows;
 mod joining;
 mod links;
@@ -12,11 +13,13 @@ mod painting;
 mod plain_repaint;
 mod plan_laws;
 mod planning;
+mod reaching;
 mod remembering_laws;
 mod runs;
 mod scratch_laws;
 mod scratch_texts;
 mod short_plan;
+mod stretches;
 mod strokes;
 mod turns;
 mod unknown_rows;

@@ -1,8 +1,9 @@
-//! Painting the runs that wait: in an order that was chosen before, whatever that is, and then each that is left.
-ghost use Rattle.std.specs.Prelude.{◌≡◌, ◌<◌, [], IfSome, OnOk, length, slice_index_or, slice_set};
-ghost use Rattle.scr_cells.specs.PenViews.{plain_pen};
+//! Painting the runs that wait, each in its way: in an order that was chosen before, whatever that is, and then each that is left.
+ghost use Rattle.std.specs.Prelude.{◌≡◌, ◌<◌, ◌≤◌, [], IfSome, OnOk, length, slice_index_or, slice_set, true};
+ghost use Rattle.scr_cells.specs.PenViews.{is_plain_pen, plain_pen};
 ghost use Rattle.scr_term.specs.declared.operations.operation.Spot.TheVariants.{At};
-ghost use Rattle.scr_plan.specs.Code.Drafts.{IsAdded, KeepsAll, Leaves, no_run};
+ghost use Rattle.scr_term.specs.Operations.Texts.{has};
+ghost use Rattle.scr_plan.specs.Code.Drafts.{Covers, IsAdded, KeepsAll, Leaves, in_part, is_in, no_run};
 ghost use Rattle.scr_plan.specs.Code.Painters.{painter_begins, painter_of};
 ghost use Rattle.scr_plan.specs.Scratch.{Fits};
 ghost use Rattle.scr_plan.specs.declared.runs.Run.{Run};
@@ -12,8 +13,8 @@ use crate::painting::Painter;
 use crate::runs::{How, Run};
 use crate::strokes::Draft;
 use crate::ways::Chooser;
-use scr_cells::{NoMemory, Pen, Picture};
-use scr_term::{Profile, Spot, profiles_have, run_laws};
+use scr_cells::{Look, NoMemory, Pen, Picture, grid_laws};
+use scr_term::{Op, Profile, Spot, profiles_have, run_laws};
 use std::alloc::Global;
 
 impl Draft {
@@ -113,6 +114,123 @@ impl Draft {
             self.visit(painter, profile, picture, run)?;
         }
         Ok(())
+    }
+
+    // Paints the places of a run.
+    pub(crate) fn visit(
+        &mut self,
+        painter: Painter,
+        profile: &Profile,
+        picture: &Picture,
+        run: Run,
+    ) -> Result<(), NoMemory>
+        requires painter { painter ≡ painter_of profile.now }
+        requires fits { Fits profile.now picture.now }
+        ensures { OnOk result (Covers profile.now picture.now (is_in run) self.old self.new) }
+    {
+        let size = picture.size();
+        if run.row >= size.rows {
+            return Ok(());
+        }
+        let end = run.end.min(size.columns);
+        if run.start >= end {
+            return Ok(());
+        }
+        self.reach(painter, profile, picture, run.row, run.start, run.pen)?;
+        self.paint_run(painter, profile, picture, run, end)
+    }
+
+    // Paints the places of a run up to a column, in its way.
+    fn paint_run(
+        &mut self,
+        painter: Painter,
+        profile: &Profile,
+        picture: &Picture,
+        run: Run,
+        end: u32,
+    ) -> Result<(), NoMemory>
+        requires painter { painter ≡ painter_of profile.now }
+        requires fits { Fits profile.now picture.now }
+        requires row { run.row < picture.now.rows }
+        requires start { run.start < end }
+        requires end { end ≤ picture.now.columns }
+        ensures { OnOk result (Covers profile.now picture.now (in_part run.row run.start end) self.old self.new) }
+    {
+        match run.how {
+            How::Write => self.write(painter, profile, picture, run.row, run.start, end),
+            How::EraseLine => self.erase_line(painter, profile, picture, run.row, run.start, end),
+            How::EraseChars => self.erase_chars(painter, profile, picture, run.row, run.start, end),
+        }
+    }
+
+    // Erases the rest of a row from a column on, if the cursor is there with a plain pen and all of it is seen blank; else writes its places
+    // up to a column.
+    fn erase_line(
+        &mut self,
+        painter: Painter,
+        profile: &Profile,
+        picture: &Picture,
+        row: u32,
+        from: u32,
+        end: u32,
+    ) -> Result<(), NoMemory>
+        requires painter { painter ≡ painter_of profile.now }
+        requires fits { Fits profile.now picture.now }
+        requires row { row < picture.now.rows }
+        requires from { from < end }
+        requires end { end ≤ picture.now.columns }
+        ensures { OnOk result (Covers profile.now picture.now (in_part row from end) self.old self.new) }
+    {
+        run_laws();
+        grid_laws::<Look>();
+        let _size = profile.size();
+        let _picture = picture.size();
+        let is_blank = painter.is_blank_from(picture, row, picture.row(row), from);
+        if is_blank && self.can_erase(profile, row, from, Op::EraseLine) {
+            self.add(profile, Op::EraseLine, self.spot, self.pen)
+        } else {
+            self.write(painter, profile, picture, row, from, end)
+        }
+    }
+
+    // Erases the places of a row from one column up to another, if the cursor is there with a plain pen and all of them are seen blank; else
+    // writes them.
+    fn erase_chars(
+        &mut self,
+        painter: Painter,
+        profile: &Profile,
+        picture: &Picture,
+        row: u32,
+        from: u32,
+        end: u32,
+    ) -> Result<(), NoMemory>
+        requires painter { painter ≡ painter_of profile.now }
+        requires fits { Fits profile.now picture.now }
+        requires row { row < picture.now.rows }
+        requires from { from < end }
+        requires end { end ≤ picture.now.columns }
+        ensures { OnOk result (Covers profile.now picture.now (in_part row from end) self.old self.new) }
+    {
+        run_laws();
+        grid_laws::<Look>();
+        let _size = profile.size();
+        let _picture = picture.size();
+        let op = Op::EraseChars(end - from);
+        let is_blank = painter.is_blank(picture, row, picture.row(row), from, end);
+        if is_blank && self.can_erase(profile, row, from, op) {
+            self.add(profile, op, self.spot, self.pen)
+        } else {
+            self.write(painter, profile, picture, row, from, end)
+        }
+    }
+
+    // Whether the terminal has an erasure, and the cursor is in a place with a plain pen.
+    pub(crate) fn can_erase(&self, profile: &Profile, row: u32, column: u32, op: Op) -> bool
+        ensures has { result ≡ true → has profile.now op ≡ true }
+        ensures spot { result ≡ true → self.now.spot ≡ At row column }
+        ensures plain { result ≡ true → is_plain_pen self.now.pen ≡ true }
+    {
+        self.spot == Spot::At(row, column) && self.pen.is_plain() && profile.has(op)
     }
 
     // Leads the cursor to where the picture wishes it, with the pen that is on.

@@ -6,10 +6,10 @@ ghost use Rattle.scr_plan.specs.Code.Painters.{painter_of};
 ghost use Rattle.scr_plan.specs.Scratch.{Fits};
 ghost use Rattle.scr_plan.specs.declared.runs.Run.{Run};
 
-use crate::looking::is_that_pen;
 use crate::orders::run_at;
 use crate::painting::Painter;
 use crate::runs::Run;
+use crate::stretches::Stretches;
 use crate::strokes::Draft;
 use crate::ways::{Chooser, Cursor};
 use scr_cells::{Cell, Look, NoMemory, Pen, Picture, grid_laws};
@@ -204,45 +204,6 @@ fn price_on_blanks(chooser: &Chooser<'_>, cells: &[Cell]) -> u32 {
         stretches = stretches.with(pen, cell.byte() == b' ' && pen.is_plain());
     }
     stretches.price
-}
-
-// The stretches of a blank row as they are priced: the pen of the last one, and how many blanks are behind it; so many may be inside.
-#[derive(Clone, Copy)]
-struct Stretches {
-    jump: u32,
-    pen: Option<Pen>,
-    blanks: u32,
-    price: u32,
-}
-
-impl Stretches {
-    // None yet.
-    fn none(jump: u32) -> Stretches {
-        Stretches {
-            jump,
-            pen: None,
-            blanks: 0,
-            price: 0,
-        }
-    }
-
-    // One place more.
-    fn with(self, pen: Pen, is_blank: bool) -> Stretches {
-        let mut stretches = self;
-        let goes_on = is_that_pen(self.pen, pen);
-        if is_blank {
-            stretches.blanks = self.blanks.saturating_add(1);
-            if !goes_on || stretches.blanks > self.jump {
-                stretches.pen = None;
-            }
-            return stretches;
-        }
-        let price = if goes_on { self.blanks } else { self.jump };
-        stretches.pen = Some(pen);
-        stretches.blanks = 0;
-        stretches.price = self.price.saturating_add(price).saturating_add(1);
-        stretches
-    }
 }
 
 impl Draft {

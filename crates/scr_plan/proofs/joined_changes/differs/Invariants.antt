@@ -1,6 +1,6 @@
 use Rattle.std.proofs.Common.{ℕ, ◌≡◌, ◌<◌, false}
 use Rattle.scr_plan.specs.Repaints.{differs}
-use Rattle.scr_plan.proofs.planning.differs.Given as goal
+use Rattle.scr_plan.proofs.joined_changes.differs.Given as goal
 
 -- no place differs as far as the loop has come
 abbrev pub invariant-loop-row : goal.invariant-loop-row

@@ -1,7 +1,7 @@
 use Rattle.std.proofs.Common.{ap, arith, inl, inr, not, sym, ◌≡◌, ◌<◌}
 use Rattle.scr_plan.specs.Code.Planning.{range_by}
 use Rattle.scr_plan.proofs.JoinedRowLaws.{all_rows, more, none_left_at, some_left, unlooked_same}
-use Rattle.scr_plan.proofs.planning.differs.Goals as goal
+use Rattle.scr_plan.proofs.joined_changes.differs.Goals as goal
 
 pub loop-row-init : goal.loop-row-init
 loop-row-init c = λ r k below wide.

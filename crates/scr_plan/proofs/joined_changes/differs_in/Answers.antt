@@ -3,7 +3,7 @@ use Rattle.std.proofs.lemmas.Bool.Decides.{nat_tests}
 use Rattle.scr_plan.specs.Code.Painters.{row_differs}
 use Rattle.scr_plan.specs.Code.Planning.{range_by}
 use Rattle.scr_plan.proofs.JoinedRowLaws.{looked_same}
-use Rattle.scr_plan.proofs.planning.differs_in.Goals as goal
+use Rattle.scr_plan.proofs.joined_changes.differs_in.Goals as goal
 
 pub returns-clause-none : goal.returns-clause-none
 returns-clause-none c = λ past k wide.
