@@ -1,5 +1,5 @@
 -- The short plan: what each stroke does to the terminal.
-use Rattle.std.proofs.Common.{◌≡◌, ℕ, ◌+◌, ◌-◌, ◌<◌, ◌≤◌, ◌&&◌, not, ltb, nat_le, Bool, true, false, All, refl, sym, ◌∙◌, ap, subst, arith, List, [], ◌∷◌, ◌++◌, append_assoc, drop, length, Some, None, option_and_then, if◌then◌else◌}
+use Rattle.std.proofs.Common.{◌≡◌, ℕ, ◌+◌, ◌-◌, ◌<◌, ◌≤◌, ◌&&◌, not, ltb, nat_le, nat_lt, Bool, true, false, All, refl, sym, ◌∙◌, ap, subst, arith, List, [], ◌∷◌, ◌++◌, append_assoc, drop, length, Some, None, option_and_then, if◌then◌else◌}
 use Rattle.std.proofs.lemmas.Bool.Decides.{nat_tests}
 use Rattle.std.proofs.lemmas.List.{append-nil}
 use Rattle.std.proofs.lemmas.List.Elements.{recursion_from_All}
@@ -12,14 +12,14 @@ use Rattle.scr_cells.specs.PictureViews.{PictureView, IsPicture, IsPlace}
 use Rattle.scr_term.specs.declared.operations.operation.Op.{Op}
 use Rattle.scr_term.specs.declared.operations.operation.Op.TheVariants.{EraseChars, EraseLine, Put}
 use Rattle.scr_term.specs.declared.operations.operation.Spot.{Spot}
-use Rattle.scr_term.specs.declared.operations.operation.Spot.TheVariants.{At}
+use Rattle.scr_term.specs.declared.operations.operation.Spot.TheVariants.{At, Margin}
 use Rattle.scr_term.specs.Operations.Laws.{ProfilesHave, RunLaws}
 use Rattle.scr_term.specs.Operations.Leading.{GoesTo, TurnsTo}
 use Rattle.scr_term.specs.Operations.Profiles.{ProfileView, IsProfile}
 use Rattle.scr_term.specs.Operations.States.{TerminalState, characters_erased, erased, from_place, rest_of_line_erased, spot_after, written_at}
 use Rattle.scr_term.specs.Operations.Steps.{act, runs, step}
 use Rattle.scr_term.specs.Operations.Texts.{all_bytes, has}
-use Rattle.scr_plan.proofs.JoinedPriceLaws.{price, price_is}
+use Rattle.scr_plan.proofs.JoinedPriceLaws.{price, price_is, put_price}
 use Rattle.scr_plan.proofs.PlaceLaws.{at_place, begun_run, cell_of, goes_by, one_run, plain, then_runs}
 use Rattle.scr_plan.proofs.LookingLaws.{not_blank}
 use Rattle.scr_plan.proofs.PlacesLaws.{is_here}
@@ -208,6 +208,93 @@ put_covers laws have grids profile p picture k fits painter who row column high 
       where
         never : {R : Type 0} → (true && not (in_part row column (column + 1) (r, c))) ≡ false → R
         never e = grind (arith, nat_tests)
+
+-- ---- places are painted one behind another
+
+-- two parts of a row, one behind the other
+pub covers_joined : (profile : ProfileView) (picture : PictureView) (row from column next : ℕ) (old mid new : Draft) → from ≤ column → column ≤ next → Covers profile picture (in_part row from column) old mid
+    → Covers profile picture (in_part row column next) mid new → Covers profile picture (in_part row from next) old new
+covers_joined profile picture row from column next old mid new low high one other waits paid first start right =
+    weaker profile picture (without (in_part row column next) (without (in_part row from column) waits)) (without (in_part row from next) waits) new (λ place e. either place (waits place) e) paid first start
+    (other (without (in_part row from column) waits) paid first start (one waits paid first start right))
+  where
+    either : (place : ℕ × ℕ) (b : Bool) → (b && not (in_part row from next place)) ≡ false → ((b && not (in_part row from column place)) && not (in_part row column next place)) ≡ false
+    either place false e = refl
+    either place true e = grind (arith, nat_tests)
+
+-- a draft behind characters of a row from one column up to another, when they are counted
+abbrev pub behind_them : ℕ → ℕ → ℕ → ℕ → Draft → Draft → Draft
+behind_them columns row column place old now = record {
+  ops = now.ops;
+  bytes = counted_up (old.bytes + (place - column));
+  spot = if nat_lt place columns then At row place else Margin row;
+  pen = old.pen;
+}
+
+-- characters were added, and are not counted yet
+pub record IsPut (profile : ProfileView) (picture : PictureView) (row column place : ℕ) (old now : Draft) : Type 0 where
+  pub bytes : now.bytes ≡ old.bytes
+  pub spot : now.spot ≡ old.spot
+  pub pen : now.pen ≡ old.pen
+  pub covers : Covers profile picture (in_part row column place) old (behind_them profile.columns row column place old now)
+
+pub put_none : (profile : ProfileView) (picture : PictureView) → Fits profile picture → (row column : ℕ) → column < picture.columns → (old : Draft) → old.spot ≡ At row column → IsPut profile picture row column column old old
+put_none profile picture fits row column wide old here = record {
+  bytes = refl;
+  spot = refl;
+  pen = refl;
+  covers = λ waits paid first start right. covers_none profile picture row column (behind_them profile.columns row column column old old) waits paid first start (record {
+    own = right.own;
+    ops = right.ops;
+    now = right.now;
+    run = right.run;
+    state = right.state;
+    bytes = omega (arith, right.bytes);
+    spot = right.spot ∙ here ∙ sym (ap (λ b. if b then At row column else Margin row) inside);
+    pen = right.pen;
+    shows = right.shows;
+  });
+}
+  where
+    inside : nat_lt column profile.columns ≡ true
+    inside = grind (arith, nat_tests, wide, fits.columns)
+
+pub put_more : RunLaws → ProfilesHave → GridLaws LookView → (profile : ProfileView) → IsProfile profile → (picture : PictureView) → IsPicture picture → Fits profile picture → (painter : Painter) → painter ≡ painter_of profile → (row column place : ℕ) → row < picture.rows → column ≤ place → place < picture.columns
+    → (byte : ℕ) (old now new : Draft) → old.pen ≡ (painter_look painter picture (row, place)).pen → byte ≡ (painter_look painter picture (row, place)).byte → new.ops.items ≡ now.ops.items ++ Put byte ∷ [] → new.bytes ≡ now.bytes → new.spot ≡ now.spot → new.pen ≡ now.pen
+    → IsPut profile picture row column place old now → IsPut profile picture row column (place + 1) old new
+put_more laws have grids profile p picture k fits painter who row column place high low wide byte old now new pen is added bytes spot same_pen put = record {
+  bytes = bytes ∙ put.bytes;
+  spot = spot ∙ put.spot;
+  pen = same_pen ∙ put.pen;
+  covers =
+      covers_joined profile picture row column place (place + 1) old mid next low (omega arith) put.covers
+      (put_covers laws have grids profile p picture k fits painter who row place high wide byte mid next (spot_after profile.columns row place) here pen is refl (record {
+        ops = added;
+        bytes = λ had. omega (arith, low, put_price profile byte);
+        spot_is = refl;
+        pen_is = refl;
+      }));
+}
+  where
+    mid : Draft
+    mid = behind_them profile.columns row column place old now
+
+    next : Draft
+    next = behind_them profile.columns row column (place + 1) old new
+
+    inside : nat_lt place profile.columns ≡ true
+    inside = grind (arith, nat_tests, wide, fits.columns)
+
+    here : mid.spot ≡ At row place
+    here = ap (λ b. if b then At row place else Margin row) inside
+
+-- they are counted
+pub put_counted : (profile : ProfileView) (picture : PictureView) (row column end : ℕ) → column < end → (old now new : Draft) → new.ops ≡ now.ops → new.bytes ≡ counted_up (old.bytes + (end - column)) → new.spot ≡ spot_after profile.columns row (end - 1) → new.pen ≡ now.pen
+    → IsPut profile picture row column end old now → Covers profile picture (in_part row column end) old new
+put_counted profile picture row column end more old now new ops bytes spot pen put =
+    let last : end - 1 + 1 ≡ end = omega (arith, more) in
+    let at : new.spot ≡ (if nat_lt end profile.columns then At row end else Margin row) = spot ∙ ap (λ n. if nat_lt n profile.columns then At row n else Margin row) last in
+    subst (Covers profile picture (in_part row column end) old) (λ i. record { ops = sym ops i; bytes = sym bytes i; spot = sym at i; pen = sym (pen ∙ put.pen) i }) put.covers
 
 -- ---- places are erased
 

@@ -1,27 +1,29 @@
 -- The joined repaint, row by row.
-use Rattle.std.proofs.Common.{◌≡◌, ℕ, ◌+◌, ◌-◌, ◌<◌, ◌≤◌, ◌&&◌, ◌⊎◌, inl, inr, not, Bool, true, false, All, refl, sym, ◌∙◌, ap, subst, arith, append_assoc, get_or, nat_lt, Result, Ok, Err, OnOk, List, [], ◌∷◌, ◌++◌, filter, Option, Some, None, if◌then◌else◌}
+use Rattle.std.proofs.Common.{◌≡◌, ℕ, ◌+◌, ◌-◌, ◌<◌, ◌≤◌, ◌&&◌, ◌⊎◌, inl, inr, not, Bool, true, false, All, refl, sym, ◌∙◌, ap, subst, arith, append_assoc, get_or, nat_lt, Result, Ok, Err, OnOk, List, [], ◌∷◌, ◌++◌, filter, Option, Some, None, zero, suc, if◌then◌else◌}
 use Rattle.std.specs.List.{flat_map}
 use Rattle.std.proofs.lemmas.Bool.Decides.{nat_tests}
 use Rattle.std.proofs.lemmas.List.Elements.{recursion_from_All, filter-append}
 use Rattle.scr_cells.specs.CellViews.{CellView, IsCell, IsCharacter, blank_cell}
 use Rattle.scr_cells.specs.Grids.{grid_at, grid_row}
 use Rattle.scr_cells.specs.LookViews.{LookView, blank}
-use Rattle.scr_cells.specs.PenViews.{PenView}
+use Rattle.scr_cells.specs.PenViews.{PenView, pen_eq}
 use Rattle.scr_cells.specs.PictureViews.{PictureView, IsPicture}
 use Rattle.scr_virtual.specs.Ranges.{in_range}
 use Rattle.scr_virtual.specs.VirtualViews.{VirtualView}
 use Rattle.scr_term.specs.declared.operations.operation.Op.{Op}
 use Rattle.scr_term.specs.declared.operations.operation.Op.TheVariants.{EraseLine}
-use Rattle.scr_term.specs.declared.operations.operation.Spot.TheVariants.{At}
-use Rattle.scr_term.specs.Operations.Profiles.{ProfileView}
-use Rattle.scr_plan.proofs.JoinLaws.{differs_same, joins_same, known_row, painted_adds, parts_painted, passed, row_is_brief}
+use Rattle.scr_term.specs.declared.operations.operation.Spot.TheVariants.{At, Margin}
+use Rattle.scr_term.specs.Operations.Laws.{ProfilesHave, RunLaws}
+use Rattle.scr_term.specs.Operations.Profiles.{ProfileView, IsProfile}
+use Rattle.scr_term.specs.Operations.States.{spot_after}
+use Rattle.scr_plan.proofs.JoinLaws.{differs_same, joins_same, known_row, painted, painted_adds, parts_painted, passed, row_is_brief}
 use Rattle.scr_plan.proofs.JoinedLaws.{IsErasable, erasable, row_erased, row_unerased}
-use Rattle.scr_plan.proofs.JoiningLaws.{goes_on, nothing_goes}
-use Rattle.scr_plan.proofs.PartLaws.{none_in_part, outside_above, outside_below, part_joined, row_in_part, row_known, row_more, row_same, rows_same, same_place}
+use Rattle.scr_plan.proofs.JoiningLaws.{goes_on, nothing_goes, put_goes}
+use Rattle.scr_plan.proofs.PartLaws.{none_in_part, pen_refl, outside_above, outside_below, part_joined, row_in_part, row_known, row_more, row_same, rows_same, same_place}
 use Rattle.scr_plan.proofs.PlaceLaws.{cell_of}
 use Rattle.scr_plan.proofs.PlacesLaws.{is_among}
 use Rattle.scr_plan.proofs.PlainLaws.{among_differing, pen_same}
-use Rattle.scr_plan.specs.Code.Joinings.{Continues, IsBehind, ShowsRow, joined_at}
+use Rattle.scr_plan.specs.Code.Joinings.{Continues, IsBehind, ShowsRow, counted_up, joined_at}
 use Rattle.scr_plan.specs.Code.Painters.{is_that_pen, painter_begins, painter_look, painter_of, painter_writes, part_places, pen_before, row_differs, row_paints}
 use Rattle.scr_plan.specs.Memories.{MemoryView, is_known}
 use Rattle.scr_plan.specs.Repaints.{IsSizeOf, ShowsOutside, begins_place, brief_place, differing, differs, erased_column, is_none_left, joins_left}
@@ -282,3 +284,92 @@ not_placed false placed e = refl
 pub on_ok : {T E : Type 0} (r : Result T E) (P Q : Type 0) → (P → Q) → OnOk r P → OnOk r Q
 on_ok (Ok a) P Q f h = f h
 on_ok (Err e) P Q f h = h
+
+-- ---- places that differ with one pen, counted
+
+-- the characters of a row from one column up to another are counted
+abbrev pub behind_each : ℕ → ℕ → ℕ → ℕ → Joining → Joining
+behind_each columns row column next old = record old { bytes = counted_up (old.bytes + (next - column)); spot = spot_after columns row (next - 1) }
+
+one_counted : RunLaws → ProfilesHave → (profile : ProfileView) → IsProfile profile → (painter : Painter) (picture : PictureView) → IsPicture picture → (before : Option (List LookView)) (row column : ℕ) → row_differs painter picture before (row, column) ≡ true
+    → (old mid new : Joining) (left : Option PenView) → left ≡ pen_before painter picture before row column
+    → Continues profile old mid (if is_that_pen left (painter_look painter picture (row, column)).pen then [] else painter_begins painter (row, column) (painter_look painter picture (row, column)).pen)
+    → mid.spot ≡ At row column → mid.keeps ≡ false → new.bytes ≡ counted_up (mid.bytes + 1) → new.keeps ≡ mid.keeps → new.spot ≡ spot_after profile.columns row column → new.pen ≡ mid.pen
+    → Continues profile old new (flat_map (row_paints painter picture before) (filter (row_differs painter picture before) (part_places column (column + 1 - column) row)))
+one_counted laws have profile p painter picture k before row column unlike old mid new left is_left begun here counts paid keeps behind pen =
+    let look : LookView = painter_look painter picture (row, column) in
+    painted_goes profile painter picture before row column old new left look unlike is_left refl
+    (goes_on profile old mid new _ _ begun
+    (put_goes laws have profile p look.byte (byte_is picture k row column (grid_row picture.lines row) look.byte refl refl) mid new row column here (λ kept. never mid.keeps kept counts) paid keeps behind pen))
+  where
+    never : {R : Type 0} (b : Bool) → b ≡ true → b ≡ false → R
+    never b kept counts = (cc)
+
+Counts : ProfileView → Painter → PictureView → Option (List LookView) → ℕ → ℕ → ℕ → Joining → Joining → Type 0
+Counts profile painter picture before row column next old mid =
+    Continues profile old (behind_each profile.columns row column next mid) (flat_map (row_paints painter picture before) (filter (row_differs painter picture before) (part_places column (next - column) row)))
+
+each_goes : RunLaws → ProfilesHave → (profile : ProfileView) → IsProfile profile → (painter : Painter) (picture : PictureView) → IsPicture picture → profile.columns ≡ picture.columns → (before : Option (List LookView)) (row column : ℕ) (old mid : Joining) (left : Option PenView)
+    → left ≡ pen_before painter picture before row column → mid.keeps ≡ false → mid.spot ≡ At row column
+    → Continues profile old mid (if is_that_pen left (painter_look painter picture (row, column)).pen then [] else painter_begins painter (row, column) (painter_look painter picture (row, column)).pen)
+    → (n : ℕ) → column + suc n ≤ picture.columns → ((c : ℕ) → column ≤ c → c < column + suc n → row_differs painter picture before (row, c) ≡ true)
+    → ((c : ℕ) → column ≤ c → c < column + suc n → (painter_look painter picture (row, c)).pen ≡ (painter_look painter picture (row, column)).pen)
+    → Counts profile painter picture before row column (column + suc n) old mid
+unfolding Counts
+each_goes laws have profile p painter picture k columns before row column old mid left is_left counts here begun zero wide unlike alike =
+    one_counted laws have profile p painter picture k before row column (unlike column (omega arith) (omega arith)) old mid (behind_each profile.columns row column (column + 1) mid) left is_left begun here counts
+    (omega arith) refl (ap (spot_after profile.columns row) (omega arith)) refl
+each_goes laws have profile p painter picture k columns before row column old mid left is_left counts here begun (suc n) wide unlike alike =
+    let at : ℕ = column + suc n in
+    let now : Joining = behind_each profile.columns row column at mid in
+    let last : at ≡ column + n + 1 = omega arith in
+    let pen : PenView = (painter_look painter picture (row, at)).pen in
+    let before_pen : PenView = (painter_look painter picture (row, column + n)).pen in
+    let same : before_pen ≡ pen = alike (column + n) (omega arith) (omega arith) ∙ sym (alike at (omega arith) (omega arith)) in
+    let was : pen_before painter picture before row at ≡ Some before_pen = ap (pen_before painter picture before row) last ∙ painted painter picture before row (column + n) (unlike (column + n) (omega arith) (omega arith)) in
+    let that : is_that_pen (pen_before painter picture before row at) pen ≡ true = ap (λ left. is_that_pen left pen) was ∙ ap (λ p. pen_eq p pen) same ∙ pen_refl pen in
+    let there : now.spot ≡ At row at =
+    ap (λ b. if b then At row (at - 1 + 1) else Margin row) inside ∙ ap (At row) (omega arith) in
+    let next : at + 1 ≡ column + suc (suc n) = omega arith in
+    subst (λ next. Counts profile painter picture before row column next old mid) next
+    (part_goes profile painter picture before row column at (at + 1) old now (behind_each profile.columns row column (at + 1) mid) (omega arith) (omega arith)
+    (each_goes laws have profile p painter picture k columns before row column old mid left is_left counts here begun n (omega (arith, wide)) (λ c low high. unlike c low (omega (arith, high))) (λ c low high. alike c low (omega (arith, high))))
+    (one_counted laws have profile p painter picture k before row at (unlike at (omega arith) (omega arith)) now now (behind_each profile.columns row column (at + 1) mid) (pen_before painter picture before row at) refl
+    (unless_there profile painter now (pen_before painter picture before row at) (row, at) pen that) there counts (omega arith) refl (ap (spot_after profile.columns row) (omega arith)) refl))
+  where
+    inside : nat_lt (column + suc n - 1 + 1) profile.columns ≡ true
+    inside = grind (arith, nat_tests, wide, columns)
+
+-- places from one column up to another
+pub unlike_goes : RunLaws → ProfilesHave → (profile : ProfileView) → IsProfile profile → (painter : Painter) (picture : PictureView) → IsPicture picture → profile.columns ≡ picture.columns → (before : Option (List LookView)) (row column next : ℕ) → column < next → next ≤ picture.columns
+    → (old mid : Joining) (left : Option PenView) (pen : PenView) → left ≡ pen_before painter picture before row column → pen ≡ (painter_look painter picture (row, column)).pen → old.keeps ≡ false → mid.spot ≡ At row column
+    → Continues profile old mid (if is_that_pen left pen then [] else painter_begins painter (row, column) pen)
+    → ((c : ℕ) → column ≤ c → c < next → row_differs painter picture before (row, c) ≡ true)
+    → ((c : ℕ) → column ≤ c → c < next → (painter_look painter picture (row, c)).pen ≡ (painter_look painter picture (row, column)).pen)
+    → Continues profile old (behind_each profile.columns row column next mid) (flat_map (row_paints painter picture before) (filter (row_differs painter picture before) (part_places column (next - column) row)))
+unfolding Counts
+unlike_goes laws have profile p painter picture k columns before row column next more wide old mid left pen is_left is_pen counts here begun unlike alike stores first start all joining =
+    let n : ℕ = next - column - 1 in
+    let whole : column + suc n ≡ next = omega (arith, more) in
+    let still : mid.keeps ≡ false = (begun stores first start all joining).stored ∙ sym joining.stored ∙ counts in
+    subst (λ next. Counts profile painter picture before row column next old mid) whole
+    (each_goes laws have profile p painter picture k columns before row column old mid left is_left still here
+    (subst (λ pen. Continues profile old mid (if is_that_pen left pen then [] else painter_begins painter (row, column) pen)) is_pen begun) n (omega (arith, whole, wide))
+    (λ c low high. unlike c low (omega (arith, high, whole))) (λ c low high. alike c low (omega (arith, high, whole)))) stores first start all joining
+
+-- the pen of the last of them
+pub left_by : (painter : Painter) (picture : PictureView) (before : Option (List LookView)) (row column next : ℕ) → column < next → (pen : PenView) → pen ≡ (painter_look painter picture (row, column)).pen
+    → ((c : ℕ) → column ≤ c → c < next → row_differs painter picture before (row, c) ≡ true)
+    → ((c : ℕ) → column ≤ c → c < next → (painter_look painter picture (row, c)).pen ≡ (painter_look painter picture (row, column)).pen) → Some pen ≡ pen_before painter picture before row next
+left_by painter picture before row column next more pen is_pen unlike alike =
+    let last : next - 1 + 1 ≡ next = omega (arith, more) in
+    ap (λ pen. Some pen) (is_pen ∙ sym (alike (next - 1) (omega (arith, more)) (omega (arith, more))))
+    ∙ sym (painted painter picture before row (next - 1) (unlike (next - 1) (omega (arith, more)) (omega (arith, more))))
+    ∙ ap (pen_before painter picture before row) last
+
+-- where the cursor is behind them
+pub behind_by : (columns row column next : ℕ) → column < next → next < columns → spot_after columns row (next - 1) ≡ At row next
+behind_by columns row column next more wide = ap (λ b. if b then At row (next - 1 + 1) else Margin row) inside ∙ ap (At row) (omega (arith, more))
+  where
+    inside : nat_lt (next - 1 + 1) columns ≡ true
+    inside = grind (arith, nat_tests, more, wide)

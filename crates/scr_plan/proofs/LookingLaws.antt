@@ -1,5 +1,5 @@
 -- Where the rest of a row is erased.
-use Rattle.std.proofs.Common.{◌≡◌, ℕ, ◌+◌, ◌-◌, ◌<◌, ◌≤◌, ◌==◌, ◌&&◌, ◌||◌, ◌⊎◌, inl, inr, not, leb, nat_lt, nat_le, Bool, true, false, refl, sym, ◌∙◌, ap, subst, arith, get_or, List, ◌∷◌, length, filter, Option, Some, None, zero, suc, if◌then◌else◌}
+use Rattle.std.proofs.Common.{◌≡◌, ℕ, ◌+◌, ◌-◌, ◌<◌, ◌≤◌, ◌==◌, ◌&&◌, ◌||◌, ◌⊎◌, inl, inr, not, leb, ltb, nat_lt, nat_le, Bool, true, false, refl, sym, ◌∙◌, ap, subst, arith, get_or, List, ◌∷◌, length, filter, Option, Some, None, zero, suc, if◌then◌else◌}
 use Rattle.std.specs.Prelude.{find}
 use Rattle.std.specs.List.{list_all, range_with_len}
 use Rattle.std.proofs.lemmas.Bool.Decides.{nat_tests}
@@ -413,3 +413,36 @@ erased_some profile picture memory r before painter who shows from end rest wide
         ∙ sym (ap (λ n. if has profile EraseLine && nat_le (length (bytes_of profile EraseLine)) n then Some e else None) at.count
         ∙ ap (λ b. if b && nat_le (length (bytes_of profile EraseLine)) rest.count then Some e else None) had
         ∙ ap (λ b. if b then Some e else None) worth)
+
+-- ---- places behind one another
+
+-- what holds of places up to one, and of that one
+pub one_place_more : (holds : ℕ → Type 0) (from column : ℕ) → ((c : ℕ) → from ≤ c → c < column → holds c) → holds column → (c : ℕ) → from ≤ c → c < column + 1 → holds c
+one_place_more holds from column some last c low high = by (ltb c column) refl
+  where
+    by : (b : Bool) → ltb c column ≡ b → holds c
+    by true e = let below : c < column = grind (arith, nat_tests) in some c low below
+    by false e = let here : column ≡ c = grind (arith, nat_tests) in subst holds here last
+
+pub first_place : (holds : ℕ → Type 0) (column : ℕ) → holds column → (c : ℕ) → column ≤ c → c < column + 1 → holds c
+first_place holds column first c low high = let here : column ≡ c = omega (arith, low, high) in subst holds here first
+
+-- cells with the same attributes and the same colour pair are seen with one pen
+pub alike_pens : (painter : Painter) (pairs : List (ℕ × ℕ)) (a b : CellView) → a.attrs ≡ b.attrs → a.pair ≡ b.pair → (painter_sees painter pairs a).pen ≡ (painter_sees painter pairs b).pen
+alike_pens painter pairs a b attrs pair = λ i. (painter_sees painter pairs (record a { attrs = attrs i; pair = pair i })).pen
+
+-- what is seen in a place of a row, by the row's cells
+pub look_by : (painter : Painter) (picture : PictureView) (row c : ℕ) (cells : List CellView) → cells ≡ grid_row picture.lines row → painter_sees painter picture.pairs (get_or cells c blank_cell) ≡ painter_look painter picture (row, c)
+look_by painter picture row c cells are = ap (λ line. painter_sees painter picture.pairs (get_or line c blank_cell)) are
+
+pub alike_in : (painter : Painter) (pairs : List (ℕ × ℕ)) (cells : List CellView) (a b : ℕ) (one other : CellView) → one ≡ get_or cells a blank_cell → other ≡ get_or cells b blank_cell → one.attrs ≡ other.attrs → one.pair ≡ other.pair
+    → (painter_sees painter pairs (get_or cells b blank_cell)).pen ≡ (painter_sees painter pairs (get_or cells a blank_cell)).pen
+alike_in painter pairs cells a b one other is_one is_other attrs pair =
+    sym (alike_pens painter pairs (get_or cells a blank_cell) (get_or cells b blank_cell) (ap (λ cell. cell.attrs) (sym is_one) ∙ attrs ∙ ap (λ cell. cell.attrs) is_other) (ap (λ cell. cell.pair) (sym is_one) ∙ pair ∙ ap (λ cell. cell.pair) is_other))
+
+pub alike_looks : (painter : Painter) (picture : PictureView) (row : ℕ) (cells : List CellView) → cells ≡ grid_row picture.lines row → (a b : ℕ) (one other : CellView) → one ≡ get_or cells a blank_cell → other ≡ get_or cells b blank_cell
+    → one.attrs ≡ other.attrs → one.pair ≡ other.pair → (painter_look painter picture (row, b)).pen ≡ (painter_look painter picture (row, a)).pen
+alike_looks painter picture row cells are a b one other is_one is_other attrs pair =
+    ap (λ look. look.pen) (sym (look_by painter picture row b cells are))
+    ∙ alike_in painter picture.pairs cells a b one other is_one is_other attrs pair
+    ∙ ap (λ look. look.pen) (look_by painter picture row a cells are)

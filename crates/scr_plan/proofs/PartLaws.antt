@@ -118,7 +118,7 @@ pub and_both : (a b : Bool) → a ≡ true → b ≡ true → (a && b) ≡ true
 and_both true b e f = f
 and_both false b e f = e
 
-pen_refl : (a : PenView) → pen_eq a a ≡ true
+pub pen_refl : (a : PenView) → pen_eq a a ≡ true
 pen_refl a =
     let attrs : (a.attrs == a.attrs) ≡ true = grind (arith, nat_tests) in
     and_both (a.attrs == a.attrs) _ attrs (and_both (option_eq ◌==◌ a.foreground a.foreground) _ (option_refl a.foreground) (option_refl a.background))

@@ -8,17 +8,18 @@ ghost use Rattle.scr_cells.specs.LookViews.{blank};
 ghost use Rattle.scr_term.specs.declared.operations.operation.Op.TheVariants.{EraseLine};
 ghost use Rattle.scr_term.specs.declared.operations.operation.Spot.TheVariants.{At};
 ghost use Rattle.scr_term.specs.Operations.Texts.{has};
-ghost use Rattle.scr_plan.specs.Code.Joinings.{Continues, IsBehind, ShowsRow, joined_at};
+ghost use Rattle.scr_term.specs.Operations.States.{spot_after};
+ghost use Rattle.scr_plan.specs.Code.Joinings.{Continues, IsBehind, ShowsRow, counted_up, joined_at};
 ghost use Rattle.scr_plan.specs.Code.Painters.{is_that_pen, painter_begins, painter_look, painter_of, painter_writes, part_places, pen_before, row_differs, row_paints};
 ghost use Rattle.scr_plan.specs.Memories.{MemoryView};
 ghost use Rattle.scr_plan.specs.Repaints.{differs, look_eq};
 ghost use Rattle.scr_plan.specs.Scratch.{Fits, row_places};
 
-use crate::joining::Joining;
+use crate::joining::{Joining, behind};
 use crate::looking::{is_shown_in, is_that_pen};
 use crate::painting::Painter;
 use scr_cells::{Cell, Look, NoMemory, Pen, Picture};
-use scr_term::Profile;
+use scr_term::{Profile, profiles_have, run_laws};
 
 impl Joining {
     // Adds what paints the places of a row that differ from what the row shows, these looks or blanks. None differs but from one column
@@ -133,8 +134,67 @@ impl Joining {
             let next = painter.unlike_from(picture, row, cells, before, column + 1, end);
             return Ok((next, None));
         }
-        self.write(painter, profile, picture, row, column, left, byte, pen)?;
-        Ok((column + 1, Some(pen)))
+        if self.keeps {
+            self.write(painter, profile, picture, row, column, left, byte, pen)?;
+            return Ok((column + 1, Some(pen)));
+        }
+        let next = self.count_unlike(
+            painter, profile, picture, row, cells, before, column, end, left, pen,
+        )?;
+        Ok((next, Some(pen)))
+    }
+
+    // Counts what paints a place that differs and those behind it that do so with the same pen, and answers where to go on.
+    fn count_unlike(
+        &mut self,
+        painter: Painter,
+        profile: &Profile,
+        picture: &Picture,
+        row: u32,
+        cells: &[Cell],
+        before: Option<&[Look]>,
+        column: u32,
+        end: u32,
+        left: Option<Pen>,
+        pen: Pen,
+    ) -> Result<u32, NoMemory>
+        requires painter { painter ≡ painter_of profile.now }
+        requires fits { Fits profile.now picture.now }
+        requires counts { self.old.keeps ≡ false }
+        requires row { row < picture.now.rows }
+        requires cells { cells.now ≡ grid_row picture.now.lines row }
+        requires wide { length cells.now ≡ picture.now.columns }
+        requires width { IfSome before (λ looks. length looks.now ≡ picture.now.columns) }
+        requires column { column < end }
+        requires end { end ≤ picture.now.columns }
+        requires unlike { row_differs painter picture.now (option_map (λ looks. looks.now) before) (row, column) ≡ true }
+        requires pen { pen ≡ (painter_look painter picture.now (row, column)).pen }
+        requires left { left ≡ pen_before painter picture.now (option_map (λ looks. looks.now) before) row column }
+        requires behind { IsBehind picture.now.columns self.old row column left }
+        ensures more { IfOk result (λ next. column < next) }
+        ensures end { IfOk result (λ next. next ≤ end) }
+        ensures left { IfOk result (λ next. Some pen ≡ pen_before painter picture.now (option_map (λ looks. looks.now) before.entry) row next) }
+        ensures behind { IfOk result (λ next. IsBehind picture.now.columns self.new row next (Some pen)) }
+        ensures all { IfOk result (λ next. Continues profile.now self.old self.new (flat_map (row_paints painter picture.now (option_map (λ looks. looks.now) before.entry)) (filter (row_differs painter picture.now (option_map (λ looks. looks.now) before.entry)) (part_places column (next - column) row)))) }
+    {
+        run_laws();
+        profiles_have();
+        let size = profile.size();
+        let _picture = picture.size();
+        let next = painter.unlike_end(picture, row, cells, before, column, end);
+        self.begin_unless(painter, profile, picture, row, column, left, pen)?;
+        self.count_each(row, column, next, size.columns);
+        Ok(next)
+    }
+
+    // Counts the characters of a row from the cursor's column up to another one.
+    fn count_each(&mut self, row: u32, column: u32, end: u32, columns: u32)
+        requires column { column < end }
+        requires end { end ≤ 500 }
+        ensures { self.new ≡ record self.old { bytes = counted_up (self.old.bytes + (end - column)); spot = spot_after columns row (end - 1) } }
+    {
+        self.bytes = self.bytes.saturating_add((end - column) as usize);
+        self.spot = behind(row, end - 1, columns);
     }
 
     // Adds a character in a place, and what leads there with its pen, unless the place before it was painted with that pen.

@@ -23,7 +23,7 @@ impl Painter {
         ensures byte { result.0 ≡ (painter_sees self picture.now.pairs (slice_index_or cells.now column blank_cell)).byte }
         ensures pen { result.1 ≡ (painter_sees self picture.now.pairs (slice_index_or cells.now column blank_cell)).pen }
     {
-        let cell = cells[column as usize];
+        let cell = cell_in(cells, column);
         (cell.byte(), self.pen_of(picture, cell))
     }
 
@@ -163,6 +163,57 @@ impl Painter {
         end
     }
 
+    // The first column behind one in which the row shows what is seen of its cell, or whose cell has other attributes or another colour
+    // pair; the end, where there is none before it.
+    pub(crate) fn unlike_end(
+        self,
+        picture: &Picture,
+        row: u32,
+        cells: &[Cell],
+        before: Option<&[Look]>,
+        column: u32,
+        end: u32,
+    ) -> u32
+        requires cells { cells.now ≡ grid_row picture.now.lines row }
+        requires wide { length cells.now ≡ picture.now.columns }
+        requires width { IfSome before (λ looks. length looks.now ≡ picture.now.columns) }
+        requires column { column < end }
+        requires end { end ≤ picture.now.columns }
+        ensures more { column < result }
+        ensures end { result ≤ end }
+        ensures unlike { row_differs self picture.now (option_map (λ looks. looks.now) before.entry) (row, column) ≡ true → (c : ℕ) → column ≤ c → c < result → row_differs self picture.now (option_map (λ looks. looks.now) before.entry) (row, c) ≡ true }
+        ensures alike { (c : ℕ) → column ≤ c → c < result → (painter_look self picture.now (row, c)).pen ≡ (painter_look self picture.now (row, column)).pen }
+    {
+        let first = cell_in(cells, column);
+        let pen = self.pen_of(picture, first);
+        for next in column + 1..end {
+            let cell = cell_in(cells, next);
+            if !are_alike(first, cell) || is_shown_in(before, next, cell.byte(), pen) {
+                return next;
+            }
+        }
+        end
+    }
+
+    // The first column behind one whose cell has other attributes or another colour pair; the end, where there is none before it.
+    pub(crate) fn alike_end(self, picture: &Picture, cells: &[Cell], column: u32, end: u32) -> u32
+        requires column { column < end }
+        requires wide { end ≤ length cells.now }
+        ensures more { column < result }
+        ensures end { result ≤ end }
+        ensures alike { (c : ℕ) → column ≤ c → c < result
+            → (painter_sees self picture.now.pairs (slice_index_or cells.now c blank_cell)).pen ≡ (painter_sees self picture.now.pairs (slice_index_or cells.now column blank_cell)).pen }
+    {
+        let _size = picture.size();
+        let first = cell_in(cells, column);
+        for next in column + 1..end {
+            if !are_alike(first, cell_in(cells, next)) {
+                return next;
+            }
+        }
+        end
+    }
+
     // A count of places from one column on that show what is seen of their cells, found eight at a time.
     fn shown_by_eight(self, cells: &[Cell], before: Option<&[Look]>, from: u32, end: u32) -> u32
         requires width { IfSome before (λ looks. length looks.now ≡ length cells.now) }
@@ -218,6 +269,24 @@ impl Rest {
             count: self.count + 1,
         }
     }
+}
+
+// The cell of a row in a column.
+#[inline(always)]
+pub(crate) fn cell_in(cells: &[Cell], column: u32) -> Cell
+    requires { column < length cells.now }
+    ensures { result ≡ slice_index_or cells.now column blank_cell }
+{
+    cells[column as usize]
+}
+
+// Whether two cells have the same attributes and the same colour pair.
+#[inline(always)]
+fn are_alike(a: Cell, b: Cell) -> bool
+    ensures attrs { result ≡ true → a.attrs ≡ b.attrs }
+    ensures pair { result ≡ true → a.pair ≡ b.pair }
+{
+    a.attrs().0 == b.attrs().0 && a.pair() == b.pair()
 }
 
 // Whether a blank is seen.

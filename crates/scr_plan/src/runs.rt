@@ -161,7 +161,7 @@ impl Painter {
         if start >= end {
             return Ok(end);
         }
-        let behind = self.stretch_end(profile, picture, cells, before, start, end);
+        let behind = self.stretch_end(profile, picture, row, cells, before, start, end);
         self.add_stretch(profile, picture, row, cells, start, behind, runs)?;
         Ok(behind)
     }
@@ -172,30 +172,60 @@ impl Painter {
         self,
         profile: &Profile,
         picture: &Picture,
+        row: u32,
         cells: &[Cell],
         before: Option<&[Look]>,
         start: u32,
         end: u32,
     ) -> u32
-        requires wide { end ≤ length cells.now }
-        requires width { IfSome before (λ looks. length looks.now ≡ length cells.now) }
+        requires cells { cells.now ≡ grid_row picture.now.lines row }
+        requires wide { length cells.now ≡ picture.now.columns }
+        requires width { IfSome before (λ looks. length looks.now ≡ picture.now.columns) }
         requires start { start < end }
+        requires end { end ≤ picture.now.columns }
         ensures more { start < result }
         ensures end { result ≤ end }
     {
         let jump = profile.prices().easy_motion();
         let (_, pen) = self.seen_in(picture, cells, start);
-        let mut behind = start + 1;
-        for column in start + 1..end {
-            let (byte, with) = self.seen_in(picture, cells, column);
-            if with != pen || column - behind > jump {
+        let mut behind = self.unlike_end(picture, row, cells, before, start, end);
+        while behind < end {
+            let limit = end.min(behind.saturating_add(jump).saturating_add(1));
+            let next = self.next_unlike(picture, cells, before, behind, limit, pen);
+            if next >= limit {
                 return behind;
             }
-            if !is_shown_in(before, column, byte, with) {
-                behind = column + 1;
-            }
+            behind = self.unlike_end(picture, row, cells, before, next, end);
         }
         behind
+    }
+
+    // The first column from one on that differs, if all before it are seen with a pen and it is too; else the end.
+    fn next_unlike(
+        self,
+        picture: &Picture,
+        cells: &[Cell],
+        before: Option<&[Look]>,
+        from: u32,
+        end: u32,
+        pen: Pen,
+    ) -> u32
+        requires wide { end ≤ length cells.now }
+        requires width { IfSome before (λ looks. length looks.now ≡ length cells.now) }
+        requires from { from ≤ end }
+        ensures from { from ≤ result }
+        ensures end { result ≤ end }
+    {
+        for column in from..end {
+            let (byte, with) = self.seen_in(picture, cells, column);
+            if with != pen {
+                return end;
+            }
+            if !is_shown_in(before, column, byte, with) {
+                return column;
+            }
+        }
+        end
     }
 
     // Adds the runs of a stretch: one, or several where it has long blanks.
@@ -238,11 +268,11 @@ fn add_pieces(
     ensures has { OnOk result (HasPart row start end runs.new.items) }
 {
     let mut begun = start;
-    let mut column = start;
+    let mut column = first_blank(cells, start, end);
     while column < end {
         let behind = blanks_end(cells, column, end);
         begun = add_piece(profile, row, begun, column, behind, end, runs)?;
-        column = behind.max(column + 1);
+        column = first_blank(cells, behind.max(column + 1), end);
     }
     add_written(runs, row, begun, end)
 }
@@ -306,6 +336,21 @@ fn is_worth_erasing(profile: &Profile, count: u32, goes_on: bool) -> bool {
         0
     };
     count > erasure.saturating_add(motion)
+}
+
+// The first column from one on with a blank; the end, where there is none before it.
+fn first_blank(cells: &[Cell], from: u32, end: u32) -> u32
+    requires wide { end ≤ length cells.now }
+    requires from { from ≤ end }
+    ensures from { from ≤ result }
+    ensures end { result ≤ end }
+{
+    for column in from..end {
+        if cells[column as usize].byte() == b' ' {
+            return column;
+        }
+    }
+    end
 }
 
 // Where the blanks end that begin in a column, if any do.

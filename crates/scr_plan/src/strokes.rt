@@ -1,5 +1,5 @@
 //! The short plan, stroke by stroke: each looks before it acts, so that what was chosen before can make a plan longer, but never false.
-ghost use Rattle.std.specs.Prelude.{◌≡◌, ◌+◌, ◌<◌, ◌≤◌, ◌∷◌, [], OnOk, length};
+ghost use Rattle.std.specs.Prelude.{ℕ, ◌≡◌, ◌+◌, ◌<◌, ◌≤◌, ◌∷◌, [], IfOk, OnOk, length};
 ghost use Rattle.scr_cells.specs.Grids.{grid_row};
 ghost use Rattle.scr_term.specs.declared.operations.operation.Spot.TheVariants.{At};
 ghost use Rattle.scr_plan.specs.Code.Drafts.{Covers, IsAdded, IsPaid, KeepsAll, KeepsEvery, in_part};
@@ -7,6 +7,7 @@ ghost use Rattle.scr_plan.specs.Code.Painters.{painter_begins, painter_look, pai
 ghost use Rattle.scr_plan.specs.Scratch.{Fits};
 
 use crate::joining::{behind, price_of, price_of_one};
+use crate::looking::cell_in;
 use crate::painting::Painter;
 use crate::ways::Cursor;
 use scr_cells::{Cell, Look, NoMemory, Pen, Picture, grid_laws};
@@ -79,17 +80,21 @@ impl Draft {
         requires end { end ≤ picture.now.columns }
         ensures { OnOk result (Covers profile.now picture.now (in_part row from end) self.old self.new) }
     {
+        if from >= end {
+            return Ok(());
+        }
         let _size = picture.size();
         let cells = picture.row(row);
-        for column in from..end {
-            self.paint(painter, profile, picture, row, cells, column)?;
+        let mut column = from;
+        while column < end {
+            column = self.write_alike(painter, profile, picture, row, cells, column, end)?;
         }
         Ok(())
     }
 
-    // Paints a place: its character, behind what leads there with its pen, unless the cursor is there and the pen is on.
-    #[inline(always)]
-    fn paint(
+    // Paints a place and those behind it up to another column whose cells are like its cell, and answers where to go on: their characters,
+    // behind what leads there with their pen, unless the cursor is there and the pen is on.
+    fn write_alike(
         &mut self,
         painter: Painter,
         profile: &Profile,
@@ -97,18 +102,58 @@ impl Draft {
         row: u32,
         cells: &[Cell],
         column: u32,
+        end: u32,
+    ) -> Result<u32, NoMemory>
+        requires painter { painter ≡ painter_of profile.now }
+        requires fits { Fits profile.now picture.now }
+        requires row { row < picture.now.rows }
+        requires cells { cells.now ≡ grid_row picture.now.lines row }
+        requires column { column < end }
+        requires end { end ≤ picture.now.columns }
+        ensures more { IfOk result (λ next. column < next) }
+        ensures end { IfOk result (λ next. next ≤ end) }
+        ensures covers { IfOk result (λ next. Covers profile.now picture.now (in_part row column next) self.old self.new) }
+    {
+        let _size = picture.size();
+        let (_, pen) = painter.seen_in(picture, cells, column);
+        let next = painter.alike_end(picture, cells, column, end);
+        self.begin_unless_there(painter, profile, picture, row, column, pen)?;
+        self.put_each(painter, profile, picture, row, cells, column, next)?;
+        Ok(next)
+    }
+
+    // Adds the characters of a row from the cursor's column up to another one, all of which are seen with the pen that is on.
+    fn put_each(
+        &mut self,
+        painter: Painter,
+        profile: &Profile,
+        picture: &Picture,
+        row: u32,
+        cells: &[Cell],
+        column: u32,
+        end: u32,
     ) -> Result<(), NoMemory>
         requires painter { painter ≡ painter_of profile.now }
         requires fits { Fits profile.now picture.now }
         requires row { row < picture.now.rows }
         requires cells { cells.now ≡ grid_row picture.now.lines row }
-        requires wide { column < picture.now.columns }
-        ensures { OnOk result (Covers profile.now picture.now (in_part row column (column + 1)) self.old self.new) }
+        requires column { column < end }
+        requires end { end ≤ picture.now.columns }
+        requires spot { self.old.spot ≡ At row column }
+        requires pen { (c : ℕ) → column ≤ c → c < end → self.old.pen ≡ (painter_look painter picture.now (row, c)).pen }
+        ensures { OnOk result (Covers profile.now picture.now (in_part row column end) self.old self.new) }
     {
-        let _size = picture.size();
-        let (byte, pen) = painter.seen_in(picture, cells, column);
-        self.begin_unless_there(painter, profile, picture, row, column, pen)?;
-        self.put(painter, profile, picture, row, column, byte)
+        run_laws();
+        profiles_have();
+        grid_laws::<Look>();
+        let size = profile.size();
+        let _picture = picture.size();
+        for place in column..end {
+            self.ops.push(Op::Put(cell_in(cells, place).byte()))?;
+        }
+        self.bytes = self.bytes.saturating_add((end - column) as usize);
+        self.spot = behind(row, end - 1, size.columns);
+        Ok(())
     }
 
     // Adds what leads to a place with the pen that is seen there, unless the cursor is there and the pen is on.
@@ -190,39 +235,6 @@ impl Draft {
         self.bytes = self.bytes.saturating_add(price);
         self.spot = spot;
         self.pen = pen;
-    }
-
-    // Adds a character where the cursor is.
-    #[inline(always)]
-    fn put(
-        &mut self,
-        painter: Painter,
-        profile: &Profile,
-        picture: &Picture,
-        row: u32,
-        column: u32,
-        byte: u8,
-    ) -> Result<(), NoMemory>
-        requires painter { painter ≡ painter_of profile.now }
-        requires fits { Fits profile.now picture.now }
-        requires row { row < picture.now.rows }
-        requires column { column < picture.now.columns }
-        requires spot { self.old.spot ≡ At row column }
-        requires pen { self.old.pen ≡ (painter_look painter picture.now (row, column)).pen }
-        requires byte { byte ≡ (painter_look painter picture.now (row, column)).byte }
-        ensures { OnOk result (Covers profile.now picture.now (in_part row column (column + 1)) self.old self.new) }
-    {
-        run_laws();
-        profiles_have();
-        grid_laws::<Look>();
-        let size = profile.size();
-        let _picture = picture.size();
-        self.add(
-            profile,
-            Op::Put(byte),
-            behind(row, column, size.columns),
-            self.pen,
-        )
     }
 
     // Where the cursor is, and what it writes with.

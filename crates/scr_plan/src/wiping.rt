@@ -32,7 +32,7 @@ pub(crate) fn cheapest_wiping(
     runs: &[Run],
 ) -> Option<Wiping> {
     let differing = rows_with_runs(runs);
-    if differing < 2 || most_spared(chooser, runs) <= least_lost(chooser) {
+    if differing < 2 || !may_gain(chooser, runs) {
         return None;
     }
     let first = run_at(runs, 0).row;
@@ -51,13 +51,47 @@ pub(crate) fn cheapest_wiping(
     walk.best
 }
 
-// What runs cost as they stand, and an easy motion for each: no erasure spares more.
-fn most_spared(chooser: &Chooser<'_>, runs: &[Run]) -> i64 {
+// Whether some erasure may gain more than it has to: whether runs cost enough as they stand, and enough more than on blank rows.
+fn may_gain(chooser: &Chooser<'_>, runs: &[Run]) -> bool {
+    let lost = least_lost(chooser);
+    price_as_they_stand(chooser, runs) > lost && most_spared(chooser, runs) > lost
+}
+
+// What runs cost as they stand, and an easy motion for each.
+fn price_as_they_stand(chooser: &Chooser<'_>, runs: &[Run]) -> i64 {
     let mut sum = 0i64;
     for run in runs {
         sum = sum.saturating_add(i64::from(price_as_it_stands(chooser, run)));
     }
     sum
+}
+
+// What an erasure spares at most: what the runs of each row cost as they stand, less what the row costs at least on a blank row.
+fn most_spared(chooser: &Chooser<'_>, runs: &[Run]) -> i64 {
+    let mut sum = 0i64;
+    let mut spared = 0i64;
+    let mut row = None;
+    for run in runs {
+        if row != Some(run.row) {
+            sum = sum.saturating_add(spared.max(0));
+            spared = -i64::from(least_on_blanks(chooser, chooser.cells(run.row)));
+            row = Some(run.row);
+        }
+        spared = spared.saturating_add(i64::from(price_as_it_stands(chooser, run)));
+    }
+    sum.saturating_add(spared.max(0))
+}
+
+// What the cells of a row cost at least on a blank row: each character, and an easy motion if there is one.
+fn least_on_blanks(chooser: &Chooser<'_>, cells: &[Cell]) -> u32 {
+    let mut characters = 0u32;
+    for cell in cells {
+        characters = characters.wrapping_add(u32::from(cell.byte() != b' '));
+    }
+    if characters == 0 {
+        return 0;
+    }
+    characters.saturating_add(chooser.jump)
 }
 
 // What a run costs as it stands, and an easy motion.

@@ -28,8 +28,8 @@ returns-then-is_shown_in-clause-left c =
 pub write-requires-clause-byte : goal.write-requires-clause-byte
 write-requires-clause-byte c = byte_is c.args.picture.now c.size-size.ensures.picture c.args.row c.args.column c.args.cells.now c.seen_in-byte.result.0 c.requires.cells c.seen_in-byte.ensures.byte
 
-pub returns-clause-left : goal.returns-clause-left
-returns-clause-left c =
+pub returns-then-self-clause-left : goal.returns-then-self-clause-left
+returns-then-self-clause-left c =
     let before = option_map (λ looks. looks.now) c.args.before in
     let unlike : c.is_shown_in.result ≡ false = search rules in
     ap (λ pen. Some pen) (ap (λ look. look.pen) (differs_by c.args.painter c.args.picture.now c.args.row before c.args.column c.args.cells.now c.seen_in-byte.result.0 c.seen_in-byte.result.1 c.requires.cells c.seen_in-byte.ensures.byte c.seen_in-byte.ensures.pen))
@@ -37,8 +37,8 @@ returns-clause-left c =
     (place_shown c.args.painter c.args.picture.now c.args.row before c.args.column c.args.cells.now c.seen_in-byte.result.0 c.seen_in-byte.result.1 c.requires.cells c.seen_in-byte.ensures.byte c.seen_in-byte.ensures.pen
     (sym c.is_shown_in.ensures ∙ unlike)))
 
-pub returns-clause-all : goal.returns-clause-all
-returns-clause-all c =
+pub returns-then-self-clause-all : goal.returns-then-self-clause-all
+returns-then-self-clause-all c =
     let before = option_map (λ looks. looks.now) c.args.before in
     let unlike : c.is_shown_in.result ≡ false = search rules in
     painted_goes c.args.profile.now c.args.painter c.args.picture.now before c.args.row c.args.column c.args.self.now c.write.new.self c.args.left (record { byte = c.seen_in-byte.result.0; pen = c.seen_in-byte.result.1 })
@@ -47,3 +47,15 @@ returns-clause-all c =
     c.requires.left
     (differs_by c.args.painter c.args.picture.now c.args.row before c.args.column c.args.cells.now c.seen_in-byte.result.0 c.seen_in-byte.result.1 c.requires.cells c.seen_in-byte.ensures.byte c.seen_in-byte.ensures.pen)
     c.in_ok-write.ensures.all
+
+pub count_unlike-requires-clause-unlike : goal.count_unlike-requires-clause-unlike
+count_unlike-requires-clause-unlike c =
+    let before = option_map (λ looks. looks.now) c.args.before in
+    let unlike : c.is_shown_in.result ≡ false = search rules in
+    place_shown c.args.painter c.args.picture.now c.args.row before c.args.column c.args.cells.now c.seen_in-byte.result.0 c.seen_in-byte.result.1 c.requires.cells c.seen_in-byte.ensures.byte c.seen_in-byte.ensures.pen
+    (sym c.is_shown_in.ensures ∙ unlike)
+
+pub count_unlike-requires-clause-pen : goal.count_unlike-requires-clause-pen
+count_unlike-requires-clause-pen c =
+    let before = option_map (λ looks. looks.now) c.args.before in
+    ap (λ look. look.pen) (differs_by c.args.painter c.args.picture.now c.args.row before c.args.column c.args.cells.now c.seen_in-byte.result.0 c.seen_in-byte.result.1 c.requires.cells c.seen_in-byte.ensures.byte c.seen_in-byte.ensures.pen)
