@@ -2,9 +2,10 @@
 # Counts the processor instructions of an update (doupdate), and of taking a window (noutrefresh) with it, beside ncurses' doupdate and
 # wnoutrefresh, and the bytes that each sends.
 # Windows over the whole screen are taken in turn: with nothing touched, with one character written, and with one line, a third of the
-# lines or all of them touched where the windows differ in every place. Both sides make the same calls, have the same entry (the bundled
-# one, compiled by tic), write into memory, and show the screen already when counting begins. What comes before is counted by itself and
-# taken away: the drawing, and for doupdate alone the taking too.
+# lines or all of them touched where the windows differ in every place. Then the windows are pages of text: a character is typed in the
+# middle and a status line counts it, forty places all over the screen change in three pens, and one page is shown for the other.
+# Both sides make the same calls, have the same entry (the bundled one, compiled by tic), write into memory, and show the screen already
+# when counting begins. What comes before is counted by itself and taken away: the drawing, and for doupdate alone the taking too.
 # It needs valgrind, a C compiler, libncurses-dev, ncurses' tic, and the program crates/bench_screen, which `rt run` builds.
 # Usage: benchmarks/update/run.sh PROGRAM ["ROWS COLUMNS" ..], from the top of the repository.
 set -e
@@ -50,7 +51,7 @@ stages() {
     echo "$((${whole% *} - ${drawing% *})) $((${whole% *} - ${taking% *})) ${whole#* }"
 }
 
-# row WORDS CHANGE ROWS COLUMNS LINES: a line of the table.
+# row WORDS CHANGE ROWS COLUMNS NUMBER: a line of the table.
 row() {
     words=$1
     shift
@@ -69,4 +70,7 @@ for size in "$@"; do
     row "one line" lines "$1" "$2" 1
     row "a third" lines "$1" "$2" $(($1 / 3))
     row "everything" lines "$1" "$2" "$1"
+    row "a status line" status "$1" "$2" 0
+    row "forty places" scattered "$1" "$2" 40
+    row "a page" page "$1" "$2" "$1"
 done

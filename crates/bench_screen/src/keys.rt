@@ -16,8 +16,8 @@ fn key_text(number: u32) -> [u8; 6] {
     [27, b'[', hundreds, digit(number / 10), digit(number), b'~']
 }
 
-// The last digit of a number.
-fn digit(number: u32) -> u8 {
+/// The last digit of a number.
+pub fn digit(number: u32) -> u8 {
     b'0' + (number % 10) as u8
 }
 

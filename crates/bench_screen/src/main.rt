@@ -3,7 +3,9 @@
 //! work is done. Without words a small case of each is done.
 #![tactic(auto)]
 
+mod changes;
 mod keys;
+mod pages;
 mod refreshing;
 mod screens;
 mod terminals;
@@ -11,6 +13,7 @@ mod updating;
 mod windows;
 
 use anyhow::{Context, Result, bail};
+use changes::Change;
 use curses::Screen;
 use screens::opened;
 use std::alloc::Global;
@@ -53,7 +56,10 @@ fn measured_on(
     let [first, second, lines, count] = numbers;
     match benchmark {
         "refresh" => refreshing::measure(alloc, screen, action, lines, count),
-        "update" => updating::measure(alloc, screen, action, name, lines, count),
+        "update" => {
+            let change = Change::named(name, lines)?;
+            updating::measure(alloc, screen, action, change, count)
+        }
         "keys" => keys::measure(alloc, screen, action, first, second),
         _ => bail!("no such benchmark"),
     }

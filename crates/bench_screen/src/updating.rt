@@ -1,28 +1,19 @@
-//! Draws, takes and updates: `update draw|take|update character|lines ROWS COLUMNS LINES COUNT` writes another character in the middle of
-//! a window over the whole screen, or touches so many lines of two such windows in turn that differ everywhere; `take` takes the window
-//! onto the virtual screen each time, and `update` then brings the terminal to it. The number is that of the bytes that were sent.
+//! Draws, takes and updates: `update draw|take|update CHANGE ROWS COLUMNS NUMBER COUNT` draws a change of a screen again and again, which the
+//! file of changes says; `take` takes its window onto the virtual screen each time, and `update` then brings the terminal to it. The
+//! changes are `character`, `lines` of so many lines, `status`, `scattered` of so many places, and `page` of so many lines. The number is
+//! that of the bytes that were sent.
 
-use crate::screens::{FIRST, fill};
+use crate::changes::Change;
+use crate::screens::FIRST;
 use anyhow::{Result, bail};
 use curses::{Device, Screen};
-use scr_cells::Attrs;
 use scr_windows::Win;
 use std::alloc::Global;
 
-// Fills a window with a plain character, takes it, and updates.
-fn show(alloc: Global, screen: &mut Screen, win: Win, byte: u8) -> Result<()> {
-    fill(screen, win, byte)?;
+// Takes a window, and updates.
+fn show(alloc: Global, screen: &mut Screen, win: Win) -> Result<()> {
     screen.noutrefresh(win)?;
     update(alloc, screen, &mut Device::new(Vec::new(alloc)))?;
-    Ok(())
-}
-
-// Writes one of two characters in the middle of the first window.
-fn draw_character(screen: &mut Screen, done: u32) -> Result<()> {
-    let (rows, columns) = screen.size(FIRST)?;
-    screen.move_cursor(FIRST, rows / 2, columns / 2)?;
-    let byte = if done % 2 == 0 { b'z' } else { b'x' };
-    screen.add_byte(FIRST, byte, Attrs(0))?;
     Ok(())
 }
 
@@ -38,8 +29,7 @@ fn update(alloc: Global, screen: &mut Screen, device: &mut Device<Vec<u8>>) -> R
 // What is done each time.
 #[derive(Clone, Copy)]
 struct Work {
-    is_character: bool,
-    lines: u32,
+    change: Change,
     takes: bool,
     updates: bool,
 }
@@ -53,13 +43,7 @@ fn do_once(
     done: u32,
     device: &mut Device<Vec<u8>>,
 ) -> Result<u64> {
-    let mut win = FIRST;
-    if each.is_character {
-        draw_character(screen, done)?;
-    } else {
-        win = windows[done as usize % 2];
-        screen.touch_lines(win, 0, each.lines, true)?;
-    }
+    let win = each.change.draw(screen, windows, done)?;
     if each.takes {
         screen.noutrefresh(win)?;
     }
@@ -69,15 +53,24 @@ fn do_once(
     Ok(0)
 }
 
+// Shows the second window and then the first.
+fn begin(alloc: Global, screen: &mut Screen, change: Change) -> Result<[Win; 2]> {
+    let second = screen.new_window(alloc, 0, 0, 0, 0)?;
+    let windows = [second, FIRST];
+    for win in windows {
+        change.prepare(alloc, screen, win)?;
+        show(alloc, screen, win)?;
+    }
+    Ok(windows)
+}
+
 // Does the work so often, and adds up the bytes.
 fn repeat(alloc: Global, screen: &mut Screen, each: Work, count: u32) -> Result<u64> {
-    let second = screen.new_window(alloc, 0, 0, 0, 0)?;
-    show(alloc, screen, second, b'y')?;
-    show(alloc, screen, FIRST, b'x')?;
+    let windows = begin(alloc, screen, each.change)?;
     let mut device = Device::new(Vec::new(alloc));
     let mut bytes = 0u64;
     for done in 0..count {
-        let sent = do_once(alloc, screen, [second, FIRST], each, done, &mut device)?;
+        let sent = do_once(alloc, screen, windows, each, done, &mut device)?;
         bytes = bytes.wrapping_add(sent);
     }
     Ok(bytes)
@@ -88,13 +81,11 @@ pub fn measure(
     alloc: Global,
     screen: &mut Screen,
     stage: &str,
-    change: &str,
-    lines: u32,
+    change: Change,
     count: u32,
 ) -> Result<u64> {
     let each = Work {
-        is_character: change == "character",
-        lines,
+        change,
         takes: stage != "draw",
         updates: stage == "update",
     };
