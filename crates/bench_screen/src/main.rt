@@ -69,6 +69,9 @@ fn measured_on(
 fn measure_each(rt: &HostRuntime) -> Result<()> {
     print(rt, ["refresh", "update", ""], [3, 80, 0, 2])?;
     print(rt, ["update", "update", "lines"], [3, 80, 1, 3])?;
+    print(rt, ["update", "update", "status"], [3, 44, 0, 2])?;
+    print(rt, ["update", "update", "scattered"], [2, 24, 4, 2])?;
+    print(rt, ["update", "update", "page"], [2, 24, 2, 2])?;
     print(rt, ["keys", "keys", ""], [120, 2, 0, 0])?;
     print(rt, ["windows", "feed", ""], [3, 80, 5, 0])?;
     print(rt, ["terminals", "admit", "bundled"], [3, 0, 0, 0])
