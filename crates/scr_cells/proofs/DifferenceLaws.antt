@@ -13,7 +13,7 @@ less_or_not : (a b : ℕ) → (a < b) ⊎ (b ≤ a)
 less_or_not a b = grind arith
 
 -- what holds of each of eight places
-eight_places : (P : ℕ → Type 0) → P 0 → P 1 → P 2 → P 3 → P 4 → P 5 → P 6 → P 7 → (k : ℕ) → k < 8 → P k
+pub eight_places : (P : ℕ → Type 0) → P 0 → P 1 → P 2 → P 3 → P 4 → P 5 → P 6 → P 7 → (k : ℕ) → k < 8 → P k
 eight_places P a b c d e f g h zero l = a
 eight_places P a b c d e f g h (suc zero) l = b
 eight_places P a b c d e f g h (suc (suc zero)) l = c

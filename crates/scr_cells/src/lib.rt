@@ -26,5 +26,5 @@ pub use looks::Look;
 pub use out_of_memory::NoMemory;
 pub use pens::Pen;
 pub use pictures::Picture;
-pub use showing::shown_before;
+pub use showing::{alike_before, shown_before, unshown_before};
 pub use sizes::Size;

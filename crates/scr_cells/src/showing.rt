@@ -1,9 +1,11 @@
-//! Which places of a row surely show what is seen of their cells, eight at a time: a filter in front of a comparison place by place.
-ghost use Rattle.std.specs.Prelude.{ℕ, ◌≡◌, ◌+◌, ◌<◌, ◌≤◌, length, slice_index_or, true};
-ghost use Rattle.scr_cells.specs.Showing.{IsSeenAt};
-ghost use Rattle.scr_cells.specs.Code.Numbers.{IsLimit, IsNumberAt};
+//! Which places of a row surely show what is seen of their cells, or surely do not, eight at a time: a filter in front of a comparison
+//! place by place.
+ghost use Rattle.std.specs.Prelude.{ℕ, ◌≡◌, ◌≢◌, ◌+◌, ◌%◌, ◌<◌, ◌≤◌, IfSome, length, slice_index_or, true};
+ghost use Rattle.scr_cells.specs.CellViews.{blank_cell};
+ghost use Rattle.scr_cells.specs.Showing.{HasRendition, IsSeenAt, IsUnseenAt};
+ghost use Rattle.scr_cells.specs.Code.Numbers.{HasBase, IsLimit, IsNumberAt, IsUnlikeAt, cell_of};
 
-use crate::differences::eight;
+use crate::differences::{Packed, eight};
 use crate::{Attrs, Cell, Look};
 use std::simd::prelude::*;
 
@@ -26,7 +28,8 @@ pub fn shown_before(looks: &[Look], cells: &[Cell], shown: Attrs) -> usize
 
 // A number below which a cell has no pair, and only attributes that are shown.
 fn limit_of(shown: Attrs) -> u32
-    ensures { IsLimit shown.0 result }
+    ensures limit { IsLimit shown.0 result }
+    ensures whole { result % 256 ≡ 0 }
 {
     if shown.0 == 127 { 32768 } else { 256 }
 }
@@ -47,4 +50,98 @@ fn are_below(numbers: u32x8, limit: u32) -> bool
     ensures { result ≡ true → (k : ℕ) → k < 8 → slice_index_or numbers k 0 < limit }
 {
     numbers.simd_ge(u32x8::splat(limit)).to_bitmask() == 0
+}
+
+/// A count of places from the left none of which shows what is seen of its cell on a terminal that shows these attributes, whatever
+/// the colours of its pairs are, and whose cells have the attributes of the first cell and no pair; they are looked at eight at a
+/// time. It is 0 where the first cell has a pair, or an attribute where not every attribute is shown. A caller goes on from there place
+/// by place. The rows have one length.
+pub fn unshown_before(looks: &[Look], cells: &[Cell], shown: Attrs) -> usize
+    requires { length looks.now ≡ length cells.now }
+    ensures inside { result ≤ length looks.now }
+    ensures unseen { (i : ℕ) → i < result → IsUnseenAt shown.0 looks.now cells.now i }
+    ensures alike { (i : ℕ) → i < result → HasRendition (slice_index_or cells.now 0 blank_cell) cells.now i }
+{
+    let Some(base) = base_of(cells, shown) else {
+        return 0;
+    };
+    let mut at = 0;
+    while looks.len() - at >= 8 && are_unshown(looks, cells, at, base) {
+        at += 8;
+    }
+    at
+}
+
+/// A count of places from the left whose cells have the attributes and the pair of the first cell; they are looked at eight at a time. A
+/// caller goes on from there place by place.
+pub fn alike_before(cells: &[Cell]) -> usize
+    ensures inside { result ≤ length cells.now }
+    ensures alike { (i : ℕ) → i < result → HasRendition (slice_index_or cells.now 0 blank_cell) cells.now i }
+{
+    let Some(first) = first_number(cells) else {
+        return 0;
+    };
+    let base = first / 256 * 256;
+    let mut at = 0;
+    while cells.len() - at >= 8 && are_between(eight(cells, at), base) {
+        at += 8;
+    }
+    at
+}
+
+// The least number of a cell with the attributes and the pair of the first one, if each such cell has the number of its look.
+fn base_of(cells: &[Cell], shown: Attrs) -> Option<u32>
+    ensures { IfSome result (HasBase shown.0 cells.now) }
+{
+    let base = first_number(cells)? / 256 * 256;
+    if base >= limit_of(shown) {
+        return None;
+    }
+    Some(base)
+}
+
+// The number of the first cell, if there is one.
+fn first_number(cells: &[Cell]) -> Option<u32>
+    ensures { IfSome result (λ n. slice_index_or cells.now 0 blank_cell ≡ cell_of n) }
+{
+    if cells.len() < 1 {
+        return None;
+    }
+    Some(cells[0].packed())
+}
+
+// Whether eight looks have other numbers than their cells, and these are between a base and the next.
+fn are_unshown(looks: &[Look], cells: &[Cell], at: usize, base: u32) -> bool
+    requires looks { at + 8 ≤ length looks.now }
+    requires cells { at + 8 ≤ length cells.now }
+    ensures { result ≡ true → (i : ℕ) → at ≤ i → i < at + 8 → IsUnlikeAt base looks.now cells.now i }
+{
+    let numbers = eight(cells, at);
+    are_other(eight(looks, at), numbers) && are_between(numbers, base)
+}
+
+// Whether of eight numbers none is the one in the same place of eight others.
+fn are_other(a: u32x8, b: u32x8) -> bool
+    requires a { length a ≡ 8 }
+    requires b { length b ≡ 8 }
+    ensures { result ≡ true → (k : ℕ) → k < 8 → slice_index_or a k 0 ≢ slice_index_or b k 0 }
+{
+    a.simd_eq(b).to_bitmask() == 0
+}
+
+// Whether eight numbers are from a base on, and below the next.
+fn are_between(numbers: u32x8, base: u32) -> bool
+    requires { length numbers ≡ 8 }
+    ensures from { result ≡ true → (k : ℕ) → k < 8 → base ≤ slice_index_or numbers k 0 }
+    ensures below { result ≡ true → (k : ℕ) → k < 8 → slice_index_or numbers k 0 < base + 256 }
+{
+    are_from(numbers, base) && are_below(numbers, base.saturating_add(256))
+}
+
+// Whether eight numbers are from a base on.
+fn are_from(numbers: u32x8, base: u32) -> bool
+    requires { length numbers ≡ 8 }
+    ensures { result ≡ true → (k : ℕ) → k < 8 → base ≤ slice_index_or numbers k 0 }
+{
+    numbers.simd_lt(u32x8::splat(base)).to_bitmask() == 0
 }

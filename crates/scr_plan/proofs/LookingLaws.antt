@@ -1,5 +1,5 @@
 -- Where the rest of a row is erased.
-use Rattle.std.proofs.Common.{◌≡◌, ℕ, ◌+◌, ◌-◌, ◌<◌, ◌≤◌, ◌==◌, ◌&&◌, ◌||◌, ◌⊎◌, inl, inr, not, leb, ltb, nat_lt, nat_le, Bool, true, false, refl, sym, ◌∙◌, ap, subst, arith, get_or, List, ◌∷◌, length, filter, Option, Some, None, zero, suc, if◌then◌else◌}
+use Rattle.std.proofs.Common.{◌≡◌, ◌≢◌, ℕ, ◌+◌, ◌-◌, ◌<◌, ◌≤◌, ◌==◌, ◌&&◌, ◌||◌, ◌⊎◌, inl, inr, not, leb, ltb, nat_lt, nat_le, Bool, true, false, refl, sym, ◌∙◌, ap, subst, arith, get_or, List, ◌∷◌, length, filter, Option, Some, None, zero, suc, if◌then◌else◌}
 use Rattle.std.specs.Prelude.{find}
 use Rattle.std.specs.List.{list_all, range_with_len}
 use Rattle.std.proofs.lemmas.Bool.Decides.{nat_tests}
@@ -8,6 +8,7 @@ use Rattle.scr_cells.specs.Grids.{grid_row}
 use Rattle.scr_cells.specs.LookViews.{LookView, blank}
 use Rattle.scr_cells.specs.PenViews.{PenView}
 use Rattle.scr_cells.specs.PictureViews.{PictureView}
+use Rattle.scr_cells.specs.Showing.{HasRendition}
 use Rattle.scr_term.specs.declared.operations.operation.Op.TheVariants.{EraseLine}
 use Rattle.scr_term.specs.Operations.Profiles.{ProfileView}
 use Rattle.scr_term.specs.Operations.Texts.{bytes_of, has}
@@ -446,3 +447,27 @@ alike_looks painter picture row cells are a b one other is_one is_other attrs pa
     ap (λ look. look.pen) (sym (look_by painter picture row b cells are))
     ∙ alike_in painter picture.pairs cells a b one other is_one is_other attrs pair
     ∙ ap (λ look. look.pen) (look_by painter picture row a cells are)
+
+-- the first place, and so many places from it on
+pub first_places : (holds : ℕ → Type 0) (column count more : ℕ) → ((c : ℕ) → column ≤ c → column + count ≤ c → c < column + more → column ≡ c) → holds column → ((c : ℕ) → column ≤ c → c < column + count → holds c)
+    → (c : ℕ) → column ≤ c → c < column + more → holds c
+first_places holds column count more else_first first some c low high = by (ltb c (column + count)) refl
+  where
+    by : (b : Bool) → ltb c (column + count) ≡ b → holds c
+    by true e = let below : c < column + count = grind (arith, nat_tests) in some c low below
+    by false e = let above : column + count ≤ c = grind (arith, nat_tests) in subst holds (else_first c low above high) first
+
+-- cells with one rendition are seen with one pen
+pub rendition_looks : (painter : Painter) (picture : PictureView) (row : ℕ) (cells : List CellView) → cells ≡ grid_row picture.lines row → (a b : ℕ) → HasRendition (get_or cells a blank_cell) cells b
+    → (painter_look painter picture (row, b)).pen ≡ (painter_look painter picture (row, a)).pen
+rendition_looks painter picture row cells are a b has =
+    alike_looks painter picture row cells are a b (get_or cells a blank_cell) (get_or cells b blank_cell) refl refl (sym has.attrs) (sym has.pair)
+
+-- a place that does not show what is seen of its cell differs
+pub unlike_differs : (painter : Painter) (picture : PictureView) (row : ℕ) (before : Option (List LookView)) (c : ℕ) (cells : List CellView) → cells ≡ grid_row picture.lines row
+    → shown_in before c ≢ painter_sees painter picture.pairs (get_or cells c blank_cell) → row_differs painter picture before (row, c) ≡ true
+unlike_differs painter picture row before c cells are unlike = by (look_eq (shown_in before c) (painter_look painter picture (row, c))) refl
+  where
+    by : (b : Bool) → look_eq (shown_in before c) (painter_look painter picture (row, c)) ≡ b → not b ≡ true
+    by true e = absurd (unlike (look_same (shown_in before c) (painter_look painter picture (row, c)) e ∙ sym (look_by painter picture row c cells are)))
+    by false e = refl

@@ -1,9 +1,9 @@
 -- Places that surely show what is seen of their cells.
-use Rattle.std.proofs.Common.{◌≡◌, ℕ, ◌+◌, ◌-◌, ◌<◌, ◌≤◌, sym, ◌∙◌, ap, arith, List, get_or, take, drop}
+use Rattle.std.proofs.Common.{◌≡◌, ◌≢◌, ℕ, ◌+◌, ◌-◌, ◌<◌, ◌≤◌, sym, ◌∙◌, ap, arith, List, get_or, take, drop}
 use Rattle.std.proofs.lemmas.List.{get_or-drop, get_or-take}
 use Rattle.scr_cells.specs.CellViews.{CellView, blank_cell}
 use Rattle.scr_cells.specs.LookViews.{LookView, blank}
-use Rattle.scr_cells.specs.Showing.{IsSeenAt}
+use Rattle.scr_cells.specs.Showing.{HasRendition, IsSeenAt, IsUnseenAt}
 use Rattle.scr_plan.specs.declared.painting.Painter.{Painter}
 use Rattle.scr_plan.specs.Code.Painters.{painter_sees}
 
@@ -20,3 +20,30 @@ part_shown painter pairs from end count looks cells order few same c low high =
     let inside : c - from < end - from = omega (arith, near, few) in
     sym (part_at looks from (end - from) (c - from) c blank inside there) ∙ same (c - from) near painter.colours pairs
     ∙ ap (painter_sees painter pairs) (part_at cells from (end - from) (c - from) c blank_cell inside there)
+
+-- the same of places that are not shown, and of cells that are alike
+pub part_unlike : (painter : Painter) (pairs : List (ℕ × ℕ)) (from end count : ℕ) (looks : List LookView) (cells : List CellView) → from ≤ end → count ≤ end - from
+    → ((i : ℕ) → i < count → IsUnseenAt painter.shown.0 (take (end - from) (drop from looks)) (take (end - from) (drop from cells)) i)
+    → (c : ℕ) → from ≤ c → c < from + count → get_or looks c blank ≢ painter_sees painter pairs (get_or cells c blank_cell)
+part_unlike painter pairs from end count looks cells order few unlike c low high same =
+    let there : from + (c - from) ≡ c = omega (arith, low) in
+    let near : c - from < count = omega (arith, low, high) in
+    let inside : c - from < end - from = omega (arith, near, few) in
+    unlike (c - from) near painter.colours pairs
+    (part_at looks from (end - from) (c - from) c blank inside there ∙ same ∙ ap (painter_sees painter pairs) (sym (part_at cells from (end - from) (c - from) c blank_cell inside there)))
+
+pub part_alike : (from end count : ℕ) (cells : List CellView) → from ≤ end → count ≤ end - from
+    → ((i : ℕ) → i < count → HasRendition (get_or (take (end - from) (drop from cells)) 0 blank_cell) (take (end - from) (drop from cells)) i)
+    → (c : ℕ) → from ≤ c → c < from + count → HasRendition (get_or cells from blank_cell) cells c
+part_alike from end count cells order few alike c low high =
+    let there : from + (c - from) ≡ c = omega (arith, low) in
+    let here : from + 0 ≡ from = omega arith in
+    let near : c - from < count = omega (arith, low, high) in
+    let inside : c - from < end - from = omega (arith, near, few) in
+    let has = alike (c - from) near in
+    let first : get_or (take (end - from) (drop from cells)) 0 blank_cell ≡ get_or cells from blank_cell = part_at cells from (end - from) 0 from blank_cell (omega (arith, inside)) here in
+    let other : get_or (take (end - from) (drop from cells)) (c - from) blank_cell ≡ get_or cells c blank_cell = part_at cells from (end - from) (c - from) c blank_cell inside there in
+    record {
+      attrs = ap (λ cell. cell.attrs) (sym other) ∙ has.attrs ∙ ap (λ cell. cell.attrs) first;
+      pair = ap (λ cell. cell.pair) (sym other) ∙ has.pair ∙ ap (λ cell. cell.pair) first;
+    }

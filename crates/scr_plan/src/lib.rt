@@ -4,6 +4,7 @@
 mod joined_changes;
 mod joined_rows;
 mod joining;
+mod least_motions;
 mod links;
 mod looking;
 mod memories;

@@ -11,7 +11,8 @@ pub(crate) const NONE: u32 = u32::MAX;
 // How many pens have chains.
 const MOST_CHAINS: usize = 16;
 
-// The neighbours of a run in the ring and in its chain, the number of that chain, and the run that an order has in this place.
+// The neighbours of a run in the ring and in its chain, the number of that chain, the run that an order has in this place, the run that it
+// has before this one, and the price of the way from there.
 #[derive(Clone, Copy)]
 struct Link {
     next: u32,
@@ -20,6 +21,8 @@ struct Link {
     before_alike: u32,
     chain: u32,
     ordered: u32,
+    behind: u32,
+    way: Option<u32>,
 }
 
 impl Link {
@@ -32,6 +35,8 @@ impl Link {
             before_alike: NONE,
             chain: NONE,
             ordered: NONE,
+            behind: NONE,
+            way: None,
         }
     }
 }
@@ -209,6 +214,24 @@ impl Links {
     pub(crate) fn set_ordered(&mut self, place: u32, number: u32) {
         if let Some(link) = self.links.get_mut(place as usize) {
             link.ordered = number;
+        }
+    }
+
+    // The price of the way to a run, if an order is kept that has it behind this one; `NONE` where it is the first.
+    pub(crate) fn way_behind(&self, number: u32, before: u32) -> Option<u32> {
+        let link = self.at(number);
+        if link.behind == before {
+            link.way
+        } else {
+            None
+        }
+    }
+
+    // Keeps the price of the way to a run from the one that an order has before it.
+    pub(crate) fn set_way(&mut self, number: u32, before: u32, price: u32) {
+        if let Some(link) = self.links.get_mut(number as usize) {
+            link.behind = before;
+            link.way = Some(price);
         }
     }
 

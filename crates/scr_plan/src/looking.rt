@@ -1,8 +1,9 @@
 //! Looking for the places of a row that differ from what it shows, and for blanks at its end.
-ghost use Rattle.std.specs.Prelude.{ℕ, ◌≡◌, ◌+◌, ◌-◌, ◌<◌, ◌≤◌, ◌⊎◌, IfSome, List, Some, false, true, length, option_map, slice_index_or, if◌then◌else◌};
+ghost use Rattle.std.specs.Prelude.{ℕ, ◌≡◌, ◌≢◌, ◌+◌, ◌-◌, ◌<◌, ◌≤◌, ◌⊎◌, IfSome, List, Some, false, true, length, option_map, slice_index_or, if◌then◌else◌};
 ghost use Rattle.scr_cells.specs.CellViews.{blank_cell};
 ghost use Rattle.scr_cells.specs.Grids.{grid_row};
 ghost use Rattle.scr_cells.specs.LookViews.{blank};
+ghost use Rattle.scr_cells.specs.Showing.{HasRendition};
 ghost use Rattle.scr_term.specs.declared.operations.operation.Op.TheVariants.{EraseLine};
 ghost use Rattle.scr_term.specs.Operations.Texts.{has};
 ghost use Rattle.scr_plan.specs.Code.Joinings.{ShowsRow};
@@ -12,7 +13,7 @@ ghost use Rattle.scr_plan.specs.Memories.{MemoryView};
 ghost use Rattle.scr_plan.specs.Repaints.{erased_column, look_eq};
 
 use crate::painting::Painter;
-use scr_cells::{Cell, Look, Pen, Picture, shown_before};
+use scr_cells::{Cell, Look, Pen, Picture, alike_before, shown_before, unshown_before};
 use scr_term::{Op, Profile};
 
 impl Painter {
@@ -186,7 +187,8 @@ impl Painter {
     {
         let first = cell_in(cells, column);
         let pen = self.pen_of(picture, first);
-        for next in column + 1..end {
+        let begun = column + self.unlike_by_eight(cells, before, column, end).max(1);
+        for next in begun..end {
             let cell = cell_in(cells, next);
             if !are_alike(first, cell) || is_shown_in(before, next, cell.byte(), pen) {
                 return next;
@@ -206,12 +208,33 @@ impl Painter {
     {
         let _size = picture.size();
         let first = cell_in(cells, column);
-        for next in column + 1..end {
+        let begun = column + alike_by_eight(cells, column, end).max(1);
+        for next in begun..end {
             if !are_alike(first, cell_in(cells, next)) {
                 return next;
             }
         }
         end
+    }
+
+    // A count of places from one column on that do not show what is seen of their cells, which have the attributes and the pair of the
+    // first, found eight at a time.
+    fn unlike_by_eight(self, cells: &[Cell], before: Option<&[Look]>, from: u32, end: u32) -> u32
+        requires width { IfSome before (λ looks. length looks.now ≡ length cells.now) }
+        requires from { from ≤ end }
+        requires end { end ≤ length cells.now }
+        ensures end { from + result ≤ end }
+        ensures unlike { (c : ℕ) → from ≤ c → c < from + result → (pairs : List (ℕ × ℕ))
+            → shown_in (option_map (λ looks. looks.now) before.entry) c ≢ painter_sees self pairs (slice_index_or cells.now c blank_cell) }
+        ensures alike { (c : ℕ) → from ≤ c → c < from + result → HasRendition (slice_index_or cells.now from blank_cell) cells.now c }
+    {
+        match before {
+            Some(looks) => {
+                let looks = &looks[from as usize..end as usize];
+                unshown_before(looks, &cells[from as usize..end as usize], self.shown) as u32
+            }
+            None => 0,
+        }
     }
 
     // A count of places from one column on that show what is seen of their cells, found eight at a time.
@@ -269,6 +292,16 @@ impl Rest {
             count: self.count + 1,
         }
     }
+}
+
+// A count of places from one column on whose cells have the attributes and the pair of the first, found eight at a time.
+fn alike_by_eight(cells: &[Cell], from: u32, end: u32) -> u32
+    requires from { from ≤ end }
+    requires end { end ≤ length cells.now }
+    ensures end { from + result ≤ end }
+    ensures alike { (c : ℕ) → from ≤ c → c < from + result → HasRendition (slice_index_or cells.now from blank_cell) cells.now c }
+{
+    alike_before(&cells[from as usize..end as usize]) as u32
 }
 
 // The cell of a row in a column.

@@ -1,6 +1,7 @@
 //! In which order runs are painted: the nearest next, or pen by pen, whichever is cheaper. Only prices are compared here: nothing depends
 //! on a choice but how many bytes an update has.
 
+use crate::least_motions::LeastMotions;
 use crate::links::{Links, NONE};
 use crate::runs::{How, Run};
 use crate::ways::{Chooser, Cursor};
@@ -34,6 +35,7 @@ pub(crate) fn cheaper_order(
         chooser,
         runs,
         wish,
+        least: LeastMotions::of(chooser.prices),
     };
     let mut links = Links::new(alloc, runs)?;
     let price_by_pens = task.by_pens(cursor, &mut links);
@@ -75,12 +77,14 @@ struct Task<'a> {
     chooser: &'a Chooser<'a>,
     runs: &'a [Run],
     wish: Option<(u32, u32)>,
+    least: LeastMotions,
 }
 
-// A walk over runs as it is priced: where the cursor is, how many runs were painted, and how many bytes that takes.
+// A walk over runs as it is priced: where the cursor is, which run was painted last, how many were, and how many bytes that takes.
 #[derive(Drop)]
 struct Walk {
     cursor: Cursor,
+    last: u32,
     count: u32,
     price: u32,
 }
@@ -90,14 +94,16 @@ impl Walk {
     fn from(cursor: &Cursor) -> Walk {
         Walk {
             cursor: *cursor,
+            last: NONE,
             count: 0,
             price: 0,
         }
     }
 
-    // One run more, to which the way is priced.
-    fn paint_behind(&mut self, chooser: &Chooser<'_>, run: &Run, price_of_way: u32) {
+    // One run more, that of a number, to which the way is priced.
+    fn paint_behind(&mut self, chooser: &Chooser<'_>, number: u32, run: &Run, price_of_way: u32) {
         self.cursor = chooser.behind(run);
+        self.last = number;
         self.count = self.count.saturating_add(1);
         self.price = self
             .price
@@ -110,7 +116,8 @@ impl Walk {
         links.set_ordered(self.count, number);
         let run = run_at(task.runs, number);
         let way = task.chooser.way(&self.cursor, run.row, run.start, run.pen);
-        self.paint_behind(task.chooser, &run, way.price);
+        links.set_way(number, self.last, way.price);
+        self.paint_behind(task.chooser, number, &run, way.price);
     }
 
     // What it takes with the way to where the cursor is wished.
@@ -139,9 +146,9 @@ impl<'a> Task<'a> {
         let mut from = self.first_in_or_below(cursor.row());
         let mut next_alike = NONE;
         for _ in 0..self.runs.len() {
-            let nearest = self.nearest(&walk.cursor, links, from, next_alike);
+            let nearest = self.nearest(&walk, links, from, next_alike);
             let run = run_at(self.runs, nearest.number);
-            walk.paint_behind(self.chooser, &run, nearest.price);
+            walk.paint_behind(self.chooser, nearest.number, &run, nearest.price);
             numbers.push(nearest.number)?;
             from = links.next(nearest.number);
             next_alike = links.next_alike(nearest.number);
@@ -167,44 +174,60 @@ impl<'a> Task<'a> {
 
     // The nearest of the waiting runs that are looked at: a few around where the last one was, and of the pen that is on the next one
     // and the first.
-    fn nearest(&self, cursor: &Cursor, links: &Links, from: u32, next_alike: u32) -> Nearest {
+    fn nearest(&self, walk: &Walk, links: &Links, from: u32, next_alike: u32) -> Nearest {
         let mut nearest = Nearest::none();
         let mut number = from;
         for _ in 0..AHEAD {
-            nearest = self.nearer(cursor, nearest, number);
+            nearest = self.nearer(walk, links, nearest, number);
             number = links.next(number);
         }
         number = from;
         for _ in 0..BACK {
             number = links.before(number);
-            nearest = self.nearer(cursor, nearest, number);
+            nearest = self.nearer(walk, links, nearest, number);
         }
-        nearest = self.nearer(cursor, nearest, next_alike);
-        let alike = links.chain(links.chain_of(cursor.pen));
-        self.nearer(cursor, nearest, alike.first)
+        nearest = self.nearer(walk, links, nearest, next_alike);
+        let alike = links.chain(links.chain_of(walk.cursor.pen));
+        self.nearer(walk, links, nearest, alike.first)
     }
 
     // The nearer of the nearest run so far and another one, if there is one; that so far where they are as near.
-    fn nearer(&self, cursor: &Cursor, nearest: Nearest, number: u32) -> Nearest {
+    fn nearer(&self, walk: &Walk, links: &Links, nearest: Nearest, number: u32) -> Nearest {
         if number == NONE || number == nearest.number {
             return nearest;
         }
         let run = run_at(self.runs, number);
         let more = self.price_of_wish(run.row);
-        // No way to it costs less than the turn.
-        let turn = self.chooser.price_of_turn(cursor.pen, run.pen);
-        if turn.saturating_add(more) >= nearest.compared {
+        if self.least_price(&walk.cursor, &run).saturating_add(more) >= nearest.compared {
             return nearest;
         }
-        let way = self.chooser.way(cursor, run.row, run.start, run.pen);
-        let compared = way.price.saturating_add(more);
+        let price = self.price_of_way(walk, links, number, &run);
+        let compared = price.saturating_add(more);
         if compared >= nearest.compared {
             return nearest;
         }
         Nearest {
             number,
-            price: way.price,
+            price,
             compared,
+        }
+    }
+
+    // No way to a run costs less: the turn, and what leads to its row.
+    fn least_price(&self, cursor: &Cursor, run: &Run) -> u32 {
+        let turn = self.chooser.price_of_turn(cursor.pen, run.pen);
+        turn.saturating_add(self.least.between(cursor.row(), run.row))
+    }
+
+    // The price of the way to a run, which the other order may have found behind the same run.
+    fn price_of_way(&self, walk: &Walk, links: &Links, number: u32, run: &Run) -> u32 {
+        match links.way_behind(number, walk.last) {
+            Some(price) => price,
+            None => {
+                self.chooser
+                    .way(&walk.cursor, run.row, run.start, run.pen)
+                    .price
+            }
         }
     }
 

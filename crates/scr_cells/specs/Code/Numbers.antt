@@ -1,5 +1,5 @@
 -- Looks and cells that are one number: words of private functions.
-use Rattle.std.specs.Prelude.{ℕ, ◌≡◌, ◌<◌, ◌/◌, ◌%◌, bit_and, List, slice_index_or}
+use Rattle.std.specs.Prelude.{ℕ, ◌≡◌, ◌≢◌, ◌+◌, ◌*◌, ◌<◌, ◌≤◌, ◌/◌, ◌%◌, bit_and, List, slice_index_or}
 use Rattle.scr_cells.specs.CellViews.{CellView, blank_cell}
 use Rattle.scr_cells.specs.LookViews.{LookView, blank}
 use Rattle.scr_cells.specs.Code.PackedPens.{coded_pen}
@@ -21,3 +21,21 @@ pub record IsNumberAt (limit : ℕ) (looks : List LookView) (cells : List CellVi
   pub below : number < limit
   pub look : slice_index_or looks place blank ≡ look_of number
   pub cell : slice_index_or cells place blank_cell ≡ cell_of number
+
+-- a base is the least number of a cell with the attributes and the pair of the first one, and each such number has no pair, and only
+-- attributes that are shown
+pub record HasBase (shown : ℕ) (cells : List CellView) (base : ℕ) : Type 0 where
+  pub first : ℕ
+  pub cell : slice_index_or cells 0 blank_cell ≡ cell_of first
+  pub is : base ≡ first / 256 * 256
+  pub shows : (n : ℕ) → base ≤ n → n < base + 256 → (n < 65536) × (bit_and shown (n / 256 % 256) ≡ n / 256 % 256)
+
+-- look and cell of a place are of two numbers, the second of which is between a base and the next
+pub record IsUnlikeAt (base : ℕ) (looks : List LookView) (cells : List CellView) (place : ℕ) : Type 0 where
+  pub one : ℕ
+  pub other : ℕ
+  pub unlike : one ≢ other
+  pub from : base ≤ other
+  pub below : other < base + 256
+  pub look : slice_index_or looks place blank ≡ look_of one
+  pub cell : slice_index_or cells place blank_cell ≡ cell_of other

@@ -90,6 +90,7 @@ impl ByDigits {
     }
 
     // The price with this number.
+    #[inline(always)]
     fn with(self, number: u32) -> u32 {
         match number {
             0..=9 => self.one,
@@ -99,6 +100,7 @@ impl ByDigits {
     }
 
     // The price with the number behind this one: `cup`, `hpa` and `vpa` count from 1.
+    #[inline(always)]
     fn with_next(self, number: u32) -> u32 {
         self.with(number.saturating_add(1))
     }
@@ -106,6 +108,7 @@ impl ByDigits {
 
 impl Counted {
     // The price of a motion by so many places.
+    #[inline(always)]
     fn by(self, count: u32) -> u32 {
         if count == 1 {
             self.one
@@ -118,6 +121,7 @@ impl Counted {
 impl Prices {
     /// How many bytes an operation has, about; `FAR` where the terminal does not have it, or where its text has a line feed,
     /// to which the terminal's driver could add a carriage return.
+    #[inline(always)]
     pub fn of(&self, op: Op) -> u32 {
         match op {
             Op::Home => self.home,
@@ -155,6 +159,7 @@ impl Prices {
     }
 
     // The price of `cup` for a row and a column.
+    #[inline(always)]
     fn of_address(&self, row: u32, column: u32) -> u32 {
         self.address
             .saturating_add(self.address_row.with_next(row))

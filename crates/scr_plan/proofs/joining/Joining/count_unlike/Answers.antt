@@ -25,7 +25,8 @@ returns-clause-left c =
 
 pub returns-clause-behind : goal.returns-clause-behind
 returns-clause-behind c =
-    let next = c.unlike_end-next.result in
-    (ap (λ j. j.pen) c.count_each.ensures ∙ c.in_ok-begin_unless.ensures.pen,
-    λ wide. ap (λ j. j.spot) c.count_each.ensures
-    ∙ behind_by c.size-size.result.columns c.args.row c.args.column next c.unlike_end-next.ensures.more (omega (arith, wide, c.size-size.ensures.columns, c.requires.fits.columns)))
+    let next = c.unlike_end-next.result in (
+      ap (λ j. j.pen) c.count_each.ensures ∙ c.in_ok-begin_unless.ensures.pen,
+      λ wide. ap (λ j. j.spot) c.count_each.ensures
+          ∙ behind_by c.size-size.result.columns c.args.row c.args.column next c.unlike_end-next.ensures.more (omega (arith, wide, c.size-size.ensures.columns, c.requires.fits.columns)),
+    )

@@ -1,15 +1,22 @@
-use Rattle.std.proofs.Common.{ap, option_map, refl, rules, sym, ◌≡◌, ◌∙◌, false, true, get_or}
+use Rattle.std.proofs.Common.{ap, arith, option_map, refl, rules, sym, ◌≡◌, ◌∙◌, false, true, get_or}
 use Rattle.scr_cells.specs.CellViews.{blank_cell}
 use Rattle.scr_plan.proofs.JoinLaws.{place_shown}
-use Rattle.scr_plan.proofs.LookingLaws.{alike_in, alike_looks, first_place, one_place_more}
+use Rattle.scr_plan.proofs.LookingLaws.{alike_in, alike_looks, first_places, one_place_more, rendition_looks, unlike_differs}
 use Rattle.scr_plan.specs.Code.Painters.{painter_look, painter_sees, row_differs}
 use Rattle.scr_plan.proofs.painting.Painter.unlike_end.Goals as goal
 
 pub loop-next-init : goal.loop-next-init
-loop-next-init c = record {
-  unlike = λ first. first_place (λ k. row_differs c.args.self c.args.picture.now (option_map (λ looks. looks.now) c.args.before) (c.args.row, k) ≡ true) c.args.column first;
-  alike = first_place (λ k. (painter_look c.args.self c.args.picture.now (c.args.row, k)).pen ≡ (painter_look c.args.self c.args.picture.now (c.args.row, c.args.column)).pen) c.args.column refl;
-}
+loop-next-init c =
+    let before = option_map (λ looks. looks.now) c.args.before in
+    record {
+      unlike = λ first.
+          first_places (λ k. row_differs c.args.self c.args.picture.now before (c.args.row, k) ≡ true) c.args.column c.unlike_by_eight.result c.max.result (λ k low above high. omega (arith, low, above, high, c.max.ensures)) first
+          (λ k low high. unlike_differs c.args.self c.args.picture.now c.args.row before k c.args.cells.now c.requires.cells (c.unlike_by_eight.ensures.unlike k low high c.args.picture.now.pairs));
+      alike =
+          first_places (λ k. (painter_look c.args.self c.args.picture.now (c.args.row, k)).pen ≡ (painter_look c.args.self c.args.picture.now (c.args.row, c.args.column)).pen) c.args.column c.unlike_by_eight.result c.max.result
+          (λ k low above high. omega (arith, low, above, high, c.max.ensures)) refl
+          (λ k low high. rendition_looks c.args.self c.args.picture.now c.args.row c.args.cells.now c.requires.cells c.args.column k (c.unlike_by_eight.ensures.alike k low high));
+    }
 
 pub loop-next-preserved : goal.loop-next-preserved
 loop-next-preserved c =

@@ -1,0 +1,15 @@
+use Rattle.std.proofs.Common.{ℕ, ◌<◌, ◌≤◌, ◌-◌, get_or, length}
+use Rattle.scr_cells.specs.CellViews.{blank_cell}
+use Rattle.scr_cells.specs.Showing.{HasRendition, IsUnseenAt}
+use Rattle.scr_cells.proofs.showing.unshown_before.Given as goal
+
+-- the places as far as the loop has come are not shown, and have the first cell's attributes
+abbrev pub invariant-loop-at : goal.invariant-loop-at
+invariant-loop-at l = record {
+  inside : l.at ≤ length l.looks;
+  unseen : (i : ℕ) → i < l.at → IsUnseenAt l.fn.shown.0 l.looks l.cells i;
+  alike : (i : ℕ) → i < l.at → HasRendition (get_or l.cells 0 blank_cell) l.cells i;
+}
+
+abbrev pub decreases-loop-at : goal.decreases-loop-at
+decreases-loop-at l = length l.looks - l.at
