@@ -238,14 +238,15 @@ pub record IsPut (profile : ProfileView) (picture : PictureView) (row column pla
   pub pen : now.pen ≡ old.pen
   pub covers : Covers profile picture (in_part row column place) old (behind_them profile.columns row column place old now)
 
-pub put_none : (profile : ProfileView) (picture : PictureView) → Fits profile picture → (row column : ℕ) → column < picture.columns → (old : Draft) → old.spot ≡ At row column → IsPut profile picture row column column old old
-put_none profile picture fits row column wide old here = record {
-  bytes = refl;
-  spot = refl;
-  pen = refl;
-  covers = λ waits paid first start right. covers_none profile picture row column (behind_them profile.columns row column column old old) waits paid first start (record {
+pub put_none : (profile : ProfileView) (picture : PictureView) → Fits profile picture → (row column : ℕ) → column < picture.columns → (old now : Draft) → old.spot ≡ At row column
+    → now.ops.items ≡ old.ops.items → now.bytes ≡ old.bytes → now.spot ≡ old.spot → now.pen ≡ old.pen → IsPut profile picture row column column old now
+put_none profile picture fits row column wide old now here items bytes spot pen = record {
+  bytes = bytes;
+  spot = spot;
+  pen = pen;
+  covers = λ waits paid first start right. covers_none profile picture row column (behind_them profile.columns row column column old now) waits paid first start (record {
     own = right.own;
-    ops = right.ops;
+    ops = items ∙ right.ops;
     now = right.now;
     run = right.run;
     state = right.state;

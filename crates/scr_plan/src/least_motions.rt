@@ -53,6 +53,7 @@ impl LeastMotions {
     }
 
     // No motion from one row to another costs less.
+    #[inline(always)]
     pub(crate) fn between(self, from: u32, to: u32) -> u32 {
         if from == to {
             return 0;

@@ -148,8 +148,10 @@ impl Draft {
         grid_laws::<Look>();
         let size = profile.size();
         let _picture = picture.size();
+        self.ops.reserve((end - column) as usize)?;
         for place in column..end {
-            self.ops.push(Op::Put(cell_in(cells, place).byte()))?;
+            self.ops
+                .push_reserved(Op::Put(cell_in(cells, place).byte()));
         }
         self.bytes = self.bytes.saturating_add((end - column) as usize);
         self.spot = behind(row, end - 1, size.columns);

@@ -3,7 +3,7 @@ ghost use Rattle.std.specs.Prelude.{◌≡◌, ◌<◌, ◌≤◌, [], IfSome, O
 ghost use Rattle.scr_cells.specs.PenViews.{is_plain_pen, plain_pen};
 ghost use Rattle.scr_term.specs.declared.operations.operation.Spot.TheVariants.{At};
 ghost use Rattle.scr_term.specs.Operations.Texts.{has};
-ghost use Rattle.scr_plan.specs.Code.Drafts.{Covers, IsAdded, KeepsAll, Leaves, in_part, is_in, no_run};
+ghost use Rattle.scr_plan.specs.Code.Drafts.{Covers, IsAdded, KeepsAll, KeepsEvery, Leaves, in_part, is_in, no_run};
 ghost use Rattle.scr_plan.specs.Code.Painters.{painter_begins, painter_of};
 ghost use Rattle.scr_plan.specs.Scratch.{Fits};
 ghost use Rattle.scr_plan.specs.declared.runs.Run.{Run};
@@ -33,8 +33,23 @@ impl Draft {
         ensures spot { OnOk result (IfSome picture.now.wish (λ place. self.new.spot ≡ At place.0 place.1)) }
     {
         let numbers = chosen_order(alloc, painter, profile, picture, self, runs)?;
+        self.make_room(profile, runs)?;
         self.visit_all(painter, profile, picture, runs, &numbers)?;
         self.place(painter, profile, picture)
+    }
+
+    // Makes room for the operations of runs: their characters, and what mostly leads to each. It spares the list from growing while they
+    // are painted.
+    fn make_room(&mut self, profile: &Profile, runs: &[Run]) -> Result<(), NoMemory>
+        ensures { OnOk result (KeepsEvery profile.now self.old self.new) }
+    {
+        let _size = profile.size();
+        let mut room = 4usize;
+        for run in runs {
+            room = room.saturating_add(run.end.saturating_sub(run.start) as usize + 4);
+        }
+        self.ops.reserve(room)?;
+        Ok(())
     }
 
     // Visits the runs of these numbers one after another, and then all that are left.

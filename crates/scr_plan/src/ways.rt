@@ -107,7 +107,11 @@ impl<'a> Chooser<'a> {
     }
 
     // What the cheapest turn from a pen to another costs.
+    #[inline(always)]
     pub(crate) fn price_of_turn(&self, from: Pen, to: Pen) -> u32 {
+        if from == to {
+            return 0;
+        }
         cheapest_turn(self.prices, from, to).price
     }
 
