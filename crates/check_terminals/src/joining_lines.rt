@@ -2,12 +2,12 @@
 
 use crate::painting_lines::add_scratch;
 use crate::picture_lines::ready;
-use crate::repaints::joined;
 use crate::terminal_lines::ready as ready_profile;
 use check_scripts::answers::{add_number, add_word};
 use check_scripts::buffers::Buffer;
 use check_scripts::troubles::Trouble;
 use check_scripts::words::Words;
+use joined_repaint::joined;
 use scr_cells::{NoMemory, Picture};
 use scr_term::{Ops, Profile, Terminal};
 use std::alloc::Global;

@@ -10,7 +10,6 @@ mod operation_lines;
 mod painting_lines;
 mod picture_lines;
 mod plain_lines;
-mod repaints;
 mod screen_lines;
 mod script_lines;
 mod stages;

@@ -1,8 +1,0 @@
-//! The joined repaint by its definition, place by place and slowly: what the bytes of a plan may be compared with.
-
-mod idle;
-mod joining;
-mod looking;
-mod painting;
-
-pub use joining::joined;
