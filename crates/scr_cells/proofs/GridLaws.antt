@@ -156,7 +156,7 @@ grid_is {A} rows columns items g is len =
     subst P is (rows_are_grid rows columns items len)
 
 -- where a place of the grid stands among the elements
-place_is : {A : Type 0} (rows columns : ℕ) (items : List A) (g : GridView A) (r c s : ℕ) → seen rows columns items ≡ g → s ≡ r * g.columns + c → s ≡ r * columns + c
+pub place_is : {A : Type 0} (rows columns : ℕ) (items : List A) (g : GridView A) (r c s : ℕ) → seen rows columns items ≡ g → s ≡ r * g.columns + c → s ≡ r * columns + c
 place_is rows columns items g r c s is s_is = s_is ∙ ap (λ n. r * n + c) (sym (ap (λ (v : GridView _). v.columns) is))
 
 -- what a method leaves that puts a run in a row

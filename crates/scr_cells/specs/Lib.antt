@@ -4,6 +4,7 @@ pub mod Code
 pub mod Differences
 pub mod Grids
 pub mod LookViews
+pub mod MadeRuns
 pub mod PenViews
 pub mod PictureViews
 pub mod Showing

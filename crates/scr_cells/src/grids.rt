@@ -1,7 +1,8 @@
 //! Rows of elements of one type: what pictures, surfaces and emulated screens are made of. The rows stand in one vector, and
 //! where a row begins in it is reckoned here alone.
-ghost use Rattle.std.specs.Prelude.{ℕ, ◌≡◌, ◌+◌, ◌-◌, ◌*◌, ◌<◌, ◌≤◌, length, take, drop, replicate, slice_range, IfOk, OnOk, OnErr, [], ◌∷◌, ◌++◌, ◌^◌};
+ghost use Rattle.std.specs.Prelude.{ℕ, ◌≡◌, ◌+◌, ◌-◌, ◌*◌, ◌<◌, ◌≤◌, Option, length, take, drop, replicate, slice_range, IfOk, OnOk, OnErr, [], ◌∷◌, ◌++◌, ◌^◌};
 ghost use Rattle.scr_cells.specs.Grids.{IsGrid, changed_run, grid_at, grid_of, grid_row, grid_with, grid_with_run, line_with_run};
+ghost use Rattle.scr_cells.specs.MadeRuns.{made_while};
 
 use crate::NoMemory;
 use std::alloc::Global;
@@ -152,6 +153,30 @@ impl<T: Copy> Grid<T> {
         copy_all(&mut self.items[start..start + run.len()], run);
     }
 
+    /// Writes what `make` makes of each source, one after another, into a row from column `from` on: up to the end of the row, or the first
+    /// source of which it makes nothing. Gives how many it wrote. Nothing else changes.
+    pub fn lay_while<S: Copy, F: Fn(S) -> Option<T>>(
+        &mut self,
+        row: u32,
+        from: u32,
+        sources: &[S],
+        make: F,
+    ) -> usize
+        requires row { row < self.old.rows }
+        requires from { from ≤ self.old.columns }
+        requires callable { (x : S) → F.pre make x }
+        ensures count { (f : S → Option T) → ((x : S) (y : Option T) → F.post make x y → y ≡ f x) → result ≡ length (made_while f (take (self.old.columns - from) sources.now)) }
+        ensures laid { (f : S → Option T) → ((x : S) (y : Option T) → F.post make x y → y ≡ f x) → self.new ≡ record self.old { lines = grid_with_run self.old.lines row from (made_while f (take (self.old.columns - from) sources.now)) } }
+    {
+        let start = self.place(row, from);
+        let count = ((self.columns - from) as usize).min(sources.len());
+        lay_made(
+            &mut self.items[start..start + count],
+            &sources[..count],
+            make,
+        )
+    }
+
     /// Copies columns `start..end` of a row to a row from column `to` on, also where the two overlap. Nothing else changes.
     pub fn copy(&mut self, source: u32, start: u32, end: u32, row: u32, to: u32)
         requires source { source < self.old.rows }
@@ -213,6 +238,26 @@ fn copy_all<T: Copy>(elements: &mut [T], run: &[T])
     ensures { elements.new ≡ run.now }
 {
     elements.copy_from_slice(run);
+}
+
+// What a function makes of each source, in the places of a slice of as many, up to the first of which it makes nothing; how many they are.
+fn lay_made<S: Copy, T: Copy, F: Fn(S) -> Option<T>>(
+    elements: &mut [T],
+    sources: &[S],
+    make: F,
+) -> usize
+    requires many { length elements.old ≡ length sources.now }
+    requires callable { (x : S) → F.pre make x }
+    ensures count { (f : S → Option T) → ((x : S) (y : Option T) → F.post make x y → y ≡ f x) → result ≡ length (made_while f sources.now) }
+    ensures laid { (f : S → Option T) → ((x : S) (y : Option T) → F.post make x y → y ≡ f x) → elements.new ≡ line_with_run elements.old 0 (made_while f sources.now) }
+{
+    for place in 0..sources.len() {
+        let Some(element) = make(sources[place]) else {
+            return place;
+        };
+        elements[place] = element;
+    }
+    sources.len()
 }
 
 // What a function makes of each element of a slice and its column, the first of them in the column `from`.
