@@ -21,6 +21,7 @@ mod EcmaReadingLaws
 mod EcmaParameterLaws
 mod EcmaStateLaws
 mod DisplayViewLaws
+mod WritingLaws
 mod EcmaFedLaws
 mod EcmaLedLaws
 pub mod RenderingLaws

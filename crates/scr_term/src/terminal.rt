@@ -1,14 +1,16 @@
 //! An emulated terminal that is stepped by operations.
-ghost use Rattle.std.specs.Prelude.{◌≡◌, ◌≢◌, ◌<◌, ◌↔◌, ℕ, IfOk, IsOk, IsTrue, bit_and, is_some, length, option_map};
+ghost use Rattle.std.specs.Prelude.{◌≡◌, ◌≢◌, ◌<◌, ◌≤◌, ◌↔◌, ℕ, IfOk, IsOk, IsTrue, bit_and, is_some, length, option_map, take, true};
+ghost use Rattle.std.specs.List.{list_all};
 ghost use Rattle.std.specs.Option.{ForSome};
 ghost use Rattle.scr_cells.specs.Attributes.{every_attribute};
 ghost use Rattle.scr_cells.specs.Grids.{grid_at, grid_row};
 ghost use Rattle.scr_cells.specs.LookViews.{IsLook, LookView};
 ghost use Rattle.scr_cells.specs.PictureViews.{IsPlace};
 ghost use Rattle.scr_term.specs.Displays.{IsDisplay, blank_display, gone_on};
+ghost use Rattle.scr_term.specs.Operations.Characters.{characters_ahead, is_character_op};
 ghost use Rattle.scr_term.specs.Operations.Abilities.{full_abilities};
 ghost use Rattle.scr_term.specs.Operations.States.{IsShownPen, IsSpot};
-ghost use Rattle.scr_term.specs.Operations.Steps.{act, step};
+ghost use Rattle.scr_term.specs.Operations.Steps.{act, runs, step};
 ghost use Rattle.scr_term.specs.Operations.Texts.{has};
 ghost use Rattle.scr_term.specs.Code.Changes.{IsChange, changed};
 ghost use Rattle.scr_term.specs.declared.operations.operation.Op.TheVariants.{Put};
@@ -16,7 +18,7 @@ ghost use Rattle.scr_term.specs.declared.operations.operation.Op.TheVariants.{Pu
 use crate::displays::{Change, Display};
 use crate::operations::change_of;
 use crate::{Op, Profile, Spot, Undefined};
-use scr_cells::{Attrs, Look, NoMemory, Pen, Size, is_character};
+use scr_cells::{Attrs, Look, NoMemory, Pen, Size};
 use std::alloc::Global;
 use std::marker::Model;
 
@@ -67,19 +69,19 @@ impl Terminal {
         if is_defined { Ok(()) } else { Err(Undefined) }
     }
 
-    /// Does what a character means, as `step` does: for callers that write many of them. `Undefined`: its byte is not 32 to 126, or the
-    /// cursor is at the margin. Nothing changes then.
-    #[inline(always)]
-    pub fn step_character(&mut self, profile: &Profile, byte: u8) -> Result<(), Undefined>
+    /// Does what the characters mean that operations begin with, one after another, as far as the cursor's row takes them, and gives how many
+    /// they are: for callers that write many of them. At the margin it takes none.
+    pub fn step_characters(&mut self, profile: &Profile, ops: &[Op]) -> usize
         requires columns { profile.now.columns ≡ self.old.columns }
-        ensures answer { IsOk result ↔ IsTrue (is_some (step profile.now self.old.state (Put byte))) }
-        ensures state { self.new ≡ gone_on self.old (step profile.now self.old.state (Put byte)) }
+        ensures count { result ≡ characters_ahead self.old.columns self.old.state.spot ops.now }
+        ensures inside { result ≤ length ops.now }
+        ensures characters { list_all is_character_op (take result ops.now) ≡ true }
+        ensures defined { is_some (runs profile.now self.old.state (take result ops.now)) ≡ true }
+        ensures state { self.new ≡ gone_on self.old (runs profile.now self.old.state (take result ops.now)) }
     {
-        if has_character(profile, byte) && self.write(profile, byte) {
-            Ok(())
-        } else {
-            Err(Undefined)
-        }
+        let count = self.display.write_ahead(ops);
+        let _size = self.display.size();
+        count
     }
 
     /// How many rows and columns there are.
@@ -184,14 +186,4 @@ impl Terminal {
         let _size = self.display.size();
         is_defined
     }
-}
-
-// Whether a terminal can write a byte: each writes the characters.
-#[inline(always)]
-#[tactic(auto, unfolding(crate::specs::Operations::Texts::has))]
-fn has_character(profile: &Profile, byte: u8) -> bool
-    ensures { result ≡ has profile.now (Put byte) }
-{
-    let _size = profile.size();
-    is_character(byte)
 }

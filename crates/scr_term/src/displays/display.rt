@@ -7,10 +7,11 @@ ghost use Rattle.scr_cells.specs.PictureViews.{IsPlace};
 ghost use Rattle.scr_term.specs.Operations.Abilities.{full_abilities};
 ghost use Rattle.scr_term.specs.Operations.States.{IsShownPen, IsSpot, character_written, is_from_place};
 ghost use Rattle.scr_term.specs.Code.Changes.{IsChange, changed};
+ghost use Rattle.scr_term.specs.Code.Writing.{look_of, looks_ahead, looks_written, spot_behind};
 ghost use Rattle.scr_term.specs.Displays.{IsDisplay, blank_display, gone_on};
 
-use crate::Spot;
 use crate::displays::changes::Change;
+use crate::{Op, Spot};
 use scr_cells::{Grid, Look, NoMemory, Pen, Size, grid_laws};
 use std::alloc::Global;
 use std::marker::Model;
@@ -115,6 +116,23 @@ impl Display {
         }
     }
 
+    /// Writes the characters that operations begin with, as far as the cursor's row takes them, and gives how many; the cursor goes behind
+    /// them.
+    pub(crate) fn write_ahead(&mut self, ops: &[Op]) -> usize
+        ensures count { result ≡ length (looks_ahead self.old.columns self.old.state ops.now) }
+        ensures state { self.new ≡ record self.old { state = looks_written self.old.columns self.old.state (looks_ahead self.old.columns self.old.state ops.now) self.old.state.spot } }
+    {
+        let Spot::At(row, column) = self.spot else {
+            return 0;
+        };
+        grid_laws::<Look>();
+        let columns = self.grid.columns();
+        let pen = self.pen;
+        let count = self.grid.lay_while(row, column, ops, |op| look_of(op, pen));
+        self.spot = spot_behind(columns, row, column + count as u32);
+        count
+    }
+
     /// Makes a change.
     pub(crate) fn make(&mut self, change: Change)
         requires { IsChange self.old.rows self.old.columns change }
@@ -132,6 +150,27 @@ impl Display {
             }
             Change::Rendered(pen) => self.pen = pen,
         }
+    }
+}
+
+// The look of a character that is written with a pen; `None` of another operation.
+fn look_of(op: Op, pen: Pen) -> Option<Look>
+    ensures { result ≡ look_of pen op }
+{
+    match op {
+        Op::Put(byte) => Look::written(byte, pen),
+        _ => None,
+    }
+}
+
+// The place in a column of a row, and behind the last column the margin.
+fn spot_behind(columns: u32, row: u32, column: u32) -> Spot
+    ensures { result ≡ spot_behind columns row column }
+{
+    if column < columns {
+        Spot::At(row, column)
+    } else {
+        Spot::Margin(row)
     }
 }
 
