@@ -23,11 +23,11 @@ use Rattle.scr_plan.specs.Scratch.{RunsToShow, ScratchShows, paints_places, plac
 -- ---- runs
 
 -- a step that leads to a state, and one that goes on from there
-goes_on : {A : Type 0} (first : Option A) (f : A → Option A) (new : A) → option_and_then f first ≡ Some new → (next : A) × (first ≡ Some next) × (f next ≡ Some new)
+pub goes_on : {A : Type 0} (first : Option A) (f : A → Option A) (new : A) → option_and_then f first ≡ Some new → (next : A) × (first ≡ Some next) × (f next ≡ Some new)
 goes_on None f new e = (cc)
 goes_on (Some next) f new e = (next, refl, e)
 
-same_some : {A : Type 0} (a b : A) → Some a ≡ Some b → a ≡ b
+pub same_some : {A : Type 0} (a b : A) → Some a ≡ Some b → a ≡ b
 same_some a b e = (cc)
 
 runs_follow : MemoryLaws → (profile : ProfileView) → IsProfile profile → (memory : MemoryView) (old new : TerminalState) (ops : List Op)

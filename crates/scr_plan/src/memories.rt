@@ -8,7 +8,7 @@ ghost use Rattle.scr_term.specs.Operations.Steps.{step};
 ghost use Rattle.scr_plan.specs.Memories.{IsMemory, all_followed, changes_cells, clears, disturbed, followed, forgotten, has_one_pen, is_known, is_known_row, pen_if_known, places_spot, row_looks, rows_erased, rows_followed, sets_pen, spot_if_known, stepped, unknown};
 ghost use Rattle.scr_plan.specs.Repaints.{is_placed};
 ghost use Rattle.scr_cells.specs.Grids.{grid_row};
-ghost use Rattle.scr_plan.specs.Code.Remembering.{gone_to, is_character_op, without_run};
+ghost use Rattle.scr_plan.specs.Code.Remembering.{gone_to, without_run};
 
 use scr_cells::{Look, NoMemory, Pen, Size};
 use scr_term::{Op, Profile, Spot, Terminal};
@@ -200,7 +200,7 @@ impl Memory {
         }
     }
 
-    // Follows some operations from the first on, and says how many: the characters that they begin with, or one operation.
+    // Follows some operations from the first on, and says how many: the characters of one row that they begin with, or one operation.
     fn follow_next(&mut self, profile: &Profile, ops: &[Op]) -> usize
         requires some { 0 < length ops.now }
         requires rows { profile.now.rows ≡ self.old.rows }
@@ -219,8 +219,8 @@ impl Memory {
         1
     }
 
-    // Follows the characters that operations begin with, as far as they are defined, and says how many. Where the cursor and the pen
-    // are known no character makes more known or less, and most operations of an update are characters.
+    // Follows the characters that operations begin with, as far as the cursor's row takes them, and says how many. Where the cursor and
+    // the pen are known no character makes more known or less, and most operations of an update are characters.
     fn follow_characters(&mut self, profile: &Profile, ops: &[Op]) -> usize
         requires rows { profile.now.rows ≡ self.old.rows }
         requires columns { profile.now.columns ≡ self.old.columns }
@@ -229,30 +229,9 @@ impl Memory {
         ensures inside { result ≤ length ops.now }
         ensures followed { self.new ≡ all_followed profile.now (take result ops.now) self.old }
     {
-        let mut done = 0;
-        while done < ops.len() && self.step_character(profile, ops[done]) {
-            done += 1;
-        }
-        done
-    }
-
-    // The remembered state goes on by a character; where an operation is another, or undefined there, this answers false and changes
-    // nothing.
-    #[inline(always)]
-    fn step_character(&mut self, profile: &Profile, op: Op) -> bool
-        requires rows { profile.now.rows ≡ self.old.rows }
-        requires columns { profile.now.columns ≡ self.old.columns }
-        ensures character { result ≡ true → is_character_op op ≡ true }
-        ensures answer { result ≡ true → is_some (step profile.now self.old.state op) ≡ true }
-        ensures state { result ≡ true → self.new ≡ gone_to self.old (step profile.now self.old.state op) }
-        ensures same { result ≡ false → self.new ≡ self.old }
-    {
-        let Op::Put(byte) = op else {
-            return false;
-        };
-        let is_defined = self.terminal.step_character(profile, byte).is_ok();
+        let count = self.terminal.step_characters(profile, ops);
         let _size = self.terminal.size();
-        is_defined
+        count
     }
 
     // The remembered state goes on by an operation; where it is undefined there, this answers false and changes nothing.

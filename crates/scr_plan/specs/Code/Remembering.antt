@@ -1,8 +1,6 @@
 -- What is kept of a memory beside what it remembers.
-use Rattle.std.specs.Prelude.{ℕ, ◌≡◌, ◌&&◌, leb, ltb, Bool, true, false, if◌then◌else◌, List, length, map, slice_index_or, Option, unwrap_or}
+use Rattle.std.specs.Prelude.{ℕ, ◌≡◌, ◌&&◌, leb, ltb, Bool, false, if◌then◌else◌, List, length, map, slice_index_or, Option, unwrap_or}
 use Rattle.std.specs.List.{list_all, range_with_len}
-use Rattle.scr_term.specs.declared.operations.operation.Op.{Op}
-use Rattle.scr_term.specs.declared.operations.operation.Op.TheVariants.{Put}
 use Rattle.scr_term.specs.Operations.States.{TerminalState}
 use Rattle.scr_plan.specs.Memories.{IsMemory, MemoryView}
 
@@ -14,11 +12,6 @@ pub record IsKept (memory : MemoryView) (all : Bool) : Type 0 where
 -- the state that is remembered is another, or stays where there is none
 abbrev pub gone_to : MemoryView → Option TerminalState → MemoryView
 gone_to memory next = record memory { state = unwrap_or next memory.state }
-
--- an operation writes a character
-abbrev pub is_character_op : Op → Bool
-is_character_op (Put byte) = true
-is_character_op op = false
 
 -- the rows from one up to another are not known
 abbrev pub without_run : ℕ → ℕ → List Bool → List Bool

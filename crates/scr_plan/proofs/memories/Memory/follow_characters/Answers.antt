@@ -1,20 +1,24 @@
-use Rattle.std.proofs.Common.{ap, arith, rules, true, ◌≡◌, ◌∙◌}
-use Rattle.scr_plan.specs.Memories.{MemoryView}
-use Rattle.scr_plan.proofs.FollowingLaws.{character_followed, one_followed}
+use Rattle.std.proofs.Common.{◌∙◌, ap, take}
+use Rattle.scr_term.specs.Displays.{DisplayView}
+use Rattle.scr_plan.specs.Memories.{MemoryView, all_followed}
+use Rattle.scr_plan.proofs.FollowingLaws.{gone_on_followed}
 use Rattle.scr_plan.proofs.memories.Memory.follow_characters.Goals as goal
 
-pub loop-done-preserved : goal.loop-done-preserved
-loop-done-preserved c =
-    let made : c.step_character.result ≡ true = search rules in
-    let gone = c.step_character.ensures.state made in
-    record {
-      inside = omega arith;
-      rows = ap (λ (m : MemoryView). m.rows) gone ∙ c.loop-done.invariant.rows;
-      columns = ap (λ (m : MemoryView). m.columns) gone ∙ c.loop-done.invariant.columns;
-      spot = ap (λ (m : MemoryView). m.known_spot) gone ∙ c.loop-done.invariant.spot;
-      pen = ap (λ (m : MemoryView). m.known_pen) gone ∙ c.loop-done.invariant.pen;
-      followed =
-          one_followed c.args.profile.now c.args.ops.now c.loop-done.done _ c.args.self.now c.loop-done.self c.step_character.new.self (omega arith) c.loop-done.invariant.followed
-          (character_followed c.args.profile.now _ c.loop-done.self c.step_character.new.self (c.step_character.ensures.character made) c.loop-done.invariant.spot c.loop-done.invariant.pen
-          (c.step_character.ensures.answer made) gone);
-    }
+pub returns-clause-followed : goal.returns-clause-followed
+returns-clause-followed c =
+    let inside = c.self.inside in
+    let memory : MemoryView = record {
+      rows = inside.terminal.rows;
+      columns = inside.terminal.columns;
+      state = inside.terminal.state;
+      known_rows = inside.rows.items;
+      known_spot = inside.spot;
+      known_pen = inside.pen;
+    } in
+    let profile = c.args.profile.now in
+    let ops = take c.step_characters-count.result c.args.ops.now in
+    let spot = ap (λ (m : MemoryView). m.known_spot) c.self.view_is ∙ c.requires.spot in
+    let pen = ap (λ (m : MemoryView). m.known_pen) c.self.view_is ∙ c.requires.pen in
+    ap (λ (t : DisplayView). record memory { rows = t.rows; columns = t.columns; state = t.state }) c.step_characters-count.ensures.state
+    ∙ gone_on_followed profile ops memory c.step_characters-count.ensures.characters spot pen c.step_characters-count.ensures.defined
+    ∙ ap (all_followed profile ops) c.self.view_is
