@@ -315,7 +315,7 @@ pub(crate) fn cell_in(cells: &[Cell], column: u32) -> Cell
 
 // Whether two cells have the same attributes and the same colour pair.
 #[inline(always)]
-fn are_alike(a: Cell, b: Cell) -> bool
+pub(crate) fn are_alike(a: Cell, b: Cell) -> bool
     ensures attrs { result ≡ true → a.attrs ≡ b.attrs }
     ensures pair { result ≡ true → a.pair ≡ b.pair }
 {

@@ -198,7 +198,9 @@ impl<'a> Task<'a> {
         }
         let run = run_at(self.runs, number);
         let more = self.price_of_wish(run.row);
-        if self.least_price(&walk.cursor, &run).saturating_add(more) >= nearest.compared {
+        let least = self.least.to(walk.cursor.spot, run.row, run.start);
+        let least = least.saturating_add(more);
+        if least >= nearest.compared || self.with_turn(least, walk, &run) >= nearest.compared {
             return nearest;
         }
         let price = self.price_of_way(walk, links, number, &run);
@@ -213,10 +215,10 @@ impl<'a> Task<'a> {
         }
     }
 
-    // No way to a run costs less: the turn, and what leads to its row.
-    fn least_price(&self, cursor: &Cursor, run: &Run) -> u32 {
-        let turn = self.chooser.price_of_turn(cursor.pen, run.pen);
-        turn.saturating_add(self.least.between(cursor.row(), run.row))
+    // A price with that of the turn to a run's pen.
+    #[inline(always)]
+    fn with_turn(&self, price: u32, walk: &Walk, run: &Run) -> u32 {
+        price.saturating_add(self.chooser.price_of_turn(walk.cursor.pen, run.pen))
     }
 
     // The price of the way to a run, which the other order may have found behind the same run.

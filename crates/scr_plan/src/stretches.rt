@@ -23,21 +23,33 @@ impl Stretches {
         }
     }
 
-    // One place more.
-    pub(crate) fn with(self, pen: Pen, is_blank: bool) -> Stretches {
+    // So many blanks more in default colours.
+    pub(crate) fn with_blanks(self, count: usize) -> Stretches {
         let mut stretches = self;
-        let goes_on = is_that_pen(self.pen, pen);
-        if is_blank {
-            stretches.blanks = self.blanks.saturating_add(1);
-            if !goes_on || stretches.blanks > self.jump {
-                stretches.pen = None;
-            }
-            return stretches;
+        stretches.blanks = self
+            .blanks
+            .saturating_add(count.min(u32::MAX as usize) as u32);
+        if !is_that_pen(self.pen, Pen::plain()) || stretches.blanks > self.jump {
+            stretches.pen = None;
         }
-        let price = if goes_on { self.blanks } else { self.jump };
+        stretches
+    }
+
+    // So many places more with a pen, all of them blanks in default colours or none.
+    pub(crate) fn with(self, pen: Pen, are_blank: bool, count: usize) -> Stretches {
+        if are_blank {
+            return self.with_blanks(count);
+        }
+        let mut stretches = self;
+        let before = if is_that_pen(self.pen, pen) {
+            self.blanks
+        } else {
+            self.jump
+        };
+        let places = count.min(u32::MAX as usize) as u32;
         stretches.pen = Some(pen);
         stretches.blanks = 0;
-        stretches.price = self.price.saturating_add(price).saturating_add(1);
+        stretches.price = self.price.saturating_add(before).saturating_add(places);
         stretches
     }
 }
