@@ -2,6 +2,7 @@
 use Rattle.std.proofs.Common.{◌≡◌, ℕ, ◌+◌, ◌-◌, ◌<◌, ◌≤◌, ◌&&◌, ◌⊎◌, inl, inr, not, Bool, true, false, All, refl, sym, ◌∙◌, ap, subst, arith, append_assoc, get_or, nat_lt, Result, Ok, Err, OnOk, List, [], ◌∷◌, ◌++◌, filter, Option, Some, None, zero, suc, if◌then◌else◌}
 use Rattle.std.specs.List.{flat_map}
 use Rattle.std.proofs.lemmas.Bool.Decides.{nat_tests}
+use Rattle.std.proofs.lemmas.List.{append-nil}
 use Rattle.std.proofs.lemmas.List.Elements.{recursion_from_All, filter-append}
 use Rattle.scr_cells.specs.CellViews.{CellView, IsCell, IsCharacter, blank_cell}
 use Rattle.scr_cells.specs.Grids.{grid_at, grid_row}
@@ -18,12 +19,12 @@ use Rattle.scr_term.specs.Operations.Profiles.{ProfileView, IsProfile}
 use Rattle.scr_term.specs.Operations.States.{spot_after}
 use Rattle.scr_plan.proofs.JoinLaws.{differs_same, joins_same, known_row, painted, painted_adds, parts_painted, passed, row_is_brief}
 use Rattle.scr_plan.proofs.JoinedLaws.{IsErasable, erasable, row_erased, row_unerased}
-use Rattle.scr_plan.proofs.JoiningLaws.{goes_on, nothing_goes, put_goes}
+use Rattle.scr_plan.proofs.JoiningLaws.{counts_less, goes_on, nothing_goes, put_goes}
 use Rattle.scr_plan.proofs.PartLaws.{none_in_part, pen_refl, outside_above, outside_below, part_joined, row_in_part, row_known, row_more, row_same, rows_same, same_place}
 use Rattle.scr_plan.proofs.PlaceLaws.{cell_of}
 use Rattle.scr_plan.proofs.PlacesLaws.{is_among}
 use Rattle.scr_plan.proofs.PlainLaws.{among_differing, pen_same}
-use Rattle.scr_plan.specs.Code.Joinings.{Continues, IsBehind, ShowsRow, counted_up, joined_at}
+use Rattle.scr_plan.specs.Code.Joinings.{Continues, CountsAtMost, IsBehind, ShowsRow, counted_up, joined_at}
 use Rattle.scr_plan.specs.Code.Painters.{is_that_pen, painter_begins, painter_look, painter_of, painter_writes, part_places, pen_before, row_differs, row_paints}
 use Rattle.scr_plan.specs.Memories.{MemoryView, is_known}
 use Rattle.scr_plan.specs.Repaints.{IsSizeOf, ShowsOutside, begins_place, brief_place, differing, differs, erased_column, is_none_left, joins_left}
@@ -373,3 +374,40 @@ behind_by columns row column next more wide = ap (λ b. if b then At row (next -
   where
     inside : nat_lt (next - 1 + 1) columns ≡ true
     inside = grind (arith, nat_tests, more, wide)
+
+-- ---- rows that were not counted
+
+-- what the rows from one on add, behind those before it
+pub rows_behind : (f : ℕ × ℕ → List Op) (d : ℕ × ℕ → Bool) (row columns k : ℕ) → (rest : List Op) × (flat_map f (filter d (places (row + k) columns)) ≡ flat_map f (filter d (places row columns)) ++ rest)
+rows_behind f d row columns zero =
+    let none : row + 0 ≡ row = omega arith in
+    ([], ap (λ n. flat_map f (filter d (places n columns))) none ∙ sym (append-nil (flat_map f (filter d (places row columns)))))
+rows_behind f d row columns (suc k) =
+    let more : row + suc k ≡ row + k + 1 = omega arith in
+    by (rows_behind f d row columns k) more
+  where
+    by : (rest : List Op) × (flat_map f (filter d (places (row + k) columns)) ≡ flat_map f (filter d (places row columns)) ++ rest) → row + suc k ≡ row + k + 1
+        → (rest : List Op) × (flat_map f (filter d (places (row + suc k) columns)) ≡ flat_map f (filter d (places row columns)) ++ rest)
+    by before more =
+        let last : List Op = flat_map f (filter d (row_places columns (row + k))) in (
+          before.0 ++ last,
+          ap (λ n. flat_map f (filter d (places n columns))) more ∙ row_more f d (row + k) columns ∙ ap (λ ops. ops ++ last) before.1 ∙ append_assoc (flat_map f (filter d (places row columns))) before.0 last,
+        )
+
+pub rows_counted : RunLaws → (profile : ProfileView) (picture : PictureView) (memory : MemoryView) (row : ℕ) → row ≤ picture.rows → (old new : Joining) (resets cursor : List Op)
+    → Continues profile old new (flat_map (joined_at profile picture memory) (filter (differs profile picture memory) (places row picture.columns)))
+    → CountsAtMost profile old new (flat_map (joined_at profile picture memory) (filter (differs profile picture memory) (places picture.rows picture.columns)) ++ resets ++ cursor)
+rows_counted laws profile picture memory row few old new resets cursor goes =
+    let f = joined_at profile picture memory in
+    let d = differs profile picture memory in
+    let behind = rows_behind f d row picture.columns (picture.rows - row) in
+    let whole : row + (picture.rows - row) ≡ picture.rows = omega (arith, few) in
+    let before : List Op = flat_map f (filter d (places row picture.columns)) in
+    let is : flat_map f (filter d (places picture.rows picture.columns)) ≡ before ++ behind.0 = ap (λ n. flat_map f (filter d (places n picture.columns))) (sym whole) ∙ behind.1 in
+    counts_less laws profile old new before (behind.0 ++ resets ++ cursor) _ goes (ap (λ ops. ops ++ resets ++ cursor) is ∙ rows_assoc before behind.0 resets cursor)
+  where
+    rows_assoc : (a b c d : List Op) → ((a ++ b) ++ c) ++ d ≡ a ++ ((b ++ c) ++ d)
+    rows_assoc a b c d = append_assoc (a ++ b) c d ∙ append_assoc a b (c ++ d) ∙ ap (λ l. a ++ l) (sym (append_assoc b c d))
+
+pub all_counted : RunLaws → (profile : ProfileView) (old new : Joining) (more : List Op) → Continues profile old new more → CountsAtMost profile old new more
+all_counted laws profile old new more goes = counts_less laws profile old new more [] more goes (sym (append-nil more))

@@ -25,7 +25,7 @@ use Rattle.scr_term.specs.Operations.Texts.{has}
 use Rattle.scr_plan.proofs.JoinedLaws.{idle_same, plain_is}
 use Rattle.scr_plan.proofs.JoinedPriceLaws.{price, price_is, put_price}
 use Rattle.scr_plan.proofs.PlaceLaws.{at_place, begun_run, move_run, one_run, plain, resets_run, then_runs}
-use Rattle.scr_plan.specs.Code.Joinings.{Continues, IsCounted, IsJoining, counted_up}
+use Rattle.scr_plan.specs.Code.Joinings.{Continues, CountsAtMost, IsCounted, IsJoining, counted_up}
 use Rattle.scr_plan.specs.Code.Painters.{moves_unless_there, painter_begins, painter_leads, painter_of, resets_unless_plain}
 use Rattle.scr_plan.specs.Memories.{IsMemory, MemoryView}
 use Rattle.scr_plan.specs.Repaints.{is_idle, is_in_place, kept_unless_idle, without_idle}
@@ -276,6 +276,16 @@ nothing_goes profile old stores first start all joining = subst (λ ops. IsJoini
 pub goes_on : (profile : ProfileView) (old mid new : Joining) (xs ys : List Op) → Continues profile old mid xs → Continues profile mid new ys → Continues profile old new (xs ++ ys)
 goes_on profile old mid new xs ys one other stores first start all joining =
     subst (λ ops. IsJoining profile stores first start ops new) (append_assoc all xs ys) (other stores first start (all ++ xs) (one stores first start all joining))
+
+-- what comes behind is not counted yet
+pub counts_less : RunLaws → (profile : ProfileView) (old new : Joining) (xs ys more : List Op) → Continues profile old new xs → more ≡ xs ++ ys → CountsAtMost profile old new more
+counts_less laws profile old new xs ys more goes is stores first start all joining =
+    let now = goes stores first start all joining in
+    let cut : without_idle profile start (all ++ more) ≡ without_idle profile start (all ++ xs) ++ without_idle profile now.now ys =
+    ap (λ ops. without_idle profile start (all ++ ops)) is ∙ ap (without_idle profile start) (sym (append_assoc all xs ys)) ∙ idle_joined profile start now.now (all ++ xs) ys now.run in
+    let sum : price profile (without_idle profile start (all ++ more)) ≡ price profile (without_idle profile start (all ++ xs)) + price profile (without_idle profile now.now ys) =
+    ap (price profile) cut ∙ (price_is laws profile).joined (without_idle profile start (all ++ xs)) (without_idle profile now.now ys) in
+    omega (arith, now.bytes, sum)
 
 -- ---- what begins a repaint
 

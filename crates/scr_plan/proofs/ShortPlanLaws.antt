@@ -120,13 +120,13 @@ both_true true false e = (cc)
 both_true false b e = (cc)
 
 -- counted as no more than what is counted exactly
-few_bytes : (own whole bytes drafted : ℕ) → drafted ≡ counted_up (0 + own) → drafted ≤ bytes → bytes < 2 ^ 64 - 1 → bytes ≡ counted_up whole → own ≤ whole
+few_bytes : (own whole bytes drafted : ℕ) → drafted ≡ counted_up (0 + own) → drafted ≤ bytes → bytes < 2 ^ 64 - 1 → bytes ≤ counted_up whole → own ≤ whole
 few_bytes own whole bytes drafted counted less exact all = omega (arith, counted, less, exact, all)
 
 -- where all is known
 pub short_plan : KnownMemories → MemoryRuns → JoinedIsCheap → GridLaws LookView → (profile : ProfileView) → IsProfile profile → (virtual : VirtualView) → IsPicture virtual.picture → Fits profile virtual.picture
     → (memory : MemoryView) → (is_known memory && not virtual.repaint) ≡ true → (draft : Draft) → IsDone profile virtual.picture [] memory.state draft → (bytes : ℕ) → draft.bytes ≤ bytes → bytes < 2 ^ 64 - 1
-    → bytes ≡ counted_up (length (all_bytes profile (joined_of profile memory virtual.picture))) → length draft.ops.items ≤ virtual.picture.rows * virtual.picture.columns * 12 + 4 → IsPlan profile memory virtual draft.ops.items
+    → bytes ≤ counted_up (length (all_bytes profile (joined_of profile memory virtual.picture))) → length draft.ops.items ≤ virtual.picture.rows * virtual.picture.columns * 12 + 4 → IsPlan profile memory virtual draft.ops.items
 short_plan known_laws memory_laws cheap grids profile p virtual k fits memory due draft done bytes less exact all few =
     let parts = both_true (is_known memory) (not virtual.repaint) due in
     let known : is_known memory ≡ true = parts.0 in
@@ -162,7 +162,7 @@ short_plan_anew laws have remembered cheap grids profile p virtual k fits memory
       shows = shown.shows;
       state = shown.state;
     } in
-    let fewer : length (all_bytes profile own) ≤ length (all_bytes profile (painted_anew profile picture)) = few_bytes (length (all_bytes profile own)) (length (all_bytes profile (painted_anew profile picture))) bytes draft.bytes done.right.bytes less exact all in
+    let fewer : length (all_bytes profile own) ≤ length (all_bytes profile (painted_anew profile picture)) = few_bytes (length (all_bytes profile own)) (length (all_bytes profile (painted_anew profile picture))) bytes draft.bytes done.right.bytes less exact (omega (arith, all)) in
     let mine : length (all_bytes profile draft.ops.items) ≡ length (all_bytes profile first) + length (all_bytes profile own) =
     ap (λ o. length (all_bytes profile o)) ops ∙ ap length (laws.bytes profile first own) ∙ length-append (all_bytes profile first) (all_bytes profile own) in
     let whole : length (all_bytes profile (anew_of profile picture)) ≡ length (all_bytes profile first) + length (all_bytes profile (painted_anew profile picture)) =
@@ -189,7 +189,7 @@ partly_plan laws grids profile p virtual k fits memory may due calm draft partly
     let done = partly.done memory.state here in
     let fewer : length (all_bytes profile draft.ops.items) ≤ length (all_bytes profile whole) =
     subst (λ o. length (all_bytes profile o) ≤ length (all_bytes profile whole)) (sym done.right.ops)
-    (few_bytes (length (all_bytes profile done.right.own)) (length (all_bytes profile whole)) bytes draft.bytes done.right.bytes less exact all) in
+    (few_bytes (length (all_bytes profile done.right.own)) (length (all_bytes profile whole)) bytes draft.bytes done.right.bytes less exact (omega (arith, all))) in
     record {
       shows = λ old agrees.
           let own = partly.done old agrees in

@@ -1,7 +1,7 @@
 //! The joined repaint of what differs from what is remembered, and of all that differs from blanks.
 ghost use Rattle.std.specs.Prelude.{ℕ, ◌≡◌, ◌++◌, ◌<◌, not, OnOk, false, filter, true};
 ghost use Rattle.std.specs.List.{flat_map};
-ghost use Rattle.scr_plan.specs.Code.Joinings.{Continues, joined_at};
+ghost use Rattle.scr_plan.specs.Code.Joinings.{Continues, CountsAtMost, joined_at};
 ghost use Rattle.scr_plan.specs.Code.Painters.{painter_of};
 ghost use Rattle.scr_plan.specs.Code.Planning.{range_by};
 ghost use Rattle.scr_plan.specs.Memories.{is_known};
@@ -13,7 +13,7 @@ use crate::memories::Memory;
 use crate::painting::Painter;
 use crate::planning::Looked;
 use scr_cells::{NoMemory, Picture};
-use scr_term::Profile;
+use scr_term::{Profile, run_laws};
 use scr_virtual::Virtual;
 
 // Whether some place differs from what is known of it.
@@ -87,6 +87,36 @@ impl Joining {
         let _size = wanted.size();
         let (first, end) = by.rows(wanted);
         for row in first..end {
+            self.join_changed(painter, profile, memory, wanted, by, row)?;
+        }
+        self.finish(painter, profile, wanted.picture())
+    }
+
+    // Counts what paints each place that differs from what is known of it, and then what places the cursor, row by row until there are more
+    // bytes than a limit.
+    pub(crate) fn count_changes(
+        &mut self,
+        painter: Painter,
+        profile: &Profile,
+        memory: &Memory,
+        wanted: &Virtual,
+        by: Looked,
+        limit: usize,
+    ) -> Result<(), NoMemory>
+        requires painter { painter ≡ painter_of profile.now }
+        requires fits { Fits profile.now wanted.now.picture }
+        requires size { IsSizeOf wanted.now.picture memory.now }
+        requires same { ShowsOutside (range_by by) profile.now memory.now wanted.now }
+        requires known { is_known memory.now ≡ true }
+        ensures { OnOk result (CountsAtMost profile.now self.old self.new (joined_places profile.now wanted.now.picture memory.now ++ resets profile.now ++ places_cursor wanted.now.picture.wish)) }
+    {
+        run_laws();
+        let _size = wanted.size();
+        let (first, end) = by.rows(wanted);
+        for row in first..end {
+            if self.bytes > limit {
+                return Ok(());
+            }
             self.join_changed(painter, profile, memory, wanted, by, row)?;
         }
         self.finish(painter, profile, wanted.picture())

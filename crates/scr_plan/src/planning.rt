@@ -307,7 +307,7 @@ fn changes(
         return Ok(Ops(Vec::new(alloc)));
     }
     let draft = short_changes(alloc, painter, profile, memory, wanted, by)?;
-    let bytes = bytes_of_joined(alloc, painter, profile, memory, wanted, by)?;
+    let bytes = bytes_of_joined(alloc, painter, profile, memory, wanted, by, draft.bytes)?;
     if draft.is_worth(bytes, wanted.size()) {
         return Ok(Ops(draft.ops));
     }
@@ -333,7 +333,7 @@ fn is_nothing_left(
     memory.is_placed(wanted.picture().wish()) && !differs(painter, profile, memory, wanted, by)
 }
 
-// How many bytes the joined repaint has.
+// How many bytes the joined repaint has; where that is more than a limit, a number between the two.
 fn bytes_of_joined(
     alloc: Global,
     painter: Painter,
@@ -341,6 +341,7 @@ fn bytes_of_joined(
     memory: &Memory,
     wanted: &Virtual,
     by: Looked,
+    limit: usize,
 ) -> Result<usize, NoMemory>
     requires painter { painter ≡ painter_of profile.now }
     requires fits { Fits profile.now wanted.now.picture }
@@ -349,10 +350,10 @@ fn bytes_of_joined(
     requires known { is_known memory.now ≡ true }
     requires pen { (is_there profile.now Sgr0 ≡ true) ⊎ (is_plain_pen memory.now.state.pen ≡ true) }
     requires some { (is_none_left (differing profile.now wanted.now.picture memory.now) && is_placed memory.now wanted.now.picture.wish) ≡ false }
-    ensures { IfOk result (λ bytes. bytes ≡ counted_up (length (all_bytes profile.now (joined_of profile.now memory.now wanted.now.picture)))) }
+    ensures { IfOk result (λ bytes. bytes ≤ counted_up (length (all_bytes profile.now (joined_of profile.now memory.now wanted.now.picture)))) }
 {
     let mut joining = Joining::behind(painter, profile, memory, Vec::new(alloc), false)?;
-    joining.join_changes(painter, profile, memory, wanted, by)?;
+    joining.count_changes(painter, profile, memory, wanted, by, limit)?;
     Ok(joining.bytes)
 }
 

@@ -1,5 +1,5 @@
 -- Making the joined repaint, row by row.
-use Rattle.std.specs.Prelude.{ℕ, ◌≡◌, ◌+◌, ◌-◌, ◌^◌, min, Bool, true, ◌<◌, List, All, drop, ◌++◌, length, Option, Some, None}
+use Rattle.std.specs.Prelude.{ℕ, ◌≡◌, ◌+◌, ◌-◌, ◌^◌, min, Bool, true, ◌<◌, ◌≤◌, List, All, drop, ◌++◌, length, Option, Some, None}
 use Rattle.scr_cells.specs.LookViews.{LookView}
 use Rattle.scr_cells.specs.PenViews.{PenView}
 use Rattle.scr_cells.specs.PictureViews.{PictureView}
@@ -39,6 +39,11 @@ pub record IsJoining (profile : ProfileView) (stores : Bool) (first : List Op) (
 -- these operations more, from wherever the others came
 abbrev pub Continues : ProfileView → Joining → Joining → List Op → Type 0
 Continues profile old new more = (stores : Bool) (first : List Op) (start : TerminalState) (all : List Op) → IsJoining profile stores first start all old → IsJoining profile stores first start (all ++ more) new
+
+-- no more is counted than what these operations more would be counted with, from wherever the others came
+abbrev pub CountsAtMost : ProfileView → Joining → Joining → List Op → Type 0
+CountsAtMost profile old new more = (stores : Bool) (first : List Op) (start : TerminalState) (all : List Op) → IsJoining profile stores first start all old
+    → new.bytes ≤ counted_up (length (all_bytes profile (without_idle profile start (all ++ more))))
 
 -- the operations from one on are counted, and kept where that is asked for; they lead to this spot and this pen
 pub record IsCounted (profile : ProfileView) (old new : Joining) (begun : ℕ) (spot : Spot) (pen : PenView) : Type 0 where

@@ -1,6 +1,5 @@
-use Rattle.std.proofs.Common.{ap, arith, option_map, subst, sym, ◌≡◌, ◌∙◌, ◌<◌, ◌≤◌, ◌-◌, filter, true}
+use Rattle.std.proofs.Common.{ap, arith, option_map, subst, sym, ◌≡◌, ◌∙◌, ◌-◌, filter}
 use Rattle.std.specs.List.{flat_map}
-use Rattle.scr_term.specs.Operations.States.{spot_after}
 use Rattle.scr_plan.specs.Code.Joinings.{Continues}
 use Rattle.scr_plan.specs.Code.Painters.{part_places, row_differs, row_paints}
 use Rattle.scr_plan.proofs.JoinedRowLaws.{behind_by, behind_each, left_by, unlike_goes}

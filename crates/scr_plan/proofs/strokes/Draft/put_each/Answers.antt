@@ -1,4 +1,4 @@
-use Rattle.std.proofs.Common.{ap, arith, refl, rules, subst, sym, ◌≡◌, ◌∙◌, ◌<◌, ◌≤◌, ◌-◌, ◌+◌}
+use Rattle.std.proofs.Common.{ap, arith, refl, subst, ◌≡◌, ◌∙◌, ◌≤◌, ◌-◌, ◌+◌}
 use Rattle.scr_term.specs.Operations.States.{spot_after}
 use Rattle.scr_plan.specs.Code.Joinings.{counted_up}
 use Rattle.scr_plan.proofs.DraftLaws.{IsPut, put_counted, put_more, put_none}

@@ -1,4 +1,4 @@
-use Rattle.std.proofs.Common.{arith, refl, rules}
+use Rattle.std.proofs.Common.{arith}
 use Rattle.scr_plan.proofs.DraftLaws.{covers_joined, covers_none}
 use Rattle.scr_plan.proofs.strokes.Draft.write.Goals as goal
 
