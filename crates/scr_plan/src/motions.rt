@@ -71,13 +71,11 @@ pub(crate) fn cheapest_motion(prices: &Prices, spot: Spot, row: u32, column: u32
             (row, column),
         );
     }
-    motion.or_along(
-        prices,
-        Start::Home,
-        prices.of(Op::Home),
-        (0, 0),
-        (row, column),
-    )
+    let home = prices.of(Op::Home);
+    if home >= motion.price {
+        return motion;
+    }
+    motion.or_along(prices, Start::Home, home, (0, 0), (row, column))
 }
 
 impl Motion {
@@ -115,9 +113,6 @@ impl Motion {
         from: (u32, u32),
         to: (u32, u32),
     ) -> Motion {
-        if price_of_start >= self.price {
-            return self;
-        }
         let (rows, price_of_rows) = cheapest_rows(prices, from.0, to.0);
         let price = price_of_start.saturating_add(price_of_rows);
         if price >= self.price {

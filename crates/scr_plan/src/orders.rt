@@ -173,16 +173,19 @@ impl<'a> Task<'a> {
     }
 
     // The nearest of the waiting runs that are looked at: a few around where the last one was, and of the pen that is on the next one
-    // and the first.
+    // and the first. None is looked at twice around there, where few are left.
     fn nearest(&self, walk: &Walk, links: &Links, from: u32, next_alike: u32) -> Nearest {
         let mut nearest = Nearest::none();
         let mut number = from;
-        for _ in 0..AHEAD {
+        let count = self.runs.len().min(u32::MAX as usize) as u32;
+        let waiting = count.saturating_sub(walk.count);
+        let ahead = AHEAD.min(waiting);
+        for _ in 0..ahead {
             nearest = self.nearer(walk, links, nearest, number);
             number = links.next(number);
         }
         number = from;
-        for _ in 0..BACK {
+        for _ in 0..BACK.min(waiting - ahead) {
             number = links.before(number);
             nearest = self.nearer(walk, links, nearest, number);
         }
