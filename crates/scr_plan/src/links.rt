@@ -2,6 +2,7 @@
 //! taken out, in one step.
 
 use crate::runs::Run;
+use crate::ways::{Stop, Way};
 use scr_cells::{NoMemory, Pen};
 use std::alloc::Global;
 
@@ -12,7 +13,7 @@ pub(crate) const NONE: u32 = u32::MAX;
 const MOST_CHAINS: usize = 16;
 
 // The neighbours of a run in the ring and in its chain, the number of that chain, the run that an order has in this place, the run that it
-// has before this one, and the price of the way from there.
+// has before this one, and the way from there.
 #[derive(Clone, Copy)]
 struct Link {
     next: u32,
@@ -22,7 +23,7 @@ struct Link {
     chain: u32,
     ordered: u32,
     behind: u32,
-    way: Option<u32>,
+    way: Option<Way>,
 }
 
 impl Link {
@@ -205,9 +206,13 @@ impl Links {
         }
     }
 
-    // The run that the order which is kept here has in a place.
-    pub(crate) fn ordered(&self, place: u32) -> u32 {
-        self.at(place).ordered
+    // The run that the order which is kept here has in a place, and the way to it.
+    pub(crate) fn ordered(&self, place: u32) -> Stop {
+        let number = self.at(place).ordered;
+        Stop {
+            number,
+            way: self.at(number).way,
+        }
     }
 
     // Keeps the run that an order has in a place.
@@ -217,8 +222,8 @@ impl Links {
         }
     }
 
-    // The price of the way to a run, if an order is kept that has it behind this one; `NONE` where it is the first.
-    pub(crate) fn way_behind(&self, number: u32, before: u32) -> Option<u32> {
+    // The way to a run, if an order is kept that has it behind this one; `NONE` where it is the first.
+    pub(crate) fn way_behind(&self, number: u32, before: u32) -> Option<Way> {
         let link = self.at(number);
         if link.behind == before {
             link.way
@@ -227,11 +232,11 @@ impl Links {
         }
     }
 
-    // Keeps the price of the way to a run from the one that an order has before it.
-    pub(crate) fn set_way(&mut self, number: u32, before: u32, price: u32) {
+    // Keeps the way to a run from the one that an order has before it.
+    pub(crate) fn set_way(&mut self, number: u32, before: u32, way: Way) {
         if let Some(link) = self.links.get_mut(number as usize) {
             link.behind = before;
-            link.way = Some(price);
+            link.way = Some(way);
         }
     }
 

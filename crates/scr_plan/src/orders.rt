@@ -4,7 +4,7 @@
 use crate::least_motions::LeastMotions;
 use crate::links::{Links, NONE};
 use crate::runs::{How, Run};
-use crate::ways::{Chooser, Cursor};
+use crate::ways::{Chooser, Cursor, Stop, Way};
 use scr_cells::{NoMemory, Pen};
 use std::alloc::Global;
 
@@ -16,20 +16,23 @@ const BACK: u32 = 2;
 // What a run costs more in the row where the cursor is wished at the end.
 const WISHED_LAST: u32 = 3;
 
-// The numbers of the runs in the cheaper of the two orders, the nearest next where they cost the same.
+// The runs in the cheaper of the two orders, the nearest next where they cost the same.
 pub(crate) fn cheaper_order(
     alloc: Global,
     chooser: &Chooser<'_>,
     cursor: &Cursor,
     runs: &[Run],
     wish: Option<(u32, u32)>,
-) -> Result<Vec<u32>, NoMemory> {
-    let mut numbers = Vec::with_capacity(alloc, runs.len())?;
+) -> Result<Vec<Stop>, NoMemory> {
+    let mut stops = Vec::with_capacity(alloc, runs.len())?;
     if runs.len() < 2 {
         if !runs.is_empty() {
-            numbers.push(0)?;
+            stops.push(Stop {
+                number: 0,
+                way: None,
+            })?;
         }
-        return Ok(numbers);
+        return Ok(stops);
     }
     let task = Task {
         chooser,
@@ -39,19 +42,19 @@ pub(crate) fn cheaper_order(
     };
     let mut links = Links::new(alloc, runs)?;
     let price_by_pens = task.by_pens(cursor, &mut links);
-    let price_by_nearness = task.by_nearness(cursor, &mut links, &mut numbers, price_by_pens)?;
+    let price_by_nearness = task.by_nearness(cursor, &mut links, &mut stops, price_by_pens)?;
     if price_by_pens < price_by_nearness {
-        numbers.clear();
-        copy_ordered(&links, runs.len(), &mut numbers)?;
+        stops.clear();
+        copy_ordered(&links, runs.len(), &mut stops)?;
     }
-    Ok(numbers)
+    Ok(stops)
 }
 
-// The numbers of the order that is kept in the links.
-fn copy_ordered(links: &Links, count: usize, numbers: &mut Vec<u32>) -> Result<(), NoMemory> {
+// The order that is kept in the links.
+fn copy_ordered(links: &Links, count: usize, stops: &mut Vec<Stop>) -> Result<(), NoMemory> {
     let mut place = 0u32;
     for _ in 0..count {
-        numbers.push(links.ordered(place))?;
+        stops.push(links.ordered(place))?;
         place = place.saturating_add(1);
     }
     Ok(())
@@ -116,7 +119,7 @@ impl Walk {
         links.set_ordered(self.count, number);
         let run = run_at(task.runs, number);
         let way = task.chooser.way(&self.cursor, run.row, run.start, run.pen);
-        links.set_way(number, self.last, way.price);
+        links.set_way(number, self.last, way);
         self.paint_behind(task.chooser, number, &run, way.price);
     }
 
@@ -134,12 +137,12 @@ impl Walk {
 
 // The nearest next.
 impl<'a> Task<'a> {
-    // The price of painting the nearest run next, and the numbers of the runs; any price above the limit where it is above that.
+    // The price of painting the nearest run next, and the runs so; any price above the limit where it is above that.
     fn by_nearness(
         &self,
         cursor: &Cursor,
         links: &mut Links,
-        numbers: &mut Vec<u32>,
+        stops: &mut Vec<Stop>,
         limit: u32,
     ) -> Result<u32, NoMemory> {
         let mut walk = Walk::from(cursor);
@@ -148,8 +151,11 @@ impl<'a> Task<'a> {
         for _ in 0..self.runs.len() {
             let nearest = self.nearest(&walk, links, from, next_alike);
             let run = run_at(self.runs, nearest.number);
-            walk.paint_behind(self.chooser, nearest.number, &run, nearest.price);
-            numbers.push(nearest.number)?;
+            walk.paint_behind(self.chooser, nearest.number, &run, nearest.price());
+            stops.push(Stop {
+                number: nearest.number,
+                way: nearest.way,
+            })?;
             from = links.next(nearest.number);
             next_alike = links.next_alike(nearest.number);
             links.remove(nearest.number);
@@ -206,14 +212,14 @@ impl<'a> Task<'a> {
         if least >= nearest.compared || self.with_turn(least, walk, &run) >= nearest.compared {
             return nearest;
         }
-        let price = self.price_of_way(walk, links, number, &run);
-        let compared = price.saturating_add(more);
+        let way = self.way_to(walk, links, number, &run);
+        let compared = way.price.saturating_add(more);
         if compared >= nearest.compared {
             return nearest;
         }
         Nearest {
             number,
-            price,
+            way: Some(way),
             compared,
         }
     }
@@ -224,15 +230,11 @@ impl<'a> Task<'a> {
         price.saturating_add(self.chooser.price_of_turn(walk.cursor.pen, run.pen))
     }
 
-    // The price of the way to a run, which the other order may have found behind the same run.
-    fn price_of_way(&self, walk: &Walk, links: &Links, number: u32, run: &Run) -> u32 {
+    // The way to a run, which the other order may have found behind the same run.
+    fn way_to(&self, walk: &Walk, links: &Links, number: u32, run: &Run) -> Way {
         match links.way_behind(number, walk.last) {
-            Some(price) => price,
-            None => {
-                self.chooser
-                    .way(&walk.cursor, run.row, run.start, run.pen)
-                    .price
-            }
+            Some(way) => way,
+            None => self.chooser.way(&walk.cursor, run.row, run.start, run.pen),
         }
     }
 
@@ -245,11 +247,11 @@ impl<'a> Task<'a> {
     }
 }
 
-// The nearest of the runs that were looked at, the price of the way to it, and that price as it is compared.
+// The nearest of the runs that were looked at, the way to it, and the price of that as it is compared.
 #[derive(Clone, Copy)]
 struct Nearest {
     number: u32,
-    price: u32,
+    way: Option<Way>,
     compared: u32,
 }
 
@@ -258,8 +260,16 @@ impl Nearest {
     fn none() -> Nearest {
         Nearest {
             number: NONE,
-            price: 0,
+            way: None,
             compared: u32::MAX,
+        }
+    }
+
+    // The price of the way to it.
+    fn price(&self) -> u32 {
+        match &self.way {
+            Some(way) => way.price,
+            None => 0,
         }
     }
 }

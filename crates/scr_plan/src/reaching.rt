@@ -173,13 +173,26 @@ impl Draft {
         requires column { column < picture.now.columns }
         ensures { OnOk result (KeepsAll profile.now picture.now self.old self.new) }
     {
+        let path = self.path_to(painter, profile, picture, row, column, pen);
+        self.follow(painter, profile, picture, path, row, column, pen)
+    }
+
+    // The cheapest path to a place and a pen.
+    pub(crate) fn path_to(
+        &self,
+        painter: Painter,
+        profile: &Profile,
+        picture: &Picture,
+        row: u32,
+        column: u32,
+        pen: Pen,
+    ) -> Path {
         let chooser = Chooser::new(painter, profile, picture);
-        let way = chooser.way(&self.cursor(), row, column, pen);
-        self.follow(painter, profile, picture, way.path, row, column, pen)
+        chooser.way(&self.cursor(), row, column, pen).path
     }
 
     // Follows a path to a place and a pen.
-    fn follow(
+    pub(crate) fn follow(
         &mut self,
         painter: Painter,
         profile: &Profile,

@@ -12,7 +12,7 @@ use crate::orders::cheaper_order;
 use crate::painting::Painter;
 use crate::runs::{How, Run};
 use crate::strokes::Draft;
-use crate::ways::Chooser;
+use crate::ways::{Chooser, Path, Stop, Way};
 use scr_cells::{Look, NoMemory, Pen, Picture, grid_laws};
 use scr_term::{Op, Profile, Spot, profiles_have, run_laws};
 use std::alloc::Global;
@@ -32,9 +32,9 @@ impl Draft {
         ensures right { OnOk result (Leaves profile.now picture.now runs.old.items [] self.old self.new) }
         ensures spot { OnOk result (IfSome picture.now.wish (λ place. self.new.spot ≡ At place.0 place.1)) }
     {
-        let numbers = chosen_order(alloc, painter, profile, picture, self, runs)?;
+        let stops = chosen_order(alloc, painter, profile, picture, self, runs)?;
         self.make_room(profile, runs)?;
-        self.visit_all(painter, profile, picture, runs, &numbers)?;
+        self.visit_all(painter, profile, picture, runs, &stops)?;
         self.place(painter, profile, picture)
     }
 
@@ -52,39 +52,39 @@ impl Draft {
         Ok(())
     }
 
-    // Visits the runs of these numbers one after another, and then all that are left.
+    // Visits these runs one after another, and then all that are left.
     fn visit_all(
         &mut self,
         painter: Painter,
         profile: &Profile,
         picture: &Picture,
         runs: &mut Vec<Run>,
-        numbers: &[u32],
+        stops: &[Stop],
     ) -> Result<(), NoMemory>
         requires painter { painter ≡ painter_of profile.now }
         requires fits { Fits profile.now picture.now }
         ensures { OnOk result (Leaves profile.now picture.now runs.old.items [] self.old self.new) }
     {
-        self.visit_each(painter, profile, picture, runs, numbers)?;
+        self.visit_each(painter, profile, picture, runs, stops)?;
         self.visit_rest(painter, profile, picture, runs)
     }
 
-    // Visits the runs of these numbers one after another.
+    // Visits these runs one after another.
     fn visit_each(
         &mut self,
         painter: Painter,
         profile: &Profile,
         picture: &Picture,
         runs: &mut Vec<Run>,
-        numbers: &[u32],
+        stops: &[Stop],
     ) -> Result<(), NoMemory>
         requires painter { painter ≡ painter_of profile.now }
         requires fits { Fits profile.now picture.now }
         ensures { OnOk result (Leaves profile.now picture.now runs.old.items runs.new.items self.old self.new) }
     {
         let _size = picture.size();
-        for number in numbers {
-            self.visit_at(painter, profile, picture, runs, *number as usize)?;
+        for stop in stops {
+            self.visit_at(painter, profile, picture, runs, stop)?;
         }
         Ok(())
     }
@@ -96,18 +96,19 @@ impl Draft {
         profile: &Profile,
         picture: &Picture,
         runs: &mut [Run],
-        number: usize,
+        stop: &Stop,
     ) -> Result<(), NoMemory>
         requires painter { painter ≡ painter_of profile.now }
         requires fits { Fits profile.now picture.now }
         ensures { OnOk result (Leaves profile.now picture.now runs.old runs.new self.old self.new) }
     {
         let _size = picture.size();
+        let number = stop.number as usize;
         if number >= runs.len() {
             return Ok(());
         }
         let run = run_at(runs, number);
-        self.visit(painter, profile, picture, run)?;
+        self.visit(painter, profile, picture, run, stop.way)?;
         empty(runs, number);
         Ok(())
     }
@@ -126,18 +127,19 @@ impl Draft {
     {
         let _size = picture.size();
         while let Some(run) = runs.pop() {
-            self.visit(painter, profile, picture, run)?;
+            self.visit(painter, profile, picture, run, None)?;
         }
         Ok(())
     }
 
-    // Paints the places of a run.
+    // Paints the places of a run, to which a way was chosen before or is now.
     pub(crate) fn visit(
         &mut self,
         painter: Painter,
         profile: &Profile,
         picture: &Picture,
         run: Run,
+        way: Option<Way>,
     ) -> Result<(), NoMemory>
         requires painter { painter ≡ painter_of profile.now }
         requires fits { Fits profile.now picture.now }
@@ -151,8 +153,24 @@ impl Draft {
         if run.start >= end {
             return Ok(());
         }
-        self.reach(painter, profile, picture, run.row, run.start, run.pen)?;
+        let path = self.path_by(painter, profile, picture, &run, way);
+        self.follow(painter, profile, picture, path, run.row, run.start, run.pen)?;
         self.paint_run(painter, profile, picture, run, end)
+    }
+
+    // The path of a way that was chosen, or the cheapest one to a run.
+    fn path_by(
+        &self,
+        painter: Painter,
+        profile: &Profile,
+        picture: &Picture,
+        run: &Run,
+        way: Option<Way>,
+    ) -> Path {
+        match way {
+            Some(way) => way.path,
+            None => self.path_to(painter, profile, picture, run.row, run.start, run.pen),
+        }
     }
 
     // Paints the places of a run up to a column, in its way.
@@ -315,7 +333,7 @@ impl Draft {
     }
 }
 
-// The numbers of the runs in the cheaper of two orders.
+// The runs in the cheaper of two orders.
 fn chosen_order(
     alloc: Global,
     painter: Painter,
@@ -323,7 +341,7 @@ fn chosen_order(
     picture: &Picture,
     draft: &Draft,
     runs: &[Run],
-) -> Result<Vec<u32>, NoMemory> {
+) -> Result<Vec<Stop>, NoMemory> {
     let chooser = Chooser::new(painter, profile, picture);
     let cursor = draft.cursor();
     cheaper_order(alloc, &chooser, &cursor, runs, picture.wish())

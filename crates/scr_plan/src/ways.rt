@@ -42,6 +42,13 @@ pub(crate) struct Way {
     pub(crate) price: u32,
 }
 
+// A run by its number, and the way to it that was chosen with its order, if one was.
+#[derive(Clone, Copy)]
+pub(crate) struct Stop {
+    pub(crate) number: u32,
+    pub(crate) way: Option<Way>,
+}
+
 impl Way {
     // The cheaper of two, this one where they cost the same.
     fn or(self, other: Option<Way>) -> Way {
