@@ -353,3 +353,34 @@ pub(crate) fn is_that_pen(left: Option<Pen>, pen: Pen) -> bool
         None => false,
     }
 }
+
+// The first column from one on with a blank; the end, where there is none before it.
+pub(crate) fn first_blank(cells: &[Cell], from: u32, end: u32) -> u32
+    requires wide { end ≤ length cells.now }
+    requires from { from ≤ end }
+    ensures from { from ≤ result }
+    ensures end { result ≤ end }
+{
+    for column in from..end {
+        if cells[column as usize].byte() == b' ' {
+            return column;
+        }
+    }
+    end
+}
+
+// Where the blanks end that begin in a column, if any do.
+#[inline(always)]
+pub(crate) fn blanks_end(cells: &[Cell], column: u32, end: u32) -> u32
+    requires wide { end ≤ length cells.now }
+    requires column { column ≤ end }
+    ensures column { column ≤ result }
+    ensures end { result ≤ end }
+{
+    for behind in column..end {
+        if cells[behind as usize].byte() != b' ' {
+            return behind;
+        }
+    }
+    end
+}

@@ -3,7 +3,7 @@ ghost use Rattle.std.specs.Prelude.{◌≡◌, ◌<◌, ◌≤◌, IfOk, IfSome,
 ghost use Rattle.scr_cells.specs.Grids.{grid_row};
 ghost use Rattle.scr_plan.specs.Code.Drafts.{HasDiffering, HasMarks, HasPart, KeepsRuns};
 
-use crate::looking::is_shown_in;
+use crate::looking::{blanks_end, first_blank, is_shown_in};
 use crate::painting::Painter;
 use scr_cells::{Cell, Look, NoMemory, Pen, Picture};
 use scr_term::{Op, Profile};
@@ -336,37 +336,6 @@ fn is_worth_erasing(profile: &Profile, count: u32, goes_on: bool) -> bool {
         0
     };
     count > erasure.saturating_add(motion)
-}
-
-// The first column from one on with a blank; the end, where there is none before it.
-fn first_blank(cells: &[Cell], from: u32, end: u32) -> u32
-    requires wide { end ≤ length cells.now }
-    requires from { from ≤ end }
-    ensures from { from ≤ result }
-    ensures end { result ≤ end }
-{
-    for column in from..end {
-        if cells[column as usize].byte() == b' ' {
-            return column;
-        }
-    }
-    end
-}
-
-// Where the blanks end that begin in a column, if any do.
-#[inline(always)]
-fn blanks_end(cells: &[Cell], column: u32, end: u32) -> u32
-    requires wide { end ≤ length cells.now }
-    requires column { column ≤ end }
-    ensures column { column ≤ result }
-    ensures end { result ≤ end }
-{
-    for behind in column..end {
-        if cells[behind as usize].byte() != b' ' {
-            return behind;
-        }
-    }
-    end
 }
 
 // A run that is written.

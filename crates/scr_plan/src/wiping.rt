@@ -1,16 +1,15 @@
 //! Many lines erased at once, before anything is painted, where that is worth it. From which row on is chosen by prices alone; nothing
 //! depends on that choice but how many bytes an update has.
-ghost use Rattle.std.specs.Prelude.{◌≡◌, ◌<◌, ◌≤◌, IfOk, OnOk, false, length, slice_index_or, true};
+ghost use Rattle.std.specs.Prelude.{◌≡◌, ◌<◌, IfOk, OnOk, false, length, slice_index_or, true};
 ghost use Rattle.scr_plan.specs.Code.Drafts.{KeepsAbove, KeepsAll, Leaves, Wipes};
 ghost use Rattle.scr_plan.specs.Code.Painters.{painter_of};
 ghost use Rattle.scr_plan.specs.Scratch.{Fits};
 ghost use Rattle.scr_plan.specs.declared.runs.Run.{Run};
 
-use crate::looking::are_alike;
 use crate::orders::run_at;
 use crate::painting::Painter;
 use crate::runs::Run;
-use crate::stretches::Stretches;
+use crate::stretches::{least_on_blanks, price_on_blanks};
 use crate::strokes::Draft;
 use crate::ways::{Chooser, Cursor};
 use scr_cells::{Cell, Look, NoMemory, Pen, Picture, grid_laws};
@@ -81,18 +80,6 @@ fn most_spared(chooser: &Chooser<'_>, runs: &[Run]) -> i64 {
         spared = spared.saturating_add(i64::from(price_as_it_stands(chooser, run)));
     }
     sum.saturating_add(spared.max(0))
-}
-
-// What the cells of a row cost at least on a blank row: each character, and an easy motion if there is one.
-fn least_on_blanks(chooser: &Chooser<'_>, cells: &[Cell]) -> u32 {
-    let mut characters = 0u32;
-    for cell in cells {
-        characters = characters.wrapping_add(u32::from(cell.byte() != b' '));
-    }
-    if characters == 0 {
-        return 0;
-    }
-    characters.saturating_add(chooser.jump)
 }
 
 // What a run costs as it stands, and an easy motion.
@@ -229,56 +216,6 @@ fn is_blank(chooser: &Chooser<'_>, cells: &[Cell]) -> bool {
 // Whether a cell is seen blank.
 fn is_blank_cell(chooser: &Chooser<'_>, cell: Cell) -> bool {
     cell.byte() == b' ' && chooser.painter.pen_of(chooser.picture, cell).is_plain()
-}
-
-// What the cells of a row cost on a blank row: its stretches, and an easy motion for each.
-fn price_on_blanks(chooser: &Chooser<'_>, cells: &[Cell]) -> u32 {
-    let mut stretches = Stretches::none(chooser.jump);
-    let mut column = 0;
-    while column < cells.len() {
-        let end = blanks_behind(cells, column);
-        if end > column {
-            stretches = stretches.with_blanks(end - column);
-            column = end;
-        } else {
-            let cell = cells[column];
-            let end = alike_behind(cells, column);
-            let pen = chooser.painter.pen_of(chooser.picture, cell);
-            stretches = stretches.with(pen, cell.byte() == b' ' && pen.is_plain(), end - column);
-            column = end;
-        }
-    }
-    stretches.price
-}
-
-// Where the blanks in default colours end that begin in a column, if any do.
-fn blanks_behind(cells: &[Cell], column: usize) -> usize
-    requires { column ≤ length cells.now }
-    ensures from { column ≤ result }
-    ensures end { result ≤ length cells.now }
-{
-    for behind in column..cells.len() {
-        if cells[behind] != Cell::blank() {
-            return behind;
-        }
-    }
-    cells.len()
-}
-
-// Where the characters end that begin in a column, or the blanks, whose cells are like that one's.
-fn alike_behind(cells: &[Cell], column: usize) -> usize
-    requires { column < length cells.now }
-    ensures from { column < result }
-    ensures end { result ≤ length cells.now }
-{
-    let first = cells[column];
-    for behind in column + 1..cells.len() {
-        let cell = cells[behind];
-        if !are_alike(first, cell) || (cell.byte() == b' ') != (first.byte() == b' ') {
-            return behind;
-        }
-    }
-    cells.len()
 }
 
 impl Draft {
