@@ -135,17 +135,6 @@ covers_none profile picture row column draft waits =
     still place false e = refl
     still place true e = grind (arith, nat_tests)
 
--- a part, and the place behind it
-pub covers_more : (profile : ProfileView) (picture : PictureView) (row from column : ℕ) (old mid new : Draft) → from ≤ column → Covers profile picture (in_part row from column) old mid → Covers profile picture (in_part row column (column + 1)) mid new
-    → Covers profile picture (in_part row from (column + 1)) old new
-covers_more profile picture row from column old mid new order one other waits paid first start right =
-    weaker profile picture (without (in_part row column (column + 1)) (without (in_part row from column) waits)) (without (in_part row from (column + 1)) waits) new (λ place e. either place (waits place) e) paid first start
-    (other (without (in_part row from column) waits) paid first start (one waits paid first start right))
-  where
-    either : (place : ℕ × ℕ) (b : Bool) → (b && not (in_part row from (column + 1) place)) ≡ false → ((b && not (in_part row from column place)) && not (in_part row column (column + 1) place)) ≡ false
-    either place false e = refl
-    either place true e = grind (arith, nat_tests)
-
 -- ---- a place is painted
 
 -- what leads to a place from anywhere

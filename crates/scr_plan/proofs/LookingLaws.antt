@@ -425,9 +425,6 @@ one_place_more holds from column some last c low high = by (ltb c column) refl
     by true e = let below : c < column = grind (arith, nat_tests) in some c low below
     by false e = let here : column ≡ c = grind (arith, nat_tests) in subst holds here last
 
-pub first_place : (holds : ℕ → Type 0) (column : ℕ) → holds column → (c : ℕ) → column ≤ c → c < column + 1 → holds c
-first_place holds column first c low high = let here : column ≡ c = omega (arith, low, high) in subst holds here first
-
 -- cells with the same attributes and the same colour pair are seen with one pen
 pub alike_pens : (painter : Painter) (pairs : List (ℕ × ℕ)) (a b : CellView) → a.attrs ≡ b.attrs → a.pair ≡ b.pair → (painter_sees painter pairs a).pen ≡ (painter_sees painter pairs b).pen
 alike_pens painter pairs a b attrs pair = λ i. (painter_sees painter pairs (record a { attrs = attrs i; pair = pair i })).pen

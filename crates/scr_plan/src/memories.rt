@@ -160,8 +160,7 @@ impl Memory {
         self.forget_spot_and_pen();
     }
 
-    /// Others wrote into n rows from one on, as many of them as there are: these are not known any more, nor are the
-    /// cursor's place and what is written with. X/Open Curses Issue 7, redrawwin().
+    /// Others wrote into n rows from one on, as many as there are: these, spot and pen are not known any more. X/Open Curses Issue 7, redrawwin().
     pub fn disturb(&mut self, first: u32, n: u32)
         ensures { self.new ≡ disturbed first n self.old }
     {
@@ -219,8 +218,7 @@ impl Memory {
         1
     }
 
-    // Follows the characters that operations begin with, as far as the cursor's row takes them, and says how many. Where the cursor and
-    // the pen are known no character makes more known or less, and most operations of an update are characters.
+    // Follows the characters that operations begin with, as far as the cursor's row takes them, and says how many. They change nothing of what is known.
     fn follow_characters(&mut self, profile: &Profile, ops: &[Op]) -> usize
         requires rows { profile.now.rows ≡ self.old.rows }
         requires columns { profile.now.columns ≡ self.old.columns }
