@@ -2,6 +2,7 @@ pub mod NumberLaws
 pub mod DecimalLaws
 pub mod CursorLaws
 pub mod StrideLaws
+pub mod LengthLaws
 pub mod FixedLaws
 pub mod FlatLaws
 pub mod MeasureLaws

@@ -8,6 +8,7 @@ mod directives;
 mod faults;
 mod laws;
 mod layouts;
+mod lengths;
 mod machine;
 mod marks;
 mod measures;
