@@ -6,7 +6,7 @@ use Rattle.scr_term.specs.declared.operations.capability.Capability.TheVariants 
 use Rattle.scr_term.specs.declared.operations.operation.Op.{Op}
 use Rattle.scr_term.specs.Operations.Pieces.{Piece}
 use Rattle.scr_term.specs.Operations.Profiles.{ProfileView, has_colours}
-use Rattle.scr_term.specs.Operations.Texts.{bytes_of, first_piece, has, piece_bytes, resets_colours, text}
+use Rattle.scr_term.specs.Operations.Texts.{bytes_of, first_piece, has, is_sendable, is_within, piece_bytes, resets_colours, text}
 
 -- where the colours stay, one piece is sent
 pub bytes_of_one : (profile : ProfileView) (op : Op) → (resets_colours op && has_colours profile) ≡ false
@@ -22,6 +22,11 @@ unfolding bytes_of
 bytes_of_two profile op h =
     ap (λ t. flat_map (piece_bytes profile) (first_piece profile op ∷ (cond t (text capability.Op ∷ []) []))) h
     ∙ ap (λ bytes. piece_bytes profile (first_piece profile op) ++ bytes) (append-nil (piece_bytes profile (text capability.Op)))
+
+-- what can be sent is there
+pub has_piece : (profile : ProfileView) (op : Op) → is_within profile op ≡ true → is_sendable profile (first_piece profile op) ≡ true → has profile op ≡ true
+unfolding has
+has_piece profile op within sendable = ap (λ t. t && is_sendable profile (first_piece profile op)) within ∙ sendable
 
 -- how many bytes two pieces have
 pub cost_of_two : (profile : ProfileView) (op : Op) (first second : ℕ) (piece : Piece) → has profile op ≡ true → (resets_colours op && has_colours profile) ≡ true → piece ≡ text capability.Op

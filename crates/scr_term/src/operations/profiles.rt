@@ -110,8 +110,8 @@ impl Profile {
         self.msgr
     }
 
-    // Whether the numbers of an operation are on the screen, its attributes and colours shown, its byte a character.
-    fn is_within(&self, op: Op) -> bool
+    /// Whether the numbers of an operation are on the screen, its attributes and colours shown, its byte a character.
+    pub(crate) fn is_within(&self, op: Op) -> bool
         ensures { result ≡ is_within self.now op }
     {
         match op {
@@ -138,8 +138,8 @@ impl Profile {
         self.is_there(Capability::Sgr0) && self.is_there(entering(attribute))
     }
 
-    // Whether the terminal can be sent a piece.
-    fn is_sendable(&self, piece: Sent) -> bool
+    /// Whether the terminal can be sent a piece.
+    pub(crate) fn is_sendable(&self, piece: Sent) -> bool
         ensures { result ≡ is_sendable self.now (piece_of piece) }
     {
         match piece {

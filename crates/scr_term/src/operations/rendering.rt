@@ -13,14 +13,43 @@ use ti_param::{RunFault, Vars, stack_is_enough, text_is_bounded};
 
 impl Profile {
     /// How many bytes an operation's text has; `None` where the terminal does not have the operation.
-    #[tactic(auto, using(crate::proofs::RenderingLaws::bytes_of_one))]
+    #[inline(always)]
     pub fn cost(&self, op: Op) -> Option<usize>
         ensures { result ≡ if has self.now op then Some (length (bytes_of self.now op)) else None }
     {
-        if !self.has(op) {
+        match op {
+            Op::Move(row, column) => self.address_cost(row, column),
+            other => self.any_cost(other),
+        }
+    }
+
+    // How many bytes a cursor address has. It stands apart, since a plan asks for these most often.
+    #[inline(always)]
+    #[tactic(auto, using(crate::proofs::RenderingLaws::bytes_of_one), unfolding(crate::specs::Operations::Texts::has))]
+    fn address_cost(&self, row: u32, column: u32) -> Option<usize>
+        ensures { result ≡ if has self.now (Move row column) then Some (length (bytes_of self.now (Move row column))) else None }
+    {
+        let size = self.size();
+        if row < size.rows && column < size.columns && self.is_there(Capability::Cup) {
+            return Some(self.numbers_cost(Capability::Cup, row as i32, column as i32));
+        }
+        None
+    }
+
+    // How many bytes any operation has that the terminal has.
+    #[inline(never)]
+    #[tactic(auto, using(crate::proofs::RenderingLaws::bytes_of_one), unfolding(crate::specs::Operations::Texts::has))]
+    fn any_cost(&self, op: Op) -> Option<usize>
+        ensures { result ≡ if has self.now op then Some (length (bytes_of self.now op)) else None }
+    {
+        if !self.is_within(op) {
             return None;
         }
-        let first = self.piece_cost(self.first_sent(op));
+        let piece = self.first_piece(op);
+        if !self.is_sendable(piece) {
+            return None;
+        }
+        let first = self.piece_cost(piece);
         if self.makes_colours_default(op) {
             Some(first + self.piece_cost(text(Capability::Op)))
         } else {
@@ -115,6 +144,7 @@ impl Profile {
     }
 
     // How many bytes a piece has.
+    #[inline(always)]
     fn piece_cost(&self, piece: Sent) -> usize
         requires { IsTrue (is_sendable self.now (piece_of piece)) }
         ensures value { result ≡ length (piece_bytes self.now (piece_of piece)) }
@@ -130,6 +160,7 @@ impl Profile {
     }
 
     // How many bytes the text of a capability has for two numbers.
+    #[inline(always)]
     fn numbers_cost(&self, capability: Capability, first: i32, second: i32) -> usize
         requires { IsTrue (is_there self.now capability) }
         ensures value { result ≡ length (written (program_of self.now capability) (nine (first ∷ second ∷ []))) }
@@ -144,6 +175,7 @@ impl Profile {
     }
 
     // How many bytes the text of `sgr` has for a set of attributes.
+    #[inline(never)]
     fn renditions_cost(&self, set: Attrs) -> usize
         requires { IsTrue (is_there self.now Capability.Sgr) }
         ensures value { result ≡ length (written (program_of self.now Capability.Sgr) (renditions_of set.0)) }

@@ -1,8 +1,0 @@
-use Rattle.std.proofs.Common.{rules}
-use Rattle.scr_term.specs.Code.Sent.{piece_of}
-use Rattle.scr_term.proofs.RenderingLaws.{cost_of_two}
-use Rattle.scr_term.proofs.operations.profiles.Profile.cost.Goals as goal
-
-pub returns-then-makes_colours_default : goal.returns-then-makes_colours_default
-returns-then-makes_colours_default c =
-    cost_of_two c.args.self.now c.args.op _ _ (piece_of c.text.result) (search rules) (search rules) (search rules) (search rules) (search rules)
