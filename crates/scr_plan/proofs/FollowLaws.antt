@@ -15,10 +15,11 @@ use Rattle.scr_term.specs.declared.operations.operation.Spot.TheVariants.{At, Ma
 use Rattle.scr_term.specs.Operations.Abilities.{Abilities}
 use Rattle.scr_term.specs.Operations.Laws.{StepsKeepStates}
 use Rattle.scr_term.specs.Operations.Profiles.{ProfileView, IsProfile, abilities}
-use Rattle.scr_term.specs.Operations.States.{TerminalState, AreShownColours, IsShownPen, IsState}
+use Rattle.scr_term.specs.Operations.States.{TerminalState, AreShownColours, IsShownPen, IsState, is_from_place}
 use Rattle.scr_term.specs.Operations.Steps.{act, step}
 use Rattle.scr_term.specs.Operations.Texts.{has}
 use Rattle.scr_plan.proofs.ActLaws.{Acts, acts, erased_grid, grid_by, pen_by, rows_same, spot_by}
+use Rattle.scr_plan.proofs.RememberedRowLaws.{from_above, from_as_many, from_kept}
 use Rattle.scr_plan.proofs.ScratchLaws.{grid_same, map_same}
 use Rattle.scr_plan.specs.Memories.{Agrees, IsDisturbance, IsWithout, MemoryLaws, MemoryView, changes_cells, clears, disturbed, followed, forgotten, has_one_pen, is_known, is_known_row, places_spot, rows_erased, sets_pen, stepped}
 
@@ -172,11 +173,19 @@ erased_after profile EraseLine (At r0 zero) pen a b first second rows r high sam
         rows_same profile EraseLine (At r0 0) pen a b first second r high (same (sym (get_or-set_other rows r0 r true false other) ∙ known))
 erased_after profile EraseLine (At r0 (suc c)) pen a b first second rows r high same known = rows_same profile EraseLine (At r0 (suc c)) pen a b first second r high (same known)
 erased_after profile EraseLine (Margin r0) pen a b first second rows r high same known = rows_same profile EraseLine (Margin r0) pen a b first second r high (same known)
+erased_after profile EraseBelow (At r0 zero) pen a b first second rows r high same known = by (leb r0 r) refl
+  where
+    by : (t : Bool) → leb r0 r ≡ t → grid_row (grid_by profile EraseBelow (At r0 0) pen a) r ≡ grid_row (grid_by profile EraseBelow (At r0 0) pen b) r
+    by true e = whole_row profile (is_from_place r0 0) a b r high (λ c wide. grind (arith, nat_tests))
+    by false e = rows_same profile EraseBelow (At r0 0) pen a b first second r high (same (from_above r0 rows r e known))
+erased_after profile EraseBelow (At r0 (suc c)) pen a b first second rows r high same known = rows_same profile EraseBelow (At r0 (suc c)) pen a b first second r high (same known)
+erased_after profile EraseBelow (Margin r0) pen a b first second rows r high same known = rows_same profile EraseBelow (Margin r0) pen a b first second r high (same known)
 erased_after profile op spot pen a b first second rows r high same known = rows_same profile op spot pen a b first second r high (same known)
 
 -- an operation that changes no cell erases no row
 not_erased : (op : Op) (spot : Spot) (rows : List Bool) → changes_cells op ≡ false → rows_erased op spot rows ≡ rows
 not_erased EraseLine spot rows e = (cc)
+not_erased EraseBelow spot rows e = (cc)
 not_erased op spot rows e = refl
 
 -- both states after an operation, from two that it was defined from
@@ -205,6 +214,9 @@ as_many : (op : Op) (spot : Spot) (rows : List Bool) → length (rows_erased op 
 as_many EraseLine (At r zero) rows = length-set rows r true
 as_many EraseLine (At r (suc c)) rows = refl
 as_many EraseLine (Margin r) rows = refl
+as_many EraseBelow (At r zero) rows = from_as_many r rows
+as_many EraseBelow (At r (suc c)) rows = refl
+as_many EraseBelow (Margin r) rows = refl
 as_many op spot rows = refl
 
 high_after : (op : Op) (spot : Spot) (memory : MemoryView) (a b : Bool) → length (if a then replicate (length memory.known_rows) true else (if b then replicate (length memory.known_rows) false else rows_erased op spot memory.known_rows)) ≡ length memory.known_rows
@@ -273,6 +285,9 @@ still_erased : (op : Op) (spot : Spot) (rows : List Bool) → list_all (λ known
 still_erased EraseLine (At r zero) rows e = still_set rows r e
 still_erased EraseLine (At r (suc c)) rows e = e
 still_erased EraseLine (Margin r) rows e = e
+still_erased EraseBelow (At r zero) rows e = ap (list_all (λ known. known)) (from_kept r rows e) ∙ e
+still_erased EraseBelow (At r (suc c)) rows e = e
+still_erased EraseBelow (Margin r) rows e = e
 still_erased op spot rows e = e
 
 still_known : (op : Op) (spot : Spot) (memory : MemoryView) (a b c d : Bool) → list_all (λ known. known) memory.known_rows ≡ true → memory.known_spot ≡ true → memory.known_pen ≡ true

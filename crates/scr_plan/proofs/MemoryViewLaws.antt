@@ -1,15 +1,16 @@
 -- Steps on what is remembered, and what is true of it after them.
-use Rattle.std.proofs.Common.{◌≡◌, ℕ, ◌+◌, Bool, true, false, sym, ◌∙◌, ap, refl, arith, List, [], ◌∷◌, length, set, zero, suc, Option, Some, None, replicate, ◌<◌, ◌&&◌, leb, ltb}
+use Rattle.std.proofs.Common.{◌≡◌, ℕ, ◌+◌, Bool, true, false, sym, ◌∙◌, ap, refl, arith, List, [], ◌∷◌, length, set, zero, suc, Option, Some, None, replicate, ◌<◌, ◌&&◌, leb, ltb, min}
 use Rattle.std.specs.List.{list_all}
 use Rattle.std.specs.Option.{is_some}
+use Rattle.std.proofs.lemmas.Bool.Decides.{nat_tests}
 use Rattle.std.proofs.lemmas.List.{length-replicate}
 use Rattle.scr_term.specs.declared.operations.operation.Op.{Op}
 use Rattle.scr_term.specs.Operations.Abilities.{Abilities}
 use Rattle.scr_term.specs.Operations.Profiles.{abilities}
 use Rattle.scr_term.specs.Operations.States.{TerminalState}
-use Rattle.scr_plan.specs.Memories.{MemoryView, disturbed, stepped}
-use Rattle.scr_plan.specs.Code.Remembering.{IsKept, gone_to, without_run}
-use Rattle.scr_plan.proofs.RememberedRowLaws.{all_are, all_true, without_alike}
+use Rattle.scr_plan.specs.Memories.{MemoryView, disturbed, known_from, stepped}
+use Rattle.scr_plan.specs.Code.Remembering.{IsKept, gone_to, with_run}
+use Rattle.scr_plan.proofs.RememberedRowLaws.{all_are, all_true, from_is_run, from_kept, with_alike}
 
 -- every row is set
 pub set_is_kept : (memory : MemoryView) (all known : Bool) (new : List Bool) → IsKept memory all → new ≡ replicate (length memory.known_rows) known → IsKept (record memory { known_rows = new }) known
@@ -36,11 +37,11 @@ learnt abilities op old memory (Some next) there is = ap (λ m. stepped abilitie
 
 -- rows that there are are disturbed
 pub disturbed_is : (memory view : MemoryView) (first n from end rows : ℕ) (new : List Bool) → memory ≡ view → length memory.known_rows ≡ rows
-    → ((r : ℕ) → r < rows → (leb from r && ltb r end) ≡ (leb first r && ltb r (first + n))) → new ≡ without_run from end memory.known_rows
+    → ((r : ℕ) → r < rows → (leb from r && ltb r end) ≡ (leb first r && ltb r (first + n))) → new ≡ with_run false from end memory.known_rows
     → record memory { known_rows = new; known_spot = false; known_pen = false } ≡ disturbed first n view
 disturbed_is memory view first n from end rows new is whole alike new_is =
-    let there : new ≡ without_run first (first + n) memory.known_rows =
-    new_is ∙ without_alike first (first + n) from end memory.known_rows (λ r h. alike r (omega (arith, h, whole))) in
+    let there : new ≡ with_run false first (first + n) memory.known_rows =
+    new_is ∙ with_alike false first (first + n) from end memory.known_rows (λ r h. alike r (omega (arith, h, whole))) in
     ap (λ known. record memory { known_rows = known; known_spot = false; known_pen = false }) there ∙ ap (disturbed first n) is
 
 -- ---- sizes
@@ -65,3 +66,23 @@ pub one_kept : (memory view : MemoryView) (all : Bool) (r : ℕ) → memory ≡ 
 one_kept memory view all r is kept e =
     let known : list_all (λ k. k) view.known_rows ≡ true = ap (λ (m : MemoryView). list_all (λ k. k) m.known_rows) (sym is) ∙ sym kept.every ∙ e in
     ap (λ rows. record view { known_rows = rows }) (set_known view.known_rows r known)
+
+-- ---- all rows from one on
+
+-- where all rows are known, to know these changes nothing
+pub rest_kept : (memory view : MemoryView) (all : Bool) (first : ℕ) → memory ≡ view → IsKept memory all → all ≡ true → view ≡ record view { known_rows = known_from first view.known_rows }
+rest_kept memory view all first is kept e =
+    let known : list_all (λ k. k) view.known_rows ≡ true = ap (λ (m : MemoryView). list_all (λ k. k) m.known_rows) (sym is) ∙ sym kept.every ∙ e in
+    ap (λ rows. record view { known_rows = rows }) (sym (from_kept first view.known_rows known))
+
+-- the lesser of a row and the number of rows tells the rows there are as the row does
+pub least_tells : (first rows r : ℕ) → r < rows → (from : ℕ) → from ≡ min first rows → leb from r ≡ leb first r
+least_tells first rows r h from is = grind (arith, nat_tests)
+
+-- those that there are become known
+pub rest_is : (memory view : MemoryView) (first from rows : ℕ) (new : List Bool) → memory ≡ view → length memory.known_rows ≡ rows → ((r : ℕ) → r < rows → leb from r ≡ leb first r)
+    → new ≡ with_run true from rows memory.known_rows → record memory { known_rows = new } ≡ record view { known_rows = known_from first view.known_rows }
+rest_is memory view first from rows new is whole alike new_is =
+    let there : new ≡ known_from first memory.known_rows =
+    new_is ∙ ap (λ n. with_run true from n memory.known_rows) (sym whole) ∙ from_is_run first from memory.known_rows (λ r h. alike r (omega (arith, h, whole))) in
+    ap (λ known. record memory { known_rows = known }) there ∙ ap (λ (m : MemoryView). record m { known_rows = known_from first m.known_rows }) is

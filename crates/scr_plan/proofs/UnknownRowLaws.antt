@@ -9,7 +9,7 @@ use Rattle.scr_cells.specs.PenViews.{PenView, is_plain_pen, plain_pen}
 use Rattle.scr_cells.specs.PictureViews.{PictureView}
 use Rattle.scr_term.specs.declared.operations.capability.Capability.TheVariants.{Sgr0}
 use Rattle.scr_term.specs.declared.operations.operation.Op.{Op}
-use Rattle.scr_term.specs.declared.operations.operation.Op.TheVariants.{EraseLine, Move, Reset}
+use Rattle.scr_term.specs.declared.operations.operation.Op.TheVariants.{EraseBelow, EraseLine, Move, Reset}
 use Rattle.scr_term.specs.declared.operations.operation.Spot.{Spot}
 use Rattle.scr_term.specs.declared.operations.operation.Spot.TheVariants.{At, Margin}
 use Rattle.scr_term.specs.Operations.Laws.{HasLaws, ProfilesHave, RunLaws}
@@ -22,6 +22,7 @@ use Rattle.scr_plan.proofs.MemoryRunLaws.{agrees_itself}
 use Rattle.scr_plan.proofs.PartLaws.{look_refl}
 use Rattle.scr_plan.proofs.PlaceLaws.{at_place, goes_by, one_run, plain}
 use Rattle.scr_plan.proofs.PlainLaws.{look_same, not_false}
+use Rattle.scr_plan.proofs.RememberedRowLaws.{from_stays}
 use Rattle.scr_plan.proofs.RunChangeLaws.{not_in}
 use Rattle.scr_plan.specs.Code.Drafts.{HasChangesIn, HasDiffering, HasUnsettled, HasUnsettledIn, IsAdded, IsPartly, IsRight, Keeps, KeepsAll, KeepsRuns, Knows, Leaves, RightFrom, WipesRow, in_runs, or_below, or_row, row_wiped, unsettled}
 use Rattle.scr_plan.specs.Code.Joinings.{counted_up}
@@ -59,6 +60,9 @@ stays_erased : (op : Op) (spot : Spot) (rows : List Bool) (r : ℕ) → get_or r
 stays_erased EraseLine (At row zero) rows r known = stays_set rows row r known
 stays_erased EraseLine (At row (suc c)) rows r known = known
 stays_erased EraseLine (Margin row) rows r known = known
+stays_erased EraseBelow (At row zero) rows r known = from_stays row rows r known
+stays_erased EraseBelow (At row (suc c)) rows r known = known
+stays_erased EraseBelow (Margin row) rows r known = known
 stays_erased op spot rows r known = known
 
 stays_followed : (op : Op) (spot : Spot) (rows : List Bool) (r : ℕ) (a b : Bool) → get_or rows r false ≡ true

@@ -127,13 +127,18 @@ clears op = false
 abbrev pub has_one_pen : Abilities → Bool
 has_one_pen abilities = abilities.shown == 0 && not abilities.colours
 
--- a row that is erased from its first column on is known then
+-- the rows from one on are known
+abbrev pub known_from : ℕ → List Bool → List Bool
+known_from first rows = map (λ r. if leb first r then true else slice_index_or rows r false) (range_with_len 0 (length rows))
+
+-- a row that is erased from its first column on is known then, and so are all below it that are erased with it
 abbrev pub rows_erased : Op → Spot → List Bool → List Bool
 rows_erased EraseLine (At r zero) rows = slice_set rows r true
+rows_erased EraseBelow (At r zero) rows = known_from r rows
 rows_erased op spot rows = rows
 
 -- The rows that are known after an operation that led to a state: all of a screen that was cleared; none where it is not known where or how
--- cells were changed; else those that were, and one that was erased whole.
+-- cells were changed; else those that were, and those that were erased whole.
 abbrev pub rows_followed : Op → MemoryView → TerminalState → List Bool
 rows_followed op memory next =
     if clears op then replicate (length memory.known_rows) true

@@ -5,10 +5,10 @@ ghost use Rattle.std.specs.Option.{is_some};
 ghost use Rattle.scr_term.specs.Operations.Profiles.{abilities};
 ghost use Rattle.scr_term.specs.Operations.States.{IsSpot};
 ghost use Rattle.scr_term.specs.Operations.Steps.{step};
-ghost use Rattle.scr_plan.specs.Memories.{IsMemory, all_followed, changes_cells, clears, disturbed, followed, forgotten, has_one_pen, is_known, is_known_row, pen_if_known, places_spot, row_looks, rows_erased, rows_followed, sets_pen, spot_if_known, stepped, unknown};
+ghost use Rattle.scr_plan.specs.Memories.{IsMemory, all_followed, changes_cells, clears, disturbed, followed, forgotten, has_one_pen, is_known, is_known_row, known_from, pen_if_known, places_spot, row_looks, rows_erased, rows_followed, sets_pen, spot_if_known, stepped, unknown};
 ghost use Rattle.scr_plan.specs.Repaints.{is_placed};
 ghost use Rattle.scr_cells.specs.Grids.{grid_row};
-ghost use Rattle.scr_plan.specs.Code.Remembering.{gone_to, without_run};
+ghost use Rattle.scr_plan.specs.Code.Remembering.{gone_to, with_run};
 
 use scr_cells::{Look, NoMemory, Pen, Size};
 use scr_term::{Op, Profile, Spot, Terminal};
@@ -166,7 +166,7 @@ impl Memory {
     {
         let size = self.terminal.size();
         let (from, end) = rows_there(first, n, size.rows);
-        forget_run(&mut self.rows, from as usize, end as usize);
+        set_run(&mut self.rows, from as usize, end as usize, false);
         self.all_rows = are_all(&self.rows);
         self.forget_spot_and_pen();
     }
@@ -274,15 +274,17 @@ impl Memory {
         }
     }
 
-    // A row that was erased from its first column on is known.
+    // Rows that were erased from the first column on are known: the cursor's, or that and all below it.
     fn learn_erased(&mut self, op: Op)
         ensures { self.new ≡ record self.old { known_rows = rows_erased op self.old.state.spot self.old.known_rows } }
     {
-        if op != Op::EraseLine {
+        let Spot::At(row, 0) = self.terminal.spot() else {
             return;
-        }
-        if let Spot::At(row, 0) = self.terminal.spot() {
-            self.know_row(row);
+        };
+        match op {
+            Op::EraseLine => self.know_row(row),
+            Op::EraseBelow => self.know_rows_from(row),
+            _ => {}
         }
     }
 
@@ -294,6 +296,19 @@ impl Memory {
             return;
         }
         set_one(&mut self.rows, row as usize);
+        self.all_rows = are_all(&self.rows);
+    }
+
+    // The rows from one on are known; where all were, nothing is done.
+    fn know_rows_from(&mut self, row: u32)
+        ensures { self.new ≡ record self.old { known_rows = known_from row self.old.known_rows } }
+    {
+        if self.all_rows {
+            return;
+        }
+        let size = self.terminal.size();
+        let from = row.min(size.rows);
+        set_run(&mut self.rows, from as usize, size.rows as usize, true);
         self.all_rows = are_all(&self.rows);
     }
 
@@ -343,14 +358,14 @@ fn set_one(rows: &mut [bool], row: usize)
     }
 }
 
-// False from one row up to another.
-fn forget_run(rows: &mut [bool], first: usize, end: usize)
+// One value from one row up to another.
+fn set_run(rows: &mut [bool], first: usize, end: usize, known: bool)
     requires order { first ≤ end }
     requires end { end ≤ length rows.old }
-    ensures { rows.new ≡ without_run first end rows.old }
+    ensures { rows.new ≡ with_run known first end rows.old }
 {
     for row in first..end {
-        rows[row] = false;
+        rows[row] = known;
     }
 }
 

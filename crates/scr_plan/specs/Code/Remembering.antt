@@ -13,6 +13,6 @@ pub record IsKept (memory : MemoryView) (all : Bool) : Type 0 where
 abbrev pub gone_to : MemoryView → Option TerminalState → MemoryView
 gone_to memory next = record memory { state = unwrap_or next memory.state }
 
--- the rows from one up to another are not known
-abbrev pub without_run : ℕ → ℕ → List Bool → List Bool
-without_run first end rows = map (λ r. if leb first r && ltb r end then false else slice_index_or rows r false) (range_with_len 0 (length rows))
+-- the rows from one up to another are known, or are not
+abbrev pub with_run : Bool → ℕ → ℕ → List Bool → List Bool
+with_run known first end rows = map (λ r. if leb first r && ltb r end then known else slice_index_or rows r false) (range_with_len 0 (length rows))
