@@ -1,5 +1,5 @@
 -- Rows that are not known: they are erased, and all is known then.
-use Rattle.std.proofs.Common.{◌≡◌, ℕ, zero, suc, ◌+◌, ◌<◌, ◌==◌, ◌&&◌, ◌||◌, not, ltb, Bool, true, false, refl, sym, ◌∙◌, ap, subst, arith, List, [], ◌∷◌, ◌++◌, get_or, length, set, Option, Some, None, IfSome, Result, Ok, Err, IfOk, option_and_then, replicate, if◌then◌else◌}
+use Rattle.std.proofs.Common.{◌≡◌, ℕ, zero, suc, ◌+◌, ◌<◌, ◌≤◌, ◌==◌, ◌&&◌, ◌||◌, not, leb, ltb, Bool, true, false, refl, sym, ◌∙◌, ap, subst, arith, List, [], ◌∷◌, ◌++◌, get_or, length, set, Option, Some, None, IfSome, Result, Ok, Err, IfOk, option_and_then, replicate, if◌then◌else◌}
 use Rattle.std.specs.List.{list_all}
 use Rattle.std.proofs.lemmas.Bool.Decides.{nat_tests}
 use Rattle.std.proofs.lemmas.List.{append-nil, get_or-set_same}
@@ -14,20 +14,21 @@ use Rattle.scr_term.specs.declared.operations.operation.Spot.{Spot}
 use Rattle.scr_term.specs.declared.operations.operation.Spot.TheVariants.{At, Margin}
 use Rattle.scr_term.specs.Operations.Laws.{HasLaws, ProfilesHave, RunLaws}
 use Rattle.scr_term.specs.Operations.Profiles.{ProfileView, IsProfile, abilities, is_there}
-use Rattle.scr_term.specs.Operations.States.{TerminalState, IsState, erased, from_place, rest_of_line_erased}
-use Rattle.scr_term.specs.Operations.Steps.{act, runs, step}
+use Rattle.scr_term.specs.Operations.States.{TerminalState, IsState, erased, from_place, is_from_place, rest_of_line_erased}
+use Rattle.scr_term.specs.Operations.Steps.{act, lines_below_erased, runs, step}
 use Rattle.scr_term.specs.Operations.Texts.{all_bytes, has}
 use Rattle.scr_plan.proofs.DraftLaws.{drawn, weaker, weaker_inside}
+use Rattle.scr_plan.proofs.FollowLaws.{both}
 use Rattle.scr_plan.proofs.MemoryRunLaws.{agrees_itself}
 use Rattle.scr_plan.proofs.PartLaws.{look_refl}
 use Rattle.scr_plan.proofs.PlaceLaws.{at_place, goes_by, one_run, plain}
 use Rattle.scr_plan.proofs.PlainLaws.{look_same, not_false}
-use Rattle.scr_plan.proofs.RememberedRowLaws.{from_stays}
+use Rattle.scr_plan.proofs.RememberedRowLaws.{from_known, from_stays}
 use Rattle.scr_plan.proofs.RunChangeLaws.{not_in}
-use Rattle.scr_plan.specs.Code.Drafts.{HasChangesIn, HasDiffering, HasUnsettled, HasUnsettledIn, IsAdded, IsPartly, IsRight, Keeps, KeepsAll, KeepsRuns, Knows, Leaves, RightFrom, WipesRow, in_runs, or_below, or_row, row_wiped, unsettled}
+use Rattle.scr_plan.specs.Code.Drafts.{AreUnknown, HasChangesIn, HasDiffering, HasUnsettled, HasUnsettledIn, IsAdded, IsPartly, IsRight, Keeps, KeepsAll, KeepsRuns, Knows, Leaves, RightFrom, Wipes, WipesRow, in_runs, or_below, or_from, or_row, row_wiped, unsettled, wiped}
 use Rattle.scr_plan.specs.Code.Joinings.{counted_up}
 use Rattle.scr_plan.specs.Code.Painters.{painter_begins, painter_of, row_differs}
-use Rattle.scr_plan.specs.Memories.{Agrees, MemoryView, all_followed, changes_cells, clears, followed, has_one_pen, is_known, is_known_row, places_spot, rows_erased, sets_pen, stepped}
+use Rattle.scr_plan.specs.Memories.{Agrees, MemoryView, all_followed, changes_cells, clears, followed, has_one_pen, is_known, is_known_row, known_from, places_spot, rows_erased, sets_pen, stepped}
 use Rattle.scr_plan.specs.MemoryRuns.{MayBe, MemoryRuns}
 use Rattle.scr_plan.specs.Repaints.{look_eq, look_in}
 use Rattle.scr_plan.specs.Scratch.{Fits, goes, look_at}
@@ -150,6 +151,35 @@ knows_kept laws profile p picture memory known old new keeps knows =
     }) in
     knows_more laws profile p memory known old new right.own right.now knows right.ops right.run right.spot right.pen (omega (arith, right.bytes))
 
+-- an erasure, where the cursor and the pen are known
+knows_by : RunLaws → MemoryRuns → (profile : ProfileView) → IsProfile profile → (memory : MemoryView) (known more : ℕ → Bool) (old new : Draft) (op : Op) (next : TerminalState) → clears op ≡ false → has profile op ≡ true
+    → act profile (all_followed profile old.ops.items memory).state op ≡ Some next → next.spot ≡ old.spot → next.pen ≡ old.pen → IsAdded profile old new (op ∷ []) old.spot old.pen → Knows profile memory known old
+    → ((r : ℕ) → more r ≡ true → get_or (rows_erased op old.spot (all_followed profile old.ops.items memory).known_rows) r false ≡ true) → Knows profile memory more new
+knows_by run_laws laws profile p memory known more old new op next dirty had acted spot pen added knows erased =
+    let m : MemoryView = all_followed profile old.ops.items memory in
+    let stepped_to : step profile m.state op ≡ Some next = ap (λ b. if b then act profile m.state op else None) had ∙ acted in
+    let run : runs profile m.state (op ∷ []) ≡ Some next = one_run profile m.state next op had acted in
+    let bytes : new.bytes ≡ counted_up new.bytes = omega (arith, added.bytes (run_laws.had profile m.state next (op ∷ []) run)) in
+    let goes_on = knows_more laws profile p memory known old new (op ∷ []) next knows added.ops run (spot ∙ sym added.spot_is) (pen ∙ sym added.pen_is) bytes in
+    let same : all_followed profile new.ops.items memory ≡ stepped (abilities profile) op m (Some next) =
+    ap (λ o. all_followed profile o memory) added.ops ∙ laws.joined profile memory old.ops.items (op ∷ []) ∙ ap (λ n. stepped (abilities profile) op m n) stepped_to in
+    let rows : (all_followed profile new.ops.items memory).known_rows ≡ (if changes_cells op && not (true && true) then replicate (length m.known_rows) false else rows_erased op old.spot m.known_rows) =
+    ap (λ (m : MemoryView). m.known_rows) same
+    ∙ (λ i. if dirty i then replicate (length m.known_rows) true else (if changes_cells op && not (knows.known_spot i && knows.known_pen i) then replicate (length m.known_rows) false else rows_erased op (spot i) m.known_rows)) in
+    record {
+      may = goes_on.may;
+      known_spot = goes_on.known_spot;
+      known_pen = goes_on.known_pen;
+      spot = goes_on.spot;
+      pen = goes_on.pen;
+      bytes = bytes;
+      rows = λ r e. ap (λ rows. get_or rows r false) (rows ∙ kept (changes_cells op) (replicate (length m.known_rows) false) (rows_erased op old.spot m.known_rows)) ∙ erased r e;
+    }
+  where
+    kept : (b : Bool) (none some : List Bool) → (if b && not (true && true) then none else some) ≡ some
+    kept true none some = refl
+    kept false none some = refl
+
 -- an erasure of the row where the cursor is in its first column
 pub knows_erased : RunLaws → MemoryRuns → (profile : ProfileView) → IsProfile profile → (memory : MemoryView) (known : ℕ → Bool) (row : ℕ) → row < profile.rows → (old new : Draft) → has profile EraseLine ≡ true → old.spot ≡ At row 0 → is_plain_pen old.pen ≡ true
     → IsAdded profile old new (EraseLine ∷ []) old.spot old.pen → Knows profile memory known old → Knows profile memory (or_row known row) new
@@ -159,33 +189,37 @@ knows_erased run_laws laws profile p memory known row high old new had here plai
     let acted : act profile m.state EraseLine ≡ Some next =
     ap (λ b. if b then rest_of_line_erased profile.rows profile.columns m.state else None) (ap is_plain_pen knows.pen ∙ plain)
     ∙ ap (λ spot. from_place spot (λ r c. Some (erased profile.rows profile.columns (is_in_run r c profile.columns) m.state))) (knows.spot ∙ here) in
-    let stepped_to : step profile m.state EraseLine ≡ Some next = ap (λ b. if b then act profile m.state EraseLine else None) had ∙ acted in
-    let run : runs profile m.state (EraseLine ∷ []) ≡ Some next = one_run profile m.state next EraseLine had acted in
-    let bytes : new.bytes ≡ counted_up new.bytes = omega (arith, added.bytes (run_laws.had profile m.state next (EraseLine ∷ []) run)) in
-    let more = knows_more laws profile p memory known old new (EraseLine ∷ []) next knows added.ops run (knows.spot ∙ sym added.spot_is) (knows.pen ∙ sym added.pen_is) bytes in
-    let same : all_followed profile new.ops.items memory ≡ stepped (abilities profile) EraseLine m (Some next) =
-    ap (λ o. all_followed profile o memory) added.ops ∙ laws.joined profile memory old.ops.items (EraseLine ∷ []) ∙ ap (λ n. stepped (abilities profile) EraseLine m n) stepped_to in
-    let rows : (all_followed profile new.ops.items memory).known_rows ≡ set m.known_rows row true =
-    ap (λ (m : MemoryView). m.known_rows) same
-    ∙ (λ i. if not (knows.known_spot i && knows.known_pen i) then replicate (length m.known_rows) false else rows_erased EraseLine ((knows.spot ∙ here) i) m.known_rows) in
-    record {
-      may = more.may;
-      known_spot = more.known_spot;
-      known_pen = more.known_pen;
-      spot = more.spot;
-      pen = more.pen;
-      bytes = bytes;
-      rows = λ r e. by r (known r) refl e more.rows (ap (λ rows. get_or rows r false) rows);
-    }
+    knows_by run_laws laws profile p memory known (or_row known row) old new EraseLine next refl had acted knows.spot knows.pen added knows
+    (λ r e. ap (λ spot. get_or (rows_erased EraseLine spot m.known_rows) r false) here ∙ by r (known r) refl e (knows.rows r) (omega (arith, high, knows.may.high)))
   where
-    by : (r : ℕ) (b : Bool) → known r ≡ b → (known r || r == row) ≡ true → ((r : ℕ) → known r ≡ true → is_known_row (all_followed profile new.ops.items memory) r ≡ true)
-        → is_known_row (all_followed profile new.ops.items memory) r ≡ get_or (set (all_followed profile old.ops.items memory).known_rows row true) r false → is_known_row (all_followed profile new.ops.items memory) r ≡ true
-    by r true at e rows is = rows r at
-    by r false at e rows is =
+    by : (r : ℕ) (b : Bool) → known r ≡ b → (known r || r == row) ≡ true → (known r ≡ true → get_or (all_followed profile old.ops.items memory).known_rows r false ≡ true) → row < length (all_followed profile old.ops.items memory).known_rows
+        → get_or (set (all_followed profile old.ops.items memory).known_rows row true) r false ≡ true
+    by r true at e was inside = stays_set (all_followed profile old.ops.items memory).known_rows row r (was at)
+    by r false at e was inside =
         let same : (r == row) ≡ true = sym (ap (λ b. b || r == row) at) ∙ e in
         let here : r ≡ row = grind (arith, nat_tests) in
-        is ∙ ap (λ k. get_or (set (all_followed profile old.ops.items memory).known_rows row true) k false) here
-        ∙ get_or-set_same (all_followed profile old.ops.items memory).known_rows row true false (omega (arith, high, knows.may.high))
+        ap (λ k. get_or (set (all_followed profile old.ops.items memory).known_rows row true) k false) here
+        ∙ get_or-set_same (all_followed profile old.ops.items memory).known_rows row true false inside
+
+-- an erasure of that row and of all below it
+pub knows_erased_below : RunLaws → MemoryRuns → (profile : ProfileView) → IsProfile profile → (memory : MemoryView) (known : ℕ → Bool) (top : ℕ) (old new : Draft) → has profile EraseBelow ≡ true → old.spot ≡ At top 0 → is_plain_pen old.pen ≡ true
+    → IsAdded profile old new (EraseBelow ∷ []) old.spot old.pen → Knows profile memory known old → Knows profile memory (or_from known top profile.rows) new
+knows_erased_below run_laws laws profile p memory known top old new had here plain added knows =
+    let m : MemoryView = all_followed profile old.ops.items memory in
+    let next : TerminalState = erased profile.rows profile.columns (is_from_place top 0) m.state in
+    let acted : act profile m.state EraseBelow ≡ Some next =
+    ap (λ b. if b then lines_below_erased profile.rows profile.columns m.state else None) (ap is_plain_pen knows.pen ∙ plain)
+    ∙ ap (λ spot. from_place spot (λ r c. if c == 0 then Some (erased profile.rows profile.columns (is_from_place r c) m.state) else None)) (knows.spot ∙ here) in
+    knows_by run_laws laws profile p memory known (or_from known top profile.rows) old new EraseBelow next refl had acted knows.spot knows.pen added knows
+    (λ r e. ap (λ spot. get_or (rows_erased EraseBelow spot m.known_rows) r false) here ∙ by r (known r) refl e (knows.rows r))
+  where
+    by : (r : ℕ) (b : Bool) → known r ≡ b → or_from known top profile.rows r ≡ true → (known r ≡ true → get_or (all_followed profile old.ops.items memory).known_rows r false ≡ true)
+        → get_or (known_from top (all_followed profile old.ops.items memory).known_rows) r false ≡ true
+    by r true at e was = from_stays top (all_followed profile old.ops.items memory).known_rows r (was at)
+    by r false at e was =
+        let inside = both (leb top r) (ltb r profile.rows) (sym (ap (λ b. b || (leb top r && ltb r profile.rows)) at) ∙ e) in
+        let under : r < profile.rows = grind (arith, nat_tests, inside.1) in
+        from_known top (all_followed profile old.ops.items memory).known_rows r inside.0 (omega (arith, under, knows.may.high))
 
 -- ---- where the draft begins
 
@@ -355,6 +389,33 @@ unknown_wiped profile picture memory row old new unknown wipes paid first start 
     by place false same false at e =
         let alike : ltb place.0 row ≡ ltb place.0 (row + 1) = grind (arith, nat_tests) in
         ap (λ t. if t then not (look_eq blank (look_at profile picture place)) else true) alike ∙ e
+
+-- the last rows, of which none was known, and which were erased at once
+pub rest_wiped : (profile : ProfileView) (picture : PictureView) (memory : MemoryView) (top : ℕ) (old mid new : Draft) → memory.rows ≡ picture.rows → AreUnknown memory top → KeepsAll profile picture old mid → Wipes profile picture top mid new
+    → Keeps profile picture (unsettled profile picture memory top) (unsettled profile picture memory picture.rows) old new
+rest_wiped profile picture memory top old mid new high unknown reached wipes paid first start right =
+    weaker_inside profile picture (wiped profile picture top (unsettled profile picture memory top)) (unsettled profile picture memory picture.rows) new (λ r c under wide e. by r c under (leb top r) refl (is_known_row memory r) refl e) paid first start
+    (wipes (unsettled profile picture memory top) paid first start (reached (unsettled profile picture memory top) paid first start right))
+  where
+    by : (r c : ℕ) → r < picture.rows → (t : Bool) → leb top r ≡ t → (b : Bool) → is_known_row memory r ≡ b → (if b then not (look_eq (look_in memory (r, c)) (look_at profile picture (r, c))) else (if ltb r picture.rows then not (look_eq blank (look_at profile picture (r, c))) else true)) ≡ false
+        → (if t then not (look_eq blank (look_at profile picture (r, c))) else (if b then not (look_eq (look_in memory (r, c)) (look_at profile picture (r, c))) else (if ltb r top then not (look_eq blank (look_at profile picture (r, c))) else true))) ≡ false
+    by r c under true low true at e =
+        let here : top ≤ r = grind (arith, nat_tests) in
+        never (is_known_row memory r) at (unknown r here (omega (arith, under, high)))
+    by r c under true low false at e =
+        let is : ltb r picture.rows ≡ true = grind (arith, nat_tests) in
+        sym (ap (λ t. if t then not (look_eq blank (look_at profile picture (r, c))) else true) is) ∙ e
+    by r c under false low true at e = e
+    by r c under false low false at e =
+        let alike : ltb r top ≡ ltb r picture.rows = grind (arith, nat_tests) in
+        ap (λ t. if t then not (look_eq blank (look_at profile picture (r, c))) else true) alike ∙ e
+
+pub rest_more : (known : ℕ → Bool) (top rows n r : ℕ) → rows ≡ n → or_below known n r ≡ true → or_from (or_below known top) top rows r ≡ true
+rest_more known top rows n r same e = by (known r) e
+  where
+    by : (b : Bool) → (b || ltb r n) ≡ true → ((b || ltb r top) || (leb top r && ltb r rows)) ≡ true
+    by true e = refl
+    by false e = grind (arith, nat_tests)
 
 pub below_more : (known : ℕ → Bool) (row r : ℕ) → or_below known (row + 1) r ≡ true → or_row (or_below known row) row r ≡ true
 below_more known row r e = by (known r) e

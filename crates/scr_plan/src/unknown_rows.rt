@@ -1,7 +1,8 @@
 //! The short plan where not all is known, since others wrote on the screen: attributes are turned off, each row that is not known is erased
-//! and is a blank one from then on, and rows that are known are looked at in their columns as ever.
-ghost use Rattle.std.specs.Prelude.{◌≡◌, ◌+◌, ◌<◌, IfOk, IfSome, OnOk, true};
-ghost use Rattle.scr_plan.specs.Code.Drafts.{HasUnsettled, HasUnsettledIn, IsPartly, KeepsRuns, Keeps, Knows, LearnsBelow, LearnsRow, RightFrom, WipesRow, or_below, unsettled};
+//! and is a blank one from then on, the last rows of the screen at once where that is cheaper, and rows that are known are looked at in
+//! their columns as ever.
+ghost use Rattle.std.specs.Prelude.{◌≡◌, ◌+◌, ◌<◌, ◌≤◌, IfOk, IfSome, OnOk, true};
+ghost use Rattle.scr_plan.specs.Code.Drafts.{AreUnknown, HasUnsettled, HasUnsettledIn, IsPartly, KeepsRuns, Keeps, Knows, LearnsBelow, LearnsRow, RightFrom, WipesRow, or_below, unsettled};
 ghost use Rattle.scr_plan.specs.Code.Painters.{painter_of};
 ghost use Rattle.scr_plan.specs.Code.Planning.{range_by};
 ghost use Rattle.scr_plan.specs.Memories.{is_known_row};
@@ -96,8 +97,45 @@ fn first_unknown(memory: &Memory) -> u32
     0
 }
 
+// From which row on the last rows are erased at once: none of them is known, and one by one they would cost more. The number of all rows
+// where there are none.
+fn top_of_rest(profile: &Profile, memory: &Memory) -> u32
+    ensures inside { result ≤ memory.now.rows }
+    ensures unknown { AreUnknown memory.now result }
+{
+    let size = memory.size();
+    let first = first_of_last_unknown(memory);
+    if is_cheaper_at_once(profile, size.rows - first) {
+        first
+    } else {
+        size.rows
+    }
+}
+
+// The first of the last rows, none of which is known; the number of all rows where the last one is known.
+fn first_of_last_unknown(memory: &Memory) -> u32
+    ensures inside { result ≤ memory.now.rows }
+    ensures unknown { AreUnknown memory.now result }
+{
+    let mut first = memory.size().rows;
+    while first > 0 && !memory.is_known_row(first - 1) {
+        first -= 1;
+    }
+    first
+}
+
+// Whether so many rows cost less erased at once than one by one.
+fn is_cheaper_at_once(profile: &Profile, count: u32) -> bool {
+    let prices = profile.prices();
+    let lines = prices.of(Op::EraseLine).saturating_mul(count);
+    let steps = prices
+        .of(Op::Down(1))
+        .saturating_mul(count.saturating_sub(1));
+    prices.of(Op::EraseBelow) < lines.saturating_add(steps)
+}
+
 impl Draft {
-    // Erases each row that is not known. The answer is whether that was possible.
+    // Erases each row that is not known, the last ones at once where that is cheaper. The answer is whether that was possible.
     fn wipe_unknown(
         &mut self,
         painter: Painter,
@@ -111,14 +149,41 @@ impl Draft {
         ensures right { IfOk result (λ done. done ≡ true → Keeps profile.now picture.now (unsettled profile.now picture.now memory.now 0) (unsettled profile.now picture.now memory.now picture.now.rows) self.old self.new) }
         ensures knows { IfOk result (λ done. done ≡ true → LearnsBelow profile.now memory.now picture.now.rows self.old self.new) }
     {
-        let size = picture.size();
-        let _memory = memory.size();
-        for row in 0..size.rows {
+        let _size = picture.size();
+        let top = top_of_rest(profile, memory);
+        for row in 0..top {
             if !self.wipe_if_unknown(painter, profile, memory, picture, row)? {
                 return Ok(false);
             }
         }
-        Ok(true)
+        self.wipe_rest(painter, profile, memory, picture, top)
+    }
+
+    // Erases the rows from one on at once, if there are any; none of them is known. The answer is whether they are known now.
+    fn wipe_rest(
+        &mut self,
+        painter: Painter,
+        profile: &Profile,
+        memory: &Memory,
+        picture: &Picture,
+        top: u32,
+    ) -> Result<bool, NoMemory>
+        requires painter { painter ≡ painter_of profile.now }
+        requires fits { Fits profile.now picture.now }
+        requires size { IsSizeOf picture.now memory.now }
+        requires top { top ≤ picture.now.rows }
+        requires unknown { AreUnknown memory.now top }
+        ensures right { IfOk result (λ done. done ≡ true → Keeps profile.now picture.now (unsettled profile.now picture.now memory.now top) (unsettled profile.now picture.now memory.now picture.now.rows) self.old self.new) }
+        ensures knows { IfOk result (λ done. done ≡ true → Knows profile.now memory.now (or_below (is_known_row memory.now) top) self.old → Knows profile.now memory.now (or_below (is_known_row memory.now) picture.now.rows) self.new) }
+    {
+        memory_runs();
+        let _profile = profile.size();
+        let size = picture.size();
+        if top == size.rows {
+            return Ok(true);
+        }
+        self.reach(painter, profile, picture, top, 0, Pen::plain())?;
+        self.erase_below(profile, picture, top)
     }
 
     // Erases a row if it is not known. The answer is whether it is known now.

@@ -1,13 +1,14 @@
 //! Many lines erased at once, before anything is painted, where that is worth it. From which row on is chosen by prices alone; nothing
 //! depends on that choice but how many bytes an update has.
 ghost use Rattle.std.specs.Prelude.{◌≡◌, ◌<◌, IfOk, OnOk, false, length, slice_index_or, true};
-ghost use Rattle.scr_plan.specs.Code.Drafts.{KeepsAbove, KeepsAll, Leaves, Wipes};
+ghost use Rattle.scr_plan.specs.Code.Drafts.{KeepsAbove, KeepsAll, LearnsFrom, Leaves, Wipes};
 ghost use Rattle.scr_plan.specs.Code.Painters.{painter_of};
 ghost use Rattle.scr_plan.specs.Scratch.{Fits};
 ghost use Rattle.scr_plan.specs.declared.runs.Run.{Run};
 
 use crate::orders::run_at;
 use crate::painting::Painter;
+use crate::remembering_laws::memory_runs;
 use crate::runs::Run;
 use crate::stretches::{least_on_blanks, price_on_blanks};
 use crate::strokes::Draft;
@@ -325,7 +326,7 @@ impl Draft {
     }
 
     // Erases the rows from one on, if the cursor is in its first column with a plain pen.
-    fn erase_below(
+    pub(crate) fn erase_below(
         &mut self,
         profile: &Profile,
         picture: &Picture,
@@ -335,8 +336,10 @@ impl Draft {
         requires top { top < picture.now.rows }
         ensures done { IfOk result (λ done. done ≡ true → Wipes profile.now picture.now top self.old self.new) }
         ensures not { IfOk result (λ done. done ≡ false → KeepsAll profile.now picture.now self.old self.new) }
+        ensures learns { IfOk result (λ done. done ≡ true → LearnsFrom profile.now top self.old self.new) }
     {
         run_laws();
+        memory_runs();
         grid_laws::<Look>();
         let _size = profile.size();
         let _picture = picture.size();

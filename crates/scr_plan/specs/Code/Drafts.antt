@@ -138,6 +138,10 @@ unsettled profile picture memory n place =
     if is_known_row memory place.0 then not (look_eq (look_in memory place) (look_at profile picture place))
     else (if ltb place.0 n then not (look_eq blank (look_at profile picture place)) else true)
 
+-- no row from one on is known
+abbrev pub AreUnknown : MemoryView → ℕ → Type 0
+AreUnknown memory first = (r : ℕ) → first ≤ r → r < memory.rows → is_known_row memory r ≡ false
+
 -- one row is blank: there every other place waits; the others wait as before
 abbrev pub row_wiped : ProfileView → PictureView → ℕ → (ℕ × ℕ → Bool) → ℕ × ℕ → Bool
 row_wiped profile picture row waits place = if place.0 == row then not (look_eq blank (look_at profile picture place)) else waits place
@@ -171,6 +175,13 @@ LearnsRow profile row old new = (memory : MemoryView) (known : ℕ → Bool) →
 
 abbrev pub LearnsBelow : ProfileView → MemoryView → ℕ → Draft → Draft → Type 0
 LearnsBelow profile memory n old new = Knows profile memory (is_known_row memory) old → Knows profile memory (or_below (is_known_row memory) n) new
+
+-- all rows from one on are, up to the last of so many
+abbrev pub or_from : (ℕ → Bool) → ℕ → ℕ → ℕ → Bool
+or_from known first rows r = known r || (leb first r && ltb r rows)
+
+abbrev pub LearnsFrom : ProfileView → ℕ → Draft → Draft → Type 0
+LearnsFrom profile first old new = (memory : MemoryView) (known : ℕ → Bool) → Knows profile memory known old → Knows profile memory (or_from known first profile.rows) new
 
 -- the runs have what is still unsettled of the first n rows when all rows are known or blank
 abbrev pub HasUnsettledIn : ProfileView → PictureView → MemoryView → List Run → ℕ → Type 0
