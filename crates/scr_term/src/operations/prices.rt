@@ -1,6 +1,6 @@
 //! What each operation of a terminal costs, in bytes: estimates that are looked up and not worked out, to choose between
 //! operations. How many bytes an operation has exactly is in `rendering`.
-ghost use Rattle.std.specs.Prelude.{◌≡◌};
+ghost use Rattle.std.specs.Prelude.{◌≡◌, ◌<◌, IfSome};
 
 use crate::operations::capability::Capability;
 use crate::{Op, Profile};
@@ -200,11 +200,38 @@ impl Prices {
 }
 
 // A price, and what each of these attributes adds to it.
+#[inline(always)]
 fn sum(first: u32, prices: &[u32; 7], attributes: Attrs) -> u32 {
-    let mut sum = first;
     if attributes.is_empty() {
-        return sum;
+        return first;
     }
+    match number_of(attributes) {
+        Some(number) => first.saturating_add(prices[number]).min(FAR),
+        None => sum_of_several(first, prices, attributes),
+    }
+}
+
+// The number of an attribute in `Attrs::EACH`; `None` of several.
+#[inline(always)]
+fn number_of(attribute: Attrs) -> Option<usize>
+    ensures { IfSome result (λ number. number < 7) }
+{
+    match attribute {
+        Attrs::STANDOUT => Some(0),
+        Attrs::UNDERLINE => Some(1),
+        Attrs::REVERSE => Some(2),
+        Attrs::BLINK => Some(3),
+        Attrs::DIM => Some(4),
+        Attrs::BOLD => Some(5),
+        Attrs::INVIS => Some(6),
+        _ => None,
+    }
+}
+
+// A price, and what each of several attributes adds to it.
+#[inline(never)]
+fn sum_of_several(first: u32, prices: &[u32; 7], attributes: Attrs) -> u32 {
+    let mut sum = first;
     for index in 0..7 {
         if attributes.contains(Attrs::EACH[index]) {
             sum = sum.saturating_add(prices[index]);
