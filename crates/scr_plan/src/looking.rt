@@ -354,19 +354,37 @@ pub(crate) fn is_that_pen(left: Option<Pen>, pen: Pen) -> bool
     }
 }
 
-// The first column from one on with a blank; the end, where there is none before it.
-pub(crate) fn first_blank(cells: &[Cell], from: u32, end: u32) -> u32
+// The column of a blank, from a column on: of the first so many blanks in a row, or of some before these; the end, where there are none.
+// One column of so many is looked at.
+pub(crate) fn blank_of_many(cells: &[Cell], from: u32, end: u32, many: u32) -> u32
     requires wide { end ≤ length cells.now }
     requires from { from ≤ end }
+    requires many { 0 < many }
     ensures from { from ≤ result }
     ensures end { result ≤ end }
 {
-    for column in from..end {
+    let mut column = from.saturating_add(many - 1);
+    while column < end {
         if cells[column as usize].byte() == b' ' {
             return column;
         }
+        column = column.saturating_add(many);
     }
     end
+}
+
+// Where the blanks begin that a column is behind or one of, no further to the left than another.
+pub(crate) fn blanks_begin(cells: &[Cell], from: u32, column: u32) -> u32
+    requires wide { column ≤ length cells.now }
+    requires from { from ≤ column }
+    ensures from { from ≤ result }
+    ensures column { result ≤ column }
+{
+    let mut first = column;
+    while first > from && cells[first as usize - 1].byte() == b' ' {
+        first -= 1;
+    }
+    first
 }
 
 // Where the blanks end that begin in a column, if any do.

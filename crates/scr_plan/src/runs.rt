@@ -3,7 +3,7 @@ ghost use Rattle.std.specs.Prelude.{◌≡◌, ◌<◌, ◌≤◌, IfOk, IfSome,
 ghost use Rattle.scr_cells.specs.Grids.{grid_row};
 ghost use Rattle.scr_plan.specs.Code.Drafts.{HasDiffering, HasMarks, HasPart, KeepsRuns};
 
-use crate::looking::{blanks_end, first_blank, is_shown_in};
+use crate::looking::{blank_of_many, blanks_begin, blanks_end, is_shown_in};
 use crate::painting::Painter;
 use scr_cells::{Cell, Look, NoMemory, Pen, Picture};
 use scr_term::{Op, Profile};
@@ -267,12 +267,18 @@ fn add_pieces(
     ensures kept { OnOk result (KeepsRuns runs.old.items runs.new.items) }
     ensures has { OnOk result (HasPart row start end runs.new.items) }
 {
+    let many = least_worth_erasing(profile);
     let mut begun = start;
-    let mut column = first_blank(cells, start, end);
+    let mut column = start;
     while column < end {
-        let behind = blanks_end(cells, column, end);
-        begun = add_piece(profile, row, begun, column, behind, end, runs)?;
-        column = first_blank(cells, behind.max(column + 1), end);
+        let blank = blank_of_many(cells, column, end, many);
+        if blank >= end {
+            return add_written(runs, row, begun, end);
+        }
+        let first = blanks_begin(cells, column, blank);
+        let behind = blanks_end(cells, blank, end);
+        begun = add_piece(profile, row, begun, first, behind, end, runs)?;
+        column = behind.max(blank + 1);
     }
     add_written(runs, row, begun, end)
 }
@@ -320,6 +326,17 @@ fn add(runs: &mut Vec<Run>, run: Run) -> Result<(), NoMemory>
 {
     runs.push(run)?;
     Ok(())
+}
+
+// How many blanks in a row are worth an erasure at least: fewer cost no more than it does.
+fn least_worth_erasing(profile: &Profile) -> u32
+    ensures { 0 < result }
+{
+    let prices = profile.prices();
+    let few = prices
+        .of(Op::EraseChars(2))
+        .min(prices.of(Op::EraseChars(10)));
+    few.min(prices.of(Op::EraseChars(100))).saturating_add(1)
 }
 
 // Whether so many blanks cost more than their erasure, with the motion behind them where the run goes on there.
