@@ -52,10 +52,11 @@ pub(crate) fn cheapest_wiping(
     walk.best
 }
 
-// Whether some erasure may gain more than it has to: whether runs cost enough as they stand, and enough more than on blank rows.
+// Whether some erasure may gain more than it has to: whether runs cost enough as they stand, and from some row on enough more than on
+// blank rows.
 fn may_gain(chooser: &Chooser<'_>, runs: &[Run]) -> bool {
     let lost = least_lost(chooser);
-    price_as_they_stand(chooser, runs) > lost && most_spared(chooser, runs) > lost
+    price_as_they_stand(chooser, runs) > lost && may_spare(chooser, runs, lost)
 }
 
 // What runs cost as they stand, and an easy motion for each.
@@ -67,20 +68,24 @@ fn price_as_they_stand(chooser: &Chooser<'_>, runs: &[Run]) -> i64 {
     sum
 }
 
-// What an erasure spares at most: what the runs of each row cost as they stand, less what the row costs at least on a blank row.
-fn most_spared(chooser: &Chooser<'_>, runs: &[Run]) -> i64 {
-    let mut sum = 0i64;
+// Whether an erasure may spare more than this: what the runs cost as they stand from some row on, less what each row with runs costs at
+// least on a blank row.
+fn may_spare(chooser: &Chooser<'_>, runs: &[Run], lost: i64) -> bool {
     let mut spared = 0i64;
     let mut row = None;
-    for run in runs {
+    for behind in 0..runs.len() {
+        let run = &runs[runs.len() - 1 - behind];
         if row != Some(run.row) {
-            sum = sum.saturating_add(spared.max(0));
-            spared = -i64::from(least_on_blanks(chooser, chooser.cells(run.row)));
+            let least = least_on_blanks(chooser, chooser.cells(run.row));
+            spared = spared.saturating_sub(i64::from(least));
             row = Some(run.row);
         }
         spared = spared.saturating_add(i64::from(price_as_it_stands(chooser, run)));
+        if spared > lost {
+            return true;
+        }
     }
-    sum.saturating_add(spared.max(0))
+    false
 }
 
 // What a run costs as it stands, and an easy motion.
@@ -175,6 +180,9 @@ impl Upwards {
 
     // The row that was met last is the best one so far, if its erasure gains more than all before.
     fn with_candidate(self, chooser: &Chooser<'_>, cursor: &Cursor, row: u32) -> Upwards {
+        if self.spared <= self.gain {
+            return self;
+        }
         let (by, price) = erasure(chooser, cursor, row);
         let gain = self.spared.saturating_sub(i64::from(price));
         if gain <= self.gain {
