@@ -2,37 +2,43 @@
 
 use scr_term::{Op, Prices, Spot};
 
-// The least prices of motions, whatever the rows and columns: to a neighbouring row, to one further away, to the first row from
-// everywhere, to the right, to the left, and out of the margin.
+// The least prices of motions, whatever the rows and columns: to a neighbouring row, to one further away, ten rows down or more, to the
+// right, to the left, to a column up to `jump`, before which places may be written, to the first place of the screen, and to any place at once.
 #[derive(Clone, Copy)]
-pub(crate) struct LeastMotions {
-    to_neighbour: u32,
+pub(crate) struct LeastMotions<'a> {
+    prices: &'a Prices,
+    neighbour: u32,
     further: u32,
-    to_first: u32,
+    far_down: u32,
     right: u32,
     left: u32,
-    from_margin: u32,
+    near: u32,
+    home: u32,
+    place: u32,
+    jump: u32,
 }
 
-impl LeastMotions {
+impl<'a> LeastMotions<'a> {
     // Those of a terminal with these prices.
-    pub(crate) fn of(prices: &Prices) -> LeastMotions {
+    pub(crate) fn of(prices: &'a Prices) -> LeastMotions<'a> {
         let one = prices.of(Op::Up(1)).min(prices.of(Op::Down(1)));
-        let more = more_rows(prices);
-        let home = prices.of(Op::Home);
         let line = lines(prices);
-        let places = places(prices);
-        let anywhere = places.min(line).min(sum(home, one.min(more).min(line)));
+        let home = prices.of(Op::Home);
+        let place = places(prices);
+        let column = columns(prices).min(place);
         let right = rights(prices);
-        let column = columns(prices).min(places);
-        let first = prices.of(Op::Return);
+        let first = prices.of(Op::Return).min(home);
         LeastMotions {
-            to_neighbour: one.min(anywhere),
-            further: more.min(anywhere),
-            to_first: home,
-            right: right.min(column).min(sum(first.min(home), right)),
-            left: lefts(prices).min(column).min(first).min(home),
-            from_margin: places.min(home),
+            prices,
+            neighbour: one.min(line),
+            further: more_rows(prices).min(line),
+            far_down: many_down(prices).min(line),
+            right: right.min(column).min(sum(first, right)),
+            left: lefts(prices).min(column).min(first),
+            near: first.min(1),
+            home,
+            place,
+            jump: prices.easy_motion(),
         }
     }
 
@@ -41,8 +47,8 @@ impl LeastMotions {
     pub(crate) fn to(self, spot: Spot, row: u32, column: u32) -> u32 {
         match spot {
             Spot::At(from, at) if from == row => self.along_row(at, column),
-            Spot::Margin(from) if from == row => self.from_margin,
-            Spot::At(from, _) | Spot::Margin(from) => self.between(from, row),
+            Spot::At(from, at) => self.between((from, at), (row, column)),
+            Spot::Margin(_) => self.from_margin(row),
         }
     }
 
@@ -58,23 +64,56 @@ impl LeastMotions {
         }
     }
 
-    // From a row to another.
+    // From behind the last column to a row: at once, or from the first place of the screen.
     #[inline(always)]
-    fn between(self, from: u32, to: u32) -> u32 {
+    fn from_margin(self, row: u32) -> u32 {
+        let down = match row {
+            0 => 0,
+            1..=9 => self.neighbour.min(self.further),
+            _ => self.far_down,
+        };
+        self.prices.of(Op::Move(row, 0)).min(sum(self.home, down))
+    }
+
+    // From a place to one in another row: along rows and columns, from the first place of the screen, or at once.
+    #[inline(always)]
+    fn between(self, from: (u32, u32), to: (u32, u32)) -> u32 {
+        let along = sum(self.rows(from.0, to.0), self.columns(from.1, to.1));
+        let down = if to.0 == 0 {
+            0
+        } else {
+            self.neighbour.min(self.further)
+        };
+        let from_home = sum(self.home, sum(down, self.columns(0, to.1)));
+        along.min(from_home).min(self.place)
+    }
+
+    // Along the rows from one to another.
+    #[inline(always)]
+    fn rows(self, from: u32, to: u32) -> u32 {
         let apart = if from < to {
             to - from
         } else {
             from.saturating_sub(to)
         };
-        let price = if apart == 1 {
-            self.to_neighbour
+        if apart == 1 {
+            self.neighbour
         } else {
             self.further
-        };
-        if to == 0 {
-            price.min(self.to_first)
+        }
+    }
+
+    // Along the columns from one to another, in another row, of which the first columns may be written.
+    #[inline(always)]
+    fn columns(self, from: u32, to: u32) -> u32 {
+        if from == to {
+            0
+        } else if to <= self.jump {
+            self.near
+        } else if from < to {
+            self.right
         } else {
-            price
+            self.left
         }
     }
 }
@@ -92,6 +131,11 @@ fn more_rows(prices: &Prices) -> u32 {
     ups.min(downs)
         .min(prices.of(Op::Up(100)))
         .min(prices.of(Op::Down(100)))
+}
+
+// The least price of a motion down by ten rows or more.
+fn many_down(prices: &Prices) -> u32 {
+    prices.of(Op::Down(10)).min(prices.of(Op::Down(100)))
 }
 
 // The least price of a motion to the right by a count.

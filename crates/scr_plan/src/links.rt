@@ -139,6 +139,16 @@ impl Links {
         }
     }
 
+    // The first run that waits of those with a pen; `NONE` where there is none, or the pen has no chain.
+    pub(crate) fn first_with(&self, pen: Pen) -> u32 {
+        for chain in &self.chains {
+            if chain.pen == pen {
+                return chain.first;
+            }
+        }
+        NONE
+    }
+
     // A chain has this run at its end.
     fn extend(&mut self, chain: u32, number: u32) {
         if let Some(chain) = self.chains.get_mut(chain as usize) {

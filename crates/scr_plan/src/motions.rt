@@ -210,7 +210,7 @@ fn cheapest_rows(prices: &Prices, from: u32, to: u32) -> (Rows, u32) {
     if from == to {
         return (Rows::Count, 0);
     }
-    let count = prices.of(by_rows(from, to));
+    let count = price_of_rows(prices, from, to);
     let line = prices.of(Op::Line(to));
     if line < count {
         (Rows::Line, line)
@@ -225,7 +225,7 @@ fn cheapest_columns(prices: &Prices, from: u32, to: u32) -> (Columns, u32) {
     if from == to {
         return (Columns::Count, 0);
     }
-    let mut best = (Columns::Count, prices.of(by_columns(from, to)));
+    let mut best = (Columns::Count, price_of_columns(prices, from, to));
     let singles = price_of_singles(prices, from, to);
     if singles < best.1 {
         best = (Columns::Singles, singles);
@@ -239,6 +239,26 @@ fn cheapest_columns(prices: &Prices, from: u32, to: u32) -> (Columns, u32) {
         best = (Columns::Column, column);
     }
     best
+}
+
+// The price of going up or down by a count.
+#[inline(always)]
+fn price_of_rows(prices: &Prices, from: u32, to: u32) -> u32 {
+    if from < to {
+        prices.of(Op::Down(to - from))
+    } else {
+        prices.of(Op::Up(from - to))
+    }
+}
+
+// The price of going to the left or to the right by a count.
+#[inline(always)]
+fn price_of_columns(prices: &Prices, from: u32, to: u32) -> u32 {
+    if from < to {
+        prices.of(Op::Right(to - from))
+    } else {
+        prices.of(Op::Left(from - to))
+    }
 }
 
 // The price of single steps to the left; too much to the right.

@@ -80,7 +80,7 @@ struct Task<'a> {
     chooser: &'a Chooser<'a>,
     runs: &'a [Run],
     wish: Option<(u32, u32)>,
-    least: LeastMotions,
+    least: LeastMotions<'a>,
 }
 
 // A walk over runs as it is priced: where the cursor is, which run was painted last, how many were, and how many bytes that takes.
@@ -179,7 +179,7 @@ impl<'a> Task<'a> {
     }
 
     // The nearest of the waiting runs that are looked at: a few around where the last one was, and of the pen that is on the next one
-    // and the first. None is looked at twice around there, where few are left.
+    // and the first. Where few are left, all of them are looked at, and none twice around there.
     fn nearest(&self, walk: &Walk, links: &Links, from: u32, next_alike: u32) -> Nearest {
         let mut nearest = Nearest::none();
         let mut number = from;
@@ -187,40 +187,59 @@ impl<'a> Task<'a> {
         let waiting = count.saturating_sub(walk.count);
         let ahead = AHEAD.min(waiting);
         for _ in 0..ahead {
-            nearest = self.nearer(walk, links, nearest, number);
+            self.look_at(walk, links, &mut nearest, number);
             number = links.next(number);
+        }
+        if waiting == ahead {
+            return nearest;
         }
         number = from;
         for _ in 0..BACK.min(waiting - ahead) {
             number = links.before(number);
-            nearest = self.nearer(walk, links, nearest, number);
+            self.look_at(walk, links, &mut nearest, number);
         }
-        nearest = self.nearer(walk, links, nearest, next_alike);
-        let alike = links.chain(links.chain_of(walk.cursor.pen));
-        self.nearer(walk, links, nearest, alike.first)
+        self.look_at(walk, links, &mut nearest, next_alike);
+        let first_alike = links.first_with(walk.cursor.pen);
+        self.look_at(walk, links, &mut nearest, first_alike);
+        nearest
     }
 
-    // The nearer of the nearest run so far and another one, if there is one; that so far where they are as near.
-    fn nearer(&self, walk: &Walk, links: &Links, nearest: Nearest, number: u32) -> Nearest {
-        if number == NONE || number == nearest.number {
-            return nearest;
+    // Looks at a run, if there is one: it is the nearest so far if it is nearer than that. Most are seen not to be without a price.
+    #[inline(always)]
+    fn look_at(&self, walk: &Walk, links: &Links, nearest: &mut Nearest, number: u32) {
+        if number == nearest.number {
+            return;
         }
-        let run = run_at(self.runs, number);
+        let Some(run) = self.runs.get(number as usize) else {
+            return;
+        };
         let more = self.price_of_wish(run.row);
         let least = self.least.to(walk.cursor.spot, run.row, run.start);
         let least = least.saturating_add(more);
-        if least >= nearest.compared || self.with_turn(least, walk, &run) >= nearest.compared {
-            return nearest;
+        if least < nearest.compared && self.with_turn(least, walk, run) < nearest.compared {
+            self.compare(walk, links, nearest, number, run, more);
         }
-        let way = self.way_to(walk, links, number, &run);
+    }
+
+    // Prices the way to a run: it is the nearest so far if this is less, with what it costs more.
+    #[inline(never)]
+    fn compare(
+        &self,
+        walk: &Walk,
+        links: &Links,
+        nearest: &mut Nearest,
+        number: u32,
+        run: &Run,
+        more: u32,
+    ) {
+        let way = self.way_to(walk, links, number, run);
         let compared = way.price.saturating_add(more);
-        if compared >= nearest.compared {
-            return nearest;
-        }
-        Nearest {
-            number,
-            way: Some(way),
-            compared,
+        if compared < nearest.compared {
+            *nearest = Nearest {
+                number,
+                way: Some(way),
+                compared,
+            };
         }
     }
 
