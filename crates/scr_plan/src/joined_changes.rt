@@ -1,5 +1,5 @@
 //! The joined repaint of what differs from what is remembered, and of all that differs from blanks.
-ghost use Rattle.std.specs.Prelude.{ℕ, ◌≡◌, ◌++◌, ◌<◌, not, OnOk, false, filter, true};
+ghost use Rattle.std.specs.Prelude.{ℕ, ◌≡◌, ◌≢◌, ◌++◌, ◌<◌, not, None, OnOk, false, filter, true};
 ghost use Rattle.std.specs.List.{flat_map};
 ghost use Rattle.scr_plan.specs.Code.Joinings.{Continues, CountsAtMost, joined_at};
 ghost use Rattle.scr_plan.specs.Code.Painters.{painter_of};
@@ -68,7 +68,8 @@ fn differs_in(
 }
 
 impl Joining {
-    // Adds what paints each place that differs from what is known of it, and then what places the cursor.
+    // Adds what paints each place that differs from what is known of it, and then what places the cursor: row by row, until there are more
+    // bytes than a limit, if there is one.
     pub(crate) fn join_changes(
         &mut self,
         painter: Painter,
@@ -76,50 +77,36 @@ impl Joining {
         memory: &Memory,
         wanted: &Virtual,
         by: Looked,
+        limit: Option<usize>,
     ) -> Result<(), NoMemory>
         requires painter { painter ≡ painter_of profile.now }
         requires fits { Fits profile.now wanted.now.picture }
         requires size { IsSizeOf wanted.now.picture memory.now }
         requires same { ShowsOutside (range_by by) profile.now memory.now wanted.now }
         requires known { is_known memory.now ≡ true }
-        ensures { OnOk result (Continues profile.now self.old self.new (joined_places profile.now wanted.now.picture memory.now ++ resets profile.now ++ places_cursor wanted.now.picture.wish)) }
-    {
-        let _size = wanted.size();
-        let (first, end) = by.rows(wanted);
-        for row in first..end {
-            self.join_changed(painter, profile, memory, wanted, by, row)?;
-        }
-        self.finish(painter, profile, wanted.picture())
-    }
-
-    // Counts what paints each place that differs from what is known of it, and then what places the cursor, row by row until there are more
-    // bytes than a limit.
-    pub(crate) fn count_changes(
-        &mut self,
-        painter: Painter,
-        profile: &Profile,
-        memory: &Memory,
-        wanted: &Virtual,
-        by: Looked,
-        limit: usize,
-    ) -> Result<(), NoMemory>
-        requires painter { painter ≡ painter_of profile.now }
-        requires fits { Fits profile.now wanted.now.picture }
-        requires size { IsSizeOf wanted.now.picture memory.now }
-        requires same { ShowsOutside (range_by by) profile.now memory.now wanted.now }
-        requires known { is_known memory.now ≡ true }
-        ensures { OnOk result (CountsAtMost profile.now self.old self.new (joined_places profile.now wanted.now.picture memory.now ++ resets profile.now ++ places_cursor wanted.now.picture.wish)) }
+        ensures all { OnOk result (limit ≡ None → Continues profile.now self.old self.new (joined_places profile.now wanted.now.picture memory.now ++ resets profile.now ++ places_cursor wanted.now.picture.wish)) }
+        ensures most { OnOk result (CountsAtMost profile.now self.old self.new (joined_places profile.now wanted.now.picture memory.now ++ resets profile.now ++ places_cursor wanted.now.picture.wish)) }
     {
         run_laws();
         let _size = wanted.size();
         let (first, end) = by.rows(wanted);
         for row in first..end {
-            if self.bytes > limit {
+            if self.is_above(limit) {
                 return Ok(());
             }
             self.join_changed(painter, profile, memory, wanted, by, row)?;
         }
         self.finish(painter, profile, wanted.picture())
+    }
+
+    // Whether there are more bytes than a limit, if there is one.
+    fn is_above(&self, limit: Option<usize>) -> bool
+        ensures { result ≡ true → limit ≢ None }
+    {
+        match limit {
+            Some(limit) => self.bytes > limit,
+            None => false,
+        }
     }
 
     // Adds what paints each place of a row that differs from what is known of it.

@@ -333,6 +333,9 @@ fn is_nothing_left(
     memory.is_placed(wanted.picture().wish()) && !differs(painter, profile, memory, wanted, by)
 }
 
+// As many operations as mostly lead to a place: they are counted, and not kept.
+const FEW_OPERATIONS: usize = 16;
+
 // How many bytes the joined repaint has; where that is more than a limit, a number between the two.
 fn bytes_of_joined(
     alloc: Global,
@@ -352,8 +355,9 @@ fn bytes_of_joined(
     requires some { (is_none_left (differing profile.now wanted.now.picture memory.now) && is_placed memory.now wanted.now.picture.wish) ≡ false }
     ensures { IfOk result (λ bytes. bytes ≤ counted_up (length (all_bytes profile.now (joined_of profile.now memory.now wanted.now.picture)))) }
 {
-    let mut joining = Joining::behind(painter, profile, memory, Vec::new(alloc), false)?;
-    joining.count_changes(painter, profile, memory, wanted, by, limit)?;
+    let ops = Vec::with_capacity(alloc, FEW_OPERATIONS)?;
+    let mut joining = Joining::behind(painter, profile, memory, ops, false)?;
+    joining.join_changes(painter, profile, memory, wanted, by, Some(limit))?;
     Ok(joining.bytes)
 }
 
@@ -377,7 +381,7 @@ fn joined(
 {
     let ops = Vec::with_capacity(alloc, room_of(wanted.size()))?;
     let mut joining = Joining::behind(painter, profile, memory, ops, true)?;
-    joining.join_changes(painter, profile, memory, wanted, by)?;
+    joining.join_changes(painter, profile, memory, wanted, by, None)?;
     Ok(Ops(joining.ops))
 }
 

@@ -12,7 +12,7 @@ returns c =
     let picture = c.args.wanted.now.picture in
     let memory = c.args.memory.now in
     let all = resets profile ++ joined_places profile picture memory ++ resets profile ++ places_cursor picture.wish in
-    subst (λ ops. c.count_changes.new.self.bytes ≤ counted_up (length (all_bytes profile ops)))
+    subst (λ ops. c.join_changes.new.self.bytes ≤ counted_up (length (all_bytes profile ops)))
     (sym (ap (without_idle profile memory.state) (joined_assoc (resets profile) (joined_places profile picture memory) (resets profile) (places_cursor picture.wish)))
     ∙ sym (ap (λ b. if b then [] else without_idle profile memory.state all) c.requires.some))
-    (c.in_ok-count_changes.ensures false _ memory.state (resets profile) c.in_ok-joining.ensures)
+    (c.in_ok-join_changes.ensures.most false _ memory.state (resets profile) c.in_ok-joining.ensures)

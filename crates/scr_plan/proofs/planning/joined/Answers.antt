@@ -10,7 +10,7 @@ returns c =
     let picture = c.args.wanted.now.picture in
     let memory = c.args.memory.now in
     let all = resets profile ++ joined_places profile picture memory ++ resets profile ++ places_cursor picture.wish in
-    let end = c.in_ok-join_changes.ensures true c.in_ok-ops.ops.items memory.state (resets profile) c.in_ok-joining.ensures in
+    let end = c.in_ok-join_changes.ensures.all refl true c.in_ok-ops.ops.items memory.state (resets profile) c.in_ok-joining.ensures in
     end.ops refl
     ∙ ap (λ ops. ops ++ without_idle profile memory.state (resets profile ++ (joined_places profile picture memory ++ resets profile ++ places_cursor picture.wish))) c.in_ok-ops.ensures.items
     ∙ sym (ap (without_idle profile memory.state) (joined_assoc (resets profile) (joined_places profile picture memory) (resets profile) (places_cursor picture.wish)))
