@@ -355,6 +355,15 @@ fn is_worth_erasing(profile: &Profile, count: u32, goes_on: bool) -> bool {
     count > erasure.saturating_add(motion)
 }
 
+// Room for the operations of runs: their characters, and what mostly leads to each.
+pub(crate) fn room_for(runs: &[Run]) -> usize {
+    let mut room = 4usize;
+    for run in runs {
+        room = room.saturating_add(run.end.saturating_sub(run.start) as usize + 4);
+    }
+    room
+}
+
 // A run that is written.
 fn written(row: u32, start: u32, end: u32, pen: Pen) -> Run
     ensures row { result.row ≡ row }

@@ -13,12 +13,15 @@ ghost use Rattle.scr_plan.specs.Scratch.{Fits, resets};
 use crate::memories::Memory;
 use crate::painting::Painter;
 use crate::planning::{Looked, room_of};
-use crate::runs::Run;
+use crate::runs::{Run, room_for};
 use crate::strokes::Draft;
 use scr_cells::{NoMemory, Pen, Picture, Size};
 use scr_term::{Op, Profile, Spot, blank_laws};
 use scr_virtual::Virtual;
 use std::alloc::Global;
+
+// As many runs as most updates have: room for them spares the list from growing.
+const FEW_RUNS: usize = 16;
 
 // The short plan of what differs from what is remembered.
 pub(crate) fn short_changes(
@@ -39,11 +42,12 @@ pub(crate) fn short_changes(
 {
     let _profile = profile.size();
     let _memory = memory.size();
-    let mut runs = Vec::new(alloc);
+    let mut runs = Vec::with_capacity(alloc, FEW_RUNS)?;
     find_changes(painter, profile, memory, wanted, by, &mut runs)?;
     let picture = wanted.picture();
+    let ops = Vec::with_capacity(alloc, room_for(&runs))?;
     let mut draft = Draft {
-        ops: Vec::with_capacity(alloc, room_of(picture.size()))?,
+        ops,
         bytes: 0,
         spot: memory.remembered_spot(),
         pen: memory.remembered_pen(),

@@ -10,7 +10,7 @@ ghost use Rattle.scr_plan.specs.declared.runs.Run.{Run};
 
 use crate::orders::cheaper_order;
 use crate::painting::Painter;
-use crate::runs::{How, Run};
+use crate::runs::{How, Run, room_for};
 use crate::strokes::Draft;
 use crate::ways::{Chooser, Path, Stop, Way};
 use scr_cells::{Look, NoMemory, Pen, Picture, grid_laws};
@@ -38,17 +38,12 @@ impl Draft {
         self.place(painter, profile, picture)
     }
 
-    // Makes room for the operations of runs: their characters, and what mostly leads to each. It spares the list from growing while they
-    // are painted.
+    // Makes room for the operations of runs: it spares the list from growing while they are painted.
     fn make_room(&mut self, profile: &Profile, runs: &[Run]) -> Result<(), NoMemory>
         ensures { OnOk result (KeepsEvery profile.now self.old self.new) }
     {
         let _size = profile.size();
-        let mut room = 4usize;
-        for run in runs {
-            room = room.saturating_add(run.end.saturating_sub(run.start) as usize + 4);
-        }
-        self.ops.reserve(room)?;
+        self.ops.reserve(room_for(runs))?;
         Ok(())
     }
 

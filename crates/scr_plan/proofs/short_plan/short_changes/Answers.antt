@@ -12,5 +12,5 @@ returns c =
     (changes_done profile c.picture-picture.result.now memory
     (state_of profile memory c.size-memory.ensures.memory (c.requires.size.rows ∙ c.requires.fits.rows) (c.requires.size.columns ∙ c.requires.fits.columns) c.requires.pen)
     c.find_changes.new.runs.items c.wipe_if_worth.new.runs.items (subst (λ picture. HasChanges profile picture memory c.find_changes.new.runs.items picture.rows) (sym same) c.in_ok-find_changes.ensures)
-    (record { ops = c.in_ok-with_capacity.field-0; bytes = 0; spot = c.remembered_spot.result; pen = c.remembered_pen.result }) c.wipe_if_worth.new.self c.paint_all.new.self
-    c.in_ok-with_capacity.ensures.items refl c.remembered_spot.ensures c.remembered_pen.ensures c.in_ok-wipe_if_worth.ensures c.in_ok-paint_all.ensures.right c.in_ok-paint_all.ensures.spot)
+    (record { ops = c.in_ok-ops.ops; bytes = 0; spot = c.remembered_spot.result; pen = c.remembered_pen.result }) c.wipe_if_worth.new.self c.paint_all.new.self
+    c.in_ok-ops.ensures.items refl c.remembered_spot.ensures c.remembered_pen.ensures c.in_ok-wipe_if_worth.ensures c.in_ok-paint_all.ensures.right c.in_ok-paint_all.ensures.spot)
