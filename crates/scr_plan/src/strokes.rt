@@ -1,7 +1,8 @@
 //! The short plan, stroke by stroke: each looks before it acts, so that what was chosen before can make a plan longer, but never false.
-ghost use Rattle.std.specs.Prelude.{ℕ, ◌≡◌, ◌+◌, ◌<◌, ◌≤◌, ◌∷◌, [], IfOk, OnOk, length};
+ghost use Rattle.std.specs.Prelude.{ℕ, ◌≡◌, ◌+◌, ◌<◌, ◌≤◌, ◌∷◌, [], IfOk, OnOk, length, true};
 ghost use Rattle.scr_cells.specs.Grids.{grid_row};
 ghost use Rattle.scr_term.specs.declared.operations.operation.Spot.TheVariants.{At};
+ghost use Rattle.scr_term.specs.Operations.Texts.{all_bytes, has};
 ghost use Rattle.scr_plan.specs.Code.Drafts.{Covers, IsAdded, IsPaid, KeepsAll, KeepsEvery, in_part};
 ghost use Rattle.scr_plan.specs.Code.Painters.{painter_begins, painter_look, painter_of};
 ghost use Rattle.scr_plan.specs.Scratch.{Fits};
@@ -33,8 +34,24 @@ impl Draft {
     ) -> Result<(), NoMemory>
         ensures { OnOk result (IsAdded profile.now self.old self.new (op ∷ []) spot pen) }
     {
+        self.add_priced(profile, op, price_of_one(profile, op), spot, pen)
+    }
+
+    // Adds an operation of so many bytes, behind which the cursor is here and this pen is on.
+    fn add_priced(
+        &mut self,
+        profile: &Profile,
+        op: Op,
+        price: usize,
+        spot: Spot,
+        pen: Pen,
+    ) -> Result<(), NoMemory>
+        requires { has profile.now op ≡ true → price ≡ length (all_bytes profile.now (op ∷ [])) }
+        ensures { OnOk result (IsAdded profile.now self.old self.new (op ∷ []) spot pen) }
+    {
+        let _size = profile.size();
         self.ops.push(op)?;
-        self.bytes = self.bytes.saturating_add(price_of_one(profile, op));
+        self.bytes = self.bytes.saturating_add(price);
         self.spot = spot;
         self.pen = pen;
         Ok(())
@@ -46,8 +63,11 @@ impl Draft {
     {
         run_laws();
         let _size = profile.size();
-        match profile.moved(self.spot, self.pen, op) {
-            Some(spot) => self.add(profile, op, spot, self.pen),
+        let Some(price) = profile.cost(op) else {
+            return Ok(());
+        };
+        match profile.moved_by(self.spot, self.pen, op) {
+            Some(spot) => self.add_priced(profile, op, price, spot, self.pen),
             None => Ok(()),
         }
     }

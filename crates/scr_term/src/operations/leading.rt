@@ -4,6 +4,7 @@ ghost use Rattle.std.specs.Prelude.{◌↔◌, ℕ, IsTrue, IfSome};
 ghost use Rattle.scr_term.specs.Operations.Abilities.{full_abilities};
 ghost use Rattle.scr_term.specs.Operations.Leading.{GoesTo, TurnsTo};
 ghost use Rattle.scr_term.specs.Operations.States.{IsShownPen, IsSpot};
+ghost use Rattle.scr_term.specs.Operations.Texts.{has};
 
 use crate::displays::Change;
 use crate::operations::steps::{change_of, next_pen};
@@ -21,7 +22,18 @@ impl Profile {
     pub fn moved(&self, spot: Spot, pen: Pen, op: Op) -> Option<Spot>
         ensures { IfSome result (GoesTo self.now spot pen op) }
     {
-        if !self.has(op) || !self.is_on_screen(spot) || !is_shown_by_all(pen) {
+        if !self.has(op) {
+            return None;
+        }
+        self.moved_by(spot, pen, op)
+    }
+
+    /// The same for an operation that the terminal has: for callers that have asked for its cost before.
+    pub fn moved_by(&self, spot: Spot, pen: Pen, op: Op) -> Option<Spot>
+        requires { IsTrue (has self.now op) }
+        ensures { IfSome result (GoesTo self.now spot pen op) }
+    {
+        if !self.is_on_screen(spot) || !is_shown_by_all(pen) {
             return None;
         }
         match op {

@@ -1,5 +1,5 @@
 use Rattle.std.proofs.Common.{rules}
-use Rattle.scr_term.proofs.operations.profiles.Profile.moved.Goals as goal
+use Rattle.scr_term.proofs.operations.profiles.Profile.moved_by.Goals as goal
 
 pub change_of-requires : goal.change_of-requires
 change_of-requires c = record {
