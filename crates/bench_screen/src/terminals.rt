@@ -132,12 +132,13 @@ fn scratch_again(alloc: Global, count: u32) -> Result<usize> {
     Ok(sum)
 }
 
-// Asks for the price of a cursor address so many times, and adds it up.
+// Asks for the price of a cursor address so many times, and adds it up. The row changes: that of one address would be found once,
+// before the loop.
 fn price_again(alloc: Global, count: u32) -> Result<usize> {
     let profile = Profile::ecma48(alloc, size()?)?;
     let mut sum = 0usize;
-    for _ in 0..count {
-        sum = sum.wrapping_add(profile.cost(Op::Move(23, 78)).unwrap_or(0));
+    for index in 0..count {
+        sum = sum.wrapping_add(profile.cost(Op::Move(index % 16, 78)).unwrap_or(0));
     }
     Ok(sum)
 }
