@@ -29,7 +29,7 @@
 //! | `list` | the text of the file, how many capabilities that leaves out, and how many bytes follow |
 //! | `padding TEXT` | the text without padding |
 //! | `vars` | sets the static variables to 0 |
-//! | `program TEXT PARAMETER..` | what the program writes; `length` and `bound` are compared with it |
+//! | `program TEXT PARAMETER..` | what the program writes; `length`, `length_of_two` and `bound` are compared with it |
 //! | `measure TEXT` | the bound and the depth of a program |
 //! | `read-program TEXT` | whether a text is a program |
 //! | `cuts TEXT..` | whether each text, cut at each place, is a program, or is refused for the cut or as the text is |

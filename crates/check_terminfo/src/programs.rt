@@ -68,7 +68,8 @@ fn params(words: &mut Words<'_>) -> [i32; 9] {
     params
 }
 
-// Runs a program behind a text, which stays; it writes as many bytes as `length` says, and `bound` at most.
+// Runs a program behind a text, which stays; it writes as many bytes as `length` says, `length_of_two` too where that counts the
+// same, and `bound` at most.
 fn write(
     current: &mut Current,
     program: &Program,
@@ -88,10 +89,18 @@ fn write_behind(
     answer: &mut Answer,
 ) -> Result<(), CheckFault> {
     let length = program.length(params, vars);
+    if is_of_two(params, vars) && program.length_of_two(params[0], params[1]) != length {
+        return Err(CheckFault::Line("the length for two numbers is wrong"));
+    }
     match again::run_program(program, params, vars, out)? {
         Ok(()) => say_written(program, length, out, answer),
         Err(fault) => say_full(program, length, fault, answer),
     }
+}
+
+// All parameters but the first two are 0, and so are the static variables.
+fn is_of_two(params: [i32; 9], vars: &Vars) -> bool {
+    params.iter().skip(2).all(|param| *param == 0) && *vars == Vars::new()
 }
 
 // Answers what a program wrote behind a text, which stays.
