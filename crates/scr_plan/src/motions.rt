@@ -104,6 +104,11 @@ impl Motion {
         self.price == 0
     }
 
+    // Whether Move leads to the place.
+    pub(crate) fn is_direct(self) -> bool {
+        matches!(self.start, Start::Direct)
+    }
+
     // The cheaper of this motion and that along rows and columns, this one where they cost the same.
     fn or_along(
         self,

@@ -48,6 +48,9 @@ impl Draft {
             return Ok(());
         }
         self.get_plain_to_move(profile)?;
+        if motion.is_direct() {
+            return self.go(profile, Op::Move(row, column));
+        }
         self.take(profile, motion.steps(self.spot, row, column))
     }
 
@@ -86,8 +89,18 @@ impl Draft {
             return Ok(());
         }
         self.begin_turn(profile, cheapest_turn(profile.prices(), self.pen, pen))?;
-        self.enter_each(profile, pen.attrs(), &Attrs::EACH)?;
+        self.enter_missing(profile, pen.attrs())?;
         self.set_colours(profile, pen)
+    }
+
+    // Turns on the attributes of a set that are not on.
+    fn enter_missing(&mut self, profile: &Profile, set: Attrs) -> Result<(), NoMemory>
+        ensures { OnOk result (KeepsEvery profile.now self.old self.new) }
+    {
+        if self.pen.attrs() == set {
+            return Ok(());
+        }
+        self.enter_each(profile, set, &Attrs::EACH)
     }
 
     // What a turn begins with.

@@ -1,7 +1,7 @@
 //! The cheapest turn from one pen to another. Only prices are compared here: nothing depends on a choice but how many bytes an update has.
 
 use scr_cells::{Attrs, Pen};
-use scr_term::{FAR, Op, Prices};
+use scr_term::{Op, Prices};
 
 // How a pen becomes another: what is sent first, if anything; behind it each attribute that is still missing is turned on, and each colour
 // set that differs.
@@ -22,7 +22,7 @@ impl Turn {
     }
 }
 
-// The cheapest turn from a pen to another: by adding to it, by a reset, or by a whole set of attributes at once.
+// The cheapest turn from a pen to another: by adding to it, or by a reset where it cannot be, or by a whole set of attributes at once.
 pub(crate) fn cheapest_turn(prices: &Prices, from: Pen, to: Pen) -> Turn {
     if from == to {
         return Turn {
@@ -30,7 +30,11 @@ pub(crate) fn cheapest_turn(prices: &Prices, from: Pen, to: Pen) -> Turn {
             price: 0,
         };
     }
-    let turn = adding(prices, from, to).or(resetting(prices, to));
+    let turn = if keeps(from, to) {
+        adding(prices, from, to)
+    } else {
+        resetting(prices, to)
+    };
     if to.attrs().0 == 0 {
         turn
     } else {
@@ -38,14 +42,12 @@ pub(crate) fn cheapest_turn(prices: &Prices, from: Pen, to: Pen) -> Turn {
     }
 }
 
-// Nothing is turned off; too dear where something would have to be.
+// Nothing is turned off: it costs no more than to turn everything off first.
 fn adding(prices: &Prices, from: Pen, to: Pen) -> Turn {
-    let price = if keeps(from, to) {
-        price_of_adding(prices, from, to)
-    } else {
-        FAR
-    };
-    Turn { first: None, price }
+    Turn {
+        first: None,
+        price: price_of_adding(prices, from, to),
+    }
 }
 
 // Everything is turned off first.
