@@ -12,7 +12,7 @@ ghost use Rattle.scr_plan.specs.Scratch.{Fits, resets};
 
 use crate::memories::Memory;
 use crate::painting::Painter;
-use crate::planning::{Looked, room_of};
+use crate::planning::Looked;
 use crate::runs::{Run, room_for};
 use crate::strokes::Draft;
 use scr_cells::{NoMemory, Pen, Picture, Size};
@@ -72,7 +72,7 @@ pub(crate) fn short_anew(
     let _profile = profile.size();
     let mut runs = Vec::new(alloc);
     painter.add_rows(profile, picture, 0, &mut runs)?;
-    let mut ops = Vec::with_capacity(alloc, room_of(picture.size()))?;
+    let mut ops = Vec::with_capacity(alloc, room_for(&runs))?;
     painter.reset(&mut ops)?;
     ops.push(Op::Clear)?;
     let mut draft = Draft {

@@ -3,14 +3,14 @@ ghost use Rattle.std.specs.Prelude.{◌≡◌, ◌<◌, ◌≤◌, [], IfSome, O
 ghost use Rattle.scr_cells.specs.PenViews.{is_plain_pen, plain_pen};
 ghost use Rattle.scr_term.specs.declared.operations.operation.Spot.TheVariants.{At};
 ghost use Rattle.scr_term.specs.Operations.Texts.{has};
-ghost use Rattle.scr_plan.specs.Code.Drafts.{Covers, IsAdded, KeepsAll, KeepsEvery, Leaves, in_part, is_in, no_run};
+ghost use Rattle.scr_plan.specs.Code.Drafts.{Covers, IsAdded, KeepsAll, Leaves, in_part, is_in, no_run};
 ghost use Rattle.scr_plan.specs.Code.Painters.{painter_begins, painter_of};
 ghost use Rattle.scr_plan.specs.Scratch.{Fits};
 ghost use Rattle.scr_plan.specs.declared.runs.Run.{Run};
 
 use crate::orders::cheaper_order;
 use crate::painting::Painter;
-use crate::runs::{How, Run, room_for};
+use crate::runs::{How, Run};
 use crate::strokes::Draft;
 use crate::ways::{Chooser, Path, Stop, Way};
 use scr_cells::{Look, NoMemory, Pen, Picture, grid_laws};
@@ -33,18 +33,8 @@ impl Draft {
         ensures spot { OnOk result (IfSome picture.now.wish (λ place. self.new.spot ≡ At place.0 place.1)) }
     {
         let stops = chosen_order(alloc, painter, profile, picture, self, runs)?;
-        self.make_room(profile, runs)?;
         self.visit_all(painter, profile, picture, runs, &stops)?;
         self.place(painter, profile, picture)
-    }
-
-    // Makes room for the operations of runs: it spares the list from growing while they are painted.
-    fn make_room(&mut self, profile: &Profile, runs: &[Run]) -> Result<(), NoMemory>
-        ensures { OnOk result (KeepsEvery profile.now self.old self.new) }
-    {
-        let _size = profile.size();
-        self.ops.reserve(room_for(runs))?;
-        Ok(())
     }
 
     // Visits these runs one after another, and then all that are left.
@@ -127,7 +117,8 @@ impl Draft {
         Ok(())
     }
 
-    // Paints the places of a run, to which a way was chosen before or is now.
+    // Paints the places of a run, to which a way was chosen before or is now. One that was visited has none left.
+    #[inline(always)]
     pub(crate) fn visit(
         &mut self,
         painter: Painter,
@@ -148,6 +139,28 @@ impl Draft {
         if run.start >= end {
             return Ok(());
         }
+        self.visit_part(painter, profile, picture, run, end, way)
+    }
+
+    // Paints the places of a run up to a column, to which a way was chosen before or is now.
+    #[inline(never)]
+    fn visit_part(
+        &mut self,
+        painter: Painter,
+        profile: &Profile,
+        picture: &Picture,
+        run: Run,
+        end: u32,
+        way: Option<Way>,
+    ) -> Result<(), NoMemory>
+        requires painter { painter ≡ painter_of profile.now }
+        requires fits { Fits profile.now picture.now }
+        requires row { run.row < picture.now.rows }
+        requires start { run.start < end }
+        requires end { end ≤ picture.now.columns }
+        ensures { OnOk result (Covers profile.now picture.now (in_part run.row run.start end) self.old self.new) }
+    {
+        let _size = picture.size();
         let path = self.path_by(painter, profile, picture, &run, way);
         self.follow(painter, profile, picture, path, run.row, run.start, run.pen)?;
         self.paint_run(painter, profile, picture, run, end)
