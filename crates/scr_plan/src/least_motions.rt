@@ -2,25 +2,28 @@
 
 use scr_term::{Op, Prices, Spot};
 
-// The least prices of motions, whatever the rows and columns: to a neighbouring row, to one further away, ten rows down or more, to the
-// right, to the left, to a column up to `jump`, before which places may be written, to the first place of the screen, and to any place at once.
+// The least prices of motions, whatever the rows and columns: to a neighbouring row, to one further away, to the right, to the left, to a
+// column up to `jump`, before which places may be written, to the first place of the screen, to any place at once, and from behind the last
+// column to the first row, and to others by how many digits their number has in a cursor address.
 #[derive(Clone, Copy)]
-pub(crate) struct LeastMotions<'a> {
-    prices: &'a Prices,
+pub(crate) struct LeastMotions {
     neighbour: u32,
     further: u32,
-    far_down: u32,
     right: u32,
     left: u32,
     near: u32,
     home: u32,
     place: u32,
     jump: u32,
+    margin_to_first: u32,
+    margin_to_one: u32,
+    margin_to_two: u32,
+    margin_to_three: u32,
 }
 
-impl<'a> LeastMotions<'a> {
-    // Those of a terminal with these prices.
-    pub(crate) fn of(prices: &'a Prices) -> LeastMotions<'a> {
+impl LeastMotions {
+    // Those of a terminal with these prices, where places may be written up to this column.
+    pub(crate) fn of(prices: &Prices, jump: u32) -> LeastMotions {
         let one = prices.of(Op::Up(1)).min(prices.of(Op::Down(1)));
         let line = lines(prices);
         let home = prices.of(Op::Home);
@@ -28,17 +31,22 @@ impl<'a> LeastMotions<'a> {
         let column = columns(prices).min(place);
         let right = rights(prices);
         let first = prices.of(Op::Return).min(home);
+        let neighbour = one.min(line);
+        let further = more_rows(prices).min(line);
+        let many = many_down(prices).min(line);
         LeastMotions {
-            prices,
-            neighbour: one.min(line),
-            further: more_rows(prices).min(line),
-            far_down: many_down(prices).min(line),
+            neighbour,
+            further,
             right: right.min(column).min(sum(first, right)),
             left: lefts(prices).min(column).min(first),
             near: first.min(1),
             home,
             place,
-            jump: prices.easy_motion(),
+            jump,
+            margin_to_first: prices.of(Op::Move(0, 0)).min(home),
+            margin_to_one: from_margin(prices, 1, neighbour.min(further)),
+            margin_to_two: from_margin(prices, 9, further.min(many)),
+            margin_to_three: from_margin(prices, 99, many),
         }
     }
 
@@ -64,15 +72,15 @@ impl<'a> LeastMotions<'a> {
         }
     }
 
-    // From behind the last column to a row: at once, or from the first place of the screen.
+    // From behind the last column to a row.
     #[inline(always)]
     fn from_margin(self, row: u32) -> u32 {
-        let down = match row {
-            0 => 0,
-            1..=9 => self.neighbour.min(self.further),
-            _ => self.far_down,
-        };
-        self.prices.of(Op::Move(row, 0)).min(sum(self.home, down))
+        match row {
+            0 => self.margin_to_first,
+            1..=8 => self.margin_to_one,
+            9..=98 => self.margin_to_two,
+            _ => self.margin_to_three,
+        }
     }
 
     // From a place to one in another row: along rows and columns, from the first place of the screen, or at once.
@@ -164,15 +172,17 @@ fn lines(prices: &Prices) -> u32 {
     few.min(prices.of(Op::Line(99)))
 }
 
-// The least price of a motion to a place.
+// The least price of a motion to a place: what rows and columns add to it is added.
 fn places(prices: &Prices) -> u32 {
-    let first = addresses(prices, 0);
-    first.min(addresses(prices, 9)).min(addresses(prices, 99))
+    let first = prices.of(Op::Move(0, 0));
+    let row = prices.of(Op::Move(9, 0)).min(prices.of(Op::Move(99, 0)));
+    let column = prices.of(Op::Move(0, 9)).min(prices.of(Op::Move(0, 99)));
+    sum(row.min(first), column.min(first)).saturating_sub(first)
 }
 
-// The least price of a motion to a place of a row.
-#[inline(always)]
-fn addresses(prices: &Prices, row: u32) -> u32 {
-    let few = prices.of(Op::Move(row, 0)).min(prices.of(Op::Move(row, 9)));
-    few.min(prices.of(Op::Move(row, 99)))
+// The price of a motion to a row from behind the last column: at once, or from the first place of the screen by a motion down.
+fn from_margin(prices: &Prices, row: u32, down: u32) -> u32 {
+    prices
+        .of(Op::Move(row, 0))
+        .min(sum(prices.of(Op::Home), down))
 }

@@ -89,17 +89,17 @@ impl Links {
         Ok(made)
     }
 
-    // One run more, behind the one before it in the ring.
+    // One run more, behind the one before it in the ring and in the chain of its pen; that with the next number is to come behind it.
     fn add(&mut self, number: u32, before: u32, pen: Pen) -> Result<(), NoMemory> {
+        let chain = self.chain_with(pen)?;
+        let last = self.extend(chain, number);
         let mut link = Link::alone();
+        link.next = number.saturating_add(1);
         link.before = before;
-        link.chain = self.chain_with(pen)?;
-        let last = self.chain(link.chain).last;
         link.before_alike = last;
+        link.chain = chain;
         self.links.push(link)?;
-        self.set_next(before, number);
         self.set_next_alike(last, number);
-        self.extend(link.chain, number);
         Ok(())
     }
 
@@ -149,14 +149,17 @@ impl Links {
         NONE
     }
 
-    // A chain has this run at its end.
-    fn extend(&mut self, chain: u32, number: u32) {
-        if let Some(chain) = self.chains.get_mut(chain as usize) {
-            chain.last = number;
-            if chain.first == NONE {
-                chain.first = number;
-            }
+    // A chain has this run at its end; the answer is which it had there before, or `NONE`.
+    fn extend(&mut self, chain: u32, number: u32) -> u32 {
+        let Some(chain) = self.chains.get_mut(chain as usize) else {
+            return NONE;
+        };
+        let last = chain.last;
+        chain.last = number;
+        if chain.first == NONE {
+            chain.first = number;
         }
+        last
     }
 
     // An order has the runs of a chain.

@@ -38,7 +38,7 @@ pub(crate) fn cheaper_order(
         chooser,
         runs,
         wish,
-        least: LeastMotions::of(chooser.prices),
+        least: LeastMotions::of(chooser.prices, chooser.jump),
     };
     let mut links = Links::new(alloc, runs)?;
     let price_by_pens = task.by_pens(cursor, &mut links);
@@ -80,7 +80,7 @@ struct Task<'a> {
     chooser: &'a Chooser<'a>,
     runs: &'a [Run],
     wish: Option<(u32, u32)>,
-    least: LeastMotions<'a>,
+    least: LeastMotions,
 }
 
 // A walk over runs as it is priced: where the cursor is, which run was painted last, how many were, and how many bytes that takes.

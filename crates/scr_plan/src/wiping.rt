@@ -56,7 +56,8 @@ pub(crate) fn cheapest_wiping(
 // blank rows.
 fn may_gain(chooser: &Chooser<'_>, runs: &[Run]) -> bool {
     let lost = least_lost(chooser);
-    price_as_they_stand(chooser, runs) > lost && may_spare(chooser, runs, lost)
+    let price = price_as_they_stand(chooser, runs);
+    price > lost && may_spare(chooser, runs, price, lost)
 }
 
 // What runs cost as they stand, and an easy motion for each.
@@ -68,19 +69,25 @@ fn price_as_they_stand(chooser: &Chooser<'_>, runs: &[Run]) -> i64 {
     sum
 }
 
-// Whether an erasure may spare more than this: what the runs cost as they stand from some row on, less what each row with runs costs at
-// least on a blank row.
-fn may_spare(chooser: &Chooser<'_>, runs: &[Run], lost: i64) -> bool {
+// Whether an erasure may spare more than is lost: what the runs cost as they stand from some row on, less what each row with runs costs
+// at least on a blank row. All runs have this price.
+fn may_spare(chooser: &Chooser<'_>, runs: &[Run], price: i64, lost: i64) -> bool {
+    let mut left = price;
     let mut spared = 0i64;
     let mut row = None;
     for behind in 0..runs.len() {
         let run = &runs[runs.len() - 1 - behind];
         if row != Some(run.row) {
+            if spared.saturating_add(left) <= lost {
+                return false;
+            }
             let least = least_on_blanks(chooser, chooser.cells(run.row));
             spared = spared.saturating_sub(i64::from(least));
             row = Some(run.row);
         }
-        spared = spared.saturating_add(i64::from(price_as_it_stands(chooser, run)));
+        let price = i64::from(price_as_it_stands(chooser, run));
+        left = left.saturating_sub(price);
+        spared = spared.saturating_add(price);
         if spared > lost {
             return true;
         }
