@@ -187,14 +187,37 @@ impl Painter {
     {
         let first = cell_in(cells, column);
         let pen = self.pen_of(picture, first);
+        let second = column + 1;
+        if second >= end || self.ends(cells, before, first, second, pen) {
+            return second;
+        }
         let begun = column + self.unlike_by_eight(cells, before, column, end).max(1);
         for next in begun..end {
-            let cell = cell_in(cells, next);
-            if !are_alike(first, cell) || is_shown_in(before, next, cell.byte(), pen) {
+            if self.ends(cells, before, first, next, pen) {
                 return next;
             }
         }
         end
+    }
+
+    // Whether a place shows what is seen of its cell with a pen, or its cell has other attributes or another colour pair than one before it.
+    #[inline(always)]
+    fn ends(
+        self,
+        cells: &[Cell],
+        before: Option<&[Look]>,
+        first: Cell,
+        column: u32,
+        pen: Pen,
+    ) -> bool
+        requires column { column < length cells.now }
+        requires width { IfSome before (λ looks. column < length looks.now) }
+        ensures attrs { result ≡ false → first.attrs ≡ (slice_index_or cells.now column blank_cell).attrs }
+        ensures pair { result ≡ false → first.pair ≡ (slice_index_or cells.now column blank_cell).pair }
+        ensures unlike { result ≡ false → look_eq (shown_in (option_map (λ looks. looks.now) before.entry) column) (record { byte = (slice_index_or cells.now column blank_cell).byte; pen = pen }) ≡ false }
+    {
+        let cell = cell_in(cells, column);
+        !are_alike(first, cell) || is_shown_in(before, column, cell.byte(), pen)
     }
 
     // The first column behind one whose cell has other attributes or another colour pair; the end, where there is none before it.
@@ -207,6 +230,9 @@ impl Painter {
             → (painter_sees self picture.now.pairs (slice_index_or cells.now c blank_cell)).pen ≡ (painter_sees self picture.now.pairs (slice_index_or cells.now column blank_cell)).pen }
     {
         let _size = picture.size();
+        if column + 1 >= end {
+            return end;
+        }
         let first = cell_in(cells, column);
         let begun = column + alike_by_eight(cells, column, end).max(1);
         for next in begun..end {
