@@ -1,9 +1,11 @@
 //! Which operations bring a terminal to a picture.
 #![tactic(auto)]
 
+mod blanks;
 mod joined_changes;
 mod joined_rows;
 mod joining;
+mod known_rows;
 mod least_motions;
 mod links;
 mod looking;

@@ -1,6 +1,5 @@
 //! What is remembered of a terminal between updates. What is true of it is in `specs/Memories.antt`.
-ghost use Rattle.std.specs.Prelude.{ℕ, ◌≡◌, ◌+◌, ◌≤◌, ◌<◌, ◌&&◌, leb, ltb, false, true, Some, IfOk, IfSome, length, option_map, replicate, slice_set, take};
-ghost use Rattle.std.specs.List.{list_all};
+ghost use Rattle.std.specs.Prelude.{◌≡◌, ◌+◌, ◌≤◌, ◌<◌, ◌&&◌, false, true, Some, IfOk, IfSome, length, option_map, replicate, slice_set, take};
 ghost use Rattle.std.specs.Option.{is_some};
 ghost use Rattle.scr_term.specs.Operations.Profiles.{abilities};
 ghost use Rattle.scr_term.specs.Operations.States.{IsSpot};
@@ -8,8 +7,9 @@ ghost use Rattle.scr_term.specs.Operations.Steps.{step};
 ghost use Rattle.scr_plan.specs.Memories.{IsMemory, all_followed, changes_cells, clears, disturbed, followed, forgotten, has_one_pen, is_known, is_known_row, known_from, pen_if_known, places_spot, row_looks, rows_erased, rows_followed, sets_pen, spot_if_known, stepped, unknown};
 ghost use Rattle.scr_plan.specs.Repaints.{is_placed};
 ghost use Rattle.scr_cells.specs.Grids.{grid_row};
-ghost use Rattle.scr_plan.specs.Code.Remembering.{gone_to, with_run};
+ghost use Rattle.scr_plan.specs.Code.Remembering.{gone_to};
 
+use crate::known_rows::{are_all, rows_there, set_all, set_one, set_run};
 use scr_cells::{Look, NoMemory, Pen, Size};
 use scr_term::{Op, Profile, Spot, Terminal};
 use std::alloc::Global;
@@ -328,52 +328,6 @@ impl Memory {
         set_all(&mut self.rows, known);
         self.all_rows = known;
     }
-}
-
-// Those of n rows from one on that there are: from which one on, and up to which.
-fn rows_there(first: u32, n: u32, rows: u32) -> (u32, u32)
-    ensures order { result.0 ≤ result.1 }
-    ensures end { result.1 ≤ rows }
-    ensures same { (r : ℕ) → r < rows → (leb result.0 r && ltb r result.1) ≡ (leb first r && ltb r (first + n)) }
-{
-    let from = first.min(rows);
-    (from, from + n.min(rows - from))
-}
-
-// One value everywhere.
-fn set_all(rows: &mut [bool], known: bool)
-    ensures { rows.new ≡ replicate (length rows.old) known }
-{
-    for row in 0..rows.len() {
-        rows[row] = known;
-    }
-}
-
-// True in one place, if there is one.
-fn set_one(rows: &mut [bool], row: usize)
-    ensures { rows.new ≡ slice_set rows.old row true }
-{
-    if row < rows.len() {
-        rows[row] = true;
-    }
-}
-
-// One value from one row up to another.
-fn set_run(rows: &mut [bool], first: usize, end: usize, known: bool)
-    requires order { first ≤ end }
-    requires end { end ≤ length rows.old }
-    ensures { rows.new ≡ with_run known first end rows.old }
-{
-    for row in first..end {
-        rows[row] = known;
-    }
-}
-
-// Whether all are true.
-fn are_all(rows: &[bool]) -> bool
-    ensures { result ≡ list_all (λ known. known) rows.now }
-{
-    rows.iter().all(|known| *known)
 }
 
 // Whether the cursor is in the same place after an operation wherever it was.

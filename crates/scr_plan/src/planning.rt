@@ -7,7 +7,7 @@ ghost use Rattle.scr_term.specs.Operations.Profiles.{abilities, has_colours, is_
 ghost use Rattle.scr_term.specs.Operations.States.{IsShownPen};
 ghost use Rattle.scr_term.specs.Operations.Texts.{all_bytes};
 ghost use Rattle.scr_virtual.specs.Ranges.{IsRange};
-ghost use Rattle.scr_virtual.specs.VirtualViews.{altered_at, range_at};
+ghost use Rattle.scr_virtual.specs.VirtualViews.{range_at};
 ghost use Rattle.scr_plan.specs.Code.Joinings.{counted_up};
 ghost use Rattle.scr_plan.specs.Code.Painters.{painter_of};
 ghost use Rattle.scr_plan.specs.Code.Planning.{AreNoneByOutside, painted_anew, range_by};

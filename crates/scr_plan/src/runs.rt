@@ -3,7 +3,10 @@ ghost use Rattle.std.specs.Prelude.{◌≡◌, ◌<◌, ◌≤◌, IfOk, IfSome,
 ghost use Rattle.scr_cells.specs.Grids.{grid_row};
 ghost use Rattle.scr_plan.specs.Code.Drafts.{HasDiffering, HasMarks, HasPart, KeepsRuns};
 
-use crate::looking::{blank_of_many, blanks_begin, blanks_end, is_shown_in};
+use crate::blanks::{
+    blank_of_many, blanks_begin, blanks_end, is_worth_erasing, least_worth_erasing,
+};
+use crate::looking::is_shown_in;
 use crate::painting::Painter;
 use scr_cells::{Cell, Look, NoMemory, Pen, Picture};
 use scr_term::{Op, Profile};
@@ -326,33 +329,6 @@ fn add(runs: &mut Vec<Run>, run: Run) -> Result<(), NoMemory>
 {
     runs.push(run)?;
     Ok(())
-}
-
-// How many blanks in a row are worth an erasure at least: fewer cost no more than it does.
-fn least_worth_erasing(profile: &Profile) -> u32
-    ensures { 0 < result }
-{
-    let prices = profile.prices();
-    let few = prices
-        .of(Op::EraseChars(2))
-        .min(prices.of(Op::EraseChars(10)));
-    few.min(prices.of(Op::EraseChars(100))).saturating_add(1)
-}
-
-// Whether so many blanks cost more than their erasure, with the motion behind them where the run goes on there.
-#[inline(always)]
-fn is_worth_erasing(profile: &Profile, count: u32, goes_on: bool) -> bool {
-    if count <= 1 {
-        return false;
-    }
-    let prices = profile.prices();
-    let erasure = prices.of(Op::EraseChars(count));
-    let motion = if goes_on {
-        prices.of(Op::Right(count))
-    } else {
-        0
-    };
-    count > erasure.saturating_add(motion)
 }
 
 // Room for the operations of runs: their characters, and what mostly leads to each.

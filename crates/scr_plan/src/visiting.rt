@@ -1,10 +1,10 @@
 //! Painting the runs that wait, each in its way: in an order that was chosen before, whatever that is, and then each that is left.
 ghost use Rattle.std.specs.Prelude.{◌≡◌, ◌<◌, ◌≤◌, [], IfSome, OnOk, length, slice_index_or, slice_set, true};
-ghost use Rattle.scr_cells.specs.PenViews.{is_plain_pen, plain_pen};
+ghost use Rattle.scr_cells.specs.PenViews.{is_plain_pen};
 ghost use Rattle.scr_term.specs.declared.operations.operation.Spot.TheVariants.{At};
 ghost use Rattle.scr_term.specs.Operations.Texts.{has};
-ghost use Rattle.scr_plan.specs.Code.Drafts.{Covers, IsAdded, KeepsAll, Leaves, in_part, is_in, no_run};
-ghost use Rattle.scr_plan.specs.Code.Painters.{painter_begins, painter_of};
+ghost use Rattle.scr_plan.specs.Code.Drafts.{Covers, KeepsAll, Leaves, in_part, is_in, no_run};
+ghost use Rattle.scr_plan.specs.Code.Painters.{painter_of};
 ghost use Rattle.scr_plan.specs.Scratch.{Fits};
 ghost use Rattle.scr_plan.specs.declared.runs.Run.{Run};
 

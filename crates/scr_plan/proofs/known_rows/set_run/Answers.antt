@@ -1,7 +1,7 @@
 use Rattle.std.proofs.Common.{◌≡◌, ℕ, ◌∙◌, ap, arith, set}
 use Rattle.scr_plan.specs.Code.Remembering.{with_run}
 use Rattle.scr_plan.proofs.RememberedRowLaws.{none_with, one_with}
-use Rattle.scr_plan.proofs.memories.set_run.Goals as goal
+use Rattle.scr_plan.proofs.known_rows.set_run.Goals as goal
 
 pub loop-row-init : goal.loop-row-init
 loop-row-init c = none_with c.args.known c.args.first c.args.rows.now

@@ -1,5 +1,5 @@
 use Rattle.std.proofs.Common.{◌≡◌, ◌++◌, drop, replicate}
-use Rattle.scr_plan.proofs.memories.set_all.Given as goal
+use Rattle.scr_plan.proofs.known_rows.set_all.Given as goal
 
 -- the rows up to one are set
 abbrev pub invariant-loop-row : goal.invariant-loop-row

@@ -1,5 +1,5 @@
 use Rattle.std.proofs.Common.{◌≤◌, ◌-◌}
-use Rattle.scr_plan.proofs.looking.blank_of_many.Given as goal
+use Rattle.scr_plan.proofs.blanks.blank_of_many.Given as goal
 
 abbrev pub invariant-loop-column : goal.invariant-loop-column
 invariant-loop-column l = l.from ≤ l.column

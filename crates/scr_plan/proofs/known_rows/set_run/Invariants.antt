@@ -1,6 +1,6 @@
 use Rattle.std.proofs.Common.{◌≡◌}
 use Rattle.scr_plan.specs.Code.Remembering.{with_run}
-use Rattle.scr_plan.proofs.memories.set_run.Given as goal
+use Rattle.scr_plan.proofs.known_rows.set_run.Given as goal
 
 -- the rows up to one are set
 abbrev pub invariant-loop-row : goal.invariant-loop-row

@@ -1,5 +1,5 @@
 use Rattle.std.proofs.Common.{◌≤◌}
-use Rattle.scr_plan.proofs.looking.blanks_begin.Given as goal
+use Rattle.scr_plan.proofs.blanks.blanks_begin.Given as goal
 
 abbrev pub invariant-loop-first : goal.invariant-loop-first
 invariant-loop-first l = (l.from ≤ l.first) × (l.first ≤ l.column)

@@ -1,0 +1,81 @@
+//! Blanks in a row of cells: where there are many, and whether so many are worth an erasure.
+ghost use Rattle.std.specs.Prelude.{◌<◌, ◌≤◌, length};
+
+use scr_cells::Cell;
+use scr_term::{Op, Profile};
+
+// The column of a blank, from a column on: of the first so many blanks in a row, or of some before these; the end, where there are none.
+// One column of so many is looked at.
+pub(crate) fn blank_of_many(cells: &[Cell], from: u32, end: u32, many: u32) -> u32
+    requires wide { end ≤ length cells.now }
+    requires from { from ≤ end }
+    requires many { 0 < many }
+    ensures from { from ≤ result }
+    ensures end { result ≤ end }
+{
+    let mut column = from.saturating_add(many - 1);
+    while column < end {
+        if cells[column as usize].byte() == b' ' {
+            return column;
+        }
+        column = column.saturating_add(many);
+    }
+    end
+}
+
+// Where the blanks begin that a column is behind or one of, no further to the left than another.
+pub(crate) fn blanks_begin(cells: &[Cell], from: u32, column: u32) -> u32
+    requires wide { column ≤ length cells.now }
+    requires from { from ≤ column }
+    ensures from { from ≤ result }
+    ensures column { result ≤ column }
+{
+    let mut first = column;
+    while first > from && cells[first as usize - 1].byte() == b' ' {
+        first -= 1;
+    }
+    first
+}
+
+// Where the blanks end that begin in a column, if any do.
+#[inline(always)]
+pub(crate) fn blanks_end(cells: &[Cell], column: u32, end: u32) -> u32
+    requires wide { end ≤ length cells.now }
+    requires column { column ≤ end }
+    ensures column { column ≤ result }
+    ensures end { result ≤ end }
+{
+    for behind in column..end {
+        if cells[behind as usize].byte() != b' ' {
+            return behind;
+        }
+    }
+    end
+}
+
+// How many blanks in a row are worth an erasure at least: fewer cost no more than it does.
+pub(crate) fn least_worth_erasing(profile: &Profile) -> u32
+    ensures { 0 < result }
+{
+    let prices = profile.prices();
+    let few = prices
+        .of(Op::EraseChars(2))
+        .min(prices.of(Op::EraseChars(10)));
+    few.min(prices.of(Op::EraseChars(100))).saturating_add(1)
+}
+
+// Whether so many blanks cost more than their erasure, with the motion behind them where the run goes on there.
+#[inline(always)]
+pub(crate) fn is_worth_erasing(profile: &Profile, count: u32, goes_on: bool) -> bool {
+    if count <= 1 {
+        return false;
+    }
+    let prices = profile.prices();
+    let erasure = prices.of(Op::EraseChars(count));
+    let motion = if goes_on {
+        prices.of(Op::Right(count))
+    } else {
+        0
+    };
+    count > erasure.saturating_add(motion)
+}
