@@ -13,22 +13,12 @@ use bitflags::Flags;
 use scr_cells::{Attrs, Pen};
 
 impl Profile {
-    /// Where the cursor is behind a motion, from a spot and with a pen: `Home`, `Move`, `Column`, `Line`, `Up`, `Down`,
-    /// `Left`, `Right` or `Return`. It changes nothing else.
+    /// Where the cursor is behind a motion that the terminal has, from a spot and with a pen: `Home`, `Move`, `Column`, `Line`, `Up`,
+    /// `Down`, `Left`, `Right` or `Return`. It changes nothing else. Whether the terminal has it, `cost` says too.
     ///
-    /// `None` where the operation is none of these, the terminal does not have it, or it is undefined: it leads off the
-    /// screen; it is not `Home` or `Move`, and the cursor is at the margin; or an attribute or a colour is on, and there is
-    /// no `msgr`. So too where the spot is off the screen, or the pen has an attribute that there is not.
-    pub fn moved(&self, spot: Spot, pen: Pen, op: Op) -> Option<Spot>
-        ensures { IfSome result (GoesTo self.now spot pen op) }
-    {
-        if !self.has(op) {
-            return None;
-        }
-        self.moved_by(spot, pen, op)
-    }
-
-    /// The same for an operation that the terminal has: for callers that have asked for its cost before.
+    /// `None` where the operation is none of these or is undefined: it leads off the screen; it is not `Home` or `Move`, and the
+    /// cursor is at the margin; or an attribute or a colour is on, and there is no `msgr`. So too where the spot is off the screen,
+    /// or the pen has an attribute that there is not.
     pub fn moved_by(&self, spot: Spot, pen: Pen, op: Op) -> Option<Spot>
         requires { IsTrue (has self.now op) }
         ensures { IfSome result (GoesTo self.now spot pen op) }
