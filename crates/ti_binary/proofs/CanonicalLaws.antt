@@ -1,10 +1,11 @@
 -- How long a compiled file is.
-use Rattle.std.proofs.Common.{◌≡◌, ℕ, ◌+◌, ◌*◌, ◌%◌, refl, sym, ◌∙◌, ap, arith, List, [], ◌∷◌, ◌++◌, length, length-append, map, min, nat_lt, Option}
+use Rattle.std.proofs.Common.{◌≡◌, ℕ, ◌+◌, ◌*◌, ◌%◌, true, refl, sym, ◌∙◌, ap, arith, List, [], ◌∷◌, ◌++◌, length, length-append, map, min, nat_lt, Option}
 use Rattle.std.proofs.Math.ListN.{length-replicate}
 use Rattle.std.proofs.lemmas.List.{length-map, length-take-le}
 use Rattle.std.proofs.lemmas.Bool.Decides.{nat_tests}
 use Rattle.ti_caps.specs.Description.{Description, IsDescription}
-use Rattle.ti_binary.specs.Canonical.{canonical, flag_byte, header_of, kept_flags, kept_numbers, kept_texts, number_word, offsets_from, ended, padding, table_of, words}
+use Rattle.ti_caps.specs.Names.{are_names}
+use Rattle.ti_binary.specs.Canonical.{canonical, flag_byte, header_of, kept_flags, kept_numbers, kept_texts, number_word, offsets_from, ended, padding, renamed, table_of, words}
 use Rattle.ti_binary.specs.Shapes.{IsShape}
 use Rattle.ti_binary.specs.declared.shapes.Shape.{Shape}
 
@@ -65,3 +66,7 @@ too_large entry shape size d s e =
     let odd : (length entry.names + 1 + length (kept_flags entry)) % 2 ≡ (shape.names + shape.flags) % 2 = λ i. (sym s.names i + flags i) % 2 in
     same_test size (length (canonical entry)) (length (table_of (kept_texts entry))) (12 + shape.names + shape.flags + (shape.names + shape.flags) % 2 + 2 * shape.numbers + 2 * shape.texts)
     (omega (arith, e, s.table)) (omega (arith, canonical_length entry, flags, numbers, texts, odd, s.names))
+
+-- an entry with other names that are good is an entry
+pub renamed-described : (d : Description) (names : List ℕ) → IsDescription d → are_names names ≡ true → IsDescription (renamed d names)
+renamed-described d names is named = record { named = named; flags = is.flags; numbers = is.numbers; texts = is.texts; small = is.small; whole = is.whole; bytes = is.bytes }

@@ -76,3 +76,7 @@ canonical entry =
     words (header_of entry) ++ entry.names ++ 0 ∷ map flag_byte (kept_flags entry)
     ++ padding (length entry.names + 1 + length (kept_flags entry))
     ++ words (map number_word (kept_numbers entry)) ++ words (offsets_from 0 (kept_texts entry)) ++ table_of (kept_texts entry)
+
+-- an entry with other names
+abbrev pub renamed : Description → List ℕ → Description
+renamed entry names = record { names = names; flags = entry.flags; numbers = entry.numbers; texts = entry.texts }

@@ -1,7 +1,8 @@
 //! Writing an entry in its one form. The definition is in `specs/Canonical.antt`.
-ghost use Rattle.std.specs.Prelude.{◌≡◌, ◌≤◌, ◌<◌, ◌+◌, ◌↔◌, ◌∷◌, ◌++◌, length, map, nat_lt, IfOk, OnOk, IsErrOf, IsOkUnless};
+ghost use Rattle.std.specs.Prelude.{◌≡◌, ◌≤◌, ◌<◌, ◌+◌, ◌↔◌, ◌∷◌, ◌++◌, length, map, nat_lt, IfOk, OnOk, IsErrOf, IsOkUnless, true};
 ghost use Rattle.ti_caps.specs.Description.{IsDescription};
-ghost use Rattle.ti_binary.specs.Canonical.{canonical, flag_byte, header_of, kept_flags, padding, words};
+ghost use Rattle.ti_caps.specs.Names.{are_names};
+ghost use Rattle.ti_binary.specs.Canonical.{canonical, flag_byte, header_of, kept_flags, padding, renamed, words};
 ghost use Rattle.ti_binary.specs.Shapes.{IsShape};
 
 use crate::sections::{put_flags, put_numbers, put_offsets, put_texts, put_word};
@@ -65,35 +66,48 @@ pub fn encode(alloc: Global, entry: &Entry) -> Result<Bytes, EncFault>
     ensures good { length entry.now.names + 1 ≤ 128 → length (canonical entry.now) ≤ 4096 → IsOkUnless result EncFault.NoMemory }
     ensures ok { IfOk result (λ bytes. bytes ≡ canonical entry.now) }
 {
-    let names = entry.names();
+    encode_named(alloc, entry, entry.names())
+}
+
+/// The compiled file of an entry with other names in the place of its own, which are good for an entry: what `encode` gives of that entry, and the
+/// same refusals.
+pub fn encode_named(alloc: Global, entry: &Entry, names: &[u8]) -> Result<Bytes, EncFault>
+    requires { are_names names.now ≡ true }
+    ensures long { IsErrOf result EncFault.NamesTooLong ↔ (128 < length names.now + 1) }
+    ensures large { IsErrOf result EncFault.TooLarge ↔ ((length names.now + 1 ≤ 128) × (4096 < length (canonical (renamed entry.now names.now)))) }
+    ensures good { length names.now + 1 ≤ 128 → length (canonical (renamed entry.now names.now)) ≤ 4096 → IsOkUnless result EncFault.NoMemory }
+    ensures ok { IfOk result (λ bytes. bytes ≡ canonical (renamed entry.now names.now)) }
+{
     if names.len() + 1 > MOST_NAME_BYTES {
         return Err(EncFault::NamesTooLong);
     }
-    let shape = Shape::of(entry);
-    if is_too_large(entry, &shape) {
+    let _own = entry.names();
+    let shape = Shape::of(entry, names);
+    if is_too_large(entry, names, &shape) {
         return Err(EncFault::TooLarge);
     }
-    let out = file(alloc, entry, &shape)?;
+    let out = file(alloc, entry, names, &shape)?;
     Ok(Bytes(out))
 }
 
 // Whether a file of these sizes is longer than a file may be.
-fn is_too_large(entry: &Entry, shape: &Shape) -> bool
+fn is_too_large(entry: &Entry, names: &[u8], shape: &Shape) -> bool
     requires described { IsDescription entry.now }
-    requires shape { IsShape entry.now shape.now }
-    ensures { result ≡ nat_lt 4096 (length (canonical entry.now)) }
+    requires named { are_names names.now ≡ true }
+    requires shape { IsShape (renamed entry.now names.now) shape.now }
+    ensures { result ≡ nat_lt 4096 (length (canonical (renamed entry.now names.now))) }
 {
     shape.file_size() > MOST_BYTES
 }
 
 // The sections of a file, one after another.
-fn file(alloc: Global, entry: &Entry, shape: &Shape) -> Result<Vec<u8>, AllocError>
+fn file(alloc: Global, entry: &Entry, names: &[u8], shape: &Shape) -> Result<Vec<u8>, AllocError>
     requires described { IsDescription entry.now }
-    requires shape { IsShape entry.now shape.now }
-    requires small { length (canonical entry.now) ≤ 4096 }
-    ensures { IfOk result (λ out. out.items ≡ canonical entry.now) }
+    requires shape { IsShape (renamed entry.now names.now) shape.now }
+    requires small { length (canonical (renamed entry.now names.now)) ≤ 4096 }
+    ensures { IfOk result (λ out. out.items ≡ canonical (renamed entry.now names.now)) }
 {
-    let mut out = front(alloc, entry, shape)?;
+    let mut out = front(alloc, entry, names, shape)?;
     put_numbers(entry, shape.numbers, &mut out)?;
     put_offsets(entry, shape.texts, &mut out)?;
     put_texts(entry, shape.texts, &mut out)?;
@@ -101,15 +115,15 @@ fn file(alloc: Global, entry: &Entry, shape: &Shape) -> Result<Vec<u8>, AllocErr
 }
 
 // What stands before the numbers: header, names and NUL, flags, and the odd byte.
-fn front(alloc: Global, entry: &Entry, shape: &Shape) -> Result<Vec<u8>, AllocError>
+fn front(alloc: Global, entry: &Entry, names: &[u8], shape: &Shape) -> Result<Vec<u8>, AllocError>
     requires described { IsDescription entry.now }
-    requires shape { IsShape entry.now shape.now }
-    requires small { length (canonical entry.now) ≤ 4096 }
-    ensures { IfOk result (λ out. out.items ≡ words (header_of entry.now) ++ entry.now.names ++ 0 ∷ map flag_byte (kept_flags entry.now) ++ padding (length entry.now.names + 1 + length (kept_flags entry.now))) }
+    requires shape { IsShape (renamed entry.now names.now) shape.now }
+    requires small { length (canonical (renamed entry.now names.now)) ≤ 4096 }
+    ensures { IfOk result (λ out. out.items ≡ words (header_of (renamed entry.now names.now)) ++ names.now ++ 0 ∷ map flag_byte (kept_flags entry.now) ++ padding (length names.now + 1 + length (kept_flags entry.now))) }
 {
     let mut out = Vec::with_capacity(alloc, usize::from(shape.file_size()))?;
-    put_header(entry, shape, &mut out)?;
-    out.extend_from_slice(entry.names())?;
+    put_header(entry, names, shape, &mut out)?;
+    out.extend_from_slice(names)?;
     out.push(0)?;
     put_flags(entry, shape.flags, &mut out)?;
     put_odd_byte(shape, &mut out)?;
@@ -117,11 +131,16 @@ fn front(alloc: Global, entry: &Entry, shape: &Shape) -> Result<Vec<u8>, AllocEr
 }
 
 // Appends the header.
-fn put_header(entry: &Entry, shape: &Shape, out: &mut Vec<u8>) -> Result<(), AllocError>
+fn put_header(
+    entry: &Entry,
+    names: &[u8],
+    shape: &Shape,
+    out: &mut Vec<u8>,
+) -> Result<(), AllocError>
     requires described { IsDescription entry.now }
-    requires shape { IsShape entry.now shape.now }
-    requires small { length (canonical entry.now) ≤ 4096 }
-    ensures { OnOk result (out.new.items ≡ out.old.items ++ words (header_of entry.now)) }
+    requires shape { IsShape (renamed entry.now names.now) shape.now }
+    requires small { length (canonical (renamed entry.now names.now)) ≤ 4096 }
+    ensures { OnOk result (out.new.items ≡ out.old.items ++ words (header_of (renamed entry.now names.now))) }
 {
     let header = [
         MAGIC,

@@ -13,6 +13,6 @@ mod shapes;
 mod texts;
 
 pub use decoder::decode;
-pub use encoder::{EncFault, encode};
+pub use encoder::{EncFault, encode, encode_named};
 pub use faults::BinFault;
 pub use laws::{canonical_reads_back, files_are_not_refused, files_have_one_entry};

@@ -1,6 +1,7 @@
 //! The sizes of a file's sections, as its header has them.
 ghost use Rattle.std.specs.Prelude.{◌≡◌, ◌≤◌, ◌+◌, ◌*◌, ◌%◌, ◌==◌, length};
 ghost use Rattle.ti_caps.specs.Description.{IsDescription};
+ghost use Rattle.ti_binary.specs.Canonical.{renamed};
 ghost use Rattle.ti_binary.specs.Shapes.{IsShape};
 
 use crate::counts::{flag_count, number_count, table_size, text_count};
@@ -25,15 +26,15 @@ impl Shape {
     /// The string tables of this size and above are not told apart.
     const MOST_TABLE: u16 = 4_097;
 
-    /// The sizes of the sections of an entry's file.
-    pub(crate) fn of(entry: &Entry) -> Shape
+    /// The sizes of the sections of the file of an entry with these names.
+    pub(crate) fn of(entry: &Entry, names: &[u8]) -> Shape
         requires described { IsDescription entry.now }
-        requires names { length entry.now.names ≤ 127 }
-        ensures { IsShape entry.now result }
+        requires names { length names.now ≤ 127 }
+        ensures { IsShape (renamed entry.now names.now) result }
     {
         let texts = text_count(entry);
         Shape {
-            names: entry.names().len() as u16 + 1,
+            names: names.len() as u16 + 1,
             flags: flag_count(entry),
             numbers: number_count(entry),
             texts,

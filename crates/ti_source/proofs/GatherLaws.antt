@@ -1,7 +1,8 @@
 -- The fields of an entry and behind them those of the resolved entries that it uses.
-use Rattle.std.proofs.Common.{◌≡◌, ◌∙◌, ℕ, ◌<◌, true, List, [], ◌∷◌, ◌++◌, Option, Some, None, slice_get, map, refl, ap, sym, subst, append_assoc, append-nil}
+use Rattle.std.proofs.Common.{◌≡◌, ◌∙◌, ℕ, ◌<◌, Bool, true, false, List, [], ◌∷◌, ◌++◌, Option, Some, None, slice_get, map, refl, ap, sym, subst, append_assoc, append-nil}
 use Rattle.ti_caps.specs.declared.table.Kind.{Kind}
-use Rattle.ti_caps.specs.Description.{Description}
+use Rattle.ti_caps.specs.declared.table.Kind.TheVariants.{Flag, Number, Text}
+use Rattle.ti_caps.specs.Description.{Description, flag_at, number_at, text_at}
 use Rattle.ti_caps.specs.Table.{or_else}
 use Rattle.ti_source.specs.declared.reading.statement.FieldValue.{FieldValue}
 use Rattle.ti_source.specs.declared.reading.statement.Statement.{Statement}
@@ -10,9 +11,9 @@ use Rattle.ti_source.specs.declared.resolving.walk.Mark.TheVariants.{New, Open, 
 use Rattle.ti_source.specs.Described.{Described}
 use Rattle.ti_source.specs.Resolving.Named.{index_of}
 use Rattle.ti_source.specs.Resolving.Uses.{Resolve, nothing, merged, value_of_capability}
-use Rattle.ti_source.specs.Code.FirstFields.{AreEffective, first_value, value_in}
+use Rattle.ti_source.specs.Code.FirstFields.{AreEffective, first_value, flag_value, if_present, number_value, text_value, value_in}
 use Rattle.ti_caps.specs.Slots.{positions_of}
-use Rattle.ti_source.specs.Code.Walk.{AreKnown, Gathers, Keeps, Kept, ResolvedAt, done_at, known, of_fields, position}
+use Rattle.ti_source.specs.Code.Walk.{AreKnown, Gathers, Keeps, Kept, PassesOn, ResolvedAt, done_at, known, of_fields, position}
 use Rattle.ti_source.proofs.StandsForLaws.{stands-for}
 use Rattle.ti_source.proofs.MergedBackLaws.{value_of_capability-append, or-none}
 use Rattle.ti_source.proofs.TaskLaws.{resolve-cons, resolved-at}
@@ -101,3 +102,40 @@ kept-entry entries i p names fields same e index k named alike is =
     let P : Option ℕ → Type 0 = λ q. ResolvedAt entries q e in
     let Q : Description → Type 0 = λ d. ResolvedAt entries (Some i) d in
     subst P (sym index) (subst Q (sym (is ∙ ap (λ fs. merged (of_fields names fs) []) alike ∙ ap (λ ns. merged (of_fields ns fields) []) named ∙ k.stands.whole)) k.resolved)
+
+-- what a resolved entry says is present
+says-present : (d : Description) (kind : Kind) (slot : ℕ) → if_present kind (value_in d kind slot) ≡ value_in d kind slot
+says-present d Flag slot = by (flag_at d slot)
+  where
+    by : (b : Bool) → if_present Flag (flag_value b) ≡ flag_value b
+    by true = refl
+    by false = refl
+says-present d Number slot = by (number_at d slot)
+  where
+    by : (o : Option ℕ) → if_present Number (number_value o) ≡ number_value o
+    by None = refl
+    by (Some n) = refl
+says-present d Text slot = by (text_at d slot)
+  where
+    by : (o : Option (List ℕ)) → if_present Text (text_value o) ≡ text_value o
+    by None = refl
+    by (Some t) = refl
+
+-- what is kept of the other entry is what is kept of one that passes it on
+pub passed-kept : (entries : List Described) (marks : List Mark) (kept : List (List Statement)) (i k : ℕ) (d : Described) → slice_get entries i ≡ Some d → Keeps entries marks kept → PassesOn entries marks d k → (fields : List Statement) × (slice_get kept k ≡ Some fields) × Kept entries i fields
+passed-kept entries marks kept i k d at keeps p =
+    let had = kept-at entries marks kept (index_of entries p.name) k keeps p.done in
+    let fields = had.2.0 in
+    let one = had.2.2 in (
+      fields,
+      had.2.1,
+      kept-with entries i d fields fields at
+          (record {
+            used = one.d ∷ [];
+            resolved = subst (λ us. Resolve entries us (one.d ∷ [])) (sym p.uses) (one.resolved p.name had.1);
+            says = λ kind slot small.
+                one.stands.says kind slot small
+                ∙ sym (ap (λ ss. or_else (value_of_capability kind slot ss) (first_value (one.d ∷ []) kind slot)) p.own ∙ or-none (value_in one.d kind slot));
+          })
+          (λ kind slot small. one.stands.says kind slot small ∙ sym (says-present one.d kind slot) ∙ ap (if_present kind) (sym (one.stands.says kind slot small))),
+    )

@@ -17,6 +17,7 @@ pub mod MergedBackLaws
 pub mod NamedLaws
 pub mod NumberLaws
 pub mod NumbersBackLaws
+pub mod PassingLaws
 pub mod OnceLaws
 pub mod IndexLaws
 pub mod KeyLaws

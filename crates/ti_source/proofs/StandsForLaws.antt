@@ -78,7 +78,7 @@ text-back : (o : Option (List ℕ)) → text_by (text_value o) None ≡ o
 text-back None = refl
 text-back (Some t) = refl
 
-map-range : {A : Type 0} → (f g : ℕ → A) (a n : ℕ) → ((j : ℕ) → j < a + n → f j ≡ g j) → map f (range_with_len a n) ≡ map g (range_with_len a n)
+pub map-range : {A : Type 0} → (f g : ℕ → A) (a n : ℕ) → ((j : ℕ) → j < a + n → f j ≡ g j) → map f (range_with_len a n) ≡ map g (range_with_len a n)
 map-range f g a zero e = refl
 map-range f g a (suc n) e =
     ap (λ x. x ∷ map f (range_with_len (a + 1) n)) (e a (omega arith)) ∙ ap (λ xs. g a ∷ xs) (map-range f g (a + 1) n (λ j lt. e j (omega arith)))

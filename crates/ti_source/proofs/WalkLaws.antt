@@ -15,8 +15,9 @@ use Rattle.ti_source.specs.Described.{Described}
 use Rattle.ti_source.specs.Resolving.Named.{index_of}
 use Rattle.ti_source.specs.Resolving.Uses.{unknown, cycle}
 use Rattle.ti_source.specs.Result.{Stops}
-use Rattle.ti_source.specs.Code.Walk.{visits, leaves, indices, FaultAt, FaultIn, known, AreKnown, Within, IsWalk, Kept, count_new, Stepped, StuckAt, IsReady, IsStopped, IsTakenBack, with_fault}
+use Rattle.ti_source.specs.Code.Walk.{visits, leaves, indices, FaultAt, FaultIn, known, AreKnown, PassesOn, Within, IsWalk, Kept, count_new, Stepped, StuckAt, IsReady, IsStopped, IsTakenBack, with_fault}
 use Rattle.ti_source.proofs.ChainLaws.{awaited-done, awaited-entered, faulty-at, ready-again, ready-back}
+use Rattle.ti_source.proofs.GatherLaws.{passed-kept}
 use Rattle.ti_source.proofs.NamedLaws.{found-none}
 use Rattle.ti_source.proofs.IndexLaws.{get-append, get-cases, get-lt, get-none, get-push, get-set, get-within}
 use Rattle.ti_source.proofs.TaskLaws.{all-from, all-known, count-done, count-open, enter-lifts, found-at, held-mono, held-visits, known-set, leaves-visits, not-new, index-there, indices-visits}
@@ -107,34 +108,35 @@ done-stepped entries marks kept i k tasks w at =
     known-first p firsts (inr (inl e)) = inl (rw e there)
     known-first p firsts (inr (inr a)) = inr a
 
-pub left-stepped : (entries : List Described) (marks after : List Mark) (kept after_kept : List (List Statement)) (i : ℕ) (fields : List Statement) (tasks : List Task) → IsWalk entries marks kept (Leave i ∷ tasks) → Kept entries i fields → after ≡ set marks i (Done (length kept)) → after_kept ≡ kept ++ fields ∷ [] → Stepped entries marks (Leave i ∷ tasks) after after_kept tasks
-left-stepped entries marks after kept after_kept i fields tasks w keep after-is kept-is =
-    rw (after-is, kept-is) (record {
+-- an entry whose fields are kept at k
+done-left : (entries : List Described) (marks after : List Mark) (kept after_kept : List (List Statement)) (i k : ℕ) (fields : List Statement) (tasks : List Task) → IsWalk entries marks kept (Leave i ∷ tasks) → Kept entries i fields → after ≡ set marks i (Done k) → slice_get after_kept k ≡ Some fields → ((j : ℕ) (others : List Statement) → slice_get kept j ≡ Some others → slice_get after_kept j ≡ Some others) → Stepped entries marks (Leave i ∷ tasks) after after_kept tasks
+done-left entries marks after kept after_kept i k fields tasks w keep after-is there-is stays =
+    rw after-is (record {
       walk = record {
-        sized = length-set marks i (Done (length kept)) ∙ w.sized;
-        opened = λ j e. elim (get-cases marks i (Done (length kept)) j Open e) [
+        sized = length-set marks i (Done k) ∙ w.sized;
+        opened = λ j e. elim (get-cases marks i (Done k) j Open e) [
           | inl h ↦ absurd (cc (h.1))
           | inr h ↦ let b = w.opened j h.1 in other (eqb i j) (list_any (λ x. eqb x j) (leaves tasks)) (differs i j h.0) b
         ];
-        fresh = λ j e. elim (get-cases marks i (Done (length kept)) j New e) [
+        fresh = λ j e. elim (get-cases marks i (Done k) j New e) [
           | inl h ↦ absurd (cc (h.1))
           | inr h ↦ let b = w.fresh j h.1 in none (eqb i j) (list_any (λ x. eqb x j) (leaves tasks)) b
         ];
-        keeps = λ j k e. elim (get-cases marks i (Done (length kept)) j (Done k) e) [
+        keeps = λ j l e. elim (get-cases marks i (Done k) j (Done l) e) [
           | inl h ↦
-              let index : k ≡ length kept = cc (h.1) in
-              (fields, rw index (get-push kept fields), rw (h.0) keep)
+              let index : l ≡ k = cc (h.1) in
+              (fields, rw index there-is, rw (h.0) keep)
           | inr h ↦
-              let had = w.keeps j k h.1 in
-              (had.0, get-append kept (fields ∷ []) k had.0 had.1, had.2)
+              let had = w.keeps j l h.1 in
+              (had.0, stays l had.0 had.1, had.2)
         ];
-        held = held-mono entries marks (set marks i (Done (length kept))) (Some i ∷ []) [] tasks (λ p x. known-first p [] x) w.held.1;
+        held = held-mono entries marks (set marks i (Done k)) (Some i ∷ []) [] tasks (λ p x. known-first p [] x) w.held.1;
         awaited = awaited-done entries tasks [] (Some i) keep.d keep.resolved w.awaited.1;
-        faulty = λ j f e. elim (get-cases marks i (Done (length kept)) j (Faulty f) e) [ inl h ↦ absurd (cc (h.1)) | inr h ↦ w.faulty j f h.1 ];
+        faulty = λ j f e. elim (get-cases marks i (Done k) j (Faulty f) e) [ inl h ↦ absurd (cc (h.1)) | inr h ↦ w.faulty j f h.1 ];
       };
       lifts = λ fault h. h;
       carries = λ p x. known-first p (indices tasks) x;
-      less = let fewer = count-done marks i (length kept) in omega arith;
+      less = let fewer = count-done marks i k in omega arith;
     })
   where
     other : (a b : Bool) → a ≡ false → (a || b) ≡ true → b ≡ true
@@ -151,13 +153,40 @@ left-stepped entries marks after kept after_kept i fields tasks w keep after-is 
     room : (m : Mark) × (slice_get marks i ≡ Some m)
     room = let lt = get-lt entries i keep.entry keep.at in get-within marks i (rw w.sized lt)
 
-    there : known (set marks i (Done (length kept))) (Some i) ≡ true
-    there = rw (get-set marks i (Done (length kept)) room.0 room.1) refl
+    there : known (set marks i (Done k)) (Some i) ≡ true
+    there = rw (get-set marks i (Done k) room.0 room.1) refl
 
-    known-first : (p : Option ℕ) (firsts : List (Option ℕ)) → Within marks (Some i ∷ firsts) p → Within (set marks i (Done (length kept))) firsts p
-    known-first p firsts (inl h) = inl (known-set marks i (Done (length kept)) p (λ _. refl) h)
+    known-first : (p : Option ℕ) (firsts : List (Option ℕ)) → Within marks (Some i ∷ firsts) p → Within (set marks i (Done k)) firsts p
+    known-first p firsts (inl h) = inl (known-set marks i (Done k) p (λ _. refl) h)
     known-first p firsts (inr (inl e)) = inl (rw e there)
     known-first p firsts (inr (inr a)) = inr a
+
+pub left-stepped : (entries : List Described) (marks after : List Mark) (kept after_kept : List (List Statement)) (i : ℕ) (fields : List Statement) (tasks : List Task) → IsWalk entries marks kept (Leave i ∷ tasks) → Kept entries i fields → after ≡ set marks i (Done (length kept)) → after_kept ≡ kept ++ fields ∷ [] → Stepped entries marks (Leave i ∷ tasks) after after_kept tasks
+left-stepped entries marks after kept after_kept i fields tasks w keep after-is kept-is =
+    rw kept-is (done-left entries marks after kept (kept ++ fields ∷ []) i (length kept) fields tasks w keep after-is (get-push kept fields) (λ j others at. get-append kept (fields ∷ []) j others at))
+
+-- the same where they are kept of another
+pub passed-stepped : (entries : List Described) (marks after : List Mark) (kept : List (List Statement)) (i k : ℕ) (d : Described) (tasks : List Task) → IsWalk entries marks kept (Leave i ∷ tasks) → slice_get entries i ≡ Some d → PassesOn entries marks d k → after ≡ set marks i (Done k) → Stepped entries marks (Leave i ∷ tasks) after kept tasks
+passed-stepped entries marks after kept i k d tasks w at p after-is =
+    let had = passed-kept entries marks kept i k d at w.keeps p in
+    done-left entries marks after kept kept i k had.0 tasks w had.2 after-is had.1 (λ j others at. at)
+
+-- an entry that was all that is left is as one that was not entered
+pub finished-ready : (entries : List Described) (marks after : List Mark) (kept : List (List Statement)) (i : ℕ) → IsWalk entries marks kept (Leave i ∷ []) → after ≡ set marks i New → IsWalk entries after kept []
+finished-ready entries marks after kept i w after-is = ready-back entries marks after kept (Leave i ∷ []) w (rw after-is (record {
+  sized = length-set marks i New;
+  stay = λ j mark e. elim (get-cases marks i New j mark e) [
+    | inl h ↦ inl (cc (h.1))
+    | inr h ↦ inr (h.1, λ on. let b = w.opened j (h.1 ∙ ap Some on) in other (eqb i j) (differs i j h.0) b)
+  ];
+}))
+  where
+    other : (a : Bool) → a ≡ false → (a || false) ≡ true → ⊥
+    other true p e = cc
+    other false p e = cc
+
+    differs : (a b : ℕ) → b ≢ a → eqb a b ≡ false
+    differs a b ne = grind (arith, nat_tests)
 
 pub leave-known : (entries : List Described) (marks : List Mark) (kept : List (List Statement)) (i : ℕ) (tasks : List Task) → IsWalk entries marks kept (Leave i ∷ tasks) → (d : Described) × (slice_get entries i ≡ Some d) × AreKnown marks (map (index_of entries) d.uses)
 leave-known entries marks kept i tasks w = (w.held.0.0, w.held.0.1, all-known marks (map (index_of entries) w.held.0.0.uses) w.held.0.2)

@@ -18,6 +18,7 @@ pub use reading::escape::texts_are_spelled;
 pub use reading::field::fields_are_cut;
 pub use reading::reader::read;
 pub use resolving::resolver::{
-    Resolver, names_have_one_fault, names_resolve_once, resolve, resolved_names_have_no_fault,
+    Resolver, entries_pass_on, names_have_one_fault, names_resolve_once, resolve,
+    resolved_names_have_no_fault,
 };
 pub use source::Source;

@@ -9,3 +9,5 @@ pub(crate) mod number;
 pub(crate) mod open_entry;
 pub(crate) mod reader;
 pub(crate) mod statement;
+pub(crate) mod stored_entry;
+pub(crate) mod wanted;

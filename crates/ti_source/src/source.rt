@@ -1,8 +1,9 @@
 //! A source that was read.
 
-ghost use Rattle.std.specs.Prelude.{◌≡◌, ◌<◌, ◌↔◌, IsTrue, length};
+ghost use Rattle.std.specs.Prelude.{◌≡◌, ◌<◌, ◌↔◌, IfSome, IsTrue, length, true};
 ghost use Rattle.std.specs.Prelude.{slice_get, map, Some};
-ghost use Rattle.ti_caps.specs.Names.{first_name};
+ghost use Rattle.ti_caps.specs.Names.{are_names, first_name};
+ghost use Rattle.ti_source.specs.Resolving.Passing.{IsPassedOn};
 
 use crate::note::Note;
 use crate::reading::entries::Entries;
@@ -83,6 +84,17 @@ impl Source {
     {
         let entry = &self.entries.as_slice()[i];
         first_name(entry.names())
+    }
+
+    /// For the entry of a name, where it has no fields of its own and uses one other: its names, and the name that it uses. None for any other
+    /// entry, and where no entry has the name.
+    pub fn passed_on(&self, name: &[u8]) -> Option<(&[u8], &[u8])>
+        ensures passes { IfSome result (λ r. IsPassedOn self.now.entries name.now r.0.now r.1.now) }
+        ensures named { IfSome result (λ r. are_names r.0.now ≡ true) }
+    {
+        let i = self.entries.index_of(name)?;
+        let entry = self.entries.as_slice().get(i)?;
+        Some((entry.names(), entry.only_use()?))
     }
 
     pub(crate) fn entries(&self) -> &Entries

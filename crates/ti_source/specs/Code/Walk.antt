@@ -110,6 +110,13 @@ pub record Kept (entries : List Described) (i : ℕ) (fields : List Statement) :
 abbrev pub Keeps : List Described → List Mark → List (List Statement) → Type 0
 Keeps entries marks kept = (i k : ℕ) → slice_get marks i ≡ Some (Done k) → (fields : List Statement) × (slice_get kept k ≡ Some fields) × Kept entries i fields
 
+-- an entry without fields of its own that uses one other, whose fields are kept here
+pub record PassesOn (entries : List Described) (marks : List Mark) (d : Described) (k : ℕ) : Type 0 where
+  pub name : List ℕ
+  pub own : d.statements ≡ []
+  pub uses : d.uses ≡ name ∷ []
+  pub done : done_at marks (index_of entries name) ≡ Some k
+
 -- an entry that is left later, and is left once: those of its uses that come first are still to be visited, and those before them resolve
 pub record Awaits (entries : List Described) (first : List (Option ℕ)) (i : ℕ) (tasks : List Task) : Type 0 where
   pub entry : Described

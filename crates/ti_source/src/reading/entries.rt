@@ -10,8 +10,10 @@ ghost use Rattle.ti_source.specs.Result.{Gives};
 
 use crate::fault::SourceFault;
 use crate::reading::keyed_hasher::KeyedHasher;
-use crate::reading::statement::SourceEntry;
+use crate::reading::stored_entry::{Names, StoredEntry};
+use crate::reading::wanted::Wanted;
 use indexmap::IndexMap;
+use smallvec::SmallVec;
 use std::alloc::{AllocError, Global};
 use std::marker::Model;
 use ti_caps::{cut_name, has_no_blank};
@@ -19,8 +21,8 @@ use ti_caps::{cut_name, has_no_blank};
 /// Entries in their order, each of which is found by its reference names.
 #[derive(Drop)]
 pub(crate) struct Entries {
-    items: Vec<SourceEntry>,
-    indices: IndexMap<Vec<u8>, usize, KeyedHasher>,
+    items: Vec<StoredEntry>,
+    indices: IndexMap<Names, usize, KeyedHasher>,
 }
 
 impl Model for Entries {
@@ -49,7 +51,7 @@ impl Entries {
     pub(crate) fn with_entry(
         self,
         alloc: Global,
-        entry: SourceEntry,
+        entry: StoredEntry,
     ) -> Result<Entries, SourceFault>
         ensures { Gives result (Ok (self ++ entry ∷ [])) }
     {
@@ -83,10 +85,10 @@ impl Entries {
     pub(crate) fn index_of(&self, name: &[u8]) -> Option<usize>
         ensures { result ≡ index_of self.now name.now }
     {
-        self.indices.get(name).copied()
+        self.indices.get(Wanted(name)).copied()
     }
 
-    pub(crate) fn as_slice(&self) -> &[SourceEntry]
+    pub(crate) fn as_slice(&self) -> &[StoredEntry]
         ensures { result.now ≡ self.now }
     {
         self.items.as_slice()
@@ -96,31 +98,31 @@ impl Entries {
     fn has_name(&self, name: &[u8]) -> bool
         ensures { result ≡ list_any (has_name name.now) self.now }
     {
-        self.indices.contains_key(name)
+        self.indices.contains_key(Wanted(name))
     }
 }
 
 /// Gives an index to a name without a blank that has none yet.
 fn put_name(
     alloc: Global,
-    indices: &mut IndexMap<Vec<u8>, usize, KeyedHasher>,
+    indices: &mut IndexMap<Names, usize, KeyedHasher>,
     name: &[u8],
     index: usize,
 ) -> Result<(), AllocError>
     ensures { OnOk result ((q : List ℕ) → indexed (λ k. k.items) indices.new.entries q
         ≡ or_else (indexed (λ k. k.items) indices.old.entries q) (named (name.now ∷ []) index q)) }
 {
-    if !has_no_blank(name) || indices.contains_key(name) {
+    if !has_no_blank(name) || indices.contains_key(Wanted(name)) {
         return Ok(());
     }
-    indices.insert(Vec::from_slice(alloc, name)?, index)?;
+    indices.insert(SmallVec::from_slice(alloc, name)?, index)?;
     Ok(())
 }
 
 /// Gives an index to the reference names among these names that have none yet.
 fn put_names(
     alloc: Global,
-    indices: &mut IndexMap<Vec<u8>, usize, KeyedHasher>,
+    indices: &mut IndexMap<Names, usize, KeyedHasher>,
     names: &[u8],
     index: usize,
 ) -> Result<(), AllocError>

@@ -84,7 +84,8 @@ impl ReaderState {
             return Ok(Source::new(done, Vec::new(alloc)));
         };
         let OpenEntry { entry, notes } = open_entry;
-        Ok(Source::new(done.with_entry(alloc, entry.shrunk())?, notes))
+        let entry = entry.stored(alloc)?;
+        Ok(Source::new(done.with_entry(alloc, entry)?, notes))
     }
 
     fn continued(&mut self, alloc: Global, line: u32, text: &[u8]) -> Result<(), SourceFault>

@@ -3,7 +3,7 @@
 ghost use Rattle.std.specs.Prelude.{◌≡◌, ◌≤◌, ◌<◌, ◌∷◌, [], ◌++◌, Ok, OnOk, IfOk, true, false, length, replicate, slice_index_or, slice_set};
 ghost use Rattle.std.specs.List.{list_any};
 ghost use Rattle.ti_source.specs.Reading.Sources.{concerns};
-ghost use Rattle.ti_source.specs.Result.{Becomes};
+ghost use Rattle.ti_source.specs.Result.{Becomes, Gives};
 ghost use Rattle.ti_source.specs.Described.{AreGood, IsGood};
 ghost use Rattle.ti_source.specs.Code.FirstFields.{ordinal};
 ghost use Rattle.ti_source.specs.Code.Marked.{AreMarked};
@@ -12,6 +12,8 @@ ghost use Rattle.ti_caps.specs.Names.{are_names};
 
 use crate::fault::SourceFault;
 use crate::ordinals::{CAPABILITIES, ordinal};
+use crate::reading::stored_entry::StoredEntry;
+use smallvec::SmallVec;
 use std::alloc::{AllocError, Global};
 use std::marker::Model;
 use ti_caps::{Bytes, Kind, Slot};
@@ -33,7 +35,7 @@ pub(crate) struct Statement {
     pub(crate) field_value: FieldValue,
 }
 
-/// An entry as it stands in a source.
+/// An entry that is being read.
 #[derive(Drop)]
 pub(crate) struct SourceEntry {
     names: Bytes,
@@ -77,20 +79,6 @@ impl SourceEntry {
         }
     }
 
-    pub(crate) fn names(&self) -> &[u8]
-        ensures value { result.now ≡ self.now.names }
-        ensures good { are_names self.now.names ≡ true }
-    {
-        self.names.0.as_slice()
-    }
-
-    pub(crate) fn statements(&self) -> &[Statement]
-        ensures value { result.now ≡ self.now.statements }
-        ensures good { AreGood self.now.statements }
-    {
-        self.statements.as_slice()
-    }
-
     pub(crate) fn uses(&self) -> &[Bytes]
         ensures value { result.now ≡ self.now.uses }
         ensures few { length self.now.uses ≤ 32 }
@@ -122,21 +110,30 @@ impl SourceEntry {
         Ok(())
     }
 
-    /// The entry without what only serves the reading of more fields: its marks and spare room.
-    pub(crate) fn shrunk(mut self) -> SourceEntry
-        ensures { result ≡ self }
+    /// The entry as it is kept, without what only serves the reading of more fields: its marks and spare room.
+    pub(crate) fn stored(self, alloc: Global) -> Result<StoredEntry, SourceFault>
+        ensures { Gives result (Ok self) }
     {
-        self.statements.shrink_to_fit();
-        self.uses.shrink_to_fit();
-        self.marks.clear();
-        self.marks.shrink_to_fit();
-        self
+        let SourceEntry {
+            names,
+            mut statements,
+            mut uses,
+            marks: _,
+        } = self;
+        statements.shrink_to_fit();
+        uses.shrink_to_fit();
+        let names = SmallVec::from_slice(alloc, names.0.as_slice())?;
+        Ok(StoredEntry::new(names, statements, uses))
     }
 
     pub(crate) fn put_use(&mut self, other: Bytes) -> Result<(), SourceFault>
         requires { length self.old.uses < 32 }
         ensures { Becomes result (Ok (record self.old { uses = self.old.uses ++ other ∷ [] })) self.new }
     {
+        // Most entries have one use: they get room for it alone, so that nothing is left over beside it.
+        if self.uses.is_empty() {
+            self.uses.reserve_exact(1)?;
+        }
         self.uses.push(other)?;
         Ok(())
     }

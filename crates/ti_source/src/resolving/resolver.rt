@@ -5,12 +5,13 @@ ghost use Rattle.std.specs.List.{list_any};
 ghost use Rattle.ti_caps.specs.Description.{Description};
 ghost use Rattle.ti_source.specs.Resolving.Uses.{FaultOnce, ResolveOnce, ResolveOrFault, Resolved, StandsAlone, Unresolved, merged};
 ghost use Rattle.ti_source.specs.Resolving.Named.{has_name};
+ghost use Rattle.ti_source.specs.Resolving.Passing.{PassBack, PassOn};
 ghost use Rattle.ti_source.specs.Result.{Stops};
 ghost use Rattle.ti_source.specs.Code.Walk.{FaultAt, ResolvedAt};
 
 use crate::fault::SourceFault;
 use crate::reading::entries::Entries;
-use crate::reading::statement::SourceEntry;
+use crate::reading::stored_entry::StoredEntry;
 use crate::resolving::fields::Fields;
 use crate::resolving::merge::merge;
 use crate::resolving::walk::Walk;
@@ -19,9 +20,9 @@ use std::alloc::Global;
 use std::marker::Model;
 use ti_caps::Entry;
 
-/// Resolves names of one source, one after another (terminfo(5), "Similar Terminals"). An entry with
-/// uses, and each that it uses, is followed once, and its fields that take effect or its fault are kept.
-/// Contracts see the source's entries.
+/// Resolves names of one source, one after another (terminfo(5), "Similar Terminals"). An entry that others
+/// use is followed once, and its fields that take effect are kept, as are faults; of an entry that is only asked for no
+/// list is kept. Contracts see the source's entries.
 #[derive(Drop)]
 pub struct Resolver<'a> {
     entries: &'a Entries,
@@ -81,10 +82,7 @@ impl<'a> Resolver<'a> {
             Some(walk) => walk,
             None => Walk::new(alloc, entries)?,
         };
-        let entry = match walk.reach(alloc, entries, index) {
-            Ok(()) => walk.entry(alloc, entries, index),
-            Err(fault) => Err(fault),
-        };
+        let entry = walk.resolved(alloc, entries, index);
         self.walk = Some(walk);
         entry
     }
@@ -121,8 +119,15 @@ pub fn resolved_names_have_no_fault()
     ensures { ResolveOrFault }
 {}
 
+/// Of an entry that has no fields of its own and uses one other: it resolves to what the other resolves to, with its own names, and where it
+/// resolves, so does the other.
+pub fn entries_pass_on()
+    ensures on { PassOn }
+    ensures back { PassBack }
+{}
+
 /// The entry at an index, where it uses no other.
-fn without_uses(entries: &Entries, index: Option<usize>) -> Option<&SourceEntry>
+fn without_uses(entries: &Entries, index: Option<usize>) -> Option<&StoredEntry>
     ensures { IfSome result (λ e. StandsAlone entries.now index e.now) }
 {
     let i = index?;
@@ -135,7 +140,7 @@ fn without_uses(entries: &Entries, index: Option<usize>) -> Option<&SourceEntry>
 }
 
 /// An entry that uses no other.
-fn alone(alloc: Global, entry: &SourceEntry) -> Result<Entry, SourceFault>
+fn alone(alloc: Global, entry: &StoredEntry) -> Result<Entry, SourceFault>
     ensures ok { IfOk result (λ e. e ≡ merged entry.now []) }
     ensures err { IfErr result (λ f. f ≡ SourceFault.NoMemory) }
 {

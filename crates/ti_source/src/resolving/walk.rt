@@ -1,13 +1,13 @@
 //! The way through the uses of entries, each entry being entered at most once.
 
-ghost use Rattle.std.specs.Prelude.{◌≡◌, ◌<◌, ◌∷◌, [], ◌++◌, length, Some, None, true, IfOk, IfErr, OnErr, OnOk, map, replicate, reverse, slice_get, slice_set};
-ghost use Rattle.ti_source.specs.Code.Walk.{AreKnown, FaultAt, Gathers, IsReady, IsStopped, IsTakenBack, IsWalk, Keeps, ResolvedAt, Stepped, StuckAt, done_at, known, leaves, visits, with_fault};
+ghost use Rattle.std.specs.Prelude.{◌≡◌, ◌<◌, ◌∷◌, [], ◌++◌, length, Some, None, true, IfOk, IfErr, IfSome, OnErr, OnOk, map, replicate, reverse, slice_get, slice_set};
+ghost use Rattle.ti_source.specs.Code.Walk.{AreKnown, FaultAt, Gathers, IsReady, IsStopped, IsTakenBack, IsWalk, Keeps, PassesOn, ResolvedAt, Stepped, StuckAt, done_at, known, leaves, visits, with_fault};
 ghost use Rattle.ti_source.specs.Resolving.Named.{index_of};
 ghost use Rattle.ti_source.specs.Result.{Stops};
 
 use crate::fault::SourceFault;
 use crate::reading::entries::Entries;
-use crate::reading::statement::SourceEntry;
+use crate::reading::stored_entry::StoredEntry;
 use crate::resolving::fields::Fields;
 use crate::resolving::first_fields::effective_fields;
 use crate::resolving::merge::merge;
@@ -56,30 +56,63 @@ impl<'a> Walk<'a> {
         })
     }
 
-    /// Follows the entry at an index and keeps its fields; UnknownName where there is none. What was followed is kept past a fault.
-    pub(crate) fn reach(
+    /// The resolved entry at an index; UnknownName where there is none. The entries that it uses are kept, and it is not. What was followed is
+    /// kept past a fault.
+    pub(crate) fn resolved(
         &mut self,
         alloc: Global,
         entries: &'a Entries,
         index: Option<usize>,
-    ) -> Result<(), SourceFault>
+    ) -> Result<Entry, SourceFault>
         requires { IsReady entries.now self.old }
         ensures ready { IsReady entries.now self.new }
-        ensures known { OnOk result (known self.new.marks.items index ≡ true) }
+        ensures ok { IfOk result (λ e. ResolvedAt entries.now index e) }
         ensures err { IfErr result (λ f. Stops f (FaultAt entries.now [] index f)) }
     {
         self.tasks.push(Task::Visit(index))?;
         while let Some(task) = self.tasks.pop() {
+            if let Some(i) = self.last_left(index, task) {
+                return self.finished(alloc, entries, i);
+            }
             if let Err(fault) = self.step(alloc, entries, task) {
                 self.stop(fault);
                 return Err(fault);
             }
         }
-        Ok(())
+        self.entry(alloc, entries, index)
+    }
+
+    /// The index, where the entry there is all that is left: its uses are done.
+    fn last_left(&self, index: Option<usize>, task: Task) -> Option<usize>
+        ensures { IfSome result (λ i. (task ≡ Task.Leave i) × (index ≡ Some i) × (self.now.tasks.items ≡ [])) }
+    {
+        let wanted = index?;
+        match task {
+            Task::Leave(i) if i == wanted && self.tasks.is_empty() => Some(i),
+            _ => None,
+        }
+    }
+
+    /// The resolved entry at an index that is all that is left. It is as one that was not entered.
+    fn finished(
+        &mut self,
+        alloc: Global,
+        entries: &'a Entries,
+        i: usize,
+    ) -> Result<Entry, SourceFault>
+        requires walk { IsWalk entries.now self.old.marks.items self.old.kept.items (Task.Leave i ∷ []) }
+        requires last { self.old.tasks.items ≡ [] }
+        ensures ready { IsReady entries.now self.new }
+        ensures ok { IfOk result (λ e. ResolvedAt entries.now (Some i) e) }
+        ensures err { IfErr result (λ f. f ≡ SourceFault.NoMemory) }
+    {
+        let made = made(alloc, entries, &self.marks, &self.kept, i);
+        put_mark(&mut self.marks, i, Mark::New);
+        made
     }
 
     /// The resolved entry at an index that is done and kept.
-    pub(crate) fn entry(
+    fn entry(
         &self,
         alloc: Global,
         entries: &Entries,
@@ -134,8 +167,12 @@ impl<'a> Walk<'a> {
         ensures err { IfErr result (λ f. f ≡ SourceFault.NoMemory) }
         ensures kept { OnErr result ((self.new.marks.items ≡ self.old.marks.items) × (self.new.kept.items ≡ self.old.kept.items)) }
     {
-        let position = self.kept.len();
         let entry = &entries.as_slice()[i];
+        if let Some(position) = passed_on(entries, &self.marks, entry) {
+            self.marks[i] = Mark::Done(position);
+            return Ok(());
+        }
+        let position = self.kept.len();
         let fields = gathered(alloc, entries, &self.marks, &self.kept, entry)?;
         self.kept.push(effective_fields(alloc, &fields)?)?;
         self.marks[i] = Mark::Done(position);
@@ -216,13 +253,40 @@ fn put_visits(tasks: &mut Vec<Task>, entries: &Entries, uses: &[Bytes]) -> Resul
     Ok(())
 }
 
+/// Where the fields of an entry that has none of its own and uses one other are kept: those of the other, which is done.
+fn passed_on(entries: &Entries, marks: &[Mark], entry: &StoredEntry) -> Option<usize>
+    ensures { IfSome result (λ k. PassesOn entries.now marks.now entry.now k) }
+{
+    done_at(marks, entries.index_of(entry.only_use()?))
+}
+
+/// The resolved entry at an index whose uses are done.
+fn made(
+    alloc: Global,
+    entries: &Entries,
+    marks: &[Mark],
+    kept: &[Fields<'_>],
+    i: usize,
+) -> Result<Entry, SourceFault>
+    requires walk { IsWalk entries.now marks.now kept.now (Task.Leave i ∷ []) }
+    ensures ok { IfOk result (λ e. ResolvedAt entries.now (Some i) e) }
+    ensures err { IfErr result (λ f. f ≡ SourceFault.NoMemory) }
+{
+    let entry = &entries.as_slice()[i];
+    if let Some(position) = passed_on(entries, marks, entry) {
+        return merge(alloc, entry.names(), &kept[position]);
+    }
+    let fields = gathered(alloc, entries, marks, kept, entry)?;
+    merge(alloc, entry.names(), &effective_fields(alloc, &fields)?)
+}
+
 /// The fields of an entry, and behind them those of the resolved entries that it uses, in their order.
 fn gathered<'a>(
     alloc: Global,
     entries: &Entries,
     marks: &[Mark],
     kept: &[Fields<'a>],
-    entry: &'a SourceEntry,
+    entry: &'a StoredEntry,
 ) -> Result<Fields<'a>, AllocError>
     requires known { AreKnown marks.now (map (index_of entries.now) entry.now.uses) }
     requires kept { Keeps entries.now marks.now kept.now }

@@ -1,7 +1,7 @@
 use Rattle.std.proofs.Common.{◌+◌, ◌*◌, length, reverse}
 use Rattle.ti_source.specs.Code.Walk.{count_new}
 use Rattle.ti_source.proofs.WalkLaws.{IsReaching}
-use Rattle.ti_source.proofs.resolving.walk.Walk.reach.Given as goal
+use Rattle.ti_source.proofs.resolving.walk.Walk.resolved.Given as goal
 
 abbrev pub invariant-loop-task : goal.invariant-loop-task
 invariant-loop-task l =

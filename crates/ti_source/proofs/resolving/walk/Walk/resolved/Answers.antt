@@ -3,7 +3,7 @@ use Rattle.ti_source.specs.declared.resolving.walk.Task.{Task}
 use Rattle.ti_source.specs.declared.resolving.walk.Task.TheVariants.{Visit}
 use Rattle.ti_source.proofs.IndexLaws.{reverse-push}
 use Rattle.ti_source.proofs.WalkLaws.{IsReaching, reaching-init, reaching-go, stopped-ready, stuck-fault}
-use Rattle.ti_source.proofs.resolving.walk.Walk.reach.Goals as goal
+use Rattle.ti_source.proofs.resolving.walk.Walk.resolved.Goals as goal
 
 pub loop-task-init : goal.loop-task-init
 loop-task-init c =
