@@ -9,7 +9,9 @@ use Rattle.ti_caps.specs.Description.{Description}
 use Rattle.ti_source.specs.Described.{Described}
 use Rattle.ti_source.specs.Resolving.Uses.{Resolve, Resolved}
 use Rattle.terminfo_files.specs.declared.fault.TicFault.{TicFault}
-use Rattle.terminfo_files.specs.Compiling.{AreCompiled, IsFirstRefused, Refused, files_of, refusal_of, size_of}
+use Rattle.terminfo_files.specs.declared.compiled_entry.CompiledEntry.{CompiledEntry}
+use Rattle.terminfo_files.specs.Compiling.{AreCompiled, IsFirstRefused, Refused, files_of, names_of, refusal_of, size_of}
+use Rattle.terminfo_files.specs.EntryCompiling.{EntryCompiling, IsCompiledNext}
 use Rattle.terminfo_files.specs.Progress.{with_entry, written_of}
 
 pub take-name : (names : List (List ℕ)) (i : ℕ) (name : List ℕ) → slice_get names i ≡ Some name → take (i + 1) names ≡ take i names ++ name ∷ []
@@ -55,3 +57,10 @@ refused-at entries names i name ds fault so_far at refused = record {
   compiled = so_far;
   refused = refused;
 }
+
+-- the same of what is seen of a compiler
+pub refused-seen : {entries : List Described} {next : ℕ} {seen : EntryCompiling} {fault : TicFault} → ◌≡◌ {A = EntryCompiling} (record { entries = entries; next = next }) seen → IsFirstRefused entries (names_of entries) fault → IsFirstRefused seen.entries (names_of seen.entries) fault
+refused-seen {fault = fault} is refused = subst (λ (s : EntryCompiling). IsFirstRefused s.entries (names_of s.entries) fault) is refused
+
+pub next-seen : {entries : List Described} {next : ℕ} {seen : EntryCompiling} {compiled : CompiledEntry} → ◌≡◌ {A = EntryCompiling} (record { entries = entries; next = next }) seen → IsCompiledNext entries next compiled → IsCompiledNext seen.entries seen.next compiled
+next-seen {compiled = compiled} is one = subst (λ (s : EntryCompiling). IsCompiledNext s.entries s.next compiled) is one

@@ -1,3 +1,5 @@
+pub mod AlikeLaws
+pub mod CompiledEntryLaws
 pub mod CompilingLaws
 pub mod OnceLaws
 pub mod WrittenLaws

@@ -1,4 +1,6 @@
+pub mod Alike
 pub mod Compiling
+pub mod EntryCompiling
 pub mod Faults
 pub mod FileNames
 pub mod Once

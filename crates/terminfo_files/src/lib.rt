@@ -2,14 +2,19 @@
 //! under their paths, and compiled files to source text.
 #![tactic(auto)]
 
+mod alike;
+mod compiled_entry;
 mod compiler;
+mod entry_compiler;
 mod fault;
 mod file_names;
 mod laws;
 mod lister;
 mod written;
 
+pub use compiled_entry::{CompiledEntry, Paths};
 pub use compiler::{Compiled, Notes, compile};
+pub use entry_compiler::EntryCompiler;
 pub use fault::TicFault;
 pub use laws::{compiled_sources_have_no_fault, sources_compile_once, sources_have_one_fault};
 pub use lister::{Listing, list};

@@ -1,17 +1,16 @@
 //! The compiled files of entries (term(5)).
 
-ghost use Rattle.std.specs.Prelude.{◌≡◌, ◌⊎◌, ◌∷◌, ◌++◌, [], IfErr, IfOk, OnOk, None, Some, map};
-ghost use Rattle.ti_binary.specs.Canonical.{canonical};
+ghost use Rattle.std.specs.Prelude.{◌≡◌, ◌⊎◌, ◌∷◌, ◌++◌, [], IfErr, OnOk, None, Some, map};
 ghost use Rattle.ti_caps.specs.Names.{first_name};
-ghost use Rattle.terminfo_files.specs.Compiling.{encoding_refusal, files_under, refusal_of};
+ghost use Rattle.terminfo_files.specs.Compiling.{files_under, refusal_of};
 ghost use Rattle.terminfo_files.specs.Faults.{IsPlain};
 ghost use Rattle.terminfo_files.specs.Progress.{with_entry};
 
+use crate::compiled_entry::file_of;
 use crate::fault::TicFault;
-use crate::file_names::{are_file_names, path_of, reference_names};
+use crate::file_names::path_of;
 use std::alloc::{AllocError, Global};
 use std::marker::Model;
-use ti_binary::encode;
 use ti_caps::{Bytes, Entry, first_name};
 
 /// Compiled files, each by its path below a folder and its bytes.
@@ -61,24 +60,11 @@ impl Written {
         ensures err { IfErr result (λ f. (f ≡ TicFault.NoMemory) ⊎ (refusal_of entry.now ≡ Some f)) }
         ensures plain { IfErr result IsPlain }
     {
-        let bytes = file_of(alloc, entry)?;
-        let names = reference_names(alloc, entry.names())?;
-        if !are_file_names(&names) {
-            return Err(TicFault::BadFileName);
-        }
+        let (bytes, names) = file_of(alloc, entry, entry.names())?;
         put_files(alloc, &names, bytes.0.as_slice(), &mut self.files)?;
         put_size(alloc, entry.names(), bytes.0.len(), &mut self.sizes)?;
         Ok(())
     }
-}
-
-// The compiled file of an entry.
-fn file_of(alloc: Global, entry: &Entry) -> Result<Bytes, TicFault>
-    ensures ok { IfOk result (λ bytes. (encoding_refusal entry.now ≡ None) × (bytes ≡ canonical entry.now)) }
-    ensures err { IfErr result (λ f. (f ≡ TicFault.NoMemory) ⊎ (encoding_refusal entry.now ≡ Some f)) }
-    ensures plain { IfErr result IsPlain }
-{
-    Ok(encode(alloc, entry)?)
 }
 
 fn put_files(
