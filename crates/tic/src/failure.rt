@@ -1,6 +1,6 @@
 //! Why the program ends with another status than 0.
 
-use std::alloc::AllocError;
+use std::alloc::{AllocError, AllocFailed};
 use terminfo_files::TicFault;
 use thiserror::Error;
 
@@ -35,6 +35,12 @@ impl Failure<'_> {
 
 impl From<AllocError> for Failure<'_> {
     fn from(_e: AllocError) -> Self {
+        Failure::NoMemory
+    }
+}
+
+impl<T: Drop> From<AllocFailed<T>> for Failure<'_> {
+    fn from(_e: AllocFailed<T>) -> Self {
         Failure::NoMemory
     }
 }

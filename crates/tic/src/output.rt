@@ -1,22 +1,27 @@
-//! Compiled files as they are written below a folder.
+//! The standard output, and compiled files as they are written below a folder.
 
 use crate::failure::Failure;
 use std::alloc::Global;
-use std::io::ErrorKind;
+use std::io::{ErrorKind, Write};
 use std::path::{Path, PathBuf};
 use std::{fs, io, str};
-use terminfo_files::Files;
+use terminfo_files::CompiledEntry;
 
-/// Writes the files below a folder, which is made where it is not there, as are the folders in it.
+/// Writes a text to the standard output.
+pub(crate) fn print<'a>(rt: &HostRuntime, text: &[u8]) -> Result<(), Failure<'a>> {
+    rt.stdout().write_all(text).map_err(|_| Failure::Output)
+}
+
+/// Writes the files of an entry below a folder, which is made where it is not there, as are the folders in it.
 /// Files that are there are replaced.
 pub(crate) fn write_files<'a>(
     rt: &HostRuntime,
     directory: &str,
-    files: &Files,
+    entry: &CompiledEntry,
 ) -> Result<(), Failure<'a>> {
-    for (path, bytes) in files.0.as_slice() {
+    for path in entry.paths.0.as_slice() {
         let path = below(rt.alloc(), directory, path.0.as_slice())?;
-        match write_file(rt, &path, bytes.0.as_slice()) {
+        match write_file(rt, &path, entry.bytes.0.as_slice()) {
             Ok(()) => {}
             Err(error) if error.kind() == ErrorKind::OutOfMemory => return Err(Failure::NoMemory),
             Err(_) => return Err(Failure::Write(path.into_os_string())),

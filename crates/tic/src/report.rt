@@ -1,25 +1,88 @@
 //! What `tic` prints.
 
+use crate::places::Place;
 use std::alloc::{AllocError, Global};
-use terminfo_files::{Notes, Sizes};
 use ti_source::{Cause, Note};
 
-/// A line for each note: its line number, its cause and the field's name.
-pub(crate) fn note_lines(alloc: Global, notes: &Notes) -> Result<Vec<u8>, AllocError> {
+/// Adds the line of a note: its line number, its cause and the field's name.
+pub(crate) fn add_note(alloc: Global, note: &Note, lines: &mut Vec<u8>) -> Result<(), AllocError> {
+    let (number, word) = (note.line, word_of(note.cause));
+    let head = format!(in alloc; "line {number}: {word} ")?;
+    add_line(head.as_bytes(), note.name.0.as_slice(), lines)
+}
+
+/// Adds the line of an entry: its first reference name and the size of its file.
+pub(crate) fn add_size(
+    alloc: Global,
+    name: &[u8],
+    size: usize,
+    lines: &mut Vec<u8>,
+) -> Result<(), AllocError> {
+    let digits = format!(in alloc; " {size}")?;
+    add_line(name, digits.as_bytes(), lines)
+}
+
+/// The line of an entry that a fault is in.
+pub(crate) fn entry_line(alloc: Global, place: Place<'_>) -> Result<Vec<u8>, AllocError> {
+    let mut line = Vec::from_slice(alloc, b"entry ")?;
+    let number = place.line;
+    let behind = format!(in alloc; ", line {number}")?;
+    line.extend_from_slice(place.name)?;
+    add_line(behind.as_bytes(), b"", &mut line)?;
+    Ok(line)
+}
+
+/// How many fields of how many names are unknown, and a line for each name with the number of its fields, the most frequent first, and
+/// those as frequent by their bytes; nothing where none is unknown.
+pub(crate) fn unknown_lines(alloc: Global, notes: &[Note]) -> Result<Vec<u8>, AllocError> {
+    let names = unknown_names(alloc, notes)?;
+    let counted = counted_names(alloc, &names)?;
     let mut lines = Vec::new(alloc);
-    for note in notes.0.as_slice() {
-        add_note(alloc, note, &mut lines)?;
+    if counted.is_empty() {
+        return Ok(lines);
+    }
+    let (fields, different) = (names.len(), counted.len());
+    let head = format!(in alloc; "unknown: {fields} fields of {different} names")?;
+    add_line(head.as_bytes(), b"", &mut lines)?;
+    for (count, name) in counted.as_slice() {
+        let head = format!(in alloc; "unknown: {count} ")?;
+        add_line(head.as_bytes(), name, &mut lines)?;
     }
     Ok(lines)
 }
 
-/// A line for each entry: its first reference name and the size of its file.
-pub(crate) fn size_lines(alloc: Global, sizes: &Sizes) -> Result<Vec<u8>, AllocError> {
-    let mut lines = Vec::new(alloc);
-    for (name, size) in sizes.0.as_slice() {
-        add_size(alloc, name.0.as_slice(), *size, &mut lines)?;
+// The names of the unknown fields, in the order of their bytes.
+fn unknown_names<'a>(alloc: Global, notes: &'a [Note]) -> Result<Vec<&'a [u8]>, AllocError> {
+    let mut names = Vec::new(alloc);
+    for note in notes {
+        if note.cause == Cause::Unknown {
+            names.push(note.name.0.as_slice())?;
+        }
     }
-    Ok(lines)
+    names.sort_unstable();
+    Ok(names)
+}
+
+// How often each of these names stands among them, the most frequent first; neighbours are alike where any are.
+fn counted_names<'a>(
+    alloc: Global,
+    names: &[&'a [u8]],
+) -> Result<Vec<(usize, &'a [u8])>, AllocError> {
+    let mut counted = Vec::new(alloc);
+    let mut count = 0usize;
+    for (i, name) in names.iter().enumerate() {
+        count = count.saturating_add(1);
+        let last = match names.get(i + 1) {
+            Some(next) => *next != *name,
+            None => true,
+        };
+        if last {
+            counted.push((count, *name))?;
+            count = 0;
+        }
+    }
+    counted.sort_by_key(|run| usize::MAX - run.0)?;
+    Ok(counted)
 }
 
 /// What a listing leaves out: a line for capabilities without a name and one for bytes after the
@@ -38,22 +101,6 @@ pub(crate) fn left_out_lines(
     )?;
     add_count(alloc, skipped, "bytes skipped", &mut lines)?;
     Ok(lines)
-}
-
-fn add_note(alloc: Global, note: &Note, lines: &mut Vec<u8>) -> Result<(), AllocError> {
-    let (number, word) = (note.line, word_of(note.cause));
-    let head = format!(in alloc; "line {number}: {word} ")?;
-    add_line(head.as_bytes(), note.name.0.as_slice(), lines)
-}
-
-fn add_size(
-    alloc: Global,
-    name: &[u8],
-    size: usize,
-    lines: &mut Vec<u8>,
-) -> Result<(), AllocError> {
-    let digits = format!(in alloc; " {size}")?;
-    add_line(name, digits.as_bytes(), lines)
 }
 
 // A line for a count that is not 0.

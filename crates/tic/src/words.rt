@@ -14,7 +14,7 @@ pub(crate) enum Task<'a> {
     Listing(&'a str),
 }
 
-/// The words after parsing: exactly one of `-c FILE`, `-o DIR FILE` and `-d COMPILED`.
+/// The words after parsing: exactly one of `-c FILE`, `-o DIR FILE` and `-d COMPILED`, and perhaps `-v`.
 pub(crate) fn matches<'a>(alloc: Global, words: &'a [String]) -> Result<ArgMatches<'a>, Error> {
     command(alloc)?.try_get_matches_from(words)
 }
@@ -22,7 +22,7 @@ pub(crate) fn matches<'a>(alloc: Global, words: &'a [String]) -> Result<ArgMatch
 fn command<'a>(alloc: Global) -> Result<Command<'a>, AllocError> {
     arguments(
         alloc,
-        Command::new(alloc, "tic").about(
+        Command::new(alloc, "tic").version("0.1.0").about(
             "Compiles terminfo sources, and lists compiled files; - stands for the standard input",
         ),
     )?
@@ -33,7 +33,8 @@ fn arguments<'a>(alloc: Global, command: Command<'a>) -> Result<Command<'a>, All
     command
         .arg(sizes(alloc))?
         .arg(files(alloc))?
-        .arg(listing(alloc))
+        .arg(listing(alloc))?
+        .arg(verbose(alloc))
 }
 
 fn sizes<'a>(alloc: Global) -> Arg<'a> {
@@ -61,6 +62,13 @@ fn listing<'a>(alloc: Global) -> Arg<'a> {
         .help("Prints a compiled file as source")
 }
 
+fn verbose<'a>(alloc: Global) -> Arg<'a> {
+    Arg::new(alloc, "verbose")
+        .short('v')
+        .action(ArgAction::SetTrue)
+        .help("Says which entry a fault is in, and how often each unknown name stands")
+}
+
 // One of the three is given.
 fn forms<'a>(alloc: Global) -> Result<ArgGroup<'a>, AllocError> {
     let forms = ArgGroup::new(alloc, "forms").required(true);
@@ -79,4 +87,9 @@ pub(crate) fn task_of<'a>(matches: &ArgMatches<'a>) -> Option<Task<'a>> {
         [directory, file] => Some(Task::Files(directory, file)),
         _ => None,
     }
+}
+
+/// Whether more is to be said on the standard error.
+pub(crate) fn is_verbose(matches: &ArgMatches<'_>) -> bool {
+    matches.get_flag("verbose")
 }
