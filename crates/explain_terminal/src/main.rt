@@ -1,13 +1,17 @@
 //! Reads a compiled terminfo entry on the standard input and says in one line whether this library can serve the terminal: the
 //! size of its screen, or that the entry has none (24 rows of 80 columns are tried then), the attributes that it shows, whether
-//! it shows colours, and how long the text of an operation can be; or why it cannot (status 1).
+//! it shows colours, and how long the text of an operation can be; or why it cannot (status 1). It takes no words but `--help` and
+//! `--version`, which are answered on the standard output; others are a usage error (status 2).
 #![tactic(auto)]
 
+use clap::Command;
+use clap::error::ErrorKind;
 use program_input::{InputFault, read_input};
 use scr_cells::Size;
 use scr_term::{Profile, ProfileFault};
 use std::alloc::Global;
 use std::process::ExitCode;
+use std::{env, io};
 use thiserror::Error;
 use ti_binary::{BinFault, decode};
 
@@ -84,7 +88,40 @@ fn word_of(bit: u8, word: &'static str) -> &'static str {
     if bit == 0 { "" } else { word }
 }
 
-fn main(rt: HostRuntime) -> ExitCode {
+// What the words of the command line are: none, or ones that are answered with a text.
+enum Words {
+    None,
+    Answered(clap::Error),
+    NotText,
+    NoMemory,
+}
+
+fn words_given(rt: &HostRuntime) -> Words {
+    match env::args(rt) {
+        Ok(words) => match words.collect::<Vec<String>>(rt.alloc()) {
+            Ok(words) => words_of(rt.alloc(), words.as_slice()),
+            Err(_) => Words::NoMemory,
+        },
+        Err(error) if error.kind() == io::ErrorKind::OutOfMemory => Words::NoMemory,
+        Err(_) => Words::NotText,
+    }
+}
+
+fn words_of(alloc: Global, words: &[String]) -> Words {
+    let command = Command::new(alloc, "explain_terminal")
+        .version("0.1.0")
+        .about(
+            "Says whether the terminal of the compiled entry on the standard input can be served",
+        );
+    match command.try_get_matches_from(words) {
+        Ok(_matches) => Words::None,
+        Err(error) if error.kind() == ErrorKind::OutOfMemory => Words::NoMemory,
+        Err(error) => Words::Answered(error),
+    }
+}
+
+// Explains the entry on the standard input, and gives the status.
+fn explain_input(rt: &HostRuntime) -> u8 {
     let explained = match read_input(rt.alloc(), &mut rt.reader()) {
         Ok(bytes) => explain(rt.alloc(), &bytes),
         Err(InputFault::NoMemory) => Err(Refusal::NoMemory),
@@ -92,14 +129,35 @@ fn main(rt: HostRuntime) -> ExitCode {
     };
     match explained {
         Ok(said) => {
-            print_report(&rt, said);
-            ExitCode::SUCCESS
+            print_report(rt, said);
+            0
         }
-        Err(refusal) => {
-            let _ = println!(rt; "refused: {refusal}");
-            ExitCode::from(1)
-        }
+        Err(refusal) => refuse(rt, &refusal),
     }
+}
+
+fn refuse(rt: &HostRuntime, refusal: &Refusal) -> u8 {
+    let _ = println!(rt; "refused: {refusal}");
+    1
+}
+
+// Prints a usage error, or the help or the version, and gives the status.
+fn answer(rt: &HostRuntime, error: &clap::Error) -> u8 {
+    match error.print(rt) {
+        Err(_) => 1,
+        Ok(()) if error.use_stderr() => 2,
+        Ok(()) => 0,
+    }
+}
+
+fn main(rt: HostRuntime) -> ExitCode {
+    let status = match words_given(&rt) {
+        Words::None => explain_input(&rt),
+        Words::Answered(error) => answer(&rt, &error),
+        Words::NotText => 2,
+        Words::NoMemory => refuse(&rt, &Refusal::NoMemory),
+    };
+    ExitCode::from(status)
 }
 
 fn print_report(rt: &HostRuntime, said: Report) {

@@ -1,5 +1,5 @@
 //! Runs a script that draws on a screen, and prints what a terminal shows of it; with `-r` it sends the
-//! terminal's bytes instead.
+//! terminal's bytes instead. `--help` and `--version` are answered on the standard output.
 #![tactic(auto)]
 
 use clap::error::ErrorKind;
@@ -44,6 +44,7 @@ fn command<'a>(alloc: Global) -> Result<Command<'a>, AllocError> {
         .action(ArgAction::SetTrue)
         .help("Sends the terminal's bytes, and writes refusals to the standard error");
     Command::new(alloc, "screendemo")
+        .version("0.1.0")
         .about("Draws what a script on the standard input says, and prints the screen")
         .arg(raw)
 }
@@ -62,13 +63,17 @@ fn words(rt: &(impl Env + AllocGlobal)) -> Result<Vec<String>, Failure> {
     }
 }
 
-// Whether the terminal's bytes are asked for.
-fn asked(rt: &HostRuntime) -> Result<bool, Failure> {
+// Whether the terminal's bytes are asked for; none where the help or the version is, which is printed.
+fn asked(rt: &HostRuntime) -> Result<Option<bool>, Failure> {
     let words = words(rt)?;
     match is_raw(rt.alloc(), words.as_slice()) {
-        Ok(raw) => Ok(raw),
+        Ok(raw) => Ok(Some(raw)),
         Err(error) if error.kind() == ErrorKind::OutOfMemory => Err(Failure::NoMemory),
-        Err(error) => Err(Failure::Words(error)),
+        Err(error) if error.use_stderr() => Err(Failure::Words(error)),
+        Err(error) => match error.print(rt) {
+            Ok(()) => Ok(None),
+            Err(fault) => Err(Failure::Demo(DemoFault::Write(fault.kind()))),
+        },
     }
 }
 
@@ -82,7 +87,9 @@ fn script(rt: &HostRuntime) -> Result<Vec<u8>, Failure> {
 }
 
 fn demonstrate(rt: &HostRuntime) -> Result<(), Failure> {
-    let raw = asked(rt)?;
+    let Some(raw) = asked(rt)? else {
+        return Ok(());
+    };
     let script = script(rt)?;
     draw(rt, raw, &script)
 }

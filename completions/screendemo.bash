@@ -1,0 +1,8 @@
+# Completion of screendemo for bash, written by completions/write of what `screendemo --help` prints.
+_huttavel_screendemo() {
+    local word=${COMP_WORDS[COMP_CWORD]}
+    case $word in
+        -*) mapfile -t COMPREPLY < <(compgen -W '-r -h --help -V --version' -- "$word") ;;
+    esac
+}
+complete -o filenames -F _huttavel_screendemo screendemo

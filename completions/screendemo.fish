@@ -1,0 +1,5 @@
+# Completion of screendemo for fish, written by completions/write of what `screendemo --help` prints.
+complete -c screendemo -f
+complete -c screendemo -s r -d 'Sends the terminal\'s bytes, and writes refusals to the standard error'
+complete -c screendemo -s h -l help -d 'Print help'
+complete -c screendemo -s V -l version -d 'Print version'
