@@ -14,7 +14,9 @@ use Rattle.scr_term.specs.Operations.States.{TerminalState, IsState, blank_state
 use Rattle.scr_term.specs.Operations.Steps.{runs, step}
 use Rattle.scr_plan.proofs.FollowLaws.{both, known_all, known_state}
 use Rattle.scr_plan.proofs.MemoryViewLaws.{same_size}
+use Rattle.scr_plan.proofs.PlaceLaws.{then_runs}
 use Rattle.scr_plan.proofs.RememberedRowLaws.{all_true}
+use Rattle.scr_plan.proofs.ScratchLaws.{cleared_run}
 use Rattle.scr_plan.specs.Memories.{Agrees, MemoryLaws, MemoryView, all_followed, followed, has_one_pen, is_known, remembered, stepped, unknown}
 use Rattle.scr_plan.specs.MemoryRuns.{KnownMemories, MayBe, MemoryRuns, PlansAreRemembered}
 use Rattle.scr_plan.specs.Repaints.{joined_of}
@@ -148,9 +150,22 @@ anew_known laws have one profile p memory may new ops run =
     let first = run_before laws profile memory.state new begins ops run in
     known_more laws one profile p memory may new begins ops run (known_begun profile (have profile p) memory first.0 (is_there profile Sgr0) refl first.1)
 
+-- from whatever state: the screen is the same behind what clears it
+anew_agrees : RunLaws → ProfilesHave → MemoryLaws → (profile : ProfileView) → IsProfile profile → (memory : MemoryView) → MayBe (abilities profile) memory → (old new : TerminalState) → IsState (abilities profile) old
+    → (ops : List Op) → runs profile old (resets profile ++ Clear ∷ [] ++ ops) ≡ Some new → Agrees (abilities profile) (all_followed profile (resets profile ++ Clear ∷ [] ++ ops) memory) new
+anew_agrees laws have one profile p memory may old new state ops run =
+    let begins : List Op = resets profile ++ Clear ∷ [] in
+    let blanks : TerminalState = blank_state profile.rows profile.columns in
+    let first = run_before laws profile old new begins ops run in
+    let same : first.0 ≡ blanks = same_some first.0 blanks (sym first.1 ∙ cleared_run laws profile (have profile p) old state.pen) in
+    let here : runs profile memory.state (begins ++ ops) ≡ Some new =
+    then_runs laws profile memory.state blanks new begins ops (cleared_run laws profile (have profile p) memory.state may.state.pen) (subst (λ s. runs profile s ops ≡ Some new) same first.2) in
+    runs_follow one profile p memory memory.state new (begins ++ ops) (agrees_itself (abilities profile) memory may) here
+
 pub plans_are_remembered : RunLaws → ProfilesHave → MemoryLaws → ScratchShows → PlansAreRemembered
 plans_are_remembered laws have one scratch = record {
   cleared = λ profile p memory may new ops run. anew_known laws have one profile p memory may new ops run;
+  agrees = λ profile p memory may old new state ops run. anew_agrees laws have one profile p memory may old new state ops run;
   scratch = λ profile p picture k fits memory may.
       let run : RunsToShow profile memory.state (scratch_of profile picture) picture = scratch profile p picture k fits memory.state may.state in
       let begins : List Op = resets profile ++ Clear ∷ [] in

@@ -24,6 +24,7 @@ joined_plan : JoinedShows → JoinedIsCheap → ScratchIsBounded → MemoryRuns 
 joined_plan shows cheap bounded runs profile p virtual k fits memory known calm = record {
   shows = λ old agrees. shows.joined profile p virtual.picture k fits memory old agrees known;
   anew = λ wished old state. never virtual.repaint wished calm;
+  agrees = λ wished may old new state run. never virtual.repaint wished calm;
   known = λ may.
       let agrees = agrees_itself (abilities profile) memory may in
       let run = shows.joined profile p virtual.picture k fits memory memory.state agrees known in
@@ -39,6 +40,7 @@ anew_plan : JoinedShows → JoinedIsCheap → PlansAreRemembered → ScratchIsBo
 anew_plan shows cheap remembered bounded profile p virtual k fits memory due = record {
   shows = λ old agrees. shows.anew profile p virtual.picture k fits old agrees.is_state;
   anew = λ wished old state. shows.anew profile p virtual.picture k fits old state;
+  agrees = λ wished may old new state run. remembered.agrees profile p memory may old new state _ run;
   known = λ may.
       let run = shows.anew profile p virtual.picture k fits memory.state may.state in
       remembered.cleared profile p memory may run.new _ run.run;

@@ -139,6 +139,7 @@ short_plan known_laws memory_laws cheap grids profile p virtual k fits memory du
     record {
       shows = λ old agrees. subst (λ state. RunsToShow profile state draft.ops.items virtual.picture) (known_laws.state (abilities profile) memory old agrees known) shows;
       anew = λ wished old state. never (not virtual.repaint) parts.1 (ap not wished);
+      agrees = λ wished may old new state run. never (not virtual.repaint) parts.1 (ap not wished);
       known = λ may. memory_laws.stays_known profile p memory memory.state shows.new draft.ops.items (agrees_itself (abilities profile) memory may) shows.run known;
       few = few;
       scratch = omega (arith, fewer, cheap.joined profile memory virtual.picture, cheap.plain profile memory virtual.picture);
@@ -170,6 +171,7 @@ short_plan_anew laws have remembered cheap grids profile p virtual k fits memory
     record {
       shows = λ old agrees. anew old agrees.is_state;
       anew = λ wished old state. anew old state;
+      agrees = λ wished may old new state run. subst (λ o. Agrees (abilities profile) (all_followed profile o memory) new) (sym ops) (remembered.agrees profile p memory may old new state own (ap (λ o. runs profile old o) (sym ops) ∙ run));
       known = λ may.
           let run = anew memory.state may.state in
           subst (λ o. is_known (all_followed profile o memory) ≡ true) (sym ops) (remembered.cleared profile p memory may run.new own (ap (λ o. runs profile memory.state o) (sym ops) ∙ run.run));
@@ -195,6 +197,7 @@ partly_plan laws grids profile p virtual k fits memory may due calm draft partly
           let own = partly.done old agrees in
           subst (λ o. RunsToShow profile old o virtual.picture) (sym own.right.ops) (done_shows grids profile virtual.picture k fits [] old draft own);
       anew = λ wished old state. never virtual.repaint wished calm;
+      agrees = λ wished may old new state run. never virtual.repaint wished calm;
       known = partly.known;
       few = few;
       scratch = omega (arith, fewer, plan.scratch);

@@ -33,10 +33,12 @@ pub record MayBe (abilities : Abilities) (memory : MemoryView) : Type 0 where
   pub high : length memory.known_rows ≡ abilities.rows
 
 -- Where attributes were turned off and the screen was cleared, all is known after whatever is sent behind it, whatever was known before;
--- so it is after scratch.
+-- so it is after scratch. From whatever state they are defined, the state after them agrees with what is remembered then.
 pub record PlansAreRemembered : Type 0 where
   pub cleared : (profile : ProfileView) → IsProfile profile → (memory : MemoryView) → MayBe (abilities profile) memory → (new : TerminalState) (ops : List Op)
       → runs profile memory.state (resets profile ++ Clear ∷ [] ++ ops) ≡ Some new → is_known (all_followed profile (resets profile ++ Clear ∷ [] ++ ops) memory) ≡ true
+  pub agrees : (profile : ProfileView) → IsProfile profile → (memory : MemoryView) → MayBe (abilities profile) memory → (old new : TerminalState) → IsState (abilities profile) old → (ops : List Op)
+      → runs profile old (resets profile ++ Clear ∷ [] ++ ops) ≡ Some new → Agrees (abilities profile) (all_followed profile (resets profile ++ Clear ∷ [] ++ ops) memory) new
   pub scratch : (profile : ProfileView) → IsProfile profile → (picture : PictureView) → IsPicture picture → Fits profile picture
       → (memory : MemoryView) → MayBe (abilities profile) memory → is_known (all_followed profile (scratch_of profile picture) memory) ≡ true
 

@@ -1,11 +1,12 @@
 -- What the operations of an update have to be, however they are planned. curs_refresh(3X), doupdate(); X/Open Curses Issue 7, the same.
-use Rattle.std.specs.Prelude.{ℕ, ◌≡◌, ◌≤◌, ◌+◌, ◌*◌, true, false, List, [], length}
+use Rattle.std.specs.Prelude.{ℕ, ◌≡◌, ◌≤◌, ◌+◌, ◌*◌, true, false, List, [], length, Some}
 use Rattle.scr_cells.specs.PictureViews.{IsPicture}
 use Rattle.scr_virtual.specs.Laws.{HoldsChanges}
 use Rattle.scr_virtual.specs.VirtualViews.{VirtualView, settled}
 use Rattle.scr_term.specs.declared.operations.operation.Op.{Op}
 use Rattle.scr_term.specs.Operations.Profiles.{ProfileView, IsProfile, abilities}
 use Rattle.scr_term.specs.Operations.States.{TerminalState, IsState}
+use Rattle.scr_term.specs.Operations.Steps.{runs}
 use Rattle.scr_term.specs.Operations.Texts.{all_bytes}
 use Rattle.scr_plan.specs.Memories.{Agrees, MemoryView, all_followed, disturbed, forgotten, is_known, unknown}
 use Rattle.scr_plan.specs.MemoryRuns.{MayBe}
@@ -13,11 +14,15 @@ use Rattle.scr_plan.specs.Repaints.{IsUpToDate, differing, is_none_left, is_plac
 use Rattle.scr_plan.specs.Scratch.{Fits, RunsToShow, scratch_of}
 
 -- From every state that agrees with what is remembered, and from every state of the profile where the screen is to be painted anew, the
--- operations are defined and show the picture, and all is known after them where what was remembered is a state of the profile. They are at most so many for a place; their bytes are no
--- more than those of scratch, and where all was known and the screen is not to be painted anew, no more than those of the joined repaint.
+-- operations are defined and show the picture. Where what was remembered is a state of the profile, all is known after them, and the state after
+-- them agrees with what is remembered then, cursor and pen too, from whatever state the screen was painted anew. They are at most so many for
+-- a place; their bytes are no more than those of scratch, and where all was known and the screen is not to be painted anew, no more than those of
+-- the joined repaint.
 pub record IsPlan (profile : ProfileView) (memory : MemoryView) (virtual : VirtualView) (ops : List Op) : Type 0 where
   pub shows : (old : TerminalState) → Agrees (abilities profile) memory old → RunsToShow profile old ops virtual.picture
   pub anew : virtual.repaint ≡ true → (old : TerminalState) → IsState (abilities profile) old → RunsToShow profile old ops virtual.picture
+  pub agrees : virtual.repaint ≡ true → MayBe (abilities profile) memory → (old new : TerminalState) → IsState (abilities profile) old → runs profile old ops ≡ Some new
+      → Agrees (abilities profile) (all_followed profile ops memory) new
   pub known : MayBe (abilities profile) memory → is_known (all_followed profile ops memory) ≡ true
   pub few : length ops ≤ virtual.picture.rows * virtual.picture.columns * 12 + 4
   pub scratch : length (all_bytes profile ops) ≤ length (all_bytes profile (scratch_of profile virtual.picture))

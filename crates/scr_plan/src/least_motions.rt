@@ -4,7 +4,7 @@ use scr_term::{Op, Prices, Spot};
 
 // The least prices of motions, whatever the rows and columns: to a neighbouring row, to one further away, to the right, to the left, to a
 // column up to `jump`, before which places may be written, to the first place of the screen, to any place at once, and from behind the last
-// column to the first row, and to others by how many digits their number has in a cursor address.
+// column to the first row, and to others by how many digits their number has in a cursor address: to a row, or to any below it.
 #[derive(Clone, Copy)]
 pub(crate) struct LeastMotions {
     neighbour: u32,
@@ -34,6 +34,9 @@ impl LeastMotions {
         let neighbour = one.min(line);
         let further = more_rows(prices).min(line);
         let many = many_down(prices).min(line);
+        let to_three = from_margin(prices, 99, many);
+        let to_two = from_margin(prices, 9, further.min(many)).min(to_three);
+        let to_one = from_margin(prices, 1, neighbour.min(further)).min(to_two);
         LeastMotions {
             neighbour,
             further,
@@ -43,10 +46,10 @@ impl LeastMotions {
             home,
             place,
             jump,
-            margin_to_first: prices.of(Op::Move(0, 0)).min(home),
-            margin_to_one: from_margin(prices, 1, neighbour.min(further)),
-            margin_to_two: from_margin(prices, 9, further.min(many)),
-            margin_to_three: from_margin(prices, 99, many),
+            margin_to_first: prices.of(Op::Move(0, 0)).min(home).min(to_one),
+            margin_to_one: to_one,
+            margin_to_two: to_two,
+            margin_to_three: to_three,
         }
     }
 
@@ -72,9 +75,9 @@ impl LeastMotions {
         }
     }
 
-    // From behind the last column to a row.
+    // From behind the last column to a row, or to any below it.
     #[inline(always)]
-    fn from_margin(self, row: u32) -> u32 {
+    pub(crate) fn from_margin(self, row: u32) -> u32 {
         match row {
             0 => self.margin_to_first,
             1..=8 => self.margin_to_one,

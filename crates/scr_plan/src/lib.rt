@@ -11,6 +11,7 @@ mod links;
 mod looking;
 mod memories;
 mod motions;
+mod nearest;
 mod orders;
 mod painting;
 mod plain_repaint;

@@ -3,9 +3,11 @@
 
 use crate::least_motions::LeastMotions;
 use crate::links::{Links, NONE};
+use crate::nearest::Nearest;
 use crate::runs::{How, Run};
 use crate::ways::{Chooser, Cursor, Stop, Way};
 use scr_cells::{NoMemory, Pen};
+use scr_term::Spot;
 use std::alloc::Global;
 
 // How many waiting runs are looked at from where the last one was on, and how many before that.
@@ -182,11 +184,15 @@ impl<'a> Task<'a> {
     // and the first. Where few are left, all of them are looked at, and none twice around there.
     fn nearest(&self, walk: &Walk, links: &Links, from: u32, next_alike: u32) -> Nearest {
         let mut nearest = Nearest::none();
-        let mut number = from;
+        self.look_at(walk, links, &mut nearest, from);
+        if self.is_surely_nearest(walk, links, &nearest, from) {
+            return nearest;
+        }
+        let mut number = links.next(from);
         let count = self.runs.len().min(u32::MAX as usize) as u32;
         let waiting = count.saturating_sub(walk.count);
         let ahead = AHEAD.min(waiting);
-        for _ in 0..ahead {
+        for _ in 1..ahead {
             self.look_at(walk, links, &mut nearest, number);
             number = links.next(number);
         }
@@ -202,6 +208,17 @@ impl<'a> Task<'a> {
         let first_alike = links.first_with(walk.cursor.pen);
         self.look_at(walk, links, &mut nearest, first_alike);
         nearest
+    }
+
+    // Whether no other run can be nearer than the first that waits: the cursor is behind the last column, from where no row below that
+    // run's is reached by fewer bytes.
+    #[inline(always)]
+    fn is_surely_nearest(&self, walk: &Walk, links: &Links, nearest: &Nearest, first: u32) -> bool {
+        let Spot::Margin(_) = walk.cursor.spot else {
+            return false;
+        };
+        links.before(first) >= first
+            && nearest.compared <= self.least.from_margin(run_at(self.runs, first).row)
     }
 
     // Looks at a run, if there is one: it is the nearest so far if it is nearer than that. Most are seen not to be without a price.
@@ -262,33 +279,6 @@ impl<'a> Task<'a> {
         match self.wish {
             Some((wished, _)) if wished == row => WISHED_LAST,
             _ => 0,
-        }
-    }
-}
-
-// The nearest of the runs that were looked at, the way to it, and the price of that as it is compared.
-#[derive(Clone, Copy)]
-struct Nearest {
-    number: u32,
-    way: Option<Way>,
-    compared: u32,
-}
-
-impl Nearest {
-    // None was looked at.
-    fn none() -> Nearest {
-        Nearest {
-            number: NONE,
-            way: None,
-            compared: u32::MAX,
-        }
-    }
-
-    // The price of the way to it.
-    fn price(&self) -> u32 {
-        match &self.way {
-            Some(way) => way.price,
-            None => 0,
         }
     }
 }
