@@ -1,11 +1,11 @@
 -- The bundled entry's profile is the one whose bytes are spoken of.
-use Rattle.std.specs.Prelude.{Some}
+use Rattle.std.specs.Prelude.{Option}
 use Rattle.scr_cells.specs.declared.sizes.Size.{Size}
 use Rattle.ti_caps.specs.Bundled.{IsBundled}
 use Rattle.ti_caps.specs.Description.{Description}
 use Rattle.scr_term.specs.Operations.Admission.{IsAdmitted, IsEcma48}
 use Rattle.scr_term.specs.Operations.Profiles.{ProfileView}
 
--- on a screen of any size
+-- on a screen of any size, and of its own
 abbrev pub BundledIsEcma48 : Type 0
-BundledIsEcma48 = (entry : Description) (size : Size) (profile : ProfileView) → IsBundled entry → IsAdmitted entry (Some size) profile → IsEcma48 profile
+BundledIsEcma48 = (entry : Description) (size : Option Size) (profile : ProfileView) → IsBundled entry → IsAdmitted entry size profile → IsEcma48 profile

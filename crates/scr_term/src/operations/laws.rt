@@ -38,7 +38,7 @@ pub fn ecma48_laws()
     ensures { Ecma48Laws }
 {}
 
-/// What the bundled entry makes on a screen of any size is a profile whose bytes are spoken of: `IsEcma48`.
+/// What the bundled entry makes on a screen of any size, or of its own, is a profile whose bytes are spoken of: `IsEcma48`.
 pub fn bundled_is_ecma48()
     ensures { BundledIsEcma48 }
 {}

@@ -111,6 +111,7 @@ impl Profile {
     }
 
     /// Whether the numbers of an operation are on the screen, its attributes and colours shown, its byte a character.
+    #[inline(always)]
     pub(crate) fn is_within(&self, op: Op) -> bool
         ensures { result ≡ is_within self.now op }
     {
@@ -139,6 +140,7 @@ impl Profile {
     }
 
     /// Whether the terminal can be sent a piece.
+    #[inline(always)]
     pub(crate) fn is_sendable(&self, piece: Sent) -> bool
         ensures { result ≡ is_sendable self.now (piece_of piece) }
     {
