@@ -1,5 +1,5 @@
 -- What a call of a session does to the windows and the virtual screen.
-use Rattle.std.proofs.Common.{◌≡◌, ℕ, ◌+◌, leb, ltb, Bool, true, false, not, ◌&&◌, refl, sym, ◌∙◌, ap, subst, List, [], length, arith, Some, Result, Ok, Err, inl, inr, if◌then◌else◌}
+use Rattle.std.proofs.Common.{◌≡◌, ℕ, ◌+◌, leb, ltb, Bool, true, false, not, ◌&&◌, refl, sym, ◌∙◌, ap, subst, List, [], length, arith, Some, None, Result, Ok, Err, inl, inr, if◌then◌else◌}
 use Rattle.scr_term.specs.declared.operations.operation.Op.{Op}
 use Rattle.scr_term.specs.Operations.Profiles.{ProfileView, IsProfile, abilities}
 use Rattle.scr_term.specs.Operations.States.{TerminalState, IsState, blank_state}
@@ -31,7 +31,7 @@ use Rattle.curses.specs.declared.faults.UpdateFault.TheVariants as update_faults
 use Rattle.curses.specs.Making.{IsMade, Knows, drawn_of}
 use Rattle.curses.specs.Refreshing.{OnBoth, OnTerminal, OnVirtual, all_disturbed, all_redrawn, lines_disturbed, redraw_lines_call, redraw_window_call, rows_disturbed, rows_redrawn, window_disturbed}
 use Rattle.curses.specs.ScreenStates.{ScreenState, IsRemembered}
-use Rattle.curses.specs.Sessions.{Drawn, RightAnswer, begun_of, both_told, count_of, is_cut, is_unfinished, is_update, knows_after, left_by, ran_out, redraws, screen_call, tells_sent, tells_update, virtual_told, windows_told}
+use Rattle.curses.specs.Sessions.{Drawn, RightAnswer, begun_of, both_told, count_of, is_cut, is_unfinished, is_update, knows_after, left_by, marked_by, memory_behind, memory_marked, memory_updated, ran_out, redraws, rows_told, screen_call, tells_sent, virtual_told, window_told, windows_told}
 use Rattle.curses.specs.Updates.{IsFailed, IsSent, IsShown}
 use Rattle.curses.specs.Writers.{WriterView, counted}
 use Rattle.curses.proofs.CutLaws.{cut_none}
@@ -163,6 +163,11 @@ own_answer own answer same = ap (λ a. ran_out a answer) (sym same) ∙ itself a
     itself (Sent s) = refl
     itself (Failed f) = refl
 
+-- a call that is neither an update nor a mark
+memory_kept : (profile : ProfileView) (desk : DeskView) (memory : MemoryView) (call : Call) (answer : Answer) → is_update call ≡ false → marked_by desk call ≡ None → memory_behind profile desk memory call answer ≡ memory
+memory_kept profile desk memory call answer update none =
+    ap (λ b. if b then memory_updated profile memory answer else memory_marked memory (marked_by desk call)) update ∙ ap (memory_marked memory) none
+
 first_of : (a b : Bool) → (a && b) ≡ true → a ≡ true
 first_of true b e = refl
 first_of false b e = e
@@ -173,20 +178,23 @@ pub record Quiet (answer : Answer) : Type 0 where
   pub begun : begun_of answer ≡ []
   pub count : count_of answer ≡ 0
   pub well : tells_sent answer ≡ false
-  pub tells : tells_update answer ≡ false
   pub cut : is_cut answer ≡ false
   pub unfinished : is_unfinished answer ≡ false
 
 -- a call that is no update was made as its definition says
-made_so : (old new : ScreenState) (call : Call) (answer : Answer) (w : WriterView) → is_update call ≡ false → Quiet answer → new.profile ≡ old.profile → new.keys ≡ old.keys → new.owed ≡ old.owed
-    → StillAgrees old.profile old.memory new.memory → ((before : Bool) → (before ≡ true → Knows old) → knows_after before call answer ≡ true → Knows new)
-    → drawn_of new ≡ (screen_call (drawn_of old) call).0 → answer ≡ (screen_call (drawn_of old) call).1 → IsMade old new call answer w w
-made_so old new call answer w update quiet profile keys owed still knows drawn own = record {
+made_so : (old new : ScreenState) (call : Call) (answer : Answer) (w : WriterView) → is_update call ≡ false → Quiet answer → new.profile ≡ old.profile → new.keys ≡ old.keys → new.opening ≡ old.opening → new.closing ≡ old.closing → new.owed ≡ old.owed
+    → new.memory ≡ memory_behind old.profile old.desk old.memory call answer → StillAgrees old.profile old.memory new.memory
+    → ((before : Bool) → (before ≡ true → Knows old) → knows_after before call answer ≡ true → Knows new) → drawn_of new ≡ (screen_call (drawn_of old) call).0 → answer ≡ (screen_call (drawn_of old) call).1 → IsMade old new call answer w w
+made_so old new call answer w update quiet profile keys opening closing owed memory still knows drawn own = record {
   profile = profile;
   keys = keys;
+  opening = opening;
+  closing = closing;
   drawn = drawn ∙ sym (ap (λ b. if b then drawn_of old else (screen_call (drawn_of old) call).0) (own_answer (screen_call (drawn_of old) call).1 answer own))
       ∙ sym (ap (λ b. left_by b (drawn_of old) (screen_call (drawn_of old) call) answer) update);
-  right = subst (λ b. RightAnswer b call (screen_call (drawn_of old) call).1 answer) (sym update) (inl own);
+  memory = memory;
+  right = subst (λ b. RightAnswer b old.profile old.memory (drawn_of old) call answer) (sym update) (inl own);
+  quiet = λ _. quiet.begun;
   sent = subst (λ b. IsSent old.profile old.memory old.owed w w b (count_of answer) new.owed) (sym quiet.begun)
       (subst (λ n. IsSent old.profile old.memory old.owed w w [] n new.owed) (sym quiet.count) (sends_nothing old.profile old.memory old.owed new.owed w owed));
   agrees = agrees_on old.profile old.memory new.memory (begun_of answer) quiet.begun still;
@@ -200,36 +208,37 @@ made_so old new call answer w update quiet profile keys owed still knows drawn o
     never e = (cc)
 
 quiet_done : (came : Result (Unit {0}) WinFault) → Quiet (answered (λ _. Nothing) came)
-quiet_done (Ok done) = record { knows = λ before call e. first_of before (not (redraws call)) e; begun = refl; count = refl; well = refl; tells = refl; cut = refl; unfinished = refl }
-quiet_done (Err fault) = record { knows = λ before call e. e; begun = refl; count = refl; well = refl; tells = refl; cut = refl; unfinished = refl }
+quiet_done (Ok done) = record { knows = λ before call e. first_of before (not (redraws call)) e; begun = refl; count = refl; well = refl; cut = refl; unfinished = refl }
+quiet_done (Err fault) = record { knows = λ before call e. e; begun = refl; count = refl; well = refl; cut = refl; unfinished = refl }
 
 -- a call that takes a window or a pad
 pub both_made : (old new : ScreenState) (call : Call) (came : Result (Unit {0}) WinFault) (answer : Answer) (w : WriterView) (own : (VirtualView × DeskView) × Result (Unit {0}) WinFault)
-    → is_update call ≡ false → screen_call (drawn_of old) call ≡ both_told own → OnBoth old new came own → answer ≡ answered (λ _. Nothing) came → IsMade old new call answer w w
-both_made old new call came answer w own update called made told =
+    → is_update call ≡ false → marked_by old.desk call ≡ None → screen_call (drawn_of old) call ≡ both_told own → OnBoth old new came own → answer ≡ answered (λ _. Nothing) came → IsMade old new call answer w w
+both_made old new call came answer w own update none called made told =
     subst (λ a. IsMade old new call a w w) (sym told)
-    (made_so old new call (answered (λ _. Nothing) came) w update (quiet_done came) (ap (λ s. s.profile) made.0) (ap (λ s. s.keys) made.0) (ap (λ s. s.owed) made.0)
-    (still_same old.profile old.memory new.memory (ap (λ s. s.memory) made.0))
+    (made_so old new call (answered (λ _. Nothing) came) w update (quiet_done came) (ap (λ s. s.profile) made.0) (ap (λ s. s.keys) made.0) (ap (λ s. s.opening) made.0) (ap (λ s. s.closing) made.0) (ap (λ s. s.owed) made.0)
+    (ap (λ s. s.memory) made.0 ∙ sym (memory_kept old.profile old.desk old.memory call (answered (λ _. Nothing) came) update none)) (still_same old.profile old.memory new.memory (ap (λ s. s.memory) made.0))
     (λ before knew e. knows_on old new (ap (λ s. s.owed) made.0) (ap (λ s. s.memory) made.0) (knew ((quiet_done came).knows before call e)))
     (ap drawn_of made.0 ∙ sym (ap (λ c. c.0) called)) (ap (answered (λ _. Nothing)) made.1 ∙ sym (ap (λ c. c.1) called)))
 
 -- a call that changes the virtual screen alone
 pub virtual_made : (old new : ScreenState) (call : Call) (came : Result (Unit {0}) WinFault) (answer : Answer) (w : WriterView) (own : VirtualView × Result (Unit {0}) WinFault)
-    → is_update call ≡ false → screen_call (drawn_of old) call ≡ virtual_told old.desk own → OnVirtual old new came own → answer ≡ answered (λ _. Nothing) came → IsMade old new call answer w w
-virtual_made old new call came answer w own update called made told =
+    → is_update call ≡ false → marked_by old.desk call ≡ None → screen_call (drawn_of old) call ≡ virtual_told old.desk own → OnVirtual old new came own → answer ≡ answered (λ _. Nothing) came → IsMade old new call answer w w
+virtual_made old new call came answer w own update none called made told =
     subst (λ a. IsMade old new call a w w) (sym told)
-    (made_so old new call (answered (λ _. Nothing) came) w update (quiet_done came) (ap (λ s. s.profile) made.0) (ap (λ s. s.keys) made.0) (ap (λ s. s.owed) made.0)
-    (still_same old.profile old.memory new.memory (ap (λ s. s.memory) made.0))
+    (made_so old new call (answered (λ _. Nothing) came) w update (quiet_done came) (ap (λ s. s.profile) made.0) (ap (λ s. s.keys) made.0) (ap (λ s. s.opening) made.0) (ap (λ s. s.closing) made.0) (ap (λ s. s.owed) made.0)
+    (ap (λ s. s.memory) made.0 ∙ sym (memory_kept old.profile old.desk old.memory call (answered (λ _. Nothing) came) update none)) (still_same old.profile old.memory new.memory (ap (λ s. s.memory) made.0))
     (λ before knew e. knows_on old new (ap (λ s. s.owed) made.0) (ap (λ s. s.memory) made.0) (knew ((quiet_done came).knows before call e)))
     (ap drawn_of made.0 ∙ sym (ap (λ c. c.0) called)) (ap (answered (λ _. Nothing)) made.1 ∙ sym (ap (λ c. c.1) called)))
 
 -- a call that says that others wrote on the screen
 pub terminal_made : (old new : ScreenState) (call : Call) (came : Result (Unit {0}) WinFault) (answer : Answer) (w : WriterView) (own : VirtualView × Result (Unit {0}) WinFault) (memory : MemoryView)
-    → is_update call ≡ false → screen_call (drawn_of old) call ≡ virtual_told old.desk own → OnTerminal old new came own memory → StillAgrees old.profile old.memory memory
+    → is_update call ≡ false → memory ≡ memory_marked old.memory (marked_by old.desk call) → screen_call (drawn_of old) call ≡ virtual_told old.desk own → OnTerminal old new came own memory → StillAgrees old.profile old.memory memory
     → ((before : Bool) → (before ≡ true → Knows old) → knows_after before call (answered (λ _. Nothing) came) ≡ true → Knows new) → answer ≡ answered (λ _. Nothing) came → IsMade old new call answer w w
-terminal_made old new call came answer w own memory update called made still knows told =
+terminal_made old new call came answer w own memory update left called made still knows told =
     subst (λ a. IsMade old new call a w w) (sym told)
-    (made_so old new call (answered (λ _. Nothing) came) w update (quiet_done came) (ap (λ s. s.profile) made.0) (ap (λ s. s.keys) made.0) (ap (λ s. s.owed) made.0)
+    (made_so old new call (answered (λ _. Nothing) came) w update (quiet_done came) (ap (λ s. s.profile) made.0) (ap (λ s. s.keys) made.0) (ap (λ s. s.opening) made.0) (ap (λ s. s.closing) made.0) (ap (λ s. s.owed) made.0)
+    (ap (λ s. s.memory) made.0 ∙ left ∙ sym (ap (λ b. if b then memory_updated old.profile old.memory (answered (λ _. Nothing) came) else memory_marked old.memory (marked_by old.desk call)) update))
     (subst (StillAgrees old.profile old.memory) (sym (ap (λ s. s.memory) made.0)) still) knows
     (ap drawn_of made.0 ∙ sym (ap (λ c. c.0) called)) (ap (answered (λ _. Nothing)) made.1 ∙ sym (ap (λ c. c.1) called)))
 
@@ -249,12 +258,17 @@ redrawn_knows old new call came (Ok rows) is owed memory own before knew e =
     never true e = (cc)
     never false e = (cc)
 
+-- a mark leaves its rows out
+told_marked : (memory : MemoryView) (rows : Result (ℕ × ℕ) WinFault) → rows_disturbed memory rows ≡ memory_marked memory (rows_told rows)
+told_marked memory (Err fault) = refl
+told_marked memory (Ok rows) = refl
+
 pub lines_made : MemoryLaws → (old new : ScreenState) (win : Win) (first n : ℕ) (came : Result (Unit {0}) WinFault) (answer : Answer) (w : WriterView)
     → OnTerminal old new came (redraw_lines_call old.virtual old.desk win.0 first n) (lines_disturbed old.memory old.desk win.0 first n) → answer ≡ answered (λ _. Nothing) came
     → IsMade old new (RedrawLines win first n) answer w w
 lines_made laws old new win first n came answer w made told =
     let rows = screen_rows_answer old.desk win.0 first n in
-    terminal_made old new (RedrawLines win first n) came answer w (redraw_lines_call old.virtual old.desk win.0 first n) (lines_disturbed old.memory old.desk win.0 first n) refl refl made
+    terminal_made old new (RedrawLines win first n) came answer w (redraw_lines_call old.virtual old.desk win.0 first n) (lines_disturbed old.memory old.desk win.0 first n) refl (told_marked old.memory rows) refl made
     (still_disturbed laws old.profile old.memory rows)
     (redrawn_knows old new (RedrawLines win first n) came rows refl (ap (λ s. s.owed) made.0) (ap (λ s. s.memory) made.0) made.1) told
 
@@ -262,9 +276,13 @@ pub window_made : MemoryLaws → (old new : ScreenState) (win : Win) (came : Res
     → OnTerminal old new came (redraw_window_call old.virtual old.desk win.0) (window_disturbed old.memory old.desk win.0) → answer ≡ answered (λ _. Nothing) came
     → IsMade old new (RedrawWindow win) answer w w
 window_made laws old new win came answer w made told =
-    terminal_made old new (RedrawWindow win) came answer w (redraw_window_call old.virtual old.desk win.0) (window_disturbed old.memory old.desk win.0) refl refl made
+    terminal_made old new (RedrawWindow win) came answer w (redraw_window_call old.virtual old.desk win.0) (window_disturbed old.memory old.desk win.0) refl (left (size_answer old.desk win.0)) refl made
     (still (size_answer old.desk win.0)) (knows (size_answer old.desk win.0) (ap (λ s. s.memory) made.0) made.1) told
   where
+    left : (size : Result (ℕ × ℕ) WinFault) → all_disturbed old.memory old.desk win.0 size ≡ memory_marked old.memory (window_told old.desk win.0 size)
+    left (Err fault) = refl
+    left (Ok size) = told_marked old.memory (screen_rows_answer old.desk win.0 0 size.0)
+
     still : (size : Result (ℕ × ℕ) WinFault) → StillAgrees old.profile old.memory (all_disturbed old.memory old.desk win.0 size)
     still (Err fault) state agrees = agrees
     still (Ok size) state agrees = still_disturbed laws old.profile old.memory (screen_rows_answer old.desk win.0 0 size.0) state agrees
@@ -291,8 +309,12 @@ pub shown_made : MemoryRuns → (old new : ScreenState) (sent : SentView) (befor
 shown_made runs old new sent before after is shown = record {
   profile = ap (λ s. s.profile) shown.screen;
   keys = ap (λ s. s.keys) shown.screen;
+  opening = ap (λ s. s.opening) shown.screen;
+  closing = ap (λ s. s.closing) shown.screen;
   drawn = ap drawn_of shown.screen;
-  right = refl;
+  memory = ap (λ s. s.memory) shown.screen;
+  right = shown.updated.plan;
+  quiet = λ other. absurd (untrue (sym other));
   sent = shown.updated.sent;
   agrees = λ state next agrees run. subst (λ m. Agrees (abilities old.profile) m next) (sym (ap (λ s. s.memory) shown.screen)) (runs.follows old.profile is old.memory state next sent.begun agrees run);
   well = λ well. record { picture = ap (λ s. s.virtual.picture) shown.screen; plan = shown.updated.plan; nothing = ap (λ s. s.owed) shown.screen };
@@ -305,8 +327,12 @@ pub failed_made : MemoryLaws → (old new : ScreenState) (fault : UpdateFault) (
 failed_made laws old new update_faults.NoMemory before after failed = record {
   profile = ap (λ s. s.profile) failed.screen;
   keys = ap (λ s. s.keys) failed.screen;
+  opening = ap (λ s. s.opening) failed.screen;
+  closing = ap (λ s. s.closing) failed.screen;
   drawn = ap drawn_of failed.screen;
-  right = refl;
+  memory = ap (λ s. s.memory) failed.screen;
+  right = tt;
+  quiet = λ other. absurd (untrue (sym other));
   sent = subst (λ w. IsSent old.profile old.memory old.owed before w [] 0 new.owed) (sym failed.fault_told.1) (sends_nothing old.profile old.memory old.owed new.owed before failed.fault_told.0);
   agrees = agrees_on old.profile old.memory new.memory [] refl (still_same old.profile old.memory new.memory (ap (λ s. s.memory) failed.screen));
   well = λ well. absurd (untrue well);
@@ -317,8 +343,12 @@ failed_made laws old new update_faults.NoMemory before after failed = record {
 failed_made laws old new (update_faults.Write begun count kind) before after failed = record {
   profile = ap (λ s. s.profile) failed.screen;
   keys = ap (λ s. s.keys) failed.screen;
+  opening = ap (λ s. s.opening) failed.screen;
+  closing = ap (λ s. s.closing) failed.screen;
   drawn = ap drawn_of failed.screen;
-  right = refl;
+  memory = ap (λ s. s.memory) failed.screen;
+  right = failed.fault_told.begins;
+  quiet = λ other. absurd (untrue (sym other));
   sent = failed.fault_told.sent;
   agrees = forgets_all laws old new begun (ap (λ s. s.memory) failed.screen) failed.fault_told.sent;
   well = λ well. absurd (untrue well);
@@ -329,8 +359,12 @@ failed_made laws old new (update_faults.Write begun count kind) before after fai
 failed_made laws old new (update_faults.Flush begun count kind) before after failed = record {
   profile = ap (λ s. s.profile) failed.screen;
   keys = ap (λ s. s.keys) failed.screen;
+  opening = ap (λ s. s.opening) failed.screen;
+  closing = ap (λ s. s.closing) failed.screen;
   drawn = ap drawn_of failed.screen;
-  right = refl;
+  memory = ap (λ s. s.memory) failed.screen;
+  right = failed.fault_told.plan;
+  quiet = λ other. absurd (untrue (sym other));
   sent = failed.fault_told.sent;
   agrees = forgets_all laws old new begun (ap (λ s. s.memory) failed.screen) failed.fault_told.sent;
   well = λ well. absurd (untrue well);
@@ -343,24 +377,24 @@ failed_made laws old new (update_faults.Flush begun count kind) before after fai
 
 -- what a call on windows answers says nothing of an update
 quiet_made : (came : Result Win WinFault) → Quiet (answered (λ win. Made win) came)
-quiet_made (Ok win) = record { knows = λ before call e. first_of before (not (redraws call)) e; begun = refl; count = refl; well = refl; tells = refl; cut = refl; unfinished = refl }
-quiet_made (Err fault) = record { knows = λ before call e. e; begun = refl; count = refl; well = refl; tells = refl; cut = refl; unfinished = refl }
+quiet_made (Ok win) = record { knows = λ before call e. first_of before (not (redraws call)) e; begun = refl; count = refl; well = refl; cut = refl; unfinished = refl }
+quiet_made (Err fault) = record { knows = λ before call e. e; begun = refl; count = refl; well = refl; cut = refl; unfinished = refl }
 
 quiet_added : (came : Result AddedView WinFault) → Quiet (answered (λ all. Added all) came)
-quiet_added (Ok all) = record { knows = λ before call e. first_of before (not (redraws call)) e; begun = refl; count = refl; well = refl; tells = refl; cut = refl; unfinished = refl }
-quiet_added (Err fault) = record { knows = λ before call e. e; begun = refl; count = refl; well = refl; tells = refl; cut = refl; unfinished = refl }
+quiet_added (Ok all) = record { knows = λ before call e. first_of before (not (redraws call)) e; begun = refl; count = refl; well = refl; cut = refl; unfinished = refl }
+quiet_added (Err fault) = record { knows = λ before call e. e; begun = refl; count = refl; well = refl; cut = refl; unfinished = refl }
 
 quiet_seen : (came : Result CellView WinFault) → Quiet (answered (λ cell. Seen cell) came)
-quiet_seen (Ok cell) = record { knows = λ before call e. first_of before (not (redraws call)) e; begun = refl; count = refl; well = refl; tells = refl; cut = refl; unfinished = refl }
-quiet_seen (Err fault) = record { knows = λ before call e. e; begun = refl; count = refl; well = refl; tells = refl; cut = refl; unfinished = refl }
+quiet_seen (Ok cell) = record { knows = λ before call e. first_of before (not (redraws call)) e; begun = refl; count = refl; well = refl; cut = refl; unfinished = refl }
+quiet_seen (Err fault) = record { knows = λ before call e. e; begun = refl; count = refl; well = refl; cut = refl; unfinished = refl }
 
 quiet_pair : (came : Result (ℕ × ℕ) WinFault) → Quiet (answered (λ pair. Pair pair.0 pair.1) came)
-quiet_pair (Ok pair) = record { knows = λ before call e. first_of before (not (redraws call)) e; begun = refl; count = refl; well = refl; tells = refl; cut = refl; unfinished = refl }
-quiet_pair (Err fault) = record { knows = λ before call e. e; begun = refl; count = refl; well = refl; tells = refl; cut = refl; unfinished = refl }
+quiet_pair (Ok pair) = record { knows = λ before call e. first_of before (not (redraws call)) e; begun = refl; count = refl; well = refl; cut = refl; unfinished = refl }
+quiet_pair (Err fault) = record { knows = λ before call e. e; begun = refl; count = refl; well = refl; cut = refl; unfinished = refl }
 
 quiet_touched : (came : Result Bool WinFault) → Quiet (answered (λ touched. Touched touched) came)
-quiet_touched (Ok touched) = record { knows = λ before call e. first_of before (not (redraws call)) e; begun = refl; count = refl; well = refl; tells = refl; cut = refl; unfinished = refl }
-quiet_touched (Err fault) = record { knows = λ before call e. e; begun = refl; count = refl; well = refl; tells = refl; cut = refl; unfinished = refl }
+quiet_touched (Ok touched) = record { knows = λ before call e. first_of before (not (redraws call)) e; begun = refl; count = refl; well = refl; cut = refl; unfinished = refl }
+quiet_touched (Err fault) = record { knows = λ before call e. e; begun = refl; count = refl; well = refl; cut = refl; unfinished = refl }
 
 -- a call that is none of the screen's own
 pub record IsOther (call : Call) : Type 0 where
@@ -374,55 +408,56 @@ pub record IsOther (call : Call) : Type 0 where
 pub record IsOnWindows (drawn : Drawn) (call : Call) : Type 0 where
   pub called : screen_call drawn call ≡ windows_told drawn.virtual (window_call drawn.desk call)
   pub updates : is_update call ≡ false
+  pub marks : marked_by drawn.desk call ≡ None
   pub quiet : Quiet (window_call drawn.desk call).1
 
 pub is_on_windows : (drawn : Drawn) (call : Call) → IsOther call → IsOnWindows drawn call
-is_on_windows drawn (NewWindow a b c d) other = record { called = refl; updates = refl; quiet = quiet_made _ }
-is_on_windows drawn (NewPad a b) other = record { called = refl; updates = refl; quiet = quiet_made _ }
-is_on_windows drawn (Derive a b c d e) other = record { called = refl; updates = refl; quiet = quiet_made _ }
-is_on_windows drawn (Sub a b c d e) other = record { called = refl; updates = refl; quiet = quiet_made _ }
-is_on_windows drawn (SubPad a b c d e) other = record { called = refl; updates = refl; quiet = quiet_made _ }
-is_on_windows drawn (Copy a b c d e f g h i) other = record { called = refl; updates = refl; quiet = quiet_done _ }
-is_on_windows drawn (Overlay a b) other = record { called = refl; updates = refl; quiet = quiet_done _ }
-is_on_windows drawn (Overwrite a b) other = record { called = refl; updates = refl; quiet = quiet_done _ }
-is_on_windows drawn (Delete a) other = record { called = refl; updates = refl; quiet = quiet_done _ }
-is_on_windows drawn (MoveWindow a b c) other = record { called = refl; updates = refl; quiet = quiet_done _ }
-is_on_windows drawn (MoveDerived a b c) other = record { called = refl; updates = refl; quiet = quiet_done _ }
-is_on_windows drawn (TouchWindow a) other = record { called = refl; updates = refl; quiet = quiet_done _ }
-is_on_windows drawn (Untouch a) other = record { called = refl; updates = refl; quiet = quiet_done _ }
-is_on_windows drawn (TouchLines a b c d) other = record { called = refl; updates = refl; quiet = quiet_done _ }
-is_on_windows drawn (SyncUp a) other = record { called = refl; updates = refl; quiet = quiet_done _ }
-is_on_windows drawn (SyncDown a) other = record { called = refl; updates = refl; quiet = quiet_done _ }
-is_on_windows drawn (AddByte a b c) other = record { called = refl; updates = refl; quiet = quiet_added _ }
-is_on_windows drawn (AddText a b) other = record { called = refl; updates = refl; quiet = quiet_added _ }
-is_on_windows drawn (InsertByte a b c) other = record { called = refl; updates = refl; quiet = quiet_done _ }
-is_on_windows drawn (LineAcross a b c) other = record { called = refl; updates = refl; quiet = quiet_done _ }
-is_on_windows drawn (LineDown a b c) other = record { called = refl; updates = refl; quiet = quiet_done _ }
-is_on_windows drawn (Border a b) other = record { called = refl; updates = refl; quiet = quiet_done _ }
-is_on_windows drawn (ClearToEol a) other = record { called = refl; updates = refl; quiet = quiet_done _ }
-is_on_windows drawn (ClearToBottom a) other = record { called = refl; updates = refl; quiet = quiet_done _ }
-is_on_windows drawn (Erase a) other = record { called = refl; updates = refl; quiet = quiet_done _ }
-is_on_windows drawn (Clear a) other = record { called = refl; updates = refl; quiet = quiet_done _ }
-is_on_windows drawn (DeleteByte a) other = record { called = refl; updates = refl; quiet = quiet_done _ }
-is_on_windows drawn (InsertDeleteLines a b) other = record { called = refl; updates = refl; quiet = quiet_done _ }
-is_on_windows drawn (Scroll a b) other = record { called = refl; updates = refl; quiet = quiet_done _ }
-is_on_windows drawn (ChangeBackground a b) other = record { called = refl; updates = refl; quiet = quiet_done _ }
-is_on_windows drawn (MoveCursor a b c) other = record { called = refl; updates = refl; quiet = quiet_done _ }
-is_on_windows drawn (SetRegion a b c) other = record { called = refl; updates = refl; quiet = quiet_done _ }
-is_on_windows drawn (ScrollOk a b) other = record { called = refl; updates = refl; quiet = quiet_done _ }
-is_on_windows drawn (ClearOk a b) other = record { called = refl; updates = refl; quiet = quiet_done _ }
-is_on_windows drawn (LeaveOk a b) other = record { called = refl; updates = refl; quiet = quiet_done _ }
-is_on_windows drawn (AttrOn a b) other = record { called = refl; updates = refl; quiet = quiet_done _ }
-is_on_windows drawn (AttrOff a b) other = record { called = refl; updates = refl; quiet = quiet_done _ }
-is_on_windows drawn (AttrSet a b) other = record { called = refl; updates = refl; quiet = quiet_done _ }
-is_on_windows drawn (ColorSet a b) other = record { called = refl; updates = refl; quiet = quiet_done _ }
-is_on_windows drawn (SetBackground a b) other = record { called = refl; updates = refl; quiet = quiet_done _ }
-is_on_windows drawn (CellAt a b c) other = record { called = refl; updates = refl; quiet = quiet_seen _ }
-is_on_windows drawn (Cursor a) other = record { called = refl; updates = refl; quiet = quiet_pair _ }
-is_on_windows drawn (Size a) other = record { called = refl; updates = refl; quiet = quiet_pair _ }
-is_on_windows drawn (Origin a) other = record { called = refl; updates = refl; quiet = quiet_pair _ }
-is_on_windows drawn (LineTouched a b) other = record { called = refl; updates = refl; quiet = quiet_touched _ }
-is_on_windows drawn (WindowTouched a) other = record { called = refl; updates = refl; quiet = quiet_touched _ }
+is_on_windows drawn (NewWindow a b c d) other = record { called = refl; updates = refl; marks = refl; quiet = quiet_made _ }
+is_on_windows drawn (NewPad a b) other = record { called = refl; updates = refl; marks = refl; quiet = quiet_made _ }
+is_on_windows drawn (Derive a b c d e) other = record { called = refl; updates = refl; marks = refl; quiet = quiet_made _ }
+is_on_windows drawn (Sub a b c d e) other = record { called = refl; updates = refl; marks = refl; quiet = quiet_made _ }
+is_on_windows drawn (SubPad a b c d e) other = record { called = refl; updates = refl; marks = refl; quiet = quiet_made _ }
+is_on_windows drawn (Copy a b c d e f g h i) other = record { called = refl; updates = refl; marks = refl; quiet = quiet_done _ }
+is_on_windows drawn (Overlay a b) other = record { called = refl; updates = refl; marks = refl; quiet = quiet_done _ }
+is_on_windows drawn (Overwrite a b) other = record { called = refl; updates = refl; marks = refl; quiet = quiet_done _ }
+is_on_windows drawn (Delete a) other = record { called = refl; updates = refl; marks = refl; quiet = quiet_done _ }
+is_on_windows drawn (MoveWindow a b c) other = record { called = refl; updates = refl; marks = refl; quiet = quiet_done _ }
+is_on_windows drawn (MoveDerived a b c) other = record { called = refl; updates = refl; marks = refl; quiet = quiet_done _ }
+is_on_windows drawn (TouchWindow a) other = record { called = refl; updates = refl; marks = refl; quiet = quiet_done _ }
+is_on_windows drawn (Untouch a) other = record { called = refl; updates = refl; marks = refl; quiet = quiet_done _ }
+is_on_windows drawn (TouchLines a b c d) other = record { called = refl; updates = refl; marks = refl; quiet = quiet_done _ }
+is_on_windows drawn (SyncUp a) other = record { called = refl; updates = refl; marks = refl; quiet = quiet_done _ }
+is_on_windows drawn (SyncDown a) other = record { called = refl; updates = refl; marks = refl; quiet = quiet_done _ }
+is_on_windows drawn (AddByte a b c) other = record { called = refl; updates = refl; marks = refl; quiet = quiet_added _ }
+is_on_windows drawn (AddText a b) other = record { called = refl; updates = refl; marks = refl; quiet = quiet_added _ }
+is_on_windows drawn (InsertByte a b c) other = record { called = refl; updates = refl; marks = refl; quiet = quiet_done _ }
+is_on_windows drawn (LineAcross a b c) other = record { called = refl; updates = refl; marks = refl; quiet = quiet_done _ }
+is_on_windows drawn (LineDown a b c) other = record { called = refl; updates = refl; marks = refl; quiet = quiet_done _ }
+is_on_windows drawn (Border a b) other = record { called = refl; updates = refl; marks = refl; quiet = quiet_done _ }
+is_on_windows drawn (ClearToEol a) other = record { called = refl; updates = refl; marks = refl; quiet = quiet_done _ }
+is_on_windows drawn (ClearToBottom a) other = record { called = refl; updates = refl; marks = refl; quiet = quiet_done _ }
+is_on_windows drawn (Erase a) other = record { called = refl; updates = refl; marks = refl; quiet = quiet_done _ }
+is_on_windows drawn (Clear a) other = record { called = refl; updates = refl; marks = refl; quiet = quiet_done _ }
+is_on_windows drawn (DeleteByte a) other = record { called = refl; updates = refl; marks = refl; quiet = quiet_done _ }
+is_on_windows drawn (InsertDeleteLines a b) other = record { called = refl; updates = refl; marks = refl; quiet = quiet_done _ }
+is_on_windows drawn (Scroll a b) other = record { called = refl; updates = refl; marks = refl; quiet = quiet_done _ }
+is_on_windows drawn (ChangeBackground a b) other = record { called = refl; updates = refl; marks = refl; quiet = quiet_done _ }
+is_on_windows drawn (MoveCursor a b c) other = record { called = refl; updates = refl; marks = refl; quiet = quiet_done _ }
+is_on_windows drawn (SetRegion a b c) other = record { called = refl; updates = refl; marks = refl; quiet = quiet_done _ }
+is_on_windows drawn (ScrollOk a b) other = record { called = refl; updates = refl; marks = refl; quiet = quiet_done _ }
+is_on_windows drawn (ClearOk a b) other = record { called = refl; updates = refl; marks = refl; quiet = quiet_done _ }
+is_on_windows drawn (LeaveOk a b) other = record { called = refl; updates = refl; marks = refl; quiet = quiet_done _ }
+is_on_windows drawn (AttrOn a b) other = record { called = refl; updates = refl; marks = refl; quiet = quiet_done _ }
+is_on_windows drawn (AttrOff a b) other = record { called = refl; updates = refl; marks = refl; quiet = quiet_done _ }
+is_on_windows drawn (AttrSet a b) other = record { called = refl; updates = refl; marks = refl; quiet = quiet_done _ }
+is_on_windows drawn (ColorSet a b) other = record { called = refl; updates = refl; marks = refl; quiet = quiet_done _ }
+is_on_windows drawn (SetBackground a b) other = record { called = refl; updates = refl; marks = refl; quiet = quiet_done _ }
+is_on_windows drawn (CellAt a b c) other = record { called = refl; updates = refl; marks = refl; quiet = quiet_seen _ }
+is_on_windows drawn (Cursor a) other = record { called = refl; updates = refl; marks = refl; quiet = quiet_pair _ }
+is_on_windows drawn (Size a) other = record { called = refl; updates = refl; marks = refl; quiet = quiet_pair _ }
+is_on_windows drawn (Origin a) other = record { called = refl; updates = refl; marks = refl; quiet = quiet_pair _ }
+is_on_windows drawn (LineTouched a b) other = record { called = refl; updates = refl; marks = refl; quiet = quiet_touched _ }
+is_on_windows drawn (WindowTouched a) other = record { called = refl; updates = refl; marks = refl; quiet = quiet_touched _ }
 is_on_windows drawn (RedrawWindow a) other = absurd (other.not_redraw_window a refl)
 is_on_windows drawn (RedrawLines a b c) other = absurd (other.not_redraw_lines a b c refl)
 is_on_windows drawn (SetPair a b c) other = absurd (other.not_set_pair a b c refl)
@@ -433,8 +468,8 @@ is_on_windows drawn Doupdate other = absurd (other.not_doupdate refl)
 -- a call on windows
 pub windows_made : (old new : ScreenState) (call : Call) (answer : Answer) (w : WriterView) → IsOnWindows (drawn_of old) call → OnDeskOrRefused old new answer call → IsMade old new call answer w w
 windows_made old new call answer w is (inl made) =
-    made_so old new call answer w is.updates (subst Quiet (sym made.1) is.quiet) (ap (λ s. s.profile) made.0) (ap (λ s. s.keys) made.0) (ap (λ s. s.owed) made.0)
-    (still_same old.profile old.memory new.memory (ap (λ s. s.memory) made.0))
+    made_so old new call answer w is.updates (subst Quiet (sym made.1) is.quiet) (ap (λ s. s.profile) made.0) (ap (λ s. s.keys) made.0) (ap (λ s. s.opening) made.0) (ap (λ s. s.closing) made.0) (ap (λ s. s.owed) made.0)
+    (ap (λ s. s.memory) made.0 ∙ sym (memory_kept old.profile old.desk old.memory call answer is.updates is.marks)) (still_same old.profile old.memory new.memory (ap (λ s. s.memory) made.0))
     (λ before knew e. knows_on old new (ap (λ s. s.owed) made.0) (ap (λ s. s.memory) made.0) (knew ((subst Quiet (sym made.1) is.quiet).knows before call e)))
     (ap drawn_of made.0 ∙ sym (ap (λ c. c.0) is.called)) (made.1 ∙ sym (ap (λ c. c.1) is.called))
 windows_made old new call answer w is (inr refused) =
@@ -444,9 +479,13 @@ windows_made old new call answer w is (inr refused) =
     subst (λ a. IsMade old new call a w w) (sym refused.1) (record {
       profile = ap (λ s. s.profile) refused.0;
       keys = ap (λ s. s.keys) refused.0;
+      opening = ap (λ s. s.opening) refused.0;
+      closing = ap (λ s. s.closing) refused.0;
       drawn = ap drawn_of refused.0 ∙ sym (ap (λ b. if b then drawn_of old else (screen_call (drawn_of old) call).0) out)
           ∙ sym (ap (λ b. left_by b (drawn_of old) (screen_call (drawn_of old) call) (Refused win_faults.NoMemory)) is.updates);
-      right = subst (λ b. RightAnswer b call own (Refused win_faults.NoMemory)) (sym is.updates) (inr (refl, suits, refused.3));
+      memory = ap (λ s. s.memory) refused.0 ∙ sym (memory_kept old.profile old.desk old.memory call (Refused win_faults.NoMemory) is.updates is.marks);
+      right = subst (λ b. RightAnswer b old.profile old.memory (drawn_of old) call (Refused win_faults.NoMemory)) (sym is.updates) (inr (refl, suits, refused.3));
+      quiet = λ _. refl;
       sent = sends_nothing old.profile old.memory old.owed new.owed w (ap (λ s. s.owed) refused.0);
       agrees = agrees_on old.profile old.memory new.memory [] refl (still_same old.profile old.memory new.memory (ap (λ s. s.memory) refused.0));
       knows = λ before knew e. knows_on old new (ap (λ s. s.owed) refused.0) (ap (λ s. s.memory) refused.0) (knew e);

@@ -1,5 +1,5 @@
 -- A beginning of a plan is defined, and has only what the plan has.
-use Rattle.std.proofs.Common.{◌≡◌, ◌≢◌, ℕ, true, sym, ◌∙◌, ap, subst, arith, List, length, take, drop, Option, None, Some, refl}
+use Rattle.std.proofs.Common.{◌≡◌, ◌≢◌, ℕ, zero, suc, true, sym, ◌∙◌, ap, subst, arith, List, [], ◌∷◌, length, take, drop, Option, None, Some, refl}
 use Rattle.std.specs.List.{All}
 use Rattle.std.specs.Option.{option_and_then}
 use Rattle.std.proofs.lemmas.List.{take-append-drop, take_all}
@@ -14,7 +14,7 @@ use Rattle.scr_term.specs.Operations.Texts.{all_bytes, has}
 use Rattle.scr_plan.specs.Memories.{Agrees, MemoryView, all_followed, is_known}
 use Rattle.scr_plan.specs.Plans.{IsPlan}
 use Rattle.curses.specs.Cuts.{IsCut}
-use Rattle.curses.specs.Updates.{IsDefined, IsDefinedAnew, IsOfOneText, IsSent}
+use Rattle.curses.specs.Updates.{BeginsPlan, IsDefined, IsDefinedAnew, IsOfOneText, IsSent}
 use Rattle.curses.specs.Writers.{WriterView}
 use Rattle.curses.proofs.CutLaws.{cut_kept}
 
@@ -66,6 +66,19 @@ sent_part laws profile is memory virtual plan ops begun k owed rest old mid new 
       one = subst (λ t. IsOfOneText profile owed t rest) (sym taken) one;
       defined = λ state here. subst (IsDefined profile state) (sym part) (beginnings laws profile is memory virtual plan k whole state here);
     }
+
+-- a beginning is as long as it is
+as_long : {A : Type 0} → (k : ℕ) (xs : List A) → take k xs ≡ take (length (take k xs)) xs
+as_long zero xs = refl
+as_long (suc k) [] = refl
+as_long (suc k) (x ∷ xs) = ap (λ t. x ∷ t) (as_long k xs)
+
+-- the first operations of a plan that were begun
+pub begins_plan : (profile : ProfileView) (memory : MemoryView) (virtual : VirtualView) (plan ops begun : List Op) (k : ℕ) → IsPlan profile memory virtual plan → ops ≡ plan → begun ≡ take k ops
+    → BeginsPlan profile memory virtual begun
+begins_plan profile memory virtual plan ops begun k is same taken =
+    let part : begun ≡ take k plan = taken ∙ ap (take k) same in
+    record { plan = plan; is = is; begins = part ∙ as_long k plan ∙ sym (ap (λ b. take (length b) plan) part) }
 
 -- a plan that was begun whole
 pub planned_whole : (profile : ProfileView) (memory : MemoryView) (virtual : VirtualView) (plan ops begun : List Op) (k : ℕ) → IsPlan profile memory virtual plan → ops ≡ plan → begun ≡ take k ops → k ≡ length ops

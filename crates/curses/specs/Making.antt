@@ -1,9 +1,9 @@
 -- What one call does to a screen and its writer.
-use Rattle.std.specs.Prelude.{Bool, true, ◌≡◌, [], Some}
+use Rattle.std.specs.Prelude.{Bool, true, false, ◌≡◌, [], Some}
 use Rattle.curses.specs.declared.answers.Answer.{Answer}
 use Rattle.curses.specs.declared.calls.values.Call.{Call}
 use Rattle.curses.specs.ScreenStates.{ScreenState}
-use Rattle.curses.specs.Sessions.{Drawn, IsAnswer, after_call, begun_of, count_of, is_cut, is_unfinished, knows_after, tells_sent}
+use Rattle.curses.specs.Sessions.{Drawn, IsAnswer, after_call, begun_of, count_of, is_cut, is_unfinished, is_update, knows_after, memory_behind, tells_sent}
 use Rattle.scr_plan.specs.Memories.{Agrees, is_known}
 use Rattle.scr_plan.specs.Plans.{IsPlan}
 use Rattle.scr_term.specs.Operations.Profiles.{abilities}
@@ -31,9 +31,13 @@ pub record Knows (screen : ScreenState) : Type 0 where
 pub record IsMade (old new : ScreenState) (call : Call) (answer : Answer) (before after : WriterView) : Type 0 where
   pub profile : new.profile ≡ old.profile
   pub keys : new.keys ≡ old.keys
+  pub opening : new.opening ≡ old.opening
+  pub closing : new.closing ≡ old.closing
   pub drawn : drawn_of new ≡ after_call (drawn_of old) call answer
-  pub right : IsAnswer (drawn_of old) call answer
+  pub memory : new.memory ≡ memory_behind old.profile old.desk old.memory call answer
+  pub right : IsAnswer old.profile old.memory (drawn_of old) call answer
   pub sent : IsSent old.profile old.memory old.owed before after (begun_of answer) (count_of answer) new.owed
+  pub quiet : is_update call ≡ false → begun_of answer ≡ []
   -- a state that agreed with what was remembered, and in which the operations begun were made, agrees with what is remembered then
   pub agrees : (state next : TerminalState) → Agrees (abilities old.profile) old.memory state → runs old.profile state (begun_of answer) ≡ Some next
       → Agrees (abilities old.profile) new.memory next

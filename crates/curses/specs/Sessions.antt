@@ -1,6 +1,6 @@
 -- Sessions: lists of calls on one screen, and what is promised of them. X/Open Curses Issue 7; curs_refresh(3X).
-use Rattle.std.specs.Prelude.{ℕ, Bool, true, false, not, ◌&&◌, if◌then◌else◌, ◌≡◌, ◌+◌, ◌<◌, ◌≤◌, ◌⊎◌, List, [], ◌∷◌, ◌++◌, length, take, slice_index_or, Option, Some, Result}
-use Rattle.std.specs.List.{flat_map}
+use Rattle.std.specs.Prelude.{ℕ, Bool, true, false, not, ◌&&◌, ◌||◌, ◌==◌, leb, ltb, if◌then◌else◌, ◌≡◌, ◌+◌, ◌<◌, ◌≤◌, ◌⊎◌, List, [], ◌∷◌, ◌++◌, length, take, slice_index_or, Option, Some, None, is_some, Result, Ok, Err}
+use Rattle.std.specs.List.{flat_map, list_all}
 use Rattle.std.specs.Io.KnownBytes.{Appends}
 use Rattle.scr_cells.specs.PictureViews.{PictureView}
 use Rattle.scr_cells.specs.declared.sizes.Size.{Size}
@@ -19,17 +19,22 @@ use Rattle.scr_windows.specs.DeskViews.{DeskView, first_desk}
 use Rattle.scr_virtual.specs.VirtualViews.{VirtualView, blank_virtual, settled}
 use Rattle.scr_virtual.specs.Pairs.{set_pair_call}
 use Rattle.scr_virtual.specs.Taking.{take_pad_call, take_window_call}
-use Rattle.scr_plan.specs.Memories.{remembered}
+use Rattle.scr_windows.specs.Calls.Reading.{screen_rows_answer, size_answer}
+use Rattle.scr_plan.specs.Memories.{Agrees, IsDisturbance, MemoryView, all_followed, disturbed, is_known, remembered, unknown}
+use Rattle.scr_plan.specs.Plans.{IsPlan}
 use Rattle.scr_plan.specs.Repaints.{joined_of}
+use Rattle.scr_keys.specs.Tables.{too_long}
 use Rattle.curses.specs.declared.answers.Answer.{Answer}
 use Rattle.curses.specs.declared.answers.Answer.TheVariants.{Failed, Nothing, Refused, Sent}
 use Rattle.curses.specs.declared.calls.values.Call.{Call}
 use Rattle.curses.specs.declared.calls.values.Call.TheVariants.{Doupdate, Noutrefresh, PadNoutrefresh, RedrawLines, RedrawWindow, SetPair}
+use Rattle.curses.specs.declared.faults.UpdateFault.TheVariants as update_faults
 use Rattle.curses.specs.declared.faults.UpdateFault.TheVariants.{Flush, Write}
 use Rattle.curses.specs.declared.sessions.Report.{Report}
 use Rattle.curses.specs.Calls.{answered, is_refusal, takes_memory, window_call}
 use Rattle.curses.specs.Refreshing.{redraw_lines_call, redraw_window_call}
-use Rattle.curses.specs.Updates.{IsOfOneText}
+use Rattle.curses.specs.ScreenStates.{ScreenState}
+use Rattle.curses.specs.Updates.{BeginsPlan, IsOfOneText, memory_after}
 use Rattle.curses.specs.Writers.{WriterView, counted}
 
 -- ---- the fold of the calls
@@ -66,22 +71,28 @@ abbrev pub is_update : Call → Bool
 is_update Doupdate = true
 is_update call = false
 
-abbrev pub tells_update : Answer → Bool
-tells_update (Sent sent) = true
-tells_update (Failed fault) = true
-tells_update answer = false
-
 abbrev pub tells_sent : Answer → Bool
 tells_sent (Sent sent) = true
 tells_sent answer = false
 
--- An answer is right: that of the fold; or memory ran out in a call that takes some and that nothing else refuses.
-abbrev pub RightAnswer : Bool → Call → Answer → Answer → Type 0
-RightAnswer true call own answer = tells_update answer ≡ true
-RightAnswer false call own answer = (answer ≡ own) ⊎ ((answer ≡ Refused win_faults.NoMemory) × (is_refusal own ≡ false) × (takes_memory call ≡ true))
+-- an update is right: a plan was begun whole, or where a write failed, its first operations were; or memory ran out
+abbrev pub RightUpdate : ProfileView → MemoryView → VirtualView → Answer → Type 0
+RightUpdate profile memory virtual (Sent sent) = IsPlan profile memory virtual sent.begun
+RightUpdate profile memory virtual (Failed (Write begun sent kind)) = BeginsPlan profile memory virtual begun
+RightUpdate profile memory virtual (Failed (Flush begun sent kind)) = IsPlan profile memory virtual begun
+RightUpdate profile memory virtual (Failed update_faults.NoMemory) = Unit {0}
+RightUpdate profile memory virtual answer = ⊥
 
-abbrev pub IsAnswer : Drawn → Call → Answer → Type 0
-IsAnswer drawn call answer = RightAnswer (is_update call) call (screen_call drawn call).1 answer
+-- another answer is right: that of the fold; or memory ran out in a call that takes some and that nothing else refuses
+abbrev pub RightOther : Call → Answer → Answer → Type 0
+RightOther call own answer = (answer ≡ own) ⊎ ((answer ≡ Refused win_faults.NoMemory) × (is_refusal own ≡ false) × (takes_memory call ≡ true))
+
+abbrev pub RightAnswer : Bool → ProfileView → MemoryView → Drawn → Call → Answer → Type 0
+RightAnswer true profile memory drawn call answer = RightUpdate profile memory drawn.virtual answer
+RightAnswer false profile memory drawn call answer = RightOther call (screen_call drawn call).1 answer
+
+abbrev pub IsAnswer : ProfileView → MemoryView → Drawn → Call → Answer → Type 0
+IsAnswer profile memory drawn call answer = RightAnswer (is_update call) profile memory drawn call answer
 
 -- an update that ended well leaves nothing to be painted anew; one that ended early changes nothing
 abbrev pub after_update : Drawn → Answer → Drawn
@@ -105,6 +116,45 @@ abbrev pub after_calls : Drawn → List Call → List Answer → Drawn
 after_calls drawn [] answers = drawn
 after_calls drawn (call ∷ calls) [] = drawn
 after_calls drawn (call ∷ calls) (answer ∷ answers) = after_calls (after_call drawn call answer) calls answers
+
+-- ---- what is remembered of the terminal
+
+-- after an update that ended well, its operations were followed; after a failed write or flush, nothing is known
+abbrev pub memory_updated : ProfileView → MemoryView → Answer → MemoryView
+memory_updated profile memory (Sent sent) = all_followed profile sent.begun memory
+memory_updated profile memory (Failed fault) = memory_after fault memory
+memory_updated profile memory answer = memory
+
+-- the rows that a mark names, where it is not refused
+abbrev pub rows_told : Result (ℕ × ℕ) WinFault → Option (ℕ × ℕ)
+rows_told (Err fault) = None
+rows_told (Ok rows) = Some rows
+
+abbrev pub window_told : DeskView → ℕ → Result (ℕ × ℕ) WinFault → Option (ℕ × ℕ)
+window_told desk win (Err fault) = None
+window_told desk win (Ok size) = rows_told (screen_rows_answer desk win 0 size.0)
+
+abbrev pub marked_by : DeskView → Call → Option (ℕ × ℕ)
+marked_by desk (RedrawWindow win) = window_told desk win.0 (size_answer desk win.0)
+marked_by desk (RedrawLines win first n) = rows_told (screen_rows_answer desk win.0 first n)
+marked_by desk call = None
+
+-- after a mark, what was remembered but for its rows, the spot and the pen
+abbrev pub memory_marked : MemoryView → Option (ℕ × ℕ) → MemoryView
+memory_marked memory None = memory
+memory_marked memory (Some rows) = disturbed rows.0 rows.1 memory
+
+-- after a call that was answered so
+abbrev pub memory_behind : ProfileView → DeskView → MemoryView → Call → Answer → MemoryView
+memory_behind profile desk memory call answer =
+    if is_update call then memory_updated profile memory answer else memory_marked memory (marked_by desk call)
+
+-- and after calls one after another
+abbrev pub remembered_behind : ProfileView → Drawn → MemoryView → List Call → List Answer → MemoryView
+remembered_behind profile drawn memory [] answers = memory
+remembered_behind profile drawn memory (call ∷ calls) [] = memory
+remembered_behind profile drawn memory (call ∷ calls) (answer ∷ answers) =
+    remembered_behind profile (after_call drawn call answer) (memory_behind profile drawn.desk memory call answer) calls answers
 
 -- ---- what was begun and taken
 
@@ -147,22 +197,23 @@ counted_in kind (answer ∷ answers) count = counted_in kind answers (counted (k
 -- ---- the promise
 
 -- The terminal shows a picture: nothing is owed, its cells, attributes, colours and cursor are those of the picture, as far as it
--- can show them, and on the bundled ECMA-48 entry the bytes that were taken lead there.
-pub record IsShowing (profile : ProfileView) (opened now : TerminalState) (owed taken : List ℕ) (picture : PictureView) : Type 0 where
+-- can show them, and on the bundled ECMA-48 entry the bytes that were taken lead there, where nothing was owed before them.
+pub record IsShowing (profile : ProfileView) (opened now : TerminalState) (before owed taken : List ℕ) (picture : PictureView) : Type 0 where
   pub nothing : owed ≡ []
   pub shows : Shows (abilities profile) now picture
-  pub leads : IsEcma48 profile → Leads profile.rows profile.columns (negative_state opened) taken (negative_state now)
+  pub leads : before ≡ [] → IsEcma48 profile → Leads profile.rows profile.columns (negative_state opened) taken (negative_state now)
 
--- Right after a call, for a terminal that was in state `opened` when the screen was opened: the operations begun so far are all
--- defined and lead to the state `now`; the bytes taken so far, and then those that are owed, are their texts, and what is owed is the rest
--- of one text, that of the last of them; and where the call is an update that ended well, the terminal shows the picture.
-pub record Moment (profile : ProfileView) (opened : TerminalState) (picture : PictureView) (begun : List Op) (taken : List ℕ) (well : Bool) : Type 0 where
+-- Right after a call, for a terminal that was in state `opened` at the beginning, or where the bytes `before` were owed then, behind these: the operations begun
+-- so far are all defined and lead to the state `now`; the bytes taken so far, and then those that are owed, are what was owed before and then
+-- their texts, and what is owed is the rest of one text, that of the last of them; and where the call is an update that ended well, the
+-- terminal shows the picture.
+pub record Moment (profile : ProfileView) (opened : TerminalState) (before : List ℕ) (picture : PictureView) (begun : List Op) (taken : List ℕ) (well : Bool) : Type 0 where
   pub now : TerminalState
   pub run : runs profile opened begun ≡ Some now
   pub owed : List ℕ
-  pub bytes : taken ++ owed ≡ all_bytes profile begun
-  pub one : IsOfOneText profile [] begun owed
-  pub showing : well ≡ true → IsShowing profile opened now owed taken picture
+  pub bytes : taken ++ owed ≡ before ++ all_bytes profile begun
+  pub one : IsOfOneText profile before begun owed
+  pub showing : well ≡ true → IsShowing profile opened now before owed taken picture
 
 -- ---- economy
 
@@ -172,8 +223,8 @@ redraws (RedrawWindow win) = true
 redraws (RedrawLines win first n) = true
 redraws call = false
 
--- whether an update ended well, after which no write or flush failed and no row was marked that others wrote: what the terminal
--- shows is known then
+-- whether all was known at the beginning, or an update ended well, and since then no write or flush failed and no row was marked that
+-- others wrote: what the terminal shows is known then
 abbrev pub knows_after : Bool → Call → Answer → Bool
 knows_after before call (Sent sent) = true
 knows_after before call (Failed (Write begun sent kind)) = false
@@ -190,23 +241,61 @@ knows_behind before (call ∷ calls) (answer ∷ answers) = knows_behind (knows_
 abbrev pub IsCheap : ProfileView → TerminalState → PictureView → Answer → Type 0
 IsCheap profile now picture answer = count_of answer ≤ length (all_bytes profile (joined_of profile (remembered profile.rows profile.columns now) picture))
 
--- windows and virtual screen after the first n calls
-abbrev pub drawn_at : ProfileView → List Call → List Answer → ℕ → Drawn
-drawn_at profile calls answers n = after_calls (first_drawn profile.rows profile.columns) (take n calls) (take n answers)
+-- ---- a session
 
--- A session: each answer is right; and right after each call, whatever state of the profile the terminal was in at first, what is
--- begun, taken, owed and shown is as it has to be. `taken` is all that the writer took.
-pub record IsSession (profile : ProfileView) (calls : List Call) (answers : List Answer) (taken : List ℕ) : Type 0 where
-  pub answered_all : length answers ≡ length calls
-  pub counted_all : count_in answers ≡ length taken
-  pub right : (i : ℕ) → i < length calls → IsAnswer (drawn_at profile calls answers i) (slice_index_or calls i Doupdate) (slice_index_or answers i Nothing)
-  pub moments : (i : ℕ) → i < length calls → (opened : TerminalState) → IsState (abilities profile) opened
-      → Moment profile opened (drawn_at profile calls answers (i + 1)).virtual.picture (begun_in (take (i + 1) answers)) (take (count_in (take (i + 1) answers)) taken)
+-- what a session begins with: the windows and the virtual screen, what is remembered of the terminal, and the bytes that are owed
+pub record Beginning : Type 0 where
+  pub drawn : Drawn
+  pub memory : MemoryView
+  pub owed : List ℕ
+
+-- that of a screen that was just opened
+abbrev pub fresh_beginning : ProfileView → Beginning
+fresh_beginning profile = record {
+  drawn = first_drawn profile.rows profile.columns;
+  memory = unknown profile.rows profile.columns;
+  owed = [];
+}
+
+abbrev pub beginning_of : ScreenState → Beginning
+beginning_of screen = record { drawn = record { desk = screen.desk; virtual = screen.virtual }; memory = screen.memory; owed = screen.owed }
+
+-- all that the terminal shows is known, and nothing is owed
+abbrev pub knows_all : Beginning → Bool
+knows_all first = is_known first.memory && length first.owed == 0
+
+-- windows and virtual screen, and what is remembered, after the first n calls
+abbrev pub drawn_at : Beginning → List Call → List Answer → ℕ → Drawn
+drawn_at first calls answers n = after_calls first.drawn (take n calls) (take n answers)
+
+abbrev pub remembered_at : ProfileView → Beginning → List Call → List Answer → ℕ → MemoryView
+remembered_at profile first calls answers n = remembered_behind profile first.drawn first.memory (take n calls) (take n answers)
+
+-- The terminal may have been in this state when n calls had been made, none of them an update: it is as it was remembered then. Where these calls
+-- marked rows, those may look otherwise, and spot and pen may be others, since others may have written there.
+pub record MayBegin (profile : ProfileView) (first : Beginning) (calls : List Call) (answers : List Answer) (n : ℕ) (opened : TerminalState) : Type 0 where
+  pub quiet : list_all (λ call. not (is_update call)) (take n calls) ≡ true
+  pub agrees : Agrees (abilities profile) (remembered_at profile first calls answers n) opened
+
+-- What holds from the call behind the first n on, for a terminal that was in a state then.
+pub record HoldsFrom (profile : ProfileView) (first : Beginning) (calls : List Call) (answers : List Answer) (taken : List ℕ) (n : ℕ) (opened : TerminalState) : Type 0 where
+  -- right after each call, what is begun, taken, owed and shown is as it has to be
+  pub moments : (i : ℕ) → n ≤ i → i < length answers
+      → Moment profile opened first.owed (drawn_at first calls answers (i + 1)).virtual.picture (begun_in (take (i + 1) answers)) (take (count_in (take (i + 1) answers)) taken)
       (tells_sent (slice_index_or answers i Nothing))
   -- where what the terminal shows is known, an update that ends well sends no more than the joined repaint of what differs
-  pub cheap : (i : ℕ) → i < length calls → knows_behind false (take i calls) (take i answers) ≡ true → (drawn_at profile calls answers i).virtual.repaint ≡ false
-      → tells_sent (slice_index_or answers i Nothing) ≡ true → (opened now : TerminalState) → IsState (abilities profile) opened → runs profile opened (begun_in (take i answers)) ≡ Some now
-      → IsCheap profile now (drawn_at profile calls answers i).virtual.picture (slice_index_or answers i Nothing)
+  pub cheap : (i : ℕ) → n ≤ i → i < length answers → knows_behind (knows_all first) (take i calls) (take i answers) ≡ true → (drawn_at first calls answers i).virtual.repaint ≡ false
+      → tells_sent (slice_index_or answers i Nothing) ≡ true → (now : TerminalState) → runs profile opened (begun_in (take i answers)) ≡ Some now
+      → IsCheap profile now (drawn_at first calls answers i).virtual.picture (slice_index_or answers i Nothing)
+
+-- A session: each answer is right; and whatever state the terminal may have been in at the beginning, or after the first calls where these
+-- are no updates, all holds from there on. `taken` is all that the writer took.
+pub record IsSession (profile : ProfileView) (first : Beginning) (calls : List Call) (answers : List Answer) (taken : List ℕ) : Type 0 where
+  pub answered_all : length answers ≡ length calls
+  pub counted_all : count_in answers ≡ length taken
+  pub right : (i : ℕ) → i < length answers
+      → IsAnswer profile (remembered_at profile first calls answers i) (drawn_at first calls answers i) (slice_index_or calls i Doupdate) (slice_index_or answers i Nothing)
+  pub holds : (n : ℕ) (opened : TerminalState) → n ≤ length answers → MayBegin profile first calls answers n opened → HoldsFrom profile first calls answers taken n opened
 
 -- whether there was an update, and the last one ended well
 abbrev pub ended_well : Bool → Answer → Bool
@@ -218,14 +307,68 @@ abbrev pub last_ok_behind : Bool → List Answer → Bool
 last_ok_behind before [] = before
 last_ok_behind before (answer ∷ answers) = last_ok_behind (ended_well before answer) answers
 
--- a report of a session on the terminal of an entry, where the writer told this before and after; updates were cut or unfinished as
--- often as it failed
+-- Calls were made on a screen, and these answers given; the writer told this before and after. Updates were cut or unfinished as often as
+-- it failed. Behind them the screen holds what the calls make of it, and each state that the terminal may have been in has led to one that is
+-- as it is remembered.
+pub record AreMade (old new : ScreenState) (calls : List Call) (before after : WriterView) (report : Report) : Type 0 where
+  pub taken : List ℕ
+  pub writer : Appends before.taken after.taken taken
+  pub session : IsSession old.profile (beginning_of old) calls report.answers taken
+  pub last : report.last_ok ≡ last_ok_behind false report.answers
+  pub puts : after.failed_puts ≡ counted_in is_cut report.answers before.failed_puts
+  pub finishes : after.failed_finishes ≡ counted_in is_unfinished report.answers before.failed_finishes
+  pub profile : new.profile ≡ old.profile
+  pub keys : new.keys ≡ old.keys
+  pub opening : new.opening ≡ old.opening
+  pub closing : new.closing ≡ old.closing
+  pub drawn : (beginning_of new).drawn ≡ drawn_at (beginning_of old) calls report.answers (length report.answers)
+  pub memory : new.memory ≡ remembered_at old.profile (beginning_of old) calls report.answers (length report.answers)
+  pub bytes : taken ++ new.owed ≡ old.owed ++ all_bytes old.profile (begun_in report.answers)
+  pub agrees : (n : ℕ) (opened now : TerminalState) → n ≤ length report.answers → MayBegin old.profile (beginning_of old) calls report.answers n opened → runs old.profile opened (begun_in report.answers) ≡ Some now
+      → Agrees (abilities old.profile) new.memory now
+
+-- a report of a session on the terminal of an entry that a screen can be opened on, where the writer told this before and after
 pub record IsReport (entry : Description) (size : Option Size) (calls : List Call) (old new : WriterView) (report : Report) : Type 0 where
   pub profile : ProfileView
   pub admitted : IsAdmitted entry size profile
+  pub keys : too_long entry ≡ None
   pub taken : List ℕ
   pub writer : Appends old.taken new.taken taken
-  pub session : IsSession profile calls report.answers taken
+  pub session : IsSession profile (fresh_beginning profile) calls report.answers taken
+  -- whatever state of the profile the terminal was in when the screen was opened
+  pub any : (opened : TerminalState) → IsState (abilities profile) opened → HoldsFrom profile (fresh_beginning profile) calls report.answers taken 0 opened
   pub last : report.last_ok ≡ last_ok_behind false report.answers
   pub puts : new.failed_puts ≡ counted_in is_cut report.answers old.failed_puts
   pub finishes : new.failed_finishes ≡ counted_in is_unfinished report.answers old.failed_finishes
+
+-- ---- rows that others wrote on
+
+-- the row is one of these
+abbrev pub is_row_of : Option (ℕ × ℕ) → ℕ → Bool
+is_row_of None r = false
+is_row_of (Some rows) r = leb rows.0 r && ltb r (rows.0 + rows.1)
+
+-- a mark is among calls, and a row is among those that they mark
+abbrev pub has_mark : Drawn → List Call → List Answer → Bool
+has_mark drawn [] answers = false
+has_mark drawn (call ∷ calls) [] = false
+has_mark drawn (call ∷ calls) (answer ∷ answers) = is_some (marked_by drawn.desk call) || has_mark (after_call drawn call answer) calls answers
+
+abbrev pub is_marked : Drawn → List Call → List Answer → ℕ → Bool
+is_marked drawn [] answers r = false
+is_marked drawn (call ∷ calls) [] r = false
+is_marked drawn (call ∷ calls) (answer ∷ answers) r = is_row_of (marked_by drawn.desk call) r || is_marked (after_call drawn call answer) calls answers r
+
+-- the first n calls are no updates, and mark each of these rows; one of them is a mark, by which the spot and the pen are forgotten too
+pub record MarksAll (rows : ℕ → Bool) (first : Beginning) (calls : List Call) (answers : List Answer) (n : ℕ) : Type 0 where
+  pub quiet : list_all (λ call. not (is_update call)) (take n calls) ≡ true
+  pub some : has_mark first.drawn (take n calls) (take n answers) ≡ true
+  pub each : (r : ℕ) → rows r ≡ true → is_marked first.drawn (take n calls) (take n answers) r ≡ true
+
+-- Where others changed rows of the terminal at the beginning of a session, and each of them is marked before any update, all holds again
+-- from there on: right after the next update that ends well the terminal shows the picture, and so on, with its bytes and its economy.
+abbrev pub DisturbedRowsHoldAgain : Type 0
+DisturbedRowsHoldAgain =
+    (profile : ProfileView) (first : Beginning) (calls : List Call) (answers : List Answer) (taken : List ℕ) → IsSession profile first calls answers taken
+    → (before changed : TerminalState) (rows : ℕ → Bool) → Agrees (abilities profile) first.memory before → IsDisturbance (abilities profile) rows before changed
+    → (n : ℕ) → n ≤ length answers → MarksAll rows first calls answers n → HoldsFrom profile first calls answers taken n changed

@@ -1,6 +1,6 @@
 -- An update: what it sends, what the terminal shows after it, and what a fault leaves. curs_refresh(3X), doupdate(); X/Open Curses
 -- Issue 7, the same.
-use Rattle.std.specs.Prelude.{ℕ, ◌≡◌, ◌≢◌, ◌≤◌, true, List, [], ◌∷◌, length, Some}
+use Rattle.std.specs.Prelude.{ℕ, ◌≡◌, ◌≢◌, ◌≤◌, true, List, [], ◌∷◌, length, take, Some}
 use Rattle.scr_term.specs.declared.operations.operation.Op.{Op}
 use Rattle.scr_term.specs.Operations.Profiles.{ProfileView, abilities}
 use Rattle.scr_term.specs.Operations.States.{TerminalState, IsState}
@@ -47,25 +47,34 @@ pub record IsUpdated (profile : ProfileView) (memory : MemoryView) (virtual : Vi
   pub puts : new.failed_puts ≡ old.failed_puts
   pub finishes : new.failed_finishes ≡ old.failed_finishes
 
--- one whose write failed: that of the last operation begun, or of what was owed; the rest of that text is owed
-pub record IsCutShort (profile : ProfileView) (memory : MemoryView) (owed : List ℕ) (old new : WriterView) (begun : List Op) (count : ℕ) (rest : List ℕ) : Type 0 where
+-- the first operations of a plan
+pub record BeginsPlan (profile : ProfileView) (memory : MemoryView) (virtual : VirtualView) (begun : List Op) : Type 0 where
+  pub plan : List Op
+  pub is : IsPlan profile memory virtual plan
+  pub begins : begun ≡ take (length begun) plan
+
+-- One whose write failed: the first operations of a plan were begun, and the write that failed was that of the last of them, or of what
+-- was owed where there is none; the rest of that text is owed.
+pub record IsCutShort (profile : ProfileView) (memory : MemoryView) (virtual : VirtualView) (owed : List ℕ) (old new : WriterView) (begun : List Op) (count : ℕ) (rest : List ℕ) : Type 0 where
   pub sent : IsSent profile memory owed old new begun count rest
+  pub begins : BeginsPlan profile memory virtual begun
   pub something : rest ≢ []
   pub puts : new.failed_puts ≡ counted true old.failed_puts
   pub finishes : new.failed_finishes ≡ old.failed_finishes
 
--- one of which the texts of all operations begun were taken, and whose flush failed
-pub record IsUnfinished (profile : ProfileView) (memory : MemoryView) (owed : List ℕ) (old new : WriterView) (begun : List Op) (count : ℕ) (rest : List ℕ) : Type 0 where
+-- one of which the texts of all operations of a plan were taken, and whose flush failed
+pub record IsUnfinished (profile : ProfileView) (memory : MemoryView) (virtual : VirtualView) (owed : List ℕ) (old new : WriterView) (begun : List Op) (count : ℕ) (rest : List ℕ) : Type 0 where
   pub sent : IsSent profile memory owed old new begun count rest
+  pub plan : IsPlan profile memory virtual begun
   pub nothing : rest ≡ []
   pub puts : new.failed_puts ≡ old.failed_puts
   pub finishes : new.failed_finishes ≡ counted true old.failed_finishes
 
 -- what a fault says of what was sent
-abbrev pub AfterFault : ProfileView → MemoryView → List ℕ → WriterView → WriterView → UpdateFault → List ℕ → Type 0
-AfterFault profile memory owed old new NoMemory rest = (rest ≡ owed) × (new ≡ old)
-AfterFault profile memory owed old new (Write begun sent kind) rest = IsCutShort profile memory owed old new begun sent rest
-AfterFault profile memory owed old new (Flush begun sent kind) rest = IsUnfinished profile memory owed old new begun sent rest
+abbrev pub AfterFault : ProfileView → MemoryView → VirtualView → List ℕ → WriterView → WriterView → UpdateFault → List ℕ → Type 0
+AfterFault profile memory virtual owed old new NoMemory rest = (rest ≡ owed) × (new ≡ old)
+AfterFault profile memory virtual owed old new (Write begun sent kind) rest = IsCutShort profile memory virtual owed old new begun sent rest
+AfterFault profile memory virtual owed old new (Flush begun sent kind) rest = IsUnfinished profile memory virtual owed old new begun sent rest
 
 -- the operations that were begun before a fault
 abbrev pub begun_before : UpdateFault → List Op
@@ -93,5 +102,5 @@ pub record IsShown (old new : ScreenState) (before after : WriterView) (sent : S
 
 -- one that ended early: windows, virtual screen and wishes stay
 pub record IsFailed (old new : ScreenState) (before after : WriterView) (fault : UpdateFault) : Type 0 where
-  pub fault_told : AfterFault old.profile old.memory old.owed before after fault new.owed
+  pub fault_told : AfterFault old.profile old.memory old.virtual old.owed before after fault new.owed
   pub screen : new ≡ record old { memory = memory_after fault old.memory; owed = new.owed }

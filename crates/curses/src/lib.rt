@@ -21,7 +21,7 @@ pub use calls::Call;
 pub use faults::{OpenFault, SendFault, Sent, UpdateFault};
 pub use faulty::{Failure, Faulty};
 pub use screens::Screen;
-pub use sessions::{Answers, Report, session};
+pub use sessions::{Answers, Report, disturbed_rows_hold_again, session};
 pub use starting::closing_laws;
 pub use texts::{closing_text, opening_text};
 pub use writers::{Counted, Device};

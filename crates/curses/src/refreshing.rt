@@ -85,8 +85,8 @@ impl Screen {
         self.redraw_lines(win, 0, lines)
     }
 
-    /// Says that others wrote on the rows of the screen where n lines of a window are, from one on. With n 0 no row is meant.
-    /// No cell, no touched line and no wish changes.
+    /// Says that others wrote on the rows of the screen where n lines of a window are, from one on. With n 0 no row is meant,
+    /// but where the cursor is and what is written with count as unknown then too. No cell, no touched line and no wish changes.
     ///
     /// Refused: NoWindow; IsPad; OutOfWindow where the window has fewer than `first + n` lines. X/Open Curses Issue 7,
     /// wredrawln().

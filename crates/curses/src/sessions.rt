@@ -1,10 +1,10 @@
-//! Sessions: a list of calls on one screen, from its opening on. The definitions are in `specs/Sessions.antt`.
-ghost use Rattle.std.specs.Prelude.{◌≡◌, IfErr, IfOk, OnErr, true};
+//! Sessions: calls on one screen, one after another. The definitions are in `specs/Sessions.antt`.
+ghost use Rattle.std.specs.Prelude.{◌≡◌, IfErr, IfOk, OnErr};
 ghost use Rattle.curses.specs.declared.calls.values.Call.TheVariants.{Doupdate};
-ghost use Rattle.curses.specs.Code.Progress.{AreMade, IsFresh};
+ghost use Rattle.curses.specs.Code.Progress.{AreMadeAfresh, IsFresh};
 ghost use Rattle.curses.specs.Making.{IsMade};
 ghost use Rattle.curses.specs.Opening.{IsUnopened};
-ghost use Rattle.curses.specs.Sessions.{IsReport, ended_well, tells_update};
+ghost use Rattle.curses.specs.Sessions.{AreMade, DisturbedRowsHoldAgain, IsReport, ended_well};
 
 use crate::answers::{Answer, done_answer};
 use crate::calls::Call;
@@ -43,12 +43,13 @@ pub struct Report {
 /// Opens a screen on the terminal of an entry and makes calls one after another, whatever they answer. The room for all
 /// answers is got at opening.
 ///
-/// Each answer is that of the call, as `specs/Sessions.antt` defines it. Right after each update that ended well, whatever
-/// writes failed before it and whatever the terminal showed at opening, the terminal shows the virtual screen, with its cursor
-/// where it is wished, and nothing is owed; on the bundled ECMA-48 entry the bytes that were taken lead there. After every call
-/// the bytes taken so far, and then those that are owed, are the texts of all operations begun. curs_refresh(3X).
+/// Each answer is that of the call, as `specs/Sessions.antt` defines it; what an update began is a plan, or after a failed write the
+/// first operations of one. Right after each update that ended well, whatever writes failed before it and whatever state of its
+/// profile the terminal was in at opening, the terminal shows the virtual screen, with its cursor where it is wished, and nothing is owed; on the bundled
+/// ECMA-48 entry the bytes that were taken lead there. After every call the bytes taken so far, and then those that are owed, are the
+/// texts of all operations begun. curs_refresh(3X).
 ///
-/// Refused as `Screen::open` is; nothing is written then.
+/// Refused exactly where `Screen::open` is, memory aside, for its reasons; nothing is written then.
 pub fn session<W: Counted>(
     alloc: Global,
     entry: &Entry,
@@ -73,7 +74,7 @@ fn made_on<W: Counted>(
     out: &mut W,
 ) -> Result<Report, OpenFault>
     requires { IsFresh screen }
-    ensures ok { IfOk result (AreMade screen.profile calls.now (W.told out.old) (W.told out.new)) }
+    ensures ok { IfOk result (AreMadeAfresh screen.profile calls.now (W.told out.old) (W.told out.new)) }
     ensures err { IfErr result (λ fault. fault ≡ OpenFault.NoMemory) }
     ensures untouched { OnErr result (out.new ≡ out.old) }
 {
@@ -101,35 +102,23 @@ impl Screen {
             _ => self.make_window_call(alloc, call),
         }
     }
-}
 
-impl Screen {
-    // Makes calls as `make_all` does; want of memory is the fault that an opening has for it.
-    fn report<W: Counted>(
-        &mut self,
-        alloc: Global,
-        calls: &[Call],
-        out: &mut W,
-    ) -> Result<Report, OpenFault>
-        requires { IsFresh self.old }
-        ensures ok { IfOk result (AreMade self.old.profile calls.now (W.told out.old) (W.told out.new)) }
-        ensures err { IfErr result (λ fault. fault ≡ OpenFault.NoMemory) }
-        ensures untouched { OnErr result (out.new ≡ out.old) }
-    {
-        let report = self.make_all(alloc, calls, out)?;
-        Ok(report)
-    }
-
-    // Makes calls one after another on a screen that was just opened. Fails only when memory runs out for the answers, before
-    // the first call.
-    fn make_all<W: Counted>(
+    /// Makes calls one after another on this screen, whatever they answer. The room for all answers is got before the first call.
+    ///
+    /// What `session` says of a screen that was just opened holds of any: from every state of the terminal that agrees with what is
+    /// remembered of it, and where nothing was owed at the beginning, also through the bytes. So calls may be made in parts, and where
+    /// others wrote on the terminal in between, the rows that they changed are marked by `redraw_lines` or `redraw_window`
+    /// (`disturbed_rows_hold_again`). curs_refresh(3X).
+    ///
+    /// NoMemory where there is no room for the answers: no call is made then.
+    pub fn make_all<W: Counted>(
         &mut self,
         alloc: Global,
         calls: &[Call],
         out: &mut W,
     ) -> Result<Report, NoMemory>
-        requires { IsFresh self.old }
-        ensures ok { IfOk result (AreMade self.old.profile calls.now (W.told out.old) (W.told out.new)) }
+        ensures ok { IfOk result (AreMade self.old self.new calls.now (W.told out.old) (W.told out.new)) }
+        ensures same { OnErr result (self.new ≡ self.old) }
         ensures untouched { OnErr result (out.new ≡ out.old) }
     {
         run_laws();
@@ -149,6 +138,26 @@ impl Screen {
             last_ok,
         })
     }
+}
+
+impl Screen {
+    // Makes calls as `make_all` does; want of memory is the fault that an opening has for it.
+    fn report<W: Counted>(
+        &mut self,
+        alloc: Global,
+        calls: &[Call],
+        out: &mut W,
+    ) -> Result<Report, OpenFault>
+        requires { IsFresh self.old }
+        ensures ok { IfOk result (AreMadeAfresh self.old.profile calls.now (W.told out.old) (W.told out.new)) }
+        ensures err { IfErr result (λ fault. fault ≡ OpenFault.NoMemory) }
+        ensures untouched { OnErr result (out.new ≡ out.old) }
+    {
+        memory_runs();
+        let _profile = self.profile.size();
+        let report = self.make_all(alloc, calls, out)?;
+        Ok(report)
+    }
 
     // Makes an update.
     fn make_update<W: Counted>(&mut self, alloc: Global, out: &mut W) -> Answer
@@ -162,6 +171,16 @@ impl Screen {
             Err(fault) => Answer::Failed(fault),
         }
     }
+}
+
+/// Where others changed rows of the terminal before the calls of a session (`Screen::make_all`), while nothing was owed, and left a state of
+/// its profile, and these calls mark each of the rows before any update, all that a session promises holds again from there on: the next
+/// update that ends well shows the picture, with its bytes, and the one after it is bounded by the joined repaint again. One mark there has
+/// to be, of no line too, where only the cursor or the rendition changed. X/Open Curses Issue 7, redrawwin(), wredrawln().
+pub fn disturbed_rows_hold_again()
+    ensures { DisturbedRowsHoldAgain }
+{
+    memory_laws();
 }
 
 // Whether the last update so far ended well, with one answer more.

@@ -27,12 +27,13 @@ use std::io::ErrorKind;
 impl Screen {
     /// Brings the terminal to the virtual screen: sends what is owed of an earlier call, then the operations that lead from what is
     /// known of the terminal to the picture, and flushes the writer if it took something. Nothing is sent where nothing differs
-    /// and the cursor is as wished; the whole screen is painted where not all is known or this is wished. After Ok the terminal
-    /// shows the picture with its cursor where it is wished, all that it shows is known, nothing is owed, and no repaint is wished.
+    /// and the cursor is as wished; rows that are not known are erased and painted, or the whole screen where that is shorter or
+    /// wished. After Ok the terminal shows the picture with its cursor where it is wished, all that it shows is known, nothing is owed,
+    /// and no repaint is wished.
     ///
     /// The operations are made before the first byte is sent, and no memory is taken after that. Ended early: NoMemory,
-    /// where nothing is sent and all stays; Write, where what was not taken of the text that was cut is owed; Flush. Windows,
-    /// virtual screen and wishes stay then, and the next update paints all. curs_refresh(3X) and X/Open Curses Issue 7, doupdate().
+    /// where nothing is sent and all stays; Write, where the first operations of the plan were begun, up to that whose text was cut,
+    /// and what was not taken of it is owed; Flush. Windows, virtual screen and wishes stay then, and the next update paints all. curs_refresh(3X) and X/Open Curses Issue 7, doupdate().
     pub fn doupdate<W: Counted>(&mut self, alloc: Global, out: &mut W) -> Result<Sent, UpdateFault>
         ensures ok { IfOk result (IsShown self.old self.new (W.told out.old) (W.told out.new)) }
         ensures err { IfErr result (IsFailed self.old self.new (W.told out.old) (W.told out.new)) }
@@ -100,7 +101,7 @@ pub(crate) fn update<W: Counted>(
     requires remembered { IsRemembered profile.now memory.now wanted.now }
     requires room { (op : Op) → length (bytes_of profile.now op) ≤ vec_capacity waiting.old }
     ensures ok { IfOk result (λ sent. IsUpdated profile.now memory.now wanted.now waiting.old.items (W.told out.old) (W.told out.new) sent.begun sent.bytes waiting.new.items) }
-    ensures err { IfErr result (λ fault. AfterFault profile.now memory.now waiting.old.items (W.told out.old) (W.told out.new) fault waiting.new.items) }
+    ensures err { IfErr result (λ fault. AfterFault profile.now memory.now wanted.now waiting.old.items (W.told out.old) (W.told out.new) fault waiting.new.items) }
     ensures anew { IfErr result (λ fault. IsDefinedAnew profile.now wanted.now (begun_before fault)) }
     ensures room { vec_capacity waiting.old ≤ vec_capacity waiting.new }
     ensures untouched { IsErrOf result UpdateFault.NoMemory → out.new ≡ out.old }

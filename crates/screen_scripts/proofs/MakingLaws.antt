@@ -59,10 +59,11 @@ not_short own (Refused faults.BadPair) other = refl
 not_short own (Refused faults.BadColour) other = refl
 
 -- the answer is then the call's own
-own_answer : (call : Call) (own answer : Answer) → is_update call ≡ false → RightAnswer (is_update call) call own answer → answer ≢ Refused faults.NoMemory → answer ≡ own
-own_answer call own answer update right other = by_right (subst (λ b. RightAnswer b call own answer) update right)
+own_answer : (profile : ProfileView) (memory : MemoryView) (drawn : Drawn) (call : Call) (answer : Answer) → is_update call ≡ false → RightAnswer (is_update call) profile memory drawn call answer → answer ≢ Refused faults.NoMemory
+    → answer ≡ (screen_call drawn call).1
+own_answer profile memory drawn call answer update right other = by_right (subst (λ b. RightAnswer b profile memory drawn call answer) update right)
   where
-    by_right : RightAnswer false call own answer → answer ≡ own
+    by_right : RightAnswer false profile memory drawn call answer → answer ≡ (screen_call drawn call).1
     by_right (inl same) = same
     by_right (inr short) = absurd (other short.0)
 
@@ -105,7 +106,7 @@ quietly old new call answer fault before after update ready is refusal = record 
 }
   where
     own : answer ≡ (screen_call (drawn_of old) call).1
-    own = own_answer call (screen_call (drawn_of old) call).1 answer update is.right refusal.memory
+    own = own_answer old.profile old.memory (drawn_of old) call answer update is.right refusal.memory
 
     drawn : drawn_of new ≡ (screen_call (drawn_of old) call).0
     drawn =

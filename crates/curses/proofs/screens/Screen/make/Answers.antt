@@ -6,17 +6,17 @@ use Rattle.curses.proofs.screens.Screen.make.Goals as goal
 pub returns-in-Noutrefresh : goal.returns-in-Noutrefresh
 returns-in-Noutrefresh g c =
     subst (λ call. IsMade c.args.self.now c.noutrefresh.new.self call c.done_answer.result (g.W.Counted.told c.args.out.now) (g.W.Counted.told c.args.out.now)) (sym c.in-Noutrefresh.is)
-    (both_made c.args.self.now c.noutrefresh.new.self _ c.noutrefresh.result c.done_answer.result (g.W.Counted.told c.args.out.now) _ refl refl c.noutrefresh.ensures c.done_answer.ensures)
+    (both_made c.args.self.now c.noutrefresh.new.self _ c.noutrefresh.result c.done_answer.result (g.W.Counted.told c.args.out.now) _ refl refl refl c.noutrefresh.ensures c.done_answer.ensures)
 
 pub returns-in-PadNoutrefresh : goal.returns-in-PadNoutrefresh
 returns-in-PadNoutrefresh g c =
     subst (λ call. IsMade c.args.self.now c.pad_noutrefresh.new.self call c.done_answer-in-PadNoutrefresh.result (g.W.Counted.told c.args.out.now) (g.W.Counted.told c.args.out.now)) (sym c.in-PadNoutrefresh.is)
-    (both_made c.args.self.now c.pad_noutrefresh.new.self _ c.pad_noutrefresh.result c.done_answer-in-PadNoutrefresh.result (g.W.Counted.told c.args.out.now) _ refl refl c.pad_noutrefresh.ensures c.done_answer-in-PadNoutrefresh.ensures)
+    (both_made c.args.self.now c.pad_noutrefresh.new.self _ c.pad_noutrefresh.result c.done_answer-in-PadNoutrefresh.result (g.W.Counted.told c.args.out.now) _ refl refl refl c.pad_noutrefresh.ensures c.done_answer-in-PadNoutrefresh.ensures)
 
 pub returns-in-SetPair : goal.returns-in-SetPair
 returns-in-SetPair g c =
     subst (λ call. IsMade c.args.self.now c.set_pair.new.self call c.done_answer-in-SetPair.result (g.W.Counted.told c.args.out.now) (g.W.Counted.told c.args.out.now)) (sym c.in-SetPair.is)
-    (virtual_made c.args.self.now c.set_pair.new.self _ c.set_pair.result c.done_answer-in-SetPair.result (g.W.Counted.told c.args.out.now) _ refl refl c.set_pair.ensures c.done_answer-in-SetPair.ensures)
+    (virtual_made c.args.self.now c.set_pair.new.self _ c.set_pair.result c.done_answer-in-SetPair.result (g.W.Counted.told c.args.out.now) _ refl refl refl c.set_pair.ensures c.done_answer-in-SetPair.ensures)
 
 pub returns-in_default : goal.returns-in_default
 returns-in_default g c =

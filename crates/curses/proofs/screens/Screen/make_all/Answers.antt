@@ -1,9 +1,9 @@
 use Rattle.std.proofs.Common.{◌<◌, ◌∙◌, ◌∷◌, [], ap, get_or, false, subst, sym, arith, length}
 use Rattle.std.proofs.lemmas.List.{length-append}
 use Rattle.curses.specs.Code.Progress.{SoFar}
-use Rattle.curses.specs.Sessions.{ended_well, last_ok_behind}
+use Rattle.curses.specs.Sessions.{beginning_of, ended_well, last_ok_behind}
 use Rattle.curses.specs.declared.calls.values.Call.TheVariants.{Doupdate}
-use Rattle.curses.proofs.SessionLaws.{item_is, last_more, one_more, session_of}
+use Rattle.curses.proofs.SessionLaws.{item_is, last_more, made_of, none_made, one_more}
 use Rattle.curses.proofs.screens.Screen.make_all.Goals as goal
 
 pub loop-call-preserved : goal.loop-call-preserved
@@ -13,20 +13,23 @@ loop-call-preserved g c =
     record {
       room = omega (arith, c.loop-call.invariant.room, c.push.ensures.capacity);
       made = ap length c.in_ok-push.ensures.items ∙ length-append c.loop-call.answers.items (c.make-answer.result ∷ []) ∙ omega (arith, c.loop-call.invariant.made);
-      so_far = subst (λ a. SoFar c.args.self.now.profile c.args.calls.now a c.make-answer.new.self (g.W.Counted.told c.args.out.now) (g.W.Counted.told c.make-answer.new.out)) (sym c.in_ok-push.ensures.items)
-          (one_more c.run_laws.ensures c.bytes_act_as_their_operations.ensures c.known_memories.ensures c.args.self.now.profile c.args.calls.now c.loop-call.answers.items c.call-item.result c.make-answer.result c.loop-call.self c.make-answer.new.self
+      so_far = subst (λ a. SoFar c.args.self.now.profile (beginning_of c.args.self.now) c.args.self.now c.args.calls.now a c.make-answer.new.self (g.W.Counted.told c.args.out.now) (g.W.Counted.told c.make-answer.new.out)) (sym c.in_ok-push.ensures.items)
+          (one_more c.run_laws.ensures c.bytes_act_as_their_operations.ensures c.known_memories.ensures c.args.self.now.profile (beginning_of c.args.self.now) c.args.self.now c.args.calls.now c.loop-call.answers.items c.call-item.result c.make-answer.result c.loop-call.self c.make-answer.new.self
           (g.W.Counted.told c.args.out.now) (g.W.Counted.told c.loop-call.out) (g.W.Counted.told c.make-answer.new.out) inside here c.loop-call.invariant.so_far c.make-answer.ensures);
       last = c.is_last_ok-last_ok.ensures ∙ ap (λ b. ended_well b c.make-answer.result) c.loop-call.invariant.last ∙ sym (last_more false c.loop-call.answers.items c.make-answer.result)
           ∙ sym (ap (last_ok_behind false) c.in_ok-push.ensures.items);
     }
 
 pub returns-clause-ok : goal.returns-clause-ok
-returns-clause-ok g c = record {
-  taken = c.loop-call.invariant.so_far.taken;
-  writer = c.loop-call.invariant.so_far.writer;
-  session = session_of c.args.self.now.profile c.args.calls.now c.loop-call.answers.items c.loop-call.self (g.W.Counted.told c.args.out.now) (g.W.Counted.told c.loop-call.out) c.loop-call.invariant.so_far
-      (omega (arith, c.loop-call.invariant.made, c.loop-call-test.false, c.loop-call.auto.call-index-end));
-  last = c.loop-call.invariant.last;
-  puts = c.loop-call.invariant.so_far.puts;
-  finishes = c.loop-call.invariant.so_far.finishes;
+returns-clause-ok g c =
+    made_of c.args.self.now c.loop-call.self c.args.calls.now (record { answers = c.loop-call.answers.items; last_ok = c.loop-call.last_ok }) (g.W.Counted.told c.args.out.now) (g.W.Counted.told c.loop-call.out) c.loop-call.invariant.so_far
+    (omega (arith, c.loop-call.invariant.made, c.loop-call-test.false, c.loop-call.auto.call-index-end)) c.loop-call.invariant.last
+
+pub loop-call-init : goal.loop-call-init
+loop-call-init g c = record {
+  room = omega (arith, c.in_ok-answers.ensures.capacity);
+  made = ap length c.in_ok-answers.ensures.items;
+  so_far = subst (λ a. SoFar c.args.self.now.profile (beginning_of c.args.self.now) c.args.self.now c.args.calls.now a c.args.self.now (g.W.Counted.told c.args.out.now) (g.W.Counted.told c.args.out.now))
+      (sym c.in_ok-answers.ensures.items) (none_made c.args.calls.now c.args.self.now (g.W.Counted.told c.args.out.now));
+  last = sym (ap (last_ok_behind false) c.in_ok-answers.ensures.items);
 }
