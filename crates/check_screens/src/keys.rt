@@ -5,6 +5,7 @@ mod answers;
 mod entries;
 mod generated;
 mod keyboards;
+mod pieces;
 mod plain;
 pub mod stages;
 mod streams;

@@ -14,25 +14,32 @@ use scr_term::EcmaScreen;
 use std::alloc::Global;
 use std::io::ErrorKind;
 
-// How an update is cut, and behind how many of its bytes.
+/// How an update is cut, and behind how many of its bytes.
 #[derive(Clone, Copy)]
-struct Cut {
-    failure: Failure,
-    behind: usize,
+pub struct Cut {
+    /// How the writer fails.
+    pub failure: Failure,
+    /// Behind how many bytes of the update.
+    pub behind: usize,
 }
 
-// How many operations of an update are begun that is cut, and how many bytes of it are sent by it and the next one first.
+/// How many operations of an update are begun that is cut, and how many bytes of it are sent by it and the next one first.
 #[derive(Clone, Copy)]
-struct Ended {
-    begun: usize,
-    end: usize,
+pub struct Ended {
+    /// How many operations are begun.
+    pub begun: usize,
+    /// Behind how many bytes the last of these ends.
+    pub end: usize,
 }
 
-// What came of one cut.
+/// What came of one cut.
 #[derive(Clone, Copy)]
-enum Verdict {
+pub enum Verdict {
+    /// All is as it has to be.
     Agrees,
+    /// Something is not.
     Differs,
+    /// The library was refused memory.
     NoMemory,
 }
 
@@ -248,8 +255,8 @@ fn is_wanted(
     are_same(answers, &wanted)
 }
 
-// Whether a terminal shows the picture by what the writer took.
-fn judge_shown(alloc: Global, opened: &Recorded, taken: &[u8]) -> Verdict {
+/// Whether a terminal shows the picture by what the writer took.
+pub fn judge_shown(alloc: Global, opened: &Recorded, taken: &[u8]) -> Verdict {
     let Ok(mut emulated) = EcmaScreen::new(alloc, opened.profile.size()) else {
         return Verdict::NoMemory;
     };
@@ -276,16 +283,16 @@ fn add_last(report: &Report, answers: &mut Buffer) -> bool {
     true
 }
 
-// Whether the writer wanted memory and got none.
-fn is_writer_full(answer: &Answer) -> bool {
+/// Whether the writer wanted memory and got none.
+pub fn is_writer_full(answer: &Answer) -> bool {
     match answer {
         Answer::Failed(UpdateFault::Write { kind, .. }) => *kind == ErrorKind::OutOfMemory,
         _ => false,
     }
 }
 
-// The operation in whose text a cut is: those up to it are begun, and its text is sent to its end. Behind all texts, all are.
-fn ended_at(update: &Text, cut: Cut) -> Ended {
+/// The operation in whose text a cut is: those up to it are begun, and its text is sent to its end. Behind all texts, all are.
+pub fn ended_at(update: &Text, cut: Cut) -> Ended {
     let mut begun: usize = 0;
     for end in &update.ends {
         begun = begun.saturating_add(1);

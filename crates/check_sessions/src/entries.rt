@@ -24,8 +24,8 @@ pub fn read_entry(alloc: Global, words: &mut Words<'_>) -> Option<Entry> {
     }
 }
 
-// Passes the names of a line that are left, since what is wanted of it stands behind them.
-fn pass_names(words: &mut Words<'_>) {
+/// Passes the names of a line that are left, since what is wanted of it stands behind them.
+pub fn pass_names(words: &mut Words<'_>) {
     for _ in 0..MOST {
         if matches!(words.peek(), b"" | b"=") {
             break;

@@ -2,6 +2,7 @@
 
 use crate::answers::{add_answer, ran_out};
 use crate::bounds::Left;
+use crate::displays::{Display, open_display};
 use crate::ends::{End, add_sent};
 use crate::shown::shows;
 use crate::writers::{Fails, Planned};
@@ -9,14 +10,11 @@ use check_scripts::answers::add_word;
 use check_scripts::buffers::{Buffer, are_same};
 use check_scripts::checking::put;
 use check_scripts::troubles::Trouble;
-use curses::{Answer, Call, Counted, Device, OpenFault, Report, Screen, session};
+use curses::{Answer, Call, Counted, Device, OpenFault, Report, Screen, UpdateFault, session};
 use scr_cells::Size;
-use scr_term::{EcmaScreen, Op, Ops, Profile, ProfileFault};
+use scr_term::{EcmaScreen, Op, Ops, Profile};
 use std::alloc::Global;
 use ti_caps::{Entry, bundled, slots};
-
-// How many bytes the writer has room for: more than an update of a line sends.
-const ROOM: usize = 8192;
 
 /// A screen, its terminal, and what was called, answered and sent since it was opened.
 #[derive(Drop)]
@@ -176,14 +174,37 @@ impl Recorded {
         }
     }
 
+    /// Has `session` make two updates behind the calls.
+    pub fn go_on(&mut self) -> Result<(), Trouble> {
+        self.calls.push(Call::Doupdate)?;
+        self.calls.push(Call::Doupdate)?;
+        Ok(())
+    }
+
+    /// Has it make them no longer.
+    pub fn go_back(&mut self) {
+        let count = self.calls.len().saturating_sub(2);
+        self.calls.truncate(count);
+    }
+
     /// How many bytes the next update may send, as far as that is known.
     pub fn most(&self) -> Option<usize> {
         self.left.most(&self.profile, self.screen.picture())
     }
 
+    /// What all updates sent.
+    pub fn sent(&self) -> &[u8] {
+        &self.sent
+    }
+
     /// What the last update sent.
     pub fn last_sent(&self) -> &[u8] {
         self.sent.get(self.before..).unwrap_or(&[])
+    }
+
+    /// The operations that the last update began.
+    pub fn last_begun(&self) -> &[Op] {
+        &self.last.0
     }
 
     fn add_agrees(
@@ -206,8 +227,11 @@ impl Recorded {
 
     fn make_update(&mut self, came: &mut Buffer) -> Result<Ended, Trouble> {
         let answer = self.make(Call::Doupdate, came)?;
-        if let Answer::Sent(sent) = &answer {
-            self.keep_last(&sent.begun.0)?;
+        match &answer {
+            Answer::Sent(sent) => self.keep_last(&sent.begun.0)?,
+            Answer::Failed(UpdateFault::Write { begun, .. } | UpdateFault::Flush { begun, .. }) =>
+                self.keep_last(&begun.0)?,
+            _ => {}
         }
         Ok(end_of(&answer))
     }
@@ -330,42 +354,6 @@ fn may_paint_all(screen: &Screen, call: &Call) -> bool {
         },
         _ => false,
     }
-}
-
-// A terminal, before anything was sent to it.
-#[derive(Drop)]
-struct Display {
-    profile: Profile,
-    emulated: EcmaScreen,
-    left: Left,
-    writer: Planned,
-}
-
-// The terminal of an entry; `None` where the library was refused memory.
-fn open_display(alloc: Global, entry: &Entry, size: Size) -> Result<Option<Display>, Trouble> {
-    let Ok(emulated) = EcmaScreen::new(alloc, size) else {
-        return Ok(None);
-    };
-    match Profile::admit(alloc, entry, Some(size)) {
-        Ok(profile) => Ok(Some(blank_display(alloc, size, profile, emulated)?)),
-        Err(ProfileFault::NoMemory) => Ok(None),
-        Err(_) => Err(Trouble::Bad("no profile")),
-    }
-}
-
-fn blank_display(
-    alloc: Global,
-    size: Size,
-    profile: Profile,
-    emulated: EcmaScreen,
-) -> Result<Display, Trouble> {
-    let writer = Planned::new(alloc, ROOM)?;
-    Ok(Display {
-        profile,
-        emulated,
-        left: Left::unknown(alloc, size)?,
-        writer,
-    })
 }
 
 // Opens a screen on the terminal of an entry, and tells whether there was memory for it.

@@ -2,21 +2,21 @@
 
 use crate::recorded::Recorded;
 use check_scripts::answers::{
-    add_cell, add_look, add_number, add_place, add_text, add_text_of, add_text_shown, add_word,
-    read_size,
+    add_cell, add_look, add_name, add_number, add_place, add_text, add_text_of, add_text_shown,
+    add_word, read_size,
 };
 use check_scripts::buffers::Buffer;
 use check_scripts::troubles::Trouble;
 use check_scripts::words::Words;
 use scr_cells::{Attrs, Picture, Size};
-use scr_term::{EcmaScreen, Spot};
+use scr_term::{EcmaScreen, Op, Spot};
 use scr_virtual::Virtual;
 use scr_windows::{Desk, Win, WinFault};
 use std::alloc::Global;
 
 /// The lines `shown_rows`, `shown_cursor`, `shown R C` about the emulated screen, `picture_rows`, `picture_at R C` and `wish`
-/// about the picture, `most`, how many bytes the next update may send, `sent`, what the last one sent, and `first_sent N`, the first N bytes
-/// of that. Tells whether a line is one of them.
+/// about the picture, `most`, how many bytes the next update may send, `sent`, what the last one sent, `first_sent N`, the first N bytes
+/// of that, and `begun`, the operations that the last update began. Tells whether a line is one of them.
 pub fn answer_of_shown(
     opened: &Recorded,
     word: &str,
@@ -34,6 +34,7 @@ pub fn answer_of_shown(
         "most" => add_most(opened.most(), came),
         "sent" => add_text(opened.last_sent(), came),
         "first_sent" => add_first_sent(opened, words, came),
+        "begun" => add_begun(opened.last_begun(), came),
         _ => return false,
     }
     true
@@ -94,6 +95,16 @@ fn add_most(most: Option<usize>, came: &mut Buffer) {
     match most {
         Some(bytes) => add_number(i64::try_from(bytes).unwrap_or(-1), came),
         None => add_word("unknown", came),
+    }
+}
+
+// Adds operations, or `none`.
+fn add_begun(ops: &[Op], came: &mut Buffer) {
+    if ops.is_empty() {
+        add_word("none", came);
+    }
+    for op in ops {
+        add_name(op, came);
     }
 }
 

@@ -6,8 +6,10 @@ use crate::cuts::check_cuts;
 use crate::dumps::dump_recorded;
 use crate::ends::read_end;
 use crate::entries::read_entry;
+use crate::every_cut::check_every_cut;
 use crate::generated::{check_generated, check_updates};
 use crate::recorded::Recorded;
+use crate::refusals::add_refusal;
 use crate::shown_lines::{answer_of_shown, check_changed};
 use crate::writers::Fails;
 use check_scripts::answers::{add_word, read_size};
@@ -40,9 +42,14 @@ impl Stage for SessionStage {
         let done = match word {
             "screen" => open(alloc, &mut self.opened, words, came),
             "cuts" => check_cuts(alloc, &mut self.tried, words, came),
+            "every_cut" => check_every_cut(alloc, &mut self.tried, words, came),
             "generated" => check_generated(alloc, &mut self.tried, words, came),
             "updates" => check_updates(alloc, &mut self.tried, words, came),
             "changed" => check_changed(alloc, words, came),
+            "refusal" => {
+                add_refusal(alloc, words, came);
+                Ok(())
+            }
             _ => match &mut self.opened {
                 Some(opened) => answer_of_opened(alloc, opened, word, words, came),
                 None => Err(Trouble::Bad("no screen")),
@@ -61,7 +68,7 @@ impl Stage for SessionStage {
     fn leaves_all(word: &[u8]) -> bool {
         matches!(
             str::from_utf8(word),
-            Ok("changed" | "cuts" | "generated" | "session" | "updates")
+            Ok("changed" | "cuts" | "every_cut" | "generated" | "refusal" | "session" | "updates")
         )
     }
 }

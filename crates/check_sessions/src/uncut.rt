@@ -5,7 +5,7 @@ use crate::writers::Fails;
 use check_scripts::buffers::Buffer;
 use check_scripts::troubles::Trouble;
 use curses::Call;
-use scr_term::{Op, Ops, Profile};
+use scr_term::{Op, Profile};
 use scr_windows::Win;
 use std::alloc::Global;
 use ti_caps::Bytes;
@@ -20,7 +20,8 @@ pub struct Text {
 }
 
 impl Text {
-    fn new(alloc: Global) -> Text {
+    /// Nothing yet.
+    pub fn new(alloc: Global) -> Text {
         Text {
             bytes: Vec::new(alloc),
             ends: Vec::new(alloc),
@@ -104,12 +105,12 @@ fn update(alloc: Global, opened: &mut Recorded) -> Result<bool, Trouble> {
 
 // Updates, and adds what that sends. Tells whether there was memory for it.
 fn show(alloc: Global, opened: &mut Recorded, text: &mut Text) -> Result<bool, Trouble> {
-    Ok(update(alloc, opened)? && render_all(&opened.profile, &opened.last, text)?)
+    Ok(update(alloc, opened)? && render_all(&opened.profile, opened.last_begun(), text)?)
 }
 
-// Adds the texts of operations, and tells whether there was memory for them.
-fn render_all(profile: &Profile, ops: &Ops, text: &mut Text) -> Result<bool, Trouble> {
-    for op in &ops.0 {
+/// Adds the texts of operations, and tells whether there was memory for them.
+pub fn render_all(profile: &Profile, ops: &[Op], text: &mut Text) -> Result<bool, Trouble> {
+    for op in ops {
         if !render(profile, *op, &mut text.bytes)? {
             return Ok(false);
         }

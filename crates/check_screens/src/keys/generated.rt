@@ -11,11 +11,14 @@ use scr_keys::KeyFault;
 use std::alloc::Global;
 use ti_caps::Entry;
 
-// What happens at a keyboard.
+/// What happens at a keyboard.
 #[derive(Clone, Copy)]
-enum Event {
+pub enum Event {
+    /// A byte came.
     Came(u8),
+    /// None came for a while.
     Idled,
+    /// A key is taken.
     Taken,
 }
 
@@ -26,20 +29,24 @@ struct Typing {
     place: usize,
 }
 
-// What is typed, and whether some event found too many keys that waited.
+/// What is typed, and whether some event found too many keys that waited.
 #[derive(Drop)]
-struct Typist {
-    random: Random,
+pub struct Typist {
+    /// What is made up next.
+    pub random: Random,
     typing: Typing,
-    found_full: bool,
+    /// Whether an event found too many keys that waited.
+    pub found_full: bool,
 }
 
-// What came of one event.
+/// What came of one event.
 #[derive(Clone, Copy)]
-enum Compared {
+pub enum Compared {
+    /// The plain decoder answers the same.
     Agrees,
-    // There was no room for its keys.
+    /// It does, and there was no room for the event's keys.
     AgreesFull,
+    /// It answers something else.
     Differs,
 }
 
@@ -82,11 +89,20 @@ fn add_generated(
 }
 
 impl Typist {
-    fn new(seed: u32) -> Typist {
+    /// Nothing is typed yet.
+    pub fn new(seed: u32) -> Typist {
         Typist {
             random: Random::new(seed),
             typing: Typing { index: 0, place: 0 },
             found_full: false,
+        }
+    }
+
+    /// The next byte of the text of a key, or now and then another, which breaks it off.
+    pub fn next_byte(&mut self, keys: &PlainKeys) -> u8 {
+        match self.random.below(48) {
+            0 => odd_byte(&mut self.random),
+            _ => next_byte(keys, &mut self.typing, &mut self.random),
         }
     }
 }
@@ -159,8 +175,8 @@ fn byte_at(keys: &PlainKeys, typing: Typing) -> Option<u8> {
     text.get(typing.place).copied()
 }
 
-// Compares what both answer to an event.
-fn compare(
+/// Compares what both answer to an event.
+pub fn compare(
     keyboard: &mut Keyboard,
     plain: &mut PlainReader,
     event: Event,

@@ -4,6 +4,7 @@ use crate::keys::answers::{add_came, add_key};
 use crate::keys::entries::{dump_entry, make_entry, set_text};
 use crate::keys::generated::check_generated;
 use crate::keys::keyboards::{Keyboard, open_into};
+use crate::keys::pieces::check_pieces;
 use crate::keys::streams::{check_cuts, take_all};
 use check_scripts::answers::add_word;
 use check_scripts::buffers::Buffer;
@@ -35,12 +36,13 @@ impl Stage for KeyStage {
         let (alloc, word) = (self.alloc, words.next());
         match word {
             b"entry" | b"bundled" => make_entry(alloc, &mut self.entry, word, came),
-            b"text" | b"reader" | b"screen" | b"cuts" | b"generated" => match &mut self.entry {
-                Some(entry) => {
-                    answer_of_entry(alloc, entry, &mut self.keyboard, word, words, came);
-                }
-                None => words.fail(Trouble::Bad("no entry")),
-            },
+            b"text" | b"reader" | b"screen" | b"cuts" | b"generated" | b"pieces" =>
+                match &mut self.entry {
+                    Some(entry) => {
+                        answer_of_entry(alloc, entry, &mut self.keyboard, word, words, came);
+                    }
+                    None => words.fail(Trouble::Bad("no entry")),
+                },
             _ => match &mut self.keyboard {
                 Some(keyboard) => answer_of_keyboard(alloc, keyboard, word, words, came),
                 None => words.fail(Trouble::Bad("no keyboard")),
@@ -56,11 +58,11 @@ impl Stage for KeyStage {
     }
 
     fn leaves_all(word: &[u8]) -> bool {
-        matches!(word, b"cuts" | b"generated")
+        matches!(word, b"cuts" | b"generated" | b"pieces")
     }
 }
 
-// The lines `text NAME TEXT`, `cuts ..` and `generated ..`, and `reader` and `screen`, which open a keyboard.
+// The lines `text NAME TEXT`, `cuts ..`, `generated ..` and `pieces ..`, and `reader` and `screen`, which open a keyboard.
 fn answer_of_entry(
     alloc: Global,
     entry: &mut Entry,
@@ -76,6 +78,7 @@ fn answer_of_entry(
         }
         b"cuts" => check_cuts(alloc, entry, keyboard, words, came),
         b"generated" => check_generated(alloc, entry, keyboard, words, came),
+        b"pieces" => check_pieces(alloc, entry, keyboard, words, came),
         _ => add_opened(open_into(alloc, entry, word, keyboard, came), came),
     };
     words.check(done);

@@ -1,0 +1,48 @@
+//! The terminal of an entry, emulated, with the writer that takes what is sent to it.
+
+use crate::bounds::Left;
+use crate::writers::Planned;
+use check_scripts::troubles::Trouble;
+use scr_cells::Size;
+use scr_term::{EcmaScreen, Profile, ProfileFault};
+use std::alloc::Global;
+use ti_caps::Entry;
+
+// How many bytes the writer has room for: more than an update of a line sends.
+const ROOM: usize = 8192;
+
+/// A terminal, before anything was sent to it.
+#[derive(Drop)]
+pub struct Display {
+    pub profile: Profile,
+    pub emulated: EcmaScreen,
+    pub left: Left,
+    pub writer: Planned,
+}
+
+/// The terminal of an entry; `None` where the library was refused memory.
+pub fn open_display(alloc: Global, entry: &Entry, size: Size) -> Result<Option<Display>, Trouble> {
+    let Ok(emulated) = EcmaScreen::new(alloc, size) else {
+        return Ok(None);
+    };
+    match Profile::admit(alloc, entry, Some(size)) {
+        Ok(profile) => Ok(Some(blank_display(alloc, size, profile, emulated)?)),
+        Err(ProfileFault::NoMemory) => Ok(None),
+        Err(_) => Err(Trouble::Bad("no profile")),
+    }
+}
+
+fn blank_display(
+    alloc: Global,
+    size: Size,
+    profile: Profile,
+    emulated: EcmaScreen,
+) -> Result<Display, Trouble> {
+    let writer = Planned::new(alloc, ROOM)?;
+    Ok(Display {
+        profile,
+        emulated,
+        left: Left::unknown(alloc, size)?,
+        writer,
+    })
+}
