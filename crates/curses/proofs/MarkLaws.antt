@@ -47,10 +47,12 @@ left_by_one laws drawn next memory left call answer calls answers (Some rows) is
       state = rest.state ∙ without.state;
       high = rest.high ∙ without.high;
       rows = λ r few known.
-        let kept = rest.rows r (omega (arith, few, without.high)) known in
-        let before = without.rows r few kept.0 in
-        (before.0, ap (λ m. is_row_of m r || is_marked (after_call drawn call answer) calls answers r) is ∙ ap (λ b. b || is_marked (after_call drawn call answer) calls answers r) before.1
-        ∙ sym (ap (λ d. is_marked d calls answers r) same) ∙ kept.1);
+          let kept = rest.rows r (omega (arith, few, without.high)) known in
+          let before = without.rows r few kept.0 in (
+            before.0,
+            ap (λ m. is_row_of m r || is_marked (after_call drawn call answer) calls answers r) is ∙ ap (λ b. b || is_marked (after_call drawn call answer) calls answers r) before.1
+                ∙ sym (ap (λ d. is_marked d calls answers r) same) ∙ kept.1,
+          );
       spot = λ known. absurd (no_bool (sym without.spot ∙ (rest.spot known).0));
       pen = λ known. absurd (no_bool (sym without.pen ∙ (rest.pen known).0));
     }
@@ -84,12 +86,12 @@ holds_again laws profile first calls answers taken session before changed rows a
     session.holds n changed few (record {
       quiet = marks.quiet;
       agrees = laws.others (abilities profile) (is_marked first.drawn (take n calls) (take n answers)) first.memory (remembered_behind profile first.drawn first.memory (take n calls) (take n answers)) before changed agrees
-        (disturbs_marked (abilities profile) rows (is_marked first.drawn (take n calls) (take n answers)) before changed marks.each disturbs)
-        (record {
-          state = left.state;
-          high = left.high;
-          rows = left.rows;
-          spot = never_true _ (λ known. no_bool (sym (left.spot known).1 ∙ marks.some));
-          pen = never_true _ (λ known. no_bool (sym (left.pen known).1 ∙ marks.some));
-        });
+          (disturbs_marked (abilities profile) rows (is_marked first.drawn (take n calls) (take n answers)) before changed marks.each disturbs)
+          (record {
+            state = left.state;
+            high = left.high;
+            rows = left.rows;
+            spot = never_true _ (λ known. no_bool (sym (left.spot known).1 ∙ marks.some));
+            pen = never_true _ (λ known. no_bool (sym (left.pen known).1 ∙ marks.some));
+          });
     })
