@@ -156,6 +156,11 @@ pub record IsAdmitted (entry : Description) (size : Option Size) (profile : Prof
 abbrev pub IsRefused : Description → Option Size → ProfileFault → Type 0
 IsRefused entry size fault = (fault ≡ NoMemory) ⊎ (refusal entry size ≡ Some fault)
 
+-- Memory ran out: nothing was against the entry that is looked at before its texts are.
+pub record RanOut (entry : Description) : Type 0 where
+  pub suitable : unsuitable_fault entry ≡ None
+  pub margin : margin_fault entry ≡ None
+
 -- the profile of the bundled entry on a screen of some size
 pub record IsEcma48 (profile : ProfileView) : Type 0 where
   pub size : IsSize profile.rows profile.columns

@@ -1,7 +1,7 @@
 //! How a terminfo entry becomes a profile, and why it does not.
-ghost use Rattle.std.specs.Prelude.{◌≡◌, ◌++◌, ◌∷◌, [], OnOk, IfOk, IfErr, Some, map, length, option_map};
+ghost use Rattle.std.specs.Prelude.{◌≡◌, ◌≢◌, ◌++◌, ◌∷◌, [], OnOk, IfOk, IfErr, IsErrOf, Some, map, length, option_map};
 ghost use Rattle.ti_param.specs.Parsed.{parsed};
-ghost use Rattle.scr_term.specs.Operations.Admission.{IsAdmitted, IsBundledAdmitted, IsEcma48, IsRefused, first_where, is_bad_string, is_over_bound, is_present, named_text, planned_program, screen_size, sent_text, size_fault};
+ghost use Rattle.scr_term.specs.Operations.Admission.{IsAdmitted, IsBundledAdmitted, IsEcma48, IsRefused, RanOut, first_where, is_bad_string, is_over_bound, is_present, named_text, planned_program, screen_size, sent_text, size_fault};
 ghost use Rattle.scr_term.specs.Code.Admission.{Judges, bad_fault_of, program_in};
 ghost use Rattle.scr_term.specs.Operations.Admission.{is_missing, margin_fault, missing_fault, unsuitable_fault};
 
@@ -48,10 +48,11 @@ impl Profile {
     /// 6. `BadString`: the text of a capability is no parameter string, or its stack could hold more than 20 values. Only
     ///    capabilities that operations send are looked at, in the order of their positions.
     /// 7. `LongString`: the text of such a capability could give more than 1,024 bytes.
-    /// 8. `NoMemory`: a growth was refused, whatever would have followed.
+    /// 8. `NoMemory`: a growth was refused, whatever would have followed. The first two are looked at before any growth.
     pub fn admit(alloc: Global, entry: &Entry, size: Option<Size>) -> Result<Profile, ProfileFault>
         ensures ok { IfOk result (IsAdmitted entry.now size) }
         ensures err { IfErr result (IsRefused entry.now size) }
+        ensures memory { IsErrOf result ProfileFault.NoMemory → RanOut entry.now }
     {
         is_suitable(entry)?;
         keeps_its_margin(entry)?;
@@ -82,7 +83,8 @@ impl Profile {
 
 // No capability is present that no suitable terminal has.
 fn is_suitable(entry: &Entry) -> Result<(), ProfileFault>
-    ensures { Judges result (unsuitable_fault entry.now) }
+    ensures judged { Judges result (unsuitable_fault entry.now) }
+    ensures lasting { IfErr result (λ fault. fault ≢ ProfileFault.NoMemory) }
 {
     match first_present(entry, &UNSUITABLE) {
         Some(capability) => Err(ProfileFault::Unsuitable(capability)),
@@ -115,7 +117,8 @@ fn is_present(entry: &Entry, capability: (Kind, Slot)) -> bool
 
 // A character in the last place does not scroll the screen.
 fn keeps_its_margin(entry: &Entry) -> Result<(), ProfileFault>
-    ensures { Judges result (margin_fault entry.now) }
+    ensures judged { Judges result (margin_fault entry.now) }
+    ensures lasting { IfErr result (λ fault. fault ≢ ProfileFault.NoMemory) }
 {
     if entry.flag(slots::AM) && !entry.flag(slots::XENL) {
         Err(ProfileFault::AutoMargin)
