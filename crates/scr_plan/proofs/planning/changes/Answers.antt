@@ -8,3 +8,6 @@ returns-then-is_worth c =
     short_plan c.known_memories.ensures c.memory_runs.ensures c.joined_is_cheap.ensures c.grid_laws.ensures c.args.profile.now c.size-profile.ensures.profile c.args.wanted.now c.size-wanted.ensures.screen.picture c.requires.fits c.args.memory.now c.requires.due
     c.in_ok-draft.draft c.in_ok-draft.ensures c.in_ok-bytes.bytes (c.is_worth.ensures.less (search rules)) (c.is_worth.ensures.exact (search rules)) c.in_ok-bytes.ensures
     (subst (λ rows. n ≤ rows * c.args.wanted.now.picture.columns * 12 + 4) c.size.ensures.rows (subst (λ columns. n ≤ c.size.result.rows * columns * 12 + 4) c.size.ensures.columns (c.is_worth.ensures.few (search rules))))
+
+pub returns : goal.returns
+returns c = search rules

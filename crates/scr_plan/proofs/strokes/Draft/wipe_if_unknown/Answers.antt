@@ -16,3 +16,6 @@ returns-clause-knows c =
     if_ok_then c.wipe_row.result (LearnsRow c.args.profile.now c.args.row c.args.self.now c.wipe_row.new.self)
     (Knows c.args.profile.now c.args.memory.now (or_below known c.args.row) c.args.self.now → Knows c.args.profile.now c.args.memory.now (or_below known (c.args.row + 1)) c.wipe_row.new.self)
     (λ learns knows. knows_weaker c.args.profile.now c.args.memory.now _ (or_below known (c.args.row + 1)) c.wipe_row.new.self (below_more known c.args.row) (learns c.args.memory.now (or_below known c.args.row) knows)) c.wipe_row.ensures.knows
+
+pub returns-then-is_known_row-clause-right : goal.returns-then-is_known_row-clause-right
+returns-then-is_known_row-clause-right c = search rules
