@@ -9,7 +9,7 @@ use scr_cells::{Attrs, Look, Size};
 use scr_term::{EcmaScreen, Spot};
 use scr_windows::Win;
 use std::alloc::Global;
-use ti_caps::{Bytes, bundled};
+use ti_caps::{Bytes, Entry, bundled};
 
 // The rows that the terminal is to show, with a star where reverse video begins and where it ends.
 const WANTED: [&str; 5] = [
@@ -75,15 +75,26 @@ fn run(alloc: Global, screen: &mut Screen, out: &mut Device<Vec<u8>>) -> Result<
     Ok(())
 }
 
-// Whether a terminal that was sent all that such a program writes has its cursor at the beginning of the last line, and no attribute on.
-fn is_left_plain(alloc: Global, size: Size) -> Result<bool> {
-    let mut screen = Screen::open(alloc, &bundled(alloc)?, Some(size))?;
-    let mut out = Device::new(Vec::new(alloc));
-    run(alloc, &mut screen, &mut out)?;
+// Opens a screen, and runs the program on it.
+fn run_on(alloc: Global, entry: &Entry, size: Size, out: &mut Device<Vec<u8>>) -> Result<()> {
+    let mut screen = Screen::open(alloc, entry, Some(size))?;
+    run(alloc, &mut screen, out)
+}
+
+// Whether a terminal that was sent this has its cursor at the beginning of the last line, and no attribute on.
+fn is_plain_behind(alloc: Global, size: Size, bytes: &[u8]) -> Result<bool> {
     let mut terminal = EcmaScreen::new(alloc, size)?;
-    terminal.feed(&out.writer)?;
+    terminal.feed(bytes)?;
     let last = terminal.size().rows - 1;
     Ok(terminal.spot() == Spot::At(last, 0) && terminal.rendition() == Attrs(0))
+}
+
+// Whether it is so behind all that such a program writes.
+fn is_left_plain(alloc: Global, size: Size) -> Result<bool> {
+    let entry = bundled(alloc)?;
+    let mut out = Device::new(Vec::new(alloc));
+    run_on(alloc, &entry, size, &mut out)?;
+    is_plain_behind(alloc, size, &out.writer)
 }
 
 // The text of a row, with its stars.
