@@ -1,7 +1,6 @@
 //! The lines that explain an update.
 
 use crate::failures::Failure;
-use crate::names::add_name;
 use crate::pages::Page;
 use crate::pricing::{joined_price, price_of, scratch_price};
 use crate::scripts::{count_updates, first_size};
@@ -107,7 +106,7 @@ fn add_characters(characters: &mut Vec<u8>, page: &mut Page) {
 // Adds the line of an operation, with an empty vector for its text, which is empty again then.
 fn add_operation(profile: &Profile, op: Op, text: &mut Vec<u8>, page: &mut Page) {
     let before = page.len();
-    add_name(op, page);
+    page.add_value(&op);
     if profile.has(op) {
         let rendered = profile.render(op, text);
         page.check(rendered.is_ok());

@@ -4,7 +4,6 @@
 
 mod explaining;
 mod failures;
-mod names;
 mod pages;
 mod pricing;
 mod scripts;

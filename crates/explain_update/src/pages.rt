@@ -2,7 +2,7 @@
 
 use scr_cells::NoMemory;
 use std::alloc::Global;
-use std::fmt::Debug;
+use std::fmt::Display;
 use std::io::Write;
 
 /// Text that is written piece by piece. Where memory runs out some is left out, which `done` tells, so that those who write need not
@@ -44,9 +44,9 @@ impl Page {
         self.check(added.is_ok());
     }
 
-    /// Writes a value as its type's Debug does.
-    pub fn add_value<T: Debug>(&mut self, value: &T) {
-        let written = write!(&mut self.bytes, "{value:?}");
+    /// Writes a value as its type's Display does.
+    pub fn add_value<T: Display>(&mut self, value: &T) {
+        let written = write!(&mut self.bytes, "{value}");
         self.check(written.is_ok());
     }
 

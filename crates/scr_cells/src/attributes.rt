@@ -2,6 +2,18 @@
 ghost use Rattle.std.specs.Prelude.{⊤, [], ◌∷◌, codes};
 
 use bitflags::{Flag, Flags, bitflag_items};
+use std::fmt;
+
+// The attributes by their bits, in the order in which a terminal is told them.
+const NAMES: [(u8, &str); 7] = [
+    (1, "standout"),
+    (2, "underline"),
+    (4, "reverse"),
+    (8, "blink"),
+    (16, "dim"),
+    (32, "bold"),
+    (64, "invisible"),
+];
 
 /// A set of video attributes (X/Open Curses Issue 7, 'Attributes'), as bits.
 ///
@@ -59,4 +71,27 @@ impl Flags for Attrs {
     fn from_bits_retain(bits: u8) -> Attrs {
         Attrs(bits)
     }
+}
+
+/// Their names, with a blank between two of them.
+impl fmt::Display for Attrs {
+    fn fmt<W: fmt::Write>(&self, f: &mut fmt::Formatter<W>) -> fmt::Result {
+        write_names(self.0, &NAMES, f)
+    }
+}
+
+// Writes the names of these that are in a set.
+fn write_names<W: fmt::Write>(
+    set: u8,
+    names: &[(u8, &str)],
+    f: &mut fmt::Formatter<W>,
+) -> fmt::Result {
+    let mut gap = "";
+    for (bit, name) in names {
+        if set & bit != 0 {
+            write!(f, "{gap}{name}")?;
+            gap = " ";
+        }
+    }
+    Ok(())
 }

@@ -1,5 +1,6 @@
 pub mod Code
 pub mod Keys
 pub mod Laws
+pub mod Names
 pub mod Readers
 pub mod Tables

@@ -6,6 +6,7 @@ mod firsts;
 mod keys;
 mod laws;
 mod maps;
+pub mod names;
 mod readers;
 mod tables;
 

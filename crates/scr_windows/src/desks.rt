@@ -10,6 +10,7 @@ use crate::faults::{Win, WinFault};
 use crate::frames::{Pen, WindowState};
 use crate::sheets::Sheet;
 use crate::windows::{Window, index_of_number};
+use std::fmt;
 use std::marker::Model;
 
 /// The windows of a screen and the surfaces that they are on (X/Open Curses Issue 7, 'Screens, Windows
@@ -38,6 +39,13 @@ impl Model for Desk {
     ghost view = { λ a. record { rows = a.rows; columns = a.columns; surfaces = a.surfaces.items; windows = a.windows.items; made = a.made } };
 
     ghost invariant = { λ a. IsDesk (record { rows = a.rows; columns = a.columns; surfaces = a.surfaces.items; windows = a.windows.items; made = a.made }) };
+}
+
+/// The size of the screen and how many windows there are.
+impl fmt::Debug for Desk {
+    fn fmt<W: fmt::Write>(&self, f: &mut fmt::Formatter<W>) -> fmt::Result {
+        write!(f, "Desk({} by {}, windows: {})", self.rows, self.columns, self.windows.len())
+    }
 }
 
 // What the calls are made of. An index is one among the desk's windows.

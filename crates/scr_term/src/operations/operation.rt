@@ -1,6 +1,7 @@
 //! The operations of a terminal, and the places of its cursor. What they do is in `specs/Operations/Steps.antt`, their bytes in
 //! `rendering`.
 use scr_cells::Attrs;
+use std::fmt;
 use std::marker::Model;
 
 /// One operation of a terminal: a character, or the text of a capability, behind which `op` may stand (terminfo(5)).
@@ -46,6 +47,18 @@ pub enum Op {
     Back(u8),
     /// A character, 32 to 126: it is written with the attributes that are on and the colours that are set.
     Put(u8),
+}
+
+/// An operation by its name, with its numbers, attributes or character: `Home`, `Move(4, 9)`, `Set(underline bold)`, `Put(q)`.
+impl fmt::Display for Op {
+    fn fmt<W: fmt::Write>(&self, f: &mut fmt::Formatter<W>) -> fmt::Result {
+        match self {
+            Op::Enter(attrs) => write!(f, "Enter({attrs})"),
+            Op::Set(attrs) => write!(f, "Set({attrs})"),
+            Op::Put(byte) => write!(f, "Put({})", char::from(*byte)),
+            _ => write!(f, "{self:?}"),
+        }
+    }
 }
 
 /// Where the cursor of a terminal is.
