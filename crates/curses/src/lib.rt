@@ -5,7 +5,7 @@ mod answers;
 mod calls;
 mod faults;
 mod faulty;
-mod keys;
+mod keyboard;
 mod opening;
 mod refreshing;
 mod screens;
@@ -25,3 +25,11 @@ pub use sessions::{Answers, Report, disturbed_rows_hold_again, session};
 pub use starting::closing_laws;
 pub use texts::{closing_text, opening_text};
 pub use writers::{Counted, Device};
+
+// What a program names beside: windows, cells and keys, terminals, and the operations and faults of updates.
+pub use scr_cells::{Attrs, Cell, NoMemory, Picture, Size};
+pub use scr_keys::names as keys;
+pub use scr_keys::{Key, KeyFault};
+pub use scr_term::{Op, Ops, ProfileFault};
+pub use scr_windows::{Added, Win, WinFault, WindowRef};
+pub use ti_caps::{Bytes, Entry, Kind, Slot, bundled};

@@ -1,5 +1,5 @@
 //! Opening a screen on a terminal. The definitions are in `specs/Opening.antt`.
-ghost use Rattle.std.specs.Prelude.{◌≡◌, ◌≤◌, [], IfErr, IfOk, length, vec_capacity};
+ghost use Rattle.std.specs.Prelude.{◌≡◌, ◌≤◌, [], IfErr, IfOk, None, Some, length, vec_capacity};
 ghost use Rattle.curses.specs.Code.Openings.{IsReaderOf, first_screen};
 ghost use Rattle.curses.specs.Opening.{IsOpened, IsUnopened};
 ghost use Rattle.curses.specs.ScreenStates.{HasRoom, HasTextRoom};
@@ -40,6 +40,23 @@ impl Screen {
         let texts = texts_of(alloc, entry)?;
         let screen = Screen::on(alloc, profile, keys, texts)?;
         Ok(screen)
+    }
+
+    /// A screen of this size on the terminal of an entry, as `open` opens it.
+    pub fn open_sized(alloc: Global, entry: &Entry, size: Size) -> Result<Screen, OpenFault>
+        ensures ok { IfOk result (IsOpened entry.now (Some size)) }
+        ensures err { IfErr result (IsUnopened entry.now (Some size)) }
+    {
+        Screen::open(alloc, entry, Some(size))
+    }
+
+    /// A screen of the entry's own `lines` and `cols`, as `open` opens it. The terminal may have another size by now: a program that can
+    /// ask for it opens a screen of that size.
+    pub fn open_at_own_size(alloc: Global, entry: &Entry) -> Result<Screen, OpenFault>
+        ensures ok { IfOk result (IsOpened entry.now None) }
+        ensures err { IfErr result (IsUnopened entry.now None) }
+    {
+        Screen::open(alloc, entry, None)
     }
 
     // A screen on the terminal of a profile. Fails only when memory runs out.

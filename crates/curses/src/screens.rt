@@ -7,6 +7,7 @@ use scr_plan::Memory;
 use scr_term::Profile;
 use scr_virtual::Virtual;
 use scr_windows::Desk;
+use std::fmt;
 use std::marker::Model;
 
 /// A screen of curses: windows, the virtual screen onto which they are taken, the terminal that updates bring to it,
@@ -44,4 +45,11 @@ impl Model for Screen {
     ghost view = { λ a. record { desk = a.desk; virtual = a.wanted; profile = a.profile; memory = a.memory; owed = a.owed.items; keys = a.keys; opening = a.opening.items; closing = a.closing.items } };
 
     ghost invariant = { λ a. IsScreen (record { desk = a.desk; virtual = a.wanted; profile = a.profile; memory = a.memory; owed = a.owed.items; keys = a.keys; opening = a.opening.items; closing = a.closing.items }) × HasRoom a.profile (vec_capacity a.owed) × HasTextRoom a.opening.items a.closing.items (vec_capacity a.owed) };
+}
+
+/// The size of the screen and how many windows there are.
+impl fmt::Debug for Screen {
+    fn fmt<W: fmt::Write>(&self, f: &mut fmt::Formatter<W>) -> fmt::Result {
+        write!(f, "Screen({:?})", self.desk)
+    }
 }

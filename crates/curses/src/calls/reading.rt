@@ -1,14 +1,52 @@
 //! Calls that read: sizes, cells, cursors, touched lines, and what is lent. None changes anything.
-ghost use Rattle.std.specs.Prelude.{◌≡◌, ℕ, length, IfOk, MatchResult, Ok, Err};
+ghost use Rattle.std.specs.Prelude.{◌≡◌, ◌≤◌, ℕ, length, IfOk, MatchResult, Ok, Err};
+ghost use Rattle.scr_term.specs.Operations.Profiles.{has_colours, shown_set};
 ghost use Rattle.scr_windows.specs.Changes.{index_of};
 ghost use Rattle.scr_windows.specs.DeskViews.{window_at};
-ghost use Rattle.scr_windows.specs.Calls.Reading.{cell_at_answer, cursor_answer, line_touched_answer, origin_answer, row_answer, size_answer, window_answer, window_touched_answer};
+ghost use Rattle.scr_windows.specs.Calls.Reading.{cell_at_answer, cursor_answer, line_touched_answer, nth_answer, origin_answer, row_answer, size_answer, window_answer, window_touched_answer};
 
 use crate::screens::Screen;
-use scr_cells::Cell;
+use scr_cells::{Attrs, Cell, Size};
 use scr_windows::{Win, WinFault, WindowRef};
 
 impl Screen {
+    /// The size of the screen. X/Open Curses Issue 7, LINES and COLS.
+    pub fn screen(&self) -> Size
+        ensures rows { result.rows ≡ self.now.desk.rows }
+        ensures columns { result.columns ≡ self.now.desk.columns }
+    {
+        self.desk.screen()
+    }
+
+    /// How many windows there are.
+    pub fn count(&self) -> usize
+        ensures count { result ≡ length self.now.desk.windows }
+        ensures few { result ≤ 1000 }
+    {
+        self.desk.count()
+    }
+
+    /// The window at an index among those that there are, by ascending numbers from index 0 on; `None` behind the last.
+    pub fn nth(&self, index: usize) -> Option<Win>
+        ensures { result ≡ nth_answer self.now.desk index }
+    {
+        self.desk.nth(index)
+    }
+
+    /// The attributes that the terminal shows; others are dropped. X/Open Curses Issue 7, term_attrs().
+    pub fn shows(&self) -> Attrs
+        ensures { result.0 ≡ shown_set self.now.profile }
+    {
+        self.profile.shows()
+    }
+
+    /// Whether the terminal shows colours; where it shows none, all is seen in its default colours. X/Open Curses Issue 7, has_colors().
+    pub fn colours(&self) -> bool
+        ensures { result ≡ has_colours self.now.profile }
+    {
+        self.profile.colours()
+    }
+
     /// Lends a window for reading.
     ///
     /// Refused: NoWindow.
