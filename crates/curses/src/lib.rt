@@ -28,8 +28,7 @@ pub use writers::{Counted, Device};
 
 // What a program names beside: windows, cells and keys, terminals, and the operations and faults of updates.
 pub use scr_cells::{Attrs, Cell, NoMemory, Picture, Size};
-pub use scr_keys::names as keys;
-pub use scr_keys::{Key, KeyFault};
+pub use scr_keys::{Key, KeyFault, names as keys};
 pub use scr_term::{Op, Ops, ProfileFault};
 pub use scr_windows::{Added, Win, WinFault, WindowRef};
 pub use ti_caps::{Bytes, Entry, Kind, Slot, bundled};

@@ -44,7 +44,13 @@ impl Model for Desk {
 /// The size of the screen and how many windows there are.
 impl fmt::Debug for Desk {
     fn fmt<W: fmt::Write>(&self, f: &mut fmt::Formatter<W>) -> fmt::Result {
-        write!(f, "Desk({} by {}, windows: {})", self.rows, self.columns, self.windows.len())
+        write!(
+            f,
+            "Desk({} by {}, windows: {})",
+            self.rows,
+            self.columns,
+            self.windows.len()
+        )
     }
 }
 
