@@ -3,7 +3,6 @@ use Rattle.std.proofs.Common.{◌≡◌, ◌≢◌, ℕ, Bool, true, false, refl
 use Rattle.std.proofs.lemmas.List.{append-nil}
 use Rattle.std.specs.Io.KnownBytes.{Appends}
 use Rattle.std.specs.Option.{is_some}
-use Rattle.scr_cells.specs.PictureViews.{PictureView}
 use Rattle.scr_term.specs.declared.operations.operation.Op.{Op}
 use Rattle.scr_term.specs.Operations.Admission.{IsEcma48}
 use Rattle.scr_term.specs.Operations.Ecma48.{Ecma48Laws}
@@ -21,13 +20,13 @@ use Rattle.curses.specs.declared.calls.values.Call.TheVariants.{AddText, MoveCur
 use Rattle.curses.specs.declared.faults.Sent.{Sent as SentView}
 use Rattle.curses.specs.Making.{IsMade, drawn_of}
 use Rattle.curses.specs.ScreenStates.{ScreenState}
-use Rattle.curses.specs.Sessions.{Drawn, RightAnswer, begun_of, count_of, is_update, left_by, ran_out, screen_call}
+use Rattle.curses.specs.Sessions.{Drawn, RightAnswer, begun_of, count_of, is_update, left_by, marked_by, memory_marked, memory_updated, ran_out, screen_call}
 use Rattle.curses.specs.Updates.{IsSent, IsShown}
 use Rattle.curses.specs.Writers.{WriterView}
 use Rattle.screen_scripts.specs.declared.effects.Effects.{Effects}
-use Rattle.screen_scripts.specs.Stories.{Event, Outcome, Shown, Stage, added, called, fault_name, first_window, followed, made, refusal_of, shown, unless_refused, updated}
+use Rattle.screen_scripts.specs.Stories.{Event, Outcome, Shown, Stage, added, called, fault_name, first_window, followed, made, mark_of, refusal_of, shown, unless_refused, updated}
 use Rattle.screen_scripts.specs.Stories.{Refused as RefusedEvent}
-use Rattle.screen_scripts.specs.Showing.{IsQuiet, IsReady, IsRefusalOf, IsSentIf, IsUpdateOf, Obeys, StillAgrees, Updates, event_if, events_in, events_of, shown_if, stage_of, update_in}
+use Rattle.screen_scripts.specs.Showing.{IsQuiet, IsReady, IsRefusalOf, IsSending, IsSentIf, IsUpdateOf, Obeys, StillAgrees, Updates, event_if, events_in, events_of, shown_if, stage_of, update_in}
 
 -- ---- calls that are no updates
 
@@ -83,20 +82,21 @@ owes_nothing : (old new : ScreenState) (before after : WriterView) (begun : List
 owes_nothing old new before after begun count none nothing sent =
     still_none old.owed sent.cut.taken new.owed none (ap (λ ops. old.owed ++ all_bytes old.profile ops) (sym nothing) ∙ sent.cut.whole)
 
-made_called : (stage : Stage) (call : Call) → is_update call ≡ false → made stage call ≡ called stage (screen_call stage.drawn call)
+made_called : (stage : Stage) (call : Call) → is_update call ≡ false → made stage call ≡ called stage (marked_by stage.drawn.desk call) (screen_call stage.drawn call)
 unfolding made
-made_called stage call update = ap {A = Bool} {B = Outcome} (λ b. if b then updated stage else called stage (screen_call stage.drawn call)) update
+made_called stage call update = ap {A = Bool} {B = Outcome} (λ b. if b then updated stage else called stage (marked_by stage.drawn.desk call) (screen_call stage.drawn call)) update
 
 pub made_updated : (stage : Stage) (call : Call) → is_update call ≡ true → made stage call ≡ updated stage
 unfolding made
-made_updated stage call update = ap {A = Bool} {B = Outcome} (λ b. if b then updated stage else called stage (screen_call stage.drawn call)) update
+made_updated stage call update = ap {A = Bool} {B = Outcome} (λ b. if b then updated stage else called stage (marked_by stage.drawn.desk call) (screen_call stage.drawn call)) update
 
 pub quietly : (old new : ScreenState) (call : Call) (answer : Answer) (fault : Option WinFault) (before after : WriterView) → is_update call ≡ false → IsReady old
     → IsMade old new call answer before after → IsRefusalOf answer fault → IsQuiet old new call fault
 quietly old new call answer fault before after update ready is refusal = record {
   stage = ap (λ o. o.stage) (made_called (stage_of old) call update) ∙ same_stage;
-  events = ap (λ o. o.events) (made_called (stage_of old) call update) ∙ ap refusal_of (sym own) ∙ refusal.events;
+  events = ap (λ o. o.events) (made_called (stage_of old) call update) ∙ ap (λ e. mark_of (marked_by old.desk call) ++ e) (ap refusal_of (sym own) ∙ refusal.events);
   profile = is.profile;
+  memory = is.memory ∙ ap (λ b. if b then memory_updated old.profile old.memory answer else memory_marked old.memory (marked_by old.desk call)) update;
   agrees = subst (λ p. StillAgrees p old.memory new.memory) (sym is.profile)
       (record { still = λ state agrees. is.agrees state state agrees (ap (runs old.profile state) refusal.nothing) });
   ready = record {
@@ -113,7 +113,7 @@ quietly old new call answer fault before after update ready is refusal = record 
         is.drawn ∙ ap (λ b. left_by b (drawn_of old) (screen_call (drawn_of old) call) answer) update
         ∙ ap {A = Bool} {B = Drawn} (λ b. if b then drawn_of old else (screen_call (drawn_of old) call).0) (not_short (screen_call (drawn_of old) call).1 answer refusal.memory)
 
-    same_stage : (called (stage_of old) (screen_call (drawn_of old) call)).stage ≡ stage_of new
+    same_stage : (called (stage_of old) (marked_by old.desk call) (screen_call (drawn_of old) call)).stage ≡ stage_of new
     same_stage = λ i. record { drawn = sym drawn i; keys = sym is.keys i }
 
 -- ---- updates
@@ -126,14 +126,14 @@ pub updates : Ecma48Laws → MemoryRuns → (old new : ScreenState) (before afte
 updates laws runs_on old new before after sent bytes ready is first last = record {
   stage = ap stage_of (sym is.screen);
   picture = ap (λ s. s.virtual.picture) is.screen;
-  update = subst (λ p. IsUpdateOf p old.memory new.memory new.virtual.picture bytes) (sym profile)
-      (subst (λ p. IsUpdateOf old.profile old.memory new.memory p bytes) (sym (ap (λ s. s.virtual.picture) is.screen)) (record {
-        ops = sent.begun;
-        bytes_are = wrote first last is.updated.sent.cut.writer ∙ sent_all old.owed is.updated.sent.cut.taken (all_bytes old.profile sent.begun) new.owed ready.nothing is.updated.nothing is.updated.sent.cut.whole;
-        lead = is.updated.plan.shows;
-        agrees = λ state next agrees run. subst (λ m. Agrees (abilities old.profile) m next) (sym (ap (λ s. s.memory) is.screen))
-            (runs_on.follows old.profile (laws.is_profile old.profile ready.entry) old.memory state next sent.begun agrees run);
-      }));
+  update = subst (λ p. IsUpdateOf p old.memory new.memory old.virtual bytes) (sym profile) (record {
+    ops = sent.begun;
+    bytes_are = wrote first last is.updated.sent.cut.writer ∙ sent_all old.owed is.updated.sent.cut.taken (all_bytes old.profile sent.begun) new.owed ready.nothing is.updated.nothing is.updated.sent.cut.whole;
+    plan = is.updated.plan;
+    left = ap (λ s. s.memory) is.screen;
+    agrees = λ state next agrees run. subst (λ m. Agrees (abilities old.profile) m next) (sym (ap (λ s. s.memory) is.screen))
+        (runs_on.follows old.profile (laws.is_profile old.profile ready.entry) old.memory state next sent.begun agrees run);
+  });
   profile = profile;
   ready = record { entry = subst IsEcma48 (sym profile) ready.entry; nothing = is.updated.nothing };
 }
@@ -163,28 +163,24 @@ is_outcome outcome new a s e = λ i. record { stage = s i; events = e i }
 no_more : (events : List Event) → events ≡ events ++ []
 no_more events = sym (append-nil events)
 
--- a call that sent nothing, and then an update or nothing
-pub sent_behind : (profile : ProfileView) (old mid new : MemoryView) (picture : PictureView) (update : Option (List ℕ)) → StillAgrees profile old mid → IsSentIf profile mid new picture update
-    → IsSentIf profile old new picture update
-sent_behind profile old mid new picture None first next = record { still = λ state agrees. next.still state (first.still state agrees) }
-sent_behind profile old mid new picture (Some bytes) first next = record {
-  ops = next.ops;
-  bytes_are = next.bytes_are;
-  lead = λ state agrees. next.lead state (first.still state agrees);
-  agrees = λ state last agrees run. next.agrees state last (first.still state agrees) run;
-}
-
--- what is remembered stays
-pub same_memory : (profile : ProfileView) (old new : MemoryView) → new ≡ old → StillAgrees profile old new
-same_memory profile old new same = record { still = λ state agrees. subst (λ m. Agrees (abilities profile) m state) (sym same) agrees }
+-- no row was marked
+unmarked : (profile : ProfileView) (memory : MemoryView) → StillAgrees profile memory memory
+unmarked profile memory = record { still = λ state agrees. agrees }
 
 -- what a screen is after a call that sent nothing and was refused so, if it was
 pub quiet_obeys : (old new : ScreenState) (call : Call) (fault : Option WinFault) (effects : Effects) → IsQuiet old new call fault → events_in effects.notes.items ≡ event_if fault
     → effects.update ≡ None → Obeys old new effects (made (stage_of old) call)
 quiet_obeys old new call fault effects quiet notes none = record {
-  is = is_outcome (made (stage_of old) call) new (events_of effects new.virtual.picture) quiet.stage
-      (quiet.events ∙ sym notes ∙ no_more (events_in effects.notes.items) ∙ ap (λ u. events_in effects.notes.items ++ shown_if u new.virtual.picture) (sym none));
-  update = subst (λ u. IsSentIf new.profile old.memory new.memory new.virtual.picture (option_map (λ bytes. bytes.items) u)) (sym none) quiet.agrees;
+  rows = marked_by old.desk call;
+  virtual = new.virtual;
+  is = is_outcome (made (stage_of old) call) new (mark_of (marked_by old.desk call) ++ events_of effects new.virtual) quiet.stage
+      (quiet.events ∙ ap (λ e. mark_of (marked_by old.desk call) ++ e)
+      (sym notes ∙ no_more (events_in effects.notes.items) ∙ ap (λ u. events_in effects.notes.items ++ shown_if u new.virtual) (sym none)));
+  marked = subst (λ m. StillAgrees new.profile old.memory m) quiet.memory quiet.agrees;
+  update = record {
+    shown = refl;
+    sent = subst (λ u. IsSentIf new.profile (memory_marked old.memory (marked_by old.desk call)) new.memory new.virtual (option_map (λ bytes. bytes.items) u)) (sym none) quiet.memory;
+  };
   profile = quiet.profile;
   ready = quiet.ready;
 }
@@ -193,22 +189,43 @@ quiet_obeys old new call fault effects quiet notes none = record {
 pub update_obeys : (old new : ScreenState) (noted effects : Effects) (bytes : Vec ℕ Global) → Updates old new bytes.items → noted.notes.items ≡ [] → effects ≡ record noted { update = Some bytes }
     → Obeys old new effects (updated (stage_of old))
 update_obeys old new noted effects bytes sent none same = subst (λ e. Obeys old new e (updated (stage_of old))) (sym same) (record {
-  is = is_outcome (updated (stage_of old)) new (events_in noted.notes.items ++ Shown new.virtual.picture ∷ []) sent.stage
-      (ap (λ p. Shown p ∷ []) (sym sent.picture) ∙ ap (λ n. events_in n ++ Shown new.virtual.picture ∷ []) (sym none));
-  update = sent.update;
+  rows = None;
+  virtual = old.virtual;
+  is = is_outcome (updated (stage_of old)) new (events_in noted.notes.items ++ Shown old.virtual ∷ []) sent.stage (ap (λ n. events_in n ++ Shown old.virtual ∷ []) (sym none));
+  marked = unmarked new.profile old.memory;
+  update = record { shown = sym sent.picture; sent = sent.update };
   profile = sent.profile;
   ready = sent.ready;
 })
 
--- a call that sent nothing, and then one that was obeyed
-pub obeys_behind : (old mid new : ScreenState) (call : Call) (fault : Option WinFault) (effects : Effects) (outcome : Outcome) → IsQuiet old mid call fault → Obeys mid new effects outcome
+-- a call that sent and marked nothing, and then one that was obeyed
+pub obeys_behind : (old mid new : ScreenState) (effects : Effects) (outcome : Outcome) → mid.profile ≡ old.profile → mid.memory ≡ old.memory → Obeys mid new effects outcome
     → Obeys old new effects outcome
-obeys_behind old mid new call fault effects outcome quiet obeys = record {
+obeys_behind old mid new effects outcome profile memory obeys = record {
+  rows = obeys.rows;
+  virtual = obeys.virtual;
   is = obeys.is;
-  update = sent_behind new.profile old.memory mid.memory new.memory new.virtual.picture (update_in effects) (subst (λ p. StillAgrees p old.memory mid.memory) (sym obeys.profile) quiet.agrees)
-      obeys.update;
-  profile = obeys.profile ∙ quiet.profile;
+  marked = subst (λ m. StillAgrees new.profile m (memory_marked m obeys.rows)) memory obeys.marked;
+  update = subst (λ m. IsSending new.profile (memory_marked m obeys.rows) new.memory obeys.virtual new.virtual.picture (update_in effects)) memory obeys.update;
+  profile = obeys.profile ∙ profile;
   ready = obeys.ready;
+}
+
+-- what was obeyed changed the keys alone
+pub keys_obey : (old new : ScreenState) (effects : Effects) (outcome : Outcome) → IsReady old → new ≡ record old { keys = new.keys } → outcome.stage ≡ stage_of new
+    → outcome.events ≡ events_in effects.notes.items → effects.update ≡ None → Obeys old new effects outcome
+keys_obey old new effects outcome ready rest stage events none = record {
+  rows = None;
+  virtual = new.virtual;
+  is = is_outcome outcome new (events_of effects new.virtual) stage
+      (events ∙ no_more (events_in effects.notes.items) ∙ ap (λ u. events_in effects.notes.items ++ shown_if u new.virtual) (sym none));
+  marked = unmarked new.profile old.memory;
+  update = record {
+    shown = refl;
+    sent = subst (λ u. IsSentIf new.profile old.memory new.memory new.virtual (option_map (λ bytes. bytes.items) u)) (sym none) (ap (λ s. s.memory) rest);
+  };
+  profile = ap (λ s. s.profile) rest;
+  ready = record { entry = subst IsEcma48 (sym (ap (λ s. s.profile) rest)) ready.entry; nothing = ap (λ s. s.owed) rest ∙ ready.nothing };
 }
 
 -- a text is added where the cursor was moved, and nothing where that was refused
@@ -245,16 +262,18 @@ add_goes_on old mid new row column text (Some fault) result none quiet obeys = a
 add_goes_on old mid new row column text None (Err error) none quiet obeys = tt
 add_goes_on old mid new row column text None (Ok effects) none quiet obeys =
     subst (Obeys old new effects) (sym (added_on (stage_of old) (stage_of mid) row column text quiet.stage quiet.events))
-    (obeys_behind old mid new (MoveCursor first_window row column) None effects (made (stage_of mid) (AddText first_window text)) quiet obeys)
+    (obeys_behind old mid new effects (made (stage_of mid) (AddText first_window text)) quiet.profile quiet.memory obeys)
 
 -- a window is taken, and then an update shows the picture
 pub shows_taken : (old mid new : ScreenState) (fault : Option WinFault) (noted effects : Effects) (bytes : Vec ℕ Global) → IsQuiet old mid (Noutrefresh first_window) fault
     → events_in noted.notes.items ≡ event_if fault → Updates mid new bytes.items → effects ≡ record noted { update = Some bytes } → Obeys old new effects (shown (stage_of old))
 shows_taken old mid new fault noted effects bytes quiet notes sent same = subst (λ e. Obeys old new e (shown (stage_of old))) (sym same) (record {
-  is = followed_is (made (stage_of old) (Noutrefresh first_window)) updated mid new (event_if fault) (Shown mid.virtual.picture ∷ []) quiet.stage quiet.events sent.stage refl
-      ∙ (λ i. record { stage = stage_of new; events = sym notes i ++ Shown (sym sent.picture i) ∷ [] });
-  update = sent_behind new.profile old.memory mid.memory new.memory new.virtual.picture (Some bytes.items) (subst (λ p. StillAgrees p old.memory mid.memory) (sym sent.profile) quiet.agrees)
-      sent.update;
+  rows = None;
+  virtual = mid.virtual;
+  is = followed_is (made (stage_of old) (Noutrefresh first_window)) updated mid new (event_if fault) (Shown mid.virtual ∷ []) quiet.stage quiet.events sent.stage refl
+      ∙ (λ i. record { stage = stage_of new; events = sym notes i ++ Shown mid.virtual ∷ [] });
+  marked = unmarked new.profile old.memory;
+  update = record { shown = sym sent.picture; sent = subst (λ m. IsUpdateOf new.profile m new.memory mid.virtual bytes.items) quiet.memory sent.update };
   profile = sent.profile ∙ quiet.profile;
   ready = sent.ready;
 })

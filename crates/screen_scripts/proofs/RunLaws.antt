@@ -5,19 +5,20 @@ use Rattle.std.specs.Option.{ForSome}
 use Rattle.std.proofs.lemmas.Bool.Decides.{nat_tests}
 use Rattle.std.proofs.lemmas.List.{append-nil}
 use Rattle.scr_term.specs.Operations.Ecma48.{ecma48_profile}
-use Rattle.scr_plan.specs.Memories.{Agrees, MemoryView}
-use Rattle.scr_term.specs.Operations.Profiles.{abilities}
+use Rattle.scr_plan.specs.Memories.{MemoryView}
+use Rattle.scr_virtual.specs.VirtualViews.{VirtualView}
 use Rattle.screen_commands.specs.Commands.{command_of}
 use Rattle.screen_commands.specs.Lines.{lines_of}
 use Rattle.screen_commands.specs.declared.commands.Command.{Command}
 use Rattle.curses.specs.ScreenStates.{ScreenState}
+use Rattle.curses.specs.Sessions.{memory_marked}
 use Rattle.screen_scripts.specs.declared.effects.Effects.{Effects}
 use Rattle.screen_scripts.specs.declared.stages.Stage.{Stage as Playing}
 use Rattle.screen_scripts.specs.Stories.{Event, Outcome, Stage, Story, continued, line_outcome, next_number, opened, outcome_of, size_in, size_on, story_from, story_of, story_on}
 use Rattle.screen_scripts.specs.Printing.{Begins, GrewByBeginning, Writes, profile_of, refusals_of}
 use Rattle.screen_scripts.specs.Running.{BeginsLine, CommandRefuses, LineWritten, OpensOn}
-use Rattle.screen_scripts.specs.Showing.{AddsRefusals, CommandWrites, IsAhead, IsOutputOn, IsReadyStage, IsSentIf, IsTerminalFor, LineWrites, MayBeIn, Obeys, ObeysSome, Opens, events_in, events_of, profile_behind, shown_if, stage_of, stages_of, update_in}
-use Rattle.screen_scripts.proofs.OutputLaws.{output_at_last, output_join, output_none, refusals_join, shown_refuses_none}
+use Rattle.screen_scripts.specs.Showing.{AddsRefusals, CommandWrites, IsAhead, IsOutputBetween, IsOutputOfLines, IsReadyStage, IsSending, IsTerminalFor, LineWrites, MayBeIn, Obeys, ObeysSome, Opens, events_in, events_of, memory_in, profile_behind, shown_if, stage_of, stages_of, update_in}
+use Rattle.screen_scripts.proofs.OutputLaws.{mark_refuses_none, output_at_last, output_join, output_marked, output_none, refusals_join, shown_refuses_none, still_terminal}
 use Rattle.screen_scripts.proofs.WriteLaws.{appends_kept, appends_more, appends_none}
 
 none_is_none : {A : Type 0} (x : A) → None ≡ Some x → ⊥
@@ -51,8 +52,9 @@ opening_writes raw line text command stage e is none = record {
   same = refl;
   ready = record { screen = is.ready.screen; terminal = λ fed. is.ready.terminal refl };
   profile = is.profile ∙ ap (λ c. ecma48_profile (size_in c).0 (size_in c).1) (sym e);
-  written = subst (λ t. IsOutputOn raw stage.screen.profile (MayBeIn stage.screen.profile None) (MayBeIn stage.screen.profile (Some stage)) [] t) (sym none)
-      (output_none raw stage.screen.profile (MayBeIn stage.screen.profile None) (MayBeIn stage.screen.profile (Some stage)) is.agrees);
+  written = subst (λ t. IsOutputOfLines raw stage.screen.profile None (Some stage) [] t) (sym none)
+      (output_none raw stage.screen.profile (MayBeIn stage.screen.profile None) (MayBeIn stage.screen.profile (Some stage)) (memory_in stage.screen.profile None)
+      (memory_in stage.screen.profile (Some stage)) is.memory is.agrees);
 }
 
 pub opened_writes : (raw : Bool) (line text : List ℕ) (command : Command) (new : Option Playing) → command_of line ≡ Some command → OpensOn command new → text ≡ []
@@ -103,16 +105,18 @@ pub ahead_after : (raw : Bool) (old : Playing) (screen : ScreenState) (effects :
 ahead_after raw old screen effects outcome ready obeys =
     let o = obeyed old.screen screen effects outcome obeys in
     record {
-      before = old.screen.memory;
+      before = memory_marked old.screen.memory o.2.rows;
+      virtual = o.2.virtual;
       screen = o.2.ready;
-      terminal = λ fed. subst (λ p. IsTerminalFor p old.screen.memory old.terminal) (sym o.2.profile) (ready.terminal fed);
-      sent = o.2.update;
+      terminal = λ fed. still_terminal screen.profile old.screen.memory (memory_marked old.screen.memory o.2.rows) old.terminal o.2.marked
+          (subst (λ p. IsTerminalFor p old.screen.memory old.terminal) (sym o.2.profile) (ready.terminal fed));
+      sending = o.2.update;
     }
 
 pub command_written : (raw : Bool) (old new : Playing) (screen : ScreenState) (effects : Effects) (command : Command) (text : List ℕ)
     → ObeysSome old.screen screen effects (continued (stage_of old.screen) command) → new.screen ≡ screen → IsReadyStage (not raw) new
-    → ((before : MemoryView) → IsSentIf screen.profile before screen.memory screen.virtual.picture (update_in effects)
-    → IsOutputOn raw screen.profile (Agrees (abilities screen.profile) before) (Agrees (abilities screen.profile) screen.memory) (events_of effects screen.virtual.picture) text)
+    → ((before : MemoryView) (virtual : VirtualView) → IsSending screen.profile before screen.memory virtual screen.virtual.picture (update_in effects)
+    → IsOutputBetween raw screen.profile before screen.memory (events_of effects virtual) text)
     → CommandWrites raw old command text new
 command_written raw old new screen effects command text obeys same ready written =
     let o = obeyed old.screen screen effects (continued (stage_of old.screen) command) obeys in
@@ -122,9 +126,10 @@ command_written raw old new screen effects command text obeys same ready written
       left = ap (λ x. x.stage) o.2.is ∙ ap stage_of (sym same);
       ready = ready;
       profile = ap (λ s. s.profile) same ∙ o.2.profile;
-      written = subst (λ s. IsOutputOn raw s.profile (Agrees (abilities s.profile) old.screen.memory) (Agrees (abilities s.profile) s.memory) o.0.events text) (sym same)
-          (subst (λ events. IsOutputOn raw screen.profile (Agrees (abilities screen.profile) old.screen.memory) (Agrees (abilities screen.profile) screen.memory) events text)
-          (sym (ap (λ x. x.events) o.2.is)) (written old.screen.memory o.2.update));
+      written = subst (λ s. IsOutputBetween raw s.profile old.screen.memory s.memory o.0.events text) (sym same)
+          (subst (λ events. IsOutputBetween raw screen.profile old.screen.memory screen.memory events text) (sym (ap (λ x. x.events) o.2.is))
+          (output_marked raw screen.profile old.screen.memory screen.memory o.2.rows (events_of effects o.2.virtual) text o.2.marked
+          (written (memory_marked old.screen.memory o.2.rows) o.2.virtual o.2.update)));
     }
 
 opening_adds : (line text : List ℕ) (command : Command) (stage : Playing) → command_of line ≡ Some command → Opens command stage → AddsRefusals None line text text (Some stage)
@@ -155,8 +160,9 @@ obeying_refuses before after command old screen effects obeys is =
       left = ap (λ x. x.stage) o.2.is;
       ready = o.2.ready;
       added = is ∙ ap (λ t. before ++ t) (sym (append-nil (refusals_of (events_in effects.notes.items))))
-          ∙ ap (λ t. before ++ (refusals_of (events_in effects.notes.items) ++ t)) (sym (shown_refuses_none effects.update screen.virtual.picture))
-          ∙ ap (λ t. before ++ t) (sym (refusals_join (events_in effects.notes.items) (shown_if effects.update screen.virtual.picture)))
+          ∙ ap (λ t. before ++ (refusals_of (events_in effects.notes.items) ++ t)) (sym (shown_refuses_none effects.update o.2.virtual))
+          ∙ ap (λ t. before ++ t) (sym (refusals_join (events_in effects.notes.items) (shown_if effects.update o.2.virtual)))
+          ∙ ap (λ t. before ++ t) (sym (mark_refuses_none o.2.rows (events_of effects o.2.virtual)))
           ∙ ap (λ x. before ++ refusals_of x.events) (sym o.2.is);
     }
 
@@ -202,7 +208,7 @@ pub record SoFar (raw : Bool) (script : List ℕ) (old now : Option (List ℕ)) 
   pub first : stage ≡ None → rest ≡ script
   pub before : List Event
   pub text : List ℕ
-  pub output : IsOutputOn raw (profile_of script) (MayBeIn (profile_of script) None) (MayBeIn (profile_of script) stage) before text
+  pub output : IsOutputOfLines raw (profile_of script) None stage before text
   pub written : Appends old now text
   pub events : before ++ (story_on number (stages_of stage) (lines_of rest)).events ≡ (story_of script).events
   pub bad_line : (story_on number (stages_of stage) (lines_of rest)).bad_line ≡ (story_of script).bad_line
@@ -214,7 +220,8 @@ so_far_first raw script now = record {
   first = λ e. refl;
   before = [];
   text = [];
-  output = output_none raw (profile_of script) (MayBeIn (profile_of script) None) (MayBeIn (profile_of script) None) (λ state is. is);
+  output = output_none raw (profile_of script) (MayBeIn (profile_of script) None) (MayBeIn (profile_of script) None) (memory_in (profile_of script) None) (memory_in (profile_of script) None) refl
+      (λ state is. is);
   written = appends_none now;
   events = refl;
   bad_line = refl;
@@ -226,11 +233,11 @@ so_far_opened raw script now stage none = subst (λ stage. SoFar raw script now 
 -- an output of one line more
 output_more : (raw : Bool) (script : List ℕ) (old now : Option (List ℕ)) (number : ℕ) (stage new : Option Playing) (rest line after text : List ℕ)
     → (so : SoFar raw script old now number stage rest) → lines_of rest ≡ line ∷ lines_of after → (writes : LineWrites raw stage line text new)
-    → IsOutputOn raw (profile_of script) (MayBeIn (profile_of script) None) (MayBeIn (profile_of script) new) (so.before ++ writes.outcome.events) (so.text ++ text)
+    → IsOutputOfLines raw (profile_of script) None new (so.before ++ writes.outcome.events) (so.text ++ text)
 output_more raw script old now number stage new rest line after text so e writes =
     output_join raw (profile_of script) (MayBeIn (profile_of script) None) (MayBeIn (profile_of script) stage) (MayBeIn (profile_of script) new)
-    so.before writes.outcome.events so.text text so.output
-    (subst (λ p. IsOutputOn raw p (MayBeIn p stage) (MayBeIn p new) writes.outcome.events text) (writes.profile ∙ profile_after script rest line after stage so.first so.profile e) writes.written)
+    (memory_in (profile_of script) None) (memory_in (profile_of script) stage) (memory_in (profile_of script) new) so.before writes.outcome.events so.text text so.output
+    (subst (λ p. IsOutputOfLines raw p stage new writes.outcome.events text) (writes.profile ∙ profile_after script rest line after stage so.first so.profile e) writes.written)
 
 -- the story with one line more
 story_more : (raw : Bool) (script : List ℕ) (old now : Option (List ℕ)) (number : ℕ) (stage new : Option Playing) (rest line after text : List ℕ)
@@ -269,7 +276,7 @@ so_far_begins raw script old now new number stage rest so kept = record {
   later = (story_on number (stages_of stage) (lines_of rest)).events;
   story = sym so.events;
   text = so.text;
-  output = output_at_last raw (profile_of script) (MayBeIn (profile_of script) stage) so.before so.text so.output;
+  output = output_at_last raw (profile_of script) (MayBeIn (profile_of script) stage) (memory_in (profile_of script) stage) so.before so.text so.output;
   grew = record { beginning = so.text; rest = []; whole = sym (append-nil so.text); written = appends_kept old now new so.text so.written kept };
 }
 
@@ -281,7 +288,7 @@ so_far_begun raw script old now next number stage new rest line after text so e 
   later = (story_on (next_number number) (stages_of new) (lines_of after)).events;
   story = sym (story_more raw script old now number stage new rest line after text so e writes);
   text = so.text ++ text;
-  output = output_at_last raw (profile_of script) (MayBeIn (profile_of script) new) (so.before ++ writes.outcome.events) (so.text ++ text)
+  output = output_at_last raw (profile_of script) (MayBeIn (profile_of script) new) (memory_in (profile_of script) new) (so.before ++ writes.outcome.events) (so.text ++ text)
       (output_more raw script old now number stage new rest line after text so e writes);
   grew = record {
     beginning = so.text ++ grew.beginning;
@@ -305,7 +312,7 @@ writes_all raw script old now new number stage rest so kept none =
     subst (λ events. Writes raw script events old new) (sym (append-nil so.before) ∙ ap (λ t. so.before ++ t) (sym none) ∙ so.events)
     (record {
       text = so.text;
-      output = output_at_last raw (profile_of script) (MayBeIn (profile_of script) stage) so.before so.text so.output;
+      output = output_at_last raw (profile_of script) (MayBeIn (profile_of script) stage) (memory_in (profile_of script) stage) so.before so.text so.output;
       written = appends_kept old now new so.text so.written kept;
     })
 

@@ -111,6 +111,7 @@ blank_first laws memories size screen opened terminal =
         keys = record { keys = (is.keys.all ∙ keys_are entry bundled) i; queue = is.queue i; waiting = is.waiting i };
       };
       profile = laws.made screen.profile (ecma48_is entry size bundled screen.profile is.profile) ∙ (λ i. ecma48_profile (rows i) (columns i));
+      memory = is.memory;
       agrees = agrees_at_first laws memories screen.profile screen.memory (ecma48_is entry size bundled screen.profile is.profile) is.memory;
     }
 
@@ -128,5 +129,6 @@ opens rows columns stage size ready first = record {
       ∙ ap {A = Stage} {B = Option Outcome} (λ s. Some (record { stage = s; events = [] })) (sym first.is);
   profile = first.profile;
   ready = ready;
+  memory = first.memory;
   agrees = first.agrees;
 }

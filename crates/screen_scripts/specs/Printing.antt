@@ -15,12 +15,14 @@ use Rattle.scr_term.specs.Operations.Profiles.{ProfileView, abilities}
 use Rattle.scr_term.specs.Operations.Painted.{painted}
 use Rattle.scr_term.specs.Operations.States.{TerminalState, IsState}
 use Rattle.scr_term.specs.Operations.Texts.{all_bytes}
+use Rattle.scr_plan.specs.Memories.{MemoryView, all_followed, disturbed, unknown}
+use Rattle.scr_plan.specs.Plans.{IsPlan}
 use Rattle.scr_plan.specs.Scratch.{RunsToShow}
 use Rattle.scr_keys.specs.declared.keys.Key.{Key}
 use Rattle.scr_keys.specs.declared.keys.Key.TheVariants.{Slot, Byte}
 use Rattle.ti_caps.specs.Table.{name_at}
 use Rattle.ti_caps.specs.declared.table.Kind.TheVariants.{Text}
-use Rattle.screen_scripts.specs.Stories.{Event, Refused, Shown, Pressed, size_of, story_of}
+use Rattle.screen_scripts.specs.Stories.{Event, Refused, Marked, Shown, Pressed, size_of, story_of}
 
 -- a hexadecimal digit, in lower case
 abbrev pub hexadecimal_digit : ℕ → ℕ
@@ -94,10 +96,11 @@ pub record IsScreenOf (picture : PictureView) (text : List ℕ) : Type 0 where
   pub wished : IfSome picture.wish (λ wish. spot ≡ At wish.0 wish.1)
   pub lines : text ≡ screen_lines (negative_grid (painted (abilities_for picture) picture)) spot
 
--- the lines of an event
+-- the lines of an event; a mark has none
 abbrev pub IsPrinted : Event → List ℕ → Type 0
 IsPrinted (Refused name) text = text ≡ refusal_line name
-IsPrinted (Shown picture) text = IsScreenOf picture text
+IsPrinted (Marked first n) text = text ≡ []
+IsPrinted (Shown virtual) text = IsScreenOf virtual.picture text
 IsPrinted (Pressed key) text = text ≡ key_line key
 
 -- those of events, one after another
@@ -117,7 +120,7 @@ refusals_of events = flat_map refused_event events
 
 -- the pictures that are shown
 abbrev pub shown_by : Event → List PictureView
-shown_by (Shown picture) = picture ∷ []
+shown_by (Shown virtual) = virtual.picture ∷ []
 shown_by event = []
 
 abbrev pub pictures_of : List Event → List PictureView
@@ -131,17 +134,32 @@ RunToShow profile state [] (picture ∷ pictures) = ⊥
 RunToShow profile state (ops ∷ updates) [] = ⊥
 RunToShow profile state (ops ∷ updates) (picture ∷ pictures) = (first : RunsToShow profile state ops picture) × RunToShow profile first.new updates pictures
 
--- the bytes of an update for each picture, which show them whatever state the terminal was in at first
-pub record AreSent (profile : ProfileView) (pictures : List PictureView) (text : List ℕ) : Type 0 where
+-- There is an update for each virtual screen that is shown, and its operations are a plan for what is remembered of the
+-- terminal by then: behind a mark its rows are forgotten, and behind an update its operations were followed.
+abbrev pub ArePlans : ProfileView → MemoryView → List Event → List (List Op) → MemoryView → Type 0
+ArePlans profile memory [] [] last = last ≡ memory
+ArePlans profile memory [] (ops ∷ updates) last = ⊥
+ArePlans profile memory (Refused name ∷ events) updates last = ArePlans profile memory events updates last
+ArePlans profile memory (Marked first n ∷ events) updates last = ArePlans profile (disturbed first n memory) events updates last
+ArePlans profile memory (Shown virtual ∷ events) [] last = ⊥
+ArePlans profile memory (Shown virtual ∷ events) (ops ∷ updates) last = IsPlan profile memory virtual ops × ArePlans profile (all_followed profile ops memory) events updates last
+ArePlans profile memory (Pressed key ∷ events) updates last = ArePlans profile memory events updates last
+
+-- The bytes of an update for each virtual screen that is shown. Each update is a plan for what is remembered of the
+-- terminal by then, where nothing is at first: it sends no more than the joined repaint of what differs, where all is
+-- known. And the updates show the pictures, whatever state the terminal was in at first.
+pub record AreSent (profile : ProfileView) (events : List Event) (text : List ℕ) : Type 0 where
   pub updates : List (List Op)
   pub bytes : text ≡ flat_map (all_bytes profile) updates
-  pub show : (state : TerminalState) → IsState (abilities profile) state → RunToShow profile state updates pictures
+  pub last : MemoryView
+  pub plans : ArePlans profile (unknown profile.rows profile.columns) events updates last
+  pub show : (state : TerminalState) → IsState (abilities profile) state → RunToShow profile state updates (pictures_of events)
 
 -- ---- what a run writes
 
 -- what it prints of events, or raw, what it sends
 abbrev pub IsOutput : Bool → ProfileView → List Event → List ℕ → Type 0
-IsOutput true profile events text = AreSent profile (pictures_of events) text
+IsOutput true profile events text = AreSent profile events text
 IsOutput false profile events text = ArePrinted events text
 
 -- the profile of the bundled entry on a screen of the script's size

@@ -10,8 +10,10 @@ use Rattle.scr_term.specs.Operations.States.{TerminalState, IsState, negative_st
 use Rattle.scr_term.specs.Operations.Steps.{runs}
 use Rattle.scr_term.specs.Operations.Texts.{all_bytes}
 use Rattle.scr_term.specs.Ecma.Screens.{ScreenView, IsScreen}
-use Rattle.scr_plan.specs.Memories.{Agrees, MemoryView}
+use Rattle.scr_plan.specs.Memories.{Agrees, MemoryView, all_followed, unknown}
+use Rattle.scr_plan.specs.Plans.{IsPlan}
 use Rattle.scr_plan.specs.Scratch.{RunsToShow}
+use Rattle.scr_virtual.specs.VirtualViews.{VirtualView}
 use Rattle.scr_windows.specs.declared.faults.WinFault.{WinFault}
 use Rattle.scr_windows.specs.declared.faults.WinFault.TheVariants as faults
 use Rattle.curses.specs.declared.answers.Answer.{Answer}
@@ -19,15 +21,15 @@ use Rattle.curses.specs.declared.answers.Answer.TheVariants as answers
 use Rattle.curses.specs.declared.calls.values.Call.{Call}
 use Rattle.curses.specs.Making.{drawn_of}
 use Rattle.curses.specs.ScreenStates.{ScreenState}
-use Rattle.curses.specs.Sessions.{begun_of}
+use Rattle.curses.specs.Sessions.{begun_of, marked_by, memory_marked}
 use Rattle.screen_commands.specs.Commands.{command_of}
 use Rattle.screen_commands.specs.declared.commands.Command.{Command}
 use Rattle.screen_scripts.specs.declared.effects.Effects.{Effects}
 use Rattle.screen_scripts.specs.declared.effects.Note.{Note}
 use Rattle.screen_scripts.specs.declared.effects.Note.TheVariants as notes
 use Rattle.screen_scripts.specs.declared.stages.Stage.{Stage as Playing}
-use Rattle.screen_scripts.specs.Stories.{Event, Pressed, Refused, Shown, Stage, Outcome, continued, fault_name, first_stage, key_fault_name, line_outcome, made, opened, refusal_of, size_in, updated}
-use Rattle.screen_scripts.specs.Printing.{ArePrinted, IsScreenOf, key_line, pictures_of, refusal_line, refusals_of}
+use Rattle.screen_scripts.specs.Stories.{Event, Pressed, Refused, Shown, Stage, Outcome, continued, fault_name, first_stage, key_fault_name, line_outcome, made, mark_of, opened, refusal_of, size_in, updated}
+use Rattle.screen_scripts.specs.Printing.{ArePlans, ArePrinted, IsScreenOf, key_line, pictures_of, refusal_line, refusals_of}
 
 -- ---- what the run keeps true
 
@@ -62,34 +64,46 @@ RunToEnd profile After state [] (picture ∷ pictures) = ⊥
 RunToEnd profile After state (ops ∷ updates) [] = ⊥
 RunToEnd profile After state (ops ∷ updates) (picture ∷ pictures) = (first : RunsToShow profile state ops picture) × RunToEnd profile After first.new updates pictures
 
--- the bytes of an update for each picture, which show them from each of the states that the terminal may be in before, and lead to
--- one that it may be in after them
-pub record AreSentOn (profile : ProfileView) (Before After : TerminalState → Type 0) (pictures : List PictureView) (text : List ℕ) : Type 0 where
+-- The bytes of an update for each virtual screen that is shown: plans for what was remembered of the terminal, behind
+-- which this is remembered now. They show the pictures from each of the states that the terminal may be in before, and lead
+-- to one that it may be in after them.
+pub record AreSentOn (profile : ProfileView) (Before After : TerminalState → Type 0) (old new : MemoryView) (events : List Event) (text : List ℕ) : Type 0 where
   pub updates : List (List Op)
   pub bytes : text ≡ flat_map (all_bytes profile) updates
-  pub show : (state : TerminalState) → Before state → RunToEnd profile After state updates pictures
+  pub plans : ArePlans profile old events updates new
+  pub show : (state : TerminalState) → Before state → RunToEnd profile After state updates (pictures_of events)
 
 -- what is printed of events, or raw, what is sent
-abbrev pub IsOutputOn : Bool → ProfileView → (TerminalState → Type 0) → (TerminalState → Type 0) → List Event → List ℕ → Type 0
-IsOutputOn true profile Before After events text = AreSentOn profile Before After (pictures_of events) text
-IsOutputOn false profile Before After events text = ArePrinted events text
+abbrev pub IsOutputOn : Bool → ProfileView → (TerminalState → Type 0) → (TerminalState → Type 0) → MemoryView → MemoryView → List Event → List ℕ → Type 0
+IsOutputOn true profile Before After old new events text = AreSentOn profile Before After old new events text
+IsOutputOn false profile Before After old new events text = ArePrinted events text
+
+-- the same, where the terminal may be in each state that agrees with what is remembered
+abbrev pub IsOutputBetween : Bool → ProfileView → MemoryView → MemoryView → List Event → List ℕ → Type 0
+IsOutputBetween raw profile old new events text = IsOutputOn raw profile (Agrees (abilities profile) old) (Agrees (abilities profile) new) old new events text
 
 -- nothing was sent: each state that agreed with what was remembered agrees with what is remembered now
 pub record StillAgrees (profile : ProfileView) (old new : MemoryView) : Type 0 where
   pub still : (state : TerminalState) → Agrees (abilities profile) old state → Agrees (abilities profile) new state
 
--- The bytes of operations that lead from every state that agrees with what was remembered to one that shows a picture, and that
--- agrees with what is remembered then.
-pub record IsUpdateOf (profile : ProfileView) (old new : MemoryView) (picture : PictureView) (bytes : List ℕ) : Type 0 where
+-- The bytes of a plan for a virtual screen and what was remembered, which was followed: the states to which the plan leads
+-- agree with what is remembered then.
+pub record IsUpdateOf (profile : ProfileView) (old new : MemoryView) (virtual : VirtualView) (bytes : List ℕ) : Type 0 where
   pub ops : List Op
   pub bytes_are : bytes ≡ all_bytes profile ops
-  pub lead : (state : TerminalState) → Agrees (abilities profile) old state → RunsToShow profile state ops picture
+  pub plan : IsPlan profile old virtual ops
+  pub left : new ≡ all_followed profile ops old
   pub agrees : (state next : TerminalState) → Agrees (abilities profile) old state → runs profile state ops ≡ Some next → Agrees (abilities profile) new next
 
 -- an update of these bytes was sent, or nothing
-abbrev pub IsSentIf : ProfileView → MemoryView → MemoryView → PictureView → Option (List ℕ) → Type 0
-IsSentIf profile old new picture None = StillAgrees profile old new
-IsSentIf profile old new picture (Some bytes) = IsUpdateOf profile old new picture bytes
+abbrev pub IsSentIf : ProfileView → MemoryView → MemoryView → VirtualView → Option (List ℕ) → Type 0
+IsSentIf profile old new virtual None = new ≡ old
+IsSentIf profile old new virtual (Some bytes) = IsUpdateOf profile old new virtual bytes
+
+-- an update was sent of a virtual screen that has this picture, or nothing
+pub record IsSending (profile : ProfileView) (old new : MemoryView) (virtual : VirtualView) (picture : PictureView) (update : Option (List ℕ)) : Type 0 where
+  pub shown : virtual.picture ≡ picture
+  pub sent : IsSentIf profile old new virtual update
 
 -- ---- what a line does
 
@@ -108,23 +122,24 @@ event_if None = []
 event_if (Some fault) = Refused (fault_name fault) ∷ []
 
 -- the event of an update, where there was one
-abbrev pub shown_if : {A : Type 0} → Option A → PictureView → List Event
-shown_if None picture = []
-shown_if (Some update) picture = Shown picture ∷ []
+abbrev pub shown_if : {A : Type 0} → Option A → VirtualView → List Event
+shown_if None virtual = []
+shown_if (Some update) virtual = Shown virtual ∷ []
 
 -- the bytes of a line's update, where it had one
 abbrev pub update_in : Effects → Option (List ℕ)
 update_in effects = option_map (λ bytes. bytes.items) effects.update
 
--- the events of a line that left this picture: its notes, and its update
-abbrev pub events_of : Effects → PictureView → List Event
-events_of effects picture = events_in effects.notes.items ++ shown_if effects.update picture
+-- the events of a line: its notes, and its update of this virtual screen
+abbrev pub events_of : Effects → VirtualView → List Event
+events_of effects virtual = events_in effects.notes.items ++ shown_if effects.update virtual
 
--- a call that is no update was made: it was refused so, if it was
+-- a call that is no update was made: it was refused so, if it was, and the rows that it marked are forgotten
 pub record IsQuiet (old new : ScreenState) (call : Call) (fault : Option WinFault) : Type 0 where
   pub stage : (made (stage_of old) call).stage ≡ stage_of new
-  pub events : (made (stage_of old) call).events ≡ event_if fault
+  pub events : (made (stage_of old) call).events ≡ mark_of (marked_by old.desk call) ++ event_if fault
   pub profile : new.profile ≡ old.profile
+  pub memory : new.memory ≡ memory_marked old.memory (marked_by old.desk call)
   pub agrees : StillAgrees new.profile old.memory new.memory
   pub ready : IsReady new
 
@@ -132,14 +147,17 @@ pub record IsQuiet (old new : ScreenState) (call : Call) (fault : Option WinFaul
 pub record Updates (old new : ScreenState) (bytes : List ℕ) : Type 0 where
   pub stage : (updated (stage_of old)).stage ≡ stage_of new
   pub picture : new.virtual.picture ≡ old.virtual.picture
-  pub update : IsUpdateOf new.profile old.memory new.memory new.virtual.picture bytes
+  pub update : IsUpdateOf new.profile old.memory new.memory old.virtual bytes
   pub profile : new.profile ≡ old.profile
   pub ready : IsReady new
 
--- a command was obeyed: its outcome is the screen after it and these effects
+-- a command was obeyed: its outcome is the screen after it, the rows that it marked, if any, and these effects
 pub record Obeys (old new : ScreenState) (effects : Effects) (outcome : Outcome) : Type 0 where
-  pub is : outcome ≡ record { stage = stage_of new; events = events_of effects new.virtual.picture }
-  pub update : IsSentIf new.profile old.memory new.memory new.virtual.picture (update_in effects)
+  pub rows : Option (ℕ × ℕ)
+  pub virtual : VirtualView
+  pub is : outcome ≡ record { stage = stage_of new; events = mark_of rows ++ events_of effects virtual }
+  pub marked : StillAgrees new.profile old.memory (memory_marked old.memory rows)
+  pub update : IsSending new.profile (memory_marked old.memory rows) new.memory virtual new.virtual.picture (update_in effects)
   pub profile : new.profile ≡ old.profile
   pub ready : IsReady new
 
@@ -163,14 +181,17 @@ pub record IsReadyStage (fed : Bool) (stage : Playing) : Type 0 where
 -- a screen that is ready and has sent an update, or nothing, which its terminal, where that is fed, is still to be fed
 pub record IsAhead (fed : Bool) (stage : Playing) (update : Option (List ℕ)) : Type 0 where
   pub before : MemoryView
+  pub virtual : VirtualView
   pub screen : IsReady stage.screen
   pub terminal : fed ≡ true → IsTerminalFor stage.screen.profile before stage.terminal
-  pub sent : IsSentIf stage.screen.profile before stage.screen.memory stage.screen.virtual.picture update
+  pub sending : IsSending stage.screen.profile before stage.screen.memory virtual stage.screen.virtual.picture update
 
--- a stage of so many rows and columns, on which nothing was done yet and with whose memory every state of its terminal agrees
+-- a stage of so many rows and columns, on which nothing was done yet and which remembers nothing of its terminal: every
+-- state agrees with that
 pub record IsFirst (rows columns : ℕ) (stage : Playing) : Type 0 where
   pub is : stage_of stage.screen ≡ first_stage rows columns
   pub profile : stage.screen.profile ≡ ecma48_profile rows columns
+  pub memory : stage.screen.memory ≡ unknown stage.screen.profile.rows stage.screen.profile.columns
   pub agrees : (state : TerminalState) → IsState (abilities stage.screen.profile) state → Agrees (abilities stage.screen.profile) stage.screen.memory state
 
 -- a command opened the stage, which remembers nothing of its terminal: every state agrees with that
@@ -178,6 +199,7 @@ pub record Opens (command : Command) (stage : Playing) : Type 0 where
   pub is : opened command ≡ Some (record { stage = stage_of stage.screen; events = [] })
   pub profile : stage.screen.profile ≡ ecma48_profile (size_in (Some command)).0 (size_in (Some command)).1
   pub ready : IsReadyStage true stage
+  pub memory : stage.screen.memory ≡ unknown stage.screen.profile.rows stage.screen.profile.columns
   pub agrees : (state : TerminalState) → IsState (abilities stage.screen.profile) state → Agrees (abilities stage.screen.profile) stage.screen.memory state
 
 -- the stage, where one is open
@@ -190,7 +212,17 @@ abbrev pub MayBeIn : ProfileView → Option Playing → TerminalState → Type 0
 MayBeIn profile None = IsState (abilities profile)
 MayBeIn profile (Some stage) = Agrees (abilities profile) stage.screen.memory
 
+-- and what is remembered of it: nothing, before the first line
+abbrev pub memory_in : ProfileView → Option Playing → MemoryView
+memory_in profile None = unknown profile.rows profile.columns
+memory_in profile (Some stage) = stage.screen.memory
+
 -- ---- what is written
+
+-- what is written of events between two lines
+abbrev pub IsOutputOfLines : Bool → ProfileView → Option Playing → Option Playing → List Event → List ℕ → Type 0
+IsOutputOfLines raw profile old new events text =
+    IsOutputOn raw profile (MayBeIn profile old) (MayBeIn profile new) (memory_in profile old) (memory_in profile new) events text
 
 -- the line of a note
 abbrev pub note_line : Note → List ℕ
@@ -214,7 +246,7 @@ pub record CommandWrites (raw : Bool) (old : Playing) (command : Command) (text 
   pub left : outcome.stage ≡ stage_of new.screen
   pub ready : IsReadyStage (not raw) new
   pub profile : new.screen.profile ≡ old.screen.profile
-  pub written : IsOutputOn raw new.screen.profile (MayBeIn new.screen.profile (Some old)) (MayBeIn new.screen.profile (Some new)) outcome.events text
+  pub written : IsOutputOfLines raw new.screen.profile (Some old) (Some new) outcome.events text
 
 -- the profile behind a line: that of the size that it gives, if it opened the stage
 abbrev pub profile_behind : Option Playing → List ℕ → ProfileView
@@ -230,7 +262,7 @@ pub record LineWrites (raw : Bool) (old : Option Playing) (line text : List ℕ)
   pub same : outcome.stage ≡ stage_of stage.screen
   pub ready : IsReadyStage (not raw) stage
   pub profile : stage.screen.profile ≡ profile_behind old line
-  pub written : IsOutputOn raw stage.screen.profile (MayBeIn stage.screen.profile old) (MayBeIn stage.screen.profile new) outcome.events text
+  pub written : IsOutputOfLines raw stage.screen.profile old new outcome.events text
 
 -- what a line did, and what it adds to the refusals
 pub record AddsRefusals (old : Option Playing) (line before after : List ℕ) (new : Option Playing) : Type 0 where

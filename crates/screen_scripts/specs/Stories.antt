@@ -1,14 +1,13 @@
 -- What a script means: what is refused, what is shown and which keys are pressed, in order, up to the first bad line.
 use Rattle.std.specs.Prelude.{ℕ, ◌+◌, ◌-◌, ◌^◌, ◌==◌, ◌&&◌, nat_le, List, [], ◌∷◌, ◌++◌, length, map, Option, Some, None, option_and_then, Result, Ok, Err, min, codes, if◌then◌else◌}
 use Rattle.std.specs.List.{range_with_len}
-use Rattle.scr_cells.specs.PictureViews.{PictureView}
 use Rattle.scr_keys.specs.Keys.{Keys}
 use Rattle.scr_keys.specs.Readers.{ReaderView, byte_read, idle_read}
 use Rattle.scr_keys.specs.Tables.{keys_of}
 use Rattle.scr_keys.specs.declared.faults.KeyFault.{KeyFault}
 use Rattle.scr_keys.specs.declared.faults.KeyFault.TheVariants as key_faults
 use Rattle.scr_keys.specs.declared.keys.Key.{Key}
-use Rattle.scr_virtual.specs.VirtualViews.{settled}
+use Rattle.scr_virtual.specs.VirtualViews.{VirtualView, settled}
 use Rattle.scr_windows.specs.declared.faults.Win.{Win}
 use Rattle.scr_windows.specs.declared.faults.WinFault.{WinFault}
 use Rattle.scr_windows.specs.declared.faults.WinFault.TheVariants as faults
@@ -18,7 +17,7 @@ use Rattle.curses.specs.declared.answers.Answer.{Answer}
 use Rattle.curses.specs.declared.answers.Answer.TheVariants as answers
 use Rattle.curses.specs.declared.calls.values.Call.{Call}
 use Rattle.curses.specs.declared.calls.values.Call.TheVariants.{AddText, MoveCursor, Noutrefresh}
-use Rattle.curses.specs.Sessions.{Drawn, first_drawn, is_update, screen_call}
+use Rattle.curses.specs.Sessions.{Drawn, first_drawn, is_update, marked_by, screen_call}
 use Rattle.screen_commands.specs.Commands.{command_of}
 use Rattle.screen_commands.specs.Lines.{lines_of}
 use Rattle.screen_commands.specs.declared.commands.Command.{Command}
@@ -26,10 +25,12 @@ use Rattle.screen_commands.specs.declared.commands.Command.TheVariants as comman
 
 -- ---- events
 
--- a refused call, by its fault's name; an update that shows a picture; a key that was pressed
+-- a refused call, by its fault's name; n rows from one on, marked since others wrote on them; an update that shows a
+-- virtual screen; a key that was pressed
 pub data Event : Type 0 where
   Refused : (name : List ℕ) → Event
-  Shown : (picture : PictureView) → Event
+  Marked : (first : ℕ) → (n : ℕ) → Event
+  Shown : (virtual : VirtualView) → Event
   Pressed : (key : Key) → Event
 
 -- what the commands of a script act on: windows and the virtual screen, and the reader of keys
@@ -72,19 +73,24 @@ abbrev pub refusal_of : Answer → List Event
 refusal_of (answers.Refused fault) = Refused (fault_name fault) ∷ []
 refusal_of answer = []
 
--- windows and virtual screen after a call that is no update, and its answer
-abbrev pub called : Stage → Drawn × Answer → Outcome
-called stage call = record { stage = record stage { drawn = call.0 }; events = refusal_of call.1 }
+-- rows that are marked are an event
+abbrev pub mark_of : Option (ℕ × ℕ) → List Event
+mark_of None = []
+mark_of (Some rows) = Marked rows.0 rows.1 ∷ []
 
--- an update shows the picture of the virtual screen, which is then settled
+-- windows and virtual screen after a call that is no update, the rows that it marked, and its answer
+abbrev pub called : Stage → Option (ℕ × ℕ) → Drawn × Answer → Outcome
+called stage rows call = record { stage = record stage { drawn = call.0 }; events = mark_of rows ++ refusal_of call.1 }
+
+-- an update shows the virtual screen, which is then settled
 abbrev pub updated : Stage → Outcome
 updated stage = record {
   stage = record stage { drawn = record stage.drawn { virtual = settled stage.drawn.virtual } };
-  events = Shown stage.drawn.virtual.picture ∷ [];
+  events = Shown stage.drawn.virtual ∷ [];
 }
 
 unfoldable pub made : Stage → Call → Outcome
-made stage call = if is_update call then updated stage else called stage (screen_call stage.drawn call)
+made stage call = if is_update call then updated stage else called stage (marked_by stage.drawn.desk call) (screen_call stage.drawn call)
 
 -- ---- commands
 

@@ -11,6 +11,7 @@ use scr_keys::KeyFault;
 use std::alloc::Global;
 
 /// Gives bytes from the keyboard to a screen one after another, and takes all keys. Fails only when memory runs out.
+#[tactic(auto, using(crate::proofs::MakingLaws::keys_obey))]
 pub fn press(alloc: Global, screen: &mut Screen, bytes: &[u8]) -> Result<Effects, NoMemory>
     requires { IsReady screen.old }
     ensures { IfOk result (λ effects. Obeys screen.old screen.new effects (pressed (stage_of screen.old) bytes.now)) }
@@ -22,6 +23,7 @@ pub fn press(alloc: Global, screen: &mut Screen, bytes: &[u8]) -> Result<Effects
 }
 
 /// Tells a screen that no byte came for a while, and takes all keys. Fails only when memory runs out.
+#[tactic(auto, using(crate::proofs::MakingLaws::keys_obey))]
 pub fn idle(alloc: Global, screen: &mut Screen) -> Result<Effects, NoMemory>
     requires { IsReady screen.old }
     ensures { IfOk result (λ effects. Obeys screen.old screen.new effects (idled (stage_of screen.old))) }

@@ -1,10 +1,10 @@
 //! What is written of a line's effects.
 ghost use Rattle.std.specs.Prelude.{◌≡◌, ◌++◌, not, true, Some, IfOk, OnOk};
-ghost use Rattle.scr_plan.specs.Memories.{Agrees, MemoryView};
+ghost use Rattle.scr_plan.specs.Memories.{MemoryView};
 ghost use Rattle.scr_term.specs.Operations.Painted.{ShowsNegative};
-ghost use Rattle.scr_term.specs.Operations.Profiles.{abilities};
+ghost use Rattle.scr_virtual.specs.VirtualViews.{VirtualView};
 ghost use Rattle.screen_scripts.specs.Printing.{abilities_for, refusals_of};
-ghost use Rattle.screen_scripts.specs.Showing.{AddsScreen, IsAhead, IsOutputOn, IsReadyStage, IsSentIf, events_in, events_of, note_line, notes_lines, update_in};
+ghost use Rattle.screen_scripts.specs.Showing.{AddsScreen, IsAhead, IsOutputBetween, IsReadyStage, IsSending, events_in, events_of, note_line, notes_lines, update_in};
 
 use crate::effects::{Effects, Note};
 use crate::faults::{fault_name, key_fault_name};
@@ -23,9 +23,9 @@ pub fn effects_text(
     stage: &mut Stage,
 ) -> Result<Vec<u8>, NoMemory>
     requires { IsAhead (not raw) stage.old (update_in effects) }
-    ensures text { (before : MemoryView) → IsSentIf stage.old.screen.profile before stage.old.screen.memory stage.old.screen.virtual.picture (update_in effects)
-        → IfOk result (λ text. IsOutputOn raw stage.old.screen.profile (Agrees (abilities stage.old.screen.profile) before)
-        (Agrees (abilities stage.old.screen.profile) stage.old.screen.memory) (events_of effects stage.old.screen.virtual.picture) text.items) }
+    ensures text { (before : MemoryView) (virtual : VirtualView)
+        → IsSending stage.old.screen.profile before stage.old.screen.memory virtual stage.old.screen.virtual.picture (update_in effects)
+        → IfOk result (λ text. IsOutputBetween raw stage.old.screen.profile before stage.old.screen.memory (events_of effects virtual) text.items) }
     ensures screen { OnOk result (stage.new.screen ≡ stage.old.screen) }
     ensures ready { OnOk result (IsReadyStage (not raw) stage.new) }
 {

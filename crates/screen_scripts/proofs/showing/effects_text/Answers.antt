@@ -1,32 +1,30 @@
 use Rattle.std.proofs.Common.{◌≡◌, ◌∙◌, ◌++◌, ap, not, subst, sym}
-use Rattle.scr_plan.specs.Memories.{Agrees}
-use Rattle.scr_term.specs.Operations.Profiles.{abilities}
-use Rattle.screen_scripts.specs.Showing.{IsOutputOn, IsReadyStage, events_of, notes_lines}
+use Rattle.screen_scripts.specs.Showing.{IsOutputBetween, IsReadyStage, events_of, notes_lines}
 use Rattle.screen_scripts.proofs.OutputLaws.{ahead_none, ahead_some, printed_none, printed_some, sent_by}
 use Rattle.screen_scripts.proofs.showing.effects_text.Goals as goal
 use Rattle.screen_scripts.proofs.showing.effects_text.Goals.{in-Some+in_ok-show, in_default}
 
 pub returns-then-raw-clause-text : goal.returns-then-raw-clause-text
-returns-then-raw-clause-text c = λ before sent.
-    sent_by (λ bytes. bytes.items) c.args.raw c.args.stage.now.screen.profile before c.args.stage.now.screen.memory c.args.stage.now.screen.virtual.picture c.args.effects.notes.items
-    c.args.effects.update c.new.result c.unwrap_or.result c.if-raw.true sent c.new.ensures.items c.unwrap_or.ensures
+returns-then-raw-clause-text c = λ before virtual sending.
+    sent_by (λ bytes. bytes.items) c.args.raw c.args.stage.now.screen.profile before c.args.stage.now.screen.memory virtual c.args.effects.notes.items c.args.effects.update c.new.result
+    c.unwrap_or.result c.if-raw.true sending.sent c.new.ensures.items c.unwrap_or.ensures
 
 pub show-requires : goal.show-requires
 show-requires c = ahead_some (λ bytes. bytes.items) (not c.args.raw) c.args.stage.now c.args.effects.update _ _ (ap not c.if-raw.false) c.in-Some.is c.deref-in-Some.ensures.value c.requires
 
 pub returns-clause-text : goal.returns-clause-text
-returns-clause-text c = λ before sent.
-    let old = Agrees (abilities c.args.stage.now.screen.profile) before in
-    let new = Agrees (abilities c.args.stage.now.screen.profile) c.args.stage.now.screen.memory in
+returns-clause-text c = λ before virtual sending.
+    let profile = c.args.stage.now.screen.profile in
+    let new = c.args.stage.now.screen.memory in
+    let picture = c.args.stage.now.screen.virtual.picture in
     let noted : c.print_notes.new.text.items ≡ notes_lines c.args.effects.notes.items =
     c.in_ok-print_notes.ensures ∙ ap (λ t. t ++ notes_lines c.deref.result.now) c.new-text.ensures.items ∙ ap notes_lines c.deref.ensures.value in
     elim c.match-update-2.branch [
-      | in-Some+in_ok-show w ↦ subst (λ t. IsOutputOn c.args.raw c.args.stage.now.screen.profile old new (events_of c.args.effects c.args.stage.now.screen.virtual.picture) t.items) (sym w.text-is)
-          (printed_some c.args.raw c.args.stage.now.screen.profile old new c.args.stage.now.screen.virtual.picture c.args.effects.notes.items c.args.effects.update _ c.print_notes.new.text.items
-          w.show.new.text.items c.if-raw.false w.in-Some.is noted w.in_ok-show.ensures.text)
-      | in_default w ↦ subst (λ t. IsOutputOn c.args.raw c.args.stage.now.screen.profile old new (events_of c.args.effects c.args.stage.now.screen.virtual.picture) t.items) (sym w.text-is)
-          (printed_none c.args.raw c.args.stage.now.screen.profile old new c.args.stage.now.screen.virtual.picture c.args.effects.notes.items c.args.effects.update c.print_notes.new.text.items
-          c.if-raw.false w.in_default.is noted)
+      | in-Some+in_ok-show w ↦ subst (λ t. IsOutputBetween c.args.raw profile before new (events_of c.args.effects virtual) t.items) (sym w.text-is)
+          (printed_some c.args.raw profile before new virtual picture c.args.effects.notes.items c.args.effects.update _ c.print_notes.new.text.items w.show.new.text.items c.if-raw.false
+          sending.shown w.in-Some.is noted w.in_ok-show.ensures.text)
+      | in_default w ↦ subst (λ t. IsOutputBetween c.args.raw profile before new (events_of c.args.effects virtual) t.items) (sym w.text-is)
+          (printed_none c.args.raw profile before new virtual c.args.effects.notes.items c.args.effects.update c.print_notes.new.text.items c.if-raw.false w.in_default.is noted)
     ]
 
 pub returns-clause-ready : goal.returns-clause-ready

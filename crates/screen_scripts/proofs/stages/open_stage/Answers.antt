@@ -1,4 +1,4 @@
-use Rattle.std.proofs.Common.{◌≡◌, ℕ, rules, subst, sym}
+use Rattle.std.proofs.Common.{◌≡◌, rules, subst, sym}
 use Rattle.scr_cells.specs.PictureViews.{IsSize}
 use Rattle.screen_commands.specs.declared.commands.Command.{Command}
 use Rattle.screen_scripts.specs.Showing.{IsFirst, Opens}
