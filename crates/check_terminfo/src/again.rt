@@ -1,9 +1,12 @@
 //! The library's calls that can want memory, each made once more where it did.
 
+ghost use Rattle.std.specs.Prelude.{◌≡◌, true};
+ghost use Rattle.ti_caps.specs.Names.{are_names};
+
 use crate::dump::{mark_of, mark_of_entry};
 use crate::fault::CheckFault;
 use std::alloc::Global;
-use terminfo_files::{Compiled, Listing, TicFault};
+use terminfo_files::{Compiled, CompiledEntry, EntryCompiler, Listing, TicFault};
 use ti_binary::{BinFault, EncFault};
 use ti_caps::{Bytes, CapFault, Entry, Slot};
 use ti_param::{NoMemory, ParamFault, Program, RunFault, Vars};
@@ -50,6 +53,24 @@ pub fn run_program(
     }
     if ran == Err(RunFault::NoMemory) {
         return Ok(program.run(params, vars, out));
+    }
+    Ok(ran)
+}
+
+/// Runs a program for two parameters. A refused run must not have changed the text.
+pub fn run_of_two(
+    program: &Program,
+    first: i32,
+    second: i32,
+    out: &mut Vec<u8>,
+) -> Result<Result<(), RunFault>, CheckFault> {
+    let before = mark_of(out.as_slice());
+    let ran = program.run_of_two(first, second, out);
+    if ran.is_err() && mark_of(out.as_slice()) != before {
+        return Err(CHANGED);
+    }
+    if ran == Err(RunFault::NoMemory) {
+        return Ok(program.run_of_two(first, second, out));
     }
     Ok(ran)
 }
@@ -123,6 +144,16 @@ pub fn encode(alloc: Global, entry: &Entry) -> Result<Bytes, EncFault> {
     }
 }
 
+/// Writes a compiled file with other names, which are good for an entry.
+pub fn encode_named(alloc: Global, entry: &Entry, names: &[u8]) -> Result<Bytes, EncFault>
+    requires { are_names names.now ≡ true }
+{
+    match ti_binary::encode_named(alloc, entry, names) {
+        Err(EncFault::NoMemory) => ti_binary::encode_named(alloc, entry, names),
+        other => other,
+    }
+}
+
 /// Reads a compiled file.
 pub fn decode(alloc: Global, bytes: &[u8]) -> Result<(Entry, usize), BinFault> {
     match ti_binary::decode(alloc, bytes) {
@@ -135,6 +166,17 @@ pub fn decode(alloc: Global, bytes: &[u8]) -> Result<(Entry, usize), BinFault> {
 pub fn compile(alloc: Global, source: &[u8]) -> Result<Compiled, TicFault> {
     match terminfo_files::compile(alloc, source) {
         Err(TicFault::NoMemory) => terminfo_files::compile(alloc, source),
+        other => other,
+    }
+}
+
+/// Compiles the next entry of a source. A compiler that was refused is where it was: it gives the same entry then.
+pub fn next_entry(
+    alloc: Global,
+    compiler: &mut EntryCompiler<'_>,
+) -> Result<Option<CompiledEntry>, TicFault> {
+    match compiler.next_entry(alloc) {
+        Err(TicFault::NoMemory) => compiler.next_entry(alloc),
         other => other,
     }
 }

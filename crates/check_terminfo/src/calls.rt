@@ -20,26 +20,31 @@
 //! | `resolver NAME..` | each resolved entry or refusal, by one resolver |
 //! | `string TEXT`, `decimal TEXT` | what a string or a number in a source means |
 //! | `encode` | the compiled file of the entry, which is then the file |
+//! | `encode-named NAMES` | the compiled file of the entry with these names in the place of its own |
 //! | `file BYTES` | takes these bytes as the file, and answers how many there are |
 //! | `decode` | how many bytes follow, and the entry of the file, which is then the entry |
 //! | `changed INDEX BYTE..` | the same, of the file with bytes changed |
 //! | `file-cuts` | how many ways there are to cut the file short, each of which is `truncated` |
 //! | `file-bytes BYTE..` | how many files come of setting each byte in turn to each of these, read or refused |
 //! | `compile SOURCE` | each `file PATH BYTES`, each `size NAME BYTES`, each `note LINE CAUSE NAME` |
+//! | `compiler STEP..` | what the entries of the source are compiled to, one after another by one compiler: at each `next` a name, its paths and the bytes of their file, or `end`; `restart` goes back before the first |
 //! | `list` | the text of the file, how many capabilities that leaves out, and how many bytes follow |
 //! | `padding TEXT` | the text without padding |
 //! | `vars` | sets the static variables to 0 |
-//! | `program TEXT PARAMETER..` | what the program writes; `length`, `length_of_two` and `bound` are compared with it |
+//! | `program TEXT PARAMETER..` | what the program writes; `length` and `bound` are compared with it, and where no more than two parameters and no variable are set, `length_of_two` and `run_of_two` |
 //! | `measure TEXT` | the bound and the depth of a program |
 //! | `read-program TEXT` | whether a text is a program |
+//! | `mutated-sources SEED COUNT READ REFUSED TEXT..` | `as wanted` where so many texts, made of these by changes at random, agree (`mutated.rt`), of which at least READ are read and REFUSED refused |
+//! | `mutated-files ..`, `mutated-programs ..` | the same of compiled files and of programs |
 //! | `cuts TEXT..` | whether each text, cut at each place, is a program, or is refused for the cut or as the text is |
 //! | `input COUNT EACH [BEFORE FAULT]` | how many bytes are read of a reader that gives EACH at a time, of which the read behind BEFORE others is `interrupted` or `broken` |
 //! | `input-of TEXT` | what is read of a reader of these bytes |
 
 use crate::answer::Answer;
 use crate::current::Current;
+use crate::mutated::Subject;
 use crate::words::Words;
-use crate::{changes, cuts, entries, files, inputs, programs, sources, table};
+use crate::{changes, cuts, entries, files, inputs, mutated, programs, sources, table};
 
 #[derive(Clone, Copy)]
 enum Call {
@@ -73,9 +78,11 @@ enum Call {
     Input,
     InputOf,
     Encode,
+    EncodeNamed,
     File,
     Decode,
     Compile,
+    Compiler,
     List,
     Changed,
     FileCuts,
@@ -85,9 +92,12 @@ enum Call {
     Measure,
     ReadProgram,
     Cuts,
+    MutatedSources,
+    MutatedFiles,
+    MutatedPrograms,
 }
 
-static CALLS: [(&str, Call); 42] = [
+static CALLS: [(&str, Call); 47] = [
     ("find", Call::Find),
     ("name-of", Call::NameOf),
     ("table", Call::Table),
@@ -118,9 +128,11 @@ static CALLS: [(&str, Call); 42] = [
     ("input", Call::Input),
     ("input-of", Call::InputOf),
     ("encode", Call::Encode),
+    ("encode-named", Call::EncodeNamed),
     ("file", Call::File),
     ("decode", Call::Decode),
     ("compile", Call::Compile),
+    ("compiler", Call::Compiler),
     ("list", Call::List),
     ("changed", Call::Changed),
     ("file-cuts", Call::FileCuts),
@@ -130,6 +142,9 @@ static CALLS: [(&str, Call); 42] = [
     ("measure", Call::Measure),
     ("read-program", Call::ReadProgram),
     ("cuts", Call::Cuts),
+    ("mutated-sources", Call::MutatedSources),
+    ("mutated-files", Call::MutatedFiles),
+    ("mutated-programs", Call::MutatedPrograms),
 ];
 
 /// Makes the call that some words name.
@@ -211,9 +226,11 @@ fn of_meanings(call: Call, current: &mut Current, words: &mut Words<'_>, answer:
 fn of_files(call: Call, current: &mut Current, words: &mut Words<'_>, answer: &mut Answer) {
     match call {
         Call::Encode => files::encode(current, words, answer),
+        Call::EncodeNamed => files::encode_named(current, words, answer),
         Call::File => files::take(current, words, answer),
         Call::Decode => files::decode(current, words, answer),
         Call::Compile => files::compile(current.alloc, words, answer),
+        Call::Compiler => files::compile_steps(current, words, answer),
         Call::List => files::list(current, answer),
         _ => of_changes(call, current, words, answer),
     }
@@ -235,6 +252,15 @@ fn of_programs(call: Call, current: &mut Current, words: &mut Words<'_>, answer:
         Call::Measure => programs::measure(current.alloc, words, answer),
         Call::ReadProgram => programs::read(current.alloc, words, answer),
         Call::Cuts => cuts::cut_all(current.alloc, words, answer),
+        _ => of_mutants(call, current, words, answer),
+    }
+}
+
+fn of_mutants(call: Call, current: &mut Current, words: &mut Words<'_>, answer: &mut Answer) {
+    match call {
+        Call::MutatedSources => mutated::check(Subject::Sources, current, words, answer),
+        Call::MutatedFiles => mutated::check(Subject::Files, current, words, answer),
+        Call::MutatedPrograms => mutated::check(Subject::Programs, current, words, answer),
         _ => words.fail("no such call"),
     }
 }

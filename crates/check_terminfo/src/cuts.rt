@@ -59,8 +59,8 @@ fn agrees(
     }
 }
 
-// Whether a text is cut inside the directive at a place, and is a program before it.
-fn is_cut_at(alloc: Global, text: &[u8], place: usize) -> bool {
+/// Whether a directive begins at a place of a text, which is a program before it.
+pub fn is_cut_at(alloc: Global, text: &[u8], place: usize) -> bool {
     match text.split_at_checked(place) {
         Some((before, rest)) => rest.first() == Some(&b'%') && fault_of(alloc, before).is_none(),
         None => false,

@@ -72,8 +72,8 @@ fn add_name(kind: Kind, unnamed: &[u8], slot: Slot, answer: &mut Answer) {
     }
 }
 
-// The bytes as digits of a great base, and one for the end.
-fn mixed(start: u64, bytes: &[u8]) -> u64 {
+/// A mark with bytes behind it, as digits of a great base, and one for their end.
+pub fn mixed(start: u64, bytes: &[u8]) -> u64 {
     let mut mark = start;
     for byte in bytes {
         mark = next(mark, u64::from(*byte));

@@ -8,8 +8,8 @@ use crate::fault::CheckFault;
 use crate::sources::say_note;
 use crate::words::Words;
 use std::alloc::Global;
-use terminfo_files::{Compiled, Files, Listing, Notes, Sizes};
-use ti_caps::Entry;
+use terminfo_files::{Compiled, CompiledEntry, EntryCompiler, Files, Listing, Notes, Sizes};
+use ti_caps::{Entry, are_names};
 
 /// `encode`.
 pub fn encode(current: &mut Current, words: &mut Words<'_>, answer: &mut Answer) {
@@ -23,6 +23,21 @@ pub fn encode(current: &mut Current, words: &mut Words<'_>, answer: &mut Answer)
             current.file = file.0;
         }
         Err(fault) => answer.refused(&fault),
+    }
+}
+
+/// `encode-named NAMES`.
+pub fn encode_named(current: &Current, words: &mut Words<'_>, answer: &mut Answer) {
+    let names = words.text(1);
+    if !are_names(names) {
+        words.fail("these are no names");
+        return;
+    }
+    if let Some(entry) = current.entry(words) {
+        match again::encode_named(current.alloc, entry, names) {
+            Ok(file) => answer.say(file.0.as_slice()),
+            Err(fault) => answer.refused(&fault),
+        }
     }
 }
 
@@ -68,6 +83,38 @@ pub fn compile(alloc: Global, words: &mut Words<'_>, answer: &mut Answer) {
         Ok(compiled) => say_compiled(compiled, answer),
         Err(fault) => answer.refused(fault),
     }
+}
+
+/// `compiler STEP..`.
+pub fn compile_steps(current: &Current, words: &mut Words<'_>, answer: &mut Answer) {
+    let steps = words.all();
+    if let Some(source) = current.source(words) {
+        let mut compiler = EntryCompiler::new(source);
+        for step in steps.iter().skip(1) {
+            match step.as_slice() {
+                b"next" => say_next(current.alloc, &mut compiler, answer),
+                b"restart" => compiler.restart(),
+                _ => words.fail("no such step"),
+            }
+        }
+    }
+}
+
+// Answers what the next entry is compiled to: its name, its paths and the bytes of its file.
+fn say_next(alloc: Global, compiler: &mut EntryCompiler<'_>, answer: &mut Answer) {
+    match again::next_entry(alloc, compiler) {
+        Ok(Some(entry)) => say_entry_of(&entry, answer),
+        Ok(None) => answer.say(b"end"),
+        Err(fault) => answer.refused(&fault),
+    }
+}
+
+fn say_entry_of(entry: &CompiledEntry, answer: &mut Answer) {
+    answer.say(entry.name.0.as_slice());
+    for path in entry.paths.0.as_slice() {
+        answer.say(path.0.as_slice());
+    }
+    answer.say(entry.bytes.0.as_slice());
 }
 
 /// `list`.

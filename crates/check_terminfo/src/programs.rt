@@ -68,15 +68,19 @@ fn params(words: &mut Words<'_>) -> [i32; 9] {
     params
 }
 
-// Runs a program behind a text, which stays; it writes as many bytes as `length` says, `length_of_two` too where that counts the
-// same, and `bound` at most.
-fn write(
+/// Runs a program behind a text, which stays; it writes as many bytes as `length` says, and `bound` at most; and the same
+/// for two parameters alone, where there are no others.
+pub fn write(
     current: &mut Current,
     program: &Program,
     params: [i32; 9],
     answer: &mut Answer,
 ) -> Result<(), CheckFault> {
     let mut out = Vec::from_slice(current.alloc, BEFORE)?;
+    if is_of_two(params, &current.vars) {
+        write_twice(program, params, &mut out)?;
+        out.truncate(BEFORE.len());
+    }
     write_behind(program, params, &mut current.vars, &mut out, answer)
 }
 
@@ -89,13 +93,26 @@ fn write_behind(
     answer: &mut Answer,
 ) -> Result<(), CheckFault> {
     let length = program.length(params, vars);
-    if is_of_two(params, vars) && program.length_of_two(params[0], params[1]) != length {
-        return Err(CheckFault::Line("the length for two numbers is wrong"));
-    }
     match again::run_program(program, params, vars, out)? {
         Ok(()) => say_written(program, length, out, answer),
         Err(fault) => say_full(program, length, fault, answer),
     }
+}
+
+// Run for two parameters alone, a program writes as many bytes as it says, and the same once more when it is run for all.
+fn write_twice(program: &Program, params: [i32; 9], out: &mut Vec<u8>) -> Result<(), CheckFault> {
+    let length = program.length_of_two(params[0], params[1]);
+    let ran = again::run_of_two(program, params[0], params[1], out)?;
+    let middle = out.len();
+    let ran_again = again::run_program(program, params, &mut Vars::new(), out)?;
+    let same = match length {
+        Ok(count) => middle == BEFORE.len().saturating_add(count) && ran.is_ok(),
+        Err(fault) => ran == Err(fault),
+    };
+    if same && ran == ran_again && out.get(BEFORE.len()..middle) == out.get(middle..) {
+        return Ok(());
+    }
+    Err(CheckFault::Line("for two parameters a run or its length is wrong"))
 }
 
 // All parameters but the first two are 0, and so are the static variables.
