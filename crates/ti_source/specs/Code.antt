@@ -4,6 +4,7 @@ pub mod Laid
 pub mod Marked
 pub mod Plain
 pub mod Seen
+pub mod Stored
 pub mod FirstFields
 pub mod Steps
 pub mod Walk

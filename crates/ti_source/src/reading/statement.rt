@@ -123,7 +123,7 @@ impl SourceEntry {
         statements.shrink_to_fit();
         uses.shrink_to_fit();
         let names = SmallVec::from_slice(alloc, names.0.as_slice())?;
-        Ok(StoredEntry::new(names, statements, uses))
+        Ok(StoredEntry::new(alloc, names, statements, uses)?)
     }
 
     pub(crate) fn put_use(&mut self, other: Bytes) -> Result<(), SourceFault>

@@ -1,45 +1,68 @@
 //! Entries that were read.
 
-ghost use Rattle.std.specs.Prelude.{◌≡◌, ◌≤◌, ◌∷◌, [], IfSome, length, true};
+ghost use Rattle.std.specs.Prelude.{◌≡◌, ◌≤◌, ◌∷◌, [], IfOk, IfSome, length, true};
 ghost use Rattle.ti_source.specs.Described.{AreGood, IsDescribed};
 ghost use Rattle.ti_caps.specs.Names.{are_names};
 
 use crate::reading::statement::Statement;
 use smallvec::SmallVec;
+use std::alloc::{AllocError, Global};
 use std::marker::Model;
+use std::slice;
 use ti_caps::Bytes;
 
 /// Names that take no memory of their own up to this length.
 pub(crate) type Names = SmallVec<u8, 16>;
 
-/// An entry of a source that was read. A source keeps all of them, so it has no spare room.
+/// The fields and the uses of an entry.
 #[derive(Drop)]
-pub(crate) struct StoredEntry {
-    names: Names,
+struct Fields {
     statements: Vec<Statement>,
     uses: Vec<Bytes>,
 }
 
+/// What an entry has besides its names. A source that is long and has many entries has little in each: what is not there takes
+/// no room.
+#[derive(Drop)]
+enum Body {
+    Nothing,
+    /// One use, and no field.
+    Use(Box<Bytes>),
+    Both(Box<Fields>),
+}
+
+/// An entry of a source that was read. A source keeps all of them, so it has no spare room.
+#[derive(Drop)]
+pub(crate) struct StoredEntry {
+    names: Names,
+    body: Body,
+}
+
 impl Model for StoredEntry {
     ghost use Rattle.ti_source.specs.Described.{Described, IsDescribed};
+    ghost use Rattle.ti_source.specs.Code.Stored.{statements_in, uses_in};
 
     ghost Value = { Described };
 
-    ghost view = { λ e. record { names = e.names.items; statements = e.statements.items; uses = e.uses.items } };
+    ghost view = { λ e. record { names = e.names.items; statements = statements_in e.body; uses = uses_in e.body } };
 
-    ghost invariant = { λ e. IsDescribed (record { names = e.names.items; statements = e.statements.items; uses = e.uses.items }) };
+    ghost invariant = { λ e. IsDescribed (record { names = e.names.items; statements = statements_in e.body; uses = uses_in e.body }) };
 }
 
 impl StoredEntry {
-    pub(crate) fn new(names: Names, statements: Vec<Statement>, uses: Vec<Bytes>) -> StoredEntry
+    ghost use Rattle.ti_source.specs.Code.Stored.{statements_in, uses_in};
+
+    pub(crate) fn new(
+        alloc: Global,
+        names: Names,
+        statements: Vec<Statement>,
+        uses: Vec<Bytes>,
+    ) -> Result<StoredEntry, AllocError>
         requires { IsDescribed (record { names = names.items; statements = statements.items; uses = uses.items }) }
-        ensures { result ≡ record { names = names.items; statements = statements.items; uses = uses.items } }
+        ensures { IfOk result (λ e. e ≡ record { names = names.items; statements = statements.items; uses = uses.items }) }
     {
-        StoredEntry {
-            names,
-            statements,
-            uses,
-        }
+        let body = Body::of(alloc, statements, uses)?;
+        Ok(StoredEntry { names, body })
     }
 
     pub(crate) fn names(&self) -> &[u8]
@@ -53,26 +76,51 @@ impl StoredEntry {
         ensures value { result.now ≡ self.now.statements }
         ensures good { AreGood self.now.statements }
     {
-        self.statements.as_slice()
+        match &self.body {
+            Body::Both(fields) => fields.statements.as_slice(),
+            _ => &[],
+        }
     }
 
     pub(crate) fn uses(&self) -> &[Bytes]
         ensures value { result.now ≡ self.now.uses }
         ensures few { length self.now.uses ≤ 32 }
     {
-        self.uses.as_slice()
+        match &self.body {
+            Body::Nothing => &[],
+            Body::Use(other) => slice::from_ref(other),
+            Body::Both(fields) => fields.uses.as_slice(),
+        }
     }
 
     /// The name that it uses, where it has no fields of its own and uses one other.
     pub(crate) fn only_use(&self) -> Option<&[u8]>
         ensures { IfSome result (λ other. (self.now.statements ≡ []) × (self.now.uses ≡ other.now ∷ [])) }
     {
-        if !self.statements.is_empty() {
-            return None;
-        }
-        match self.uses.as_slice() {
-            [other] => Some(other.0.as_slice()),
+        match &self.body {
+            Body::Use(other) => Some(other.0.as_slice()),
             _ => None,
+        }
+    }
+}
+
+impl Body {
+    ghost use Rattle.ti_source.specs.Code.Stored.{statements_in, uses_in};
+
+    fn of(
+        alloc: Global,
+        statements: Vec<Statement>,
+        mut uses: Vec<Bytes>,
+    ) -> Result<Body, AllocError>
+        ensures statements { IfOk result (λ b. statements_in b ≡ statements.items) }
+        ensures uses { IfOk result (λ b. uses_in b ≡ uses.items) }
+    {
+        if !statements.is_empty() || uses.len() > 1 {
+            return Ok(Body::Both(Box::new(alloc, Fields { statements, uses })?));
+        }
+        match uses.pop() {
+            Some(other) => Ok(Body::Use(Box::new(alloc, other)?)),
+            None => Ok(Body::Nothing),
         }
     }
 }
