@@ -1,6 +1,6 @@
 //! The entries of a source, by index and by reference name.
 
-ghost use Rattle.std.specs.Prelude.{◌≡◌, ◌<◌, ◌∷◌, [], ◌++◌, Ok, OnOk, ℕ, List};
+ghost use Rattle.std.specs.Prelude.{◌≡◌, ◌<◌, ◌∷◌, [], ◌++◌, Ok, IfOk, OnOk, ℕ, List};
 ghost use Rattle.std.specs.List.{list_any};
 ghost use Rattle.ti_caps.specs.Names.{alternatives};
 ghost use Rattle.ti_caps.specs.Table.{or_else};
@@ -22,7 +22,7 @@ use ti_caps::{cut_name, has_no_blank};
 #[derive(Drop)]
 pub(crate) struct Entries {
     items: Vec<StoredEntry>,
-    indices: IndexMap<Names, usize, KeyedHasher>,
+    indices: IndexMap<Names, u32, KeyedHasher>,
 }
 
 impl Model for Entries {
@@ -59,7 +59,12 @@ impl Entries {
             mut items,
             mut indices,
         } = self;
-        put_names(alloc, &mut indices, entry.names(), items.len())?;
+        put_names(
+            alloc,
+            &mut indices,
+            entry.names(),
+            index_after(items.len())?,
+        )?;
         items.push(entry)?;
         Ok(Entries { items, indices })
     }
@@ -85,7 +90,10 @@ impl Entries {
     pub(crate) fn index_of(&self, name: &[u8]) -> Option<usize>
         ensures { result ≡ index_of self.now name.now }
     {
-        self.indices.get(Wanted(name)).copied()
+        match self.indices.get(Wanted(name)) {
+            Some(index) => Some(*index as usize),
+            None => None,
+        }
     }
 
     pub(crate) fn as_slice(&self) -> &[StoredEntry]
@@ -102,12 +110,23 @@ impl Entries {
     }
 }
 
+/// The index of an entry behind so many others. Each name has one, in 32 bits; entries past these count as want of
+/// memory.
+fn index_after(count: usize) -> Result<u32, AllocError>
+    ensures { IfOk result (λ index. index ≡ count) }
+{
+    match u32::try_from(count) {
+        Ok(index) => Ok(index),
+        Err(_) => Err(AllocError),
+    }
+}
+
 /// Gives an index to a name without a blank that has none yet.
 fn put_name(
     alloc: Global,
-    indices: &mut IndexMap<Names, usize, KeyedHasher>,
+    indices: &mut IndexMap<Names, u32, KeyedHasher>,
     name: &[u8],
-    index: usize,
+    index: u32,
 ) -> Result<(), AllocError>
     ensures { OnOk result ((q : List ℕ) → indexed (λ k. k.items) indices.new.entries q
         ≡ or_else (indexed (λ k. k.items) indices.old.entries q) (named (name.now ∷ []) index q)) }
@@ -122,9 +141,9 @@ fn put_name(
 /// Gives an index to the reference names among these names that have none yet.
 fn put_names(
     alloc: Global,
-    indices: &mut IndexMap<Names, usize, KeyedHasher>,
+    indices: &mut IndexMap<Names, u32, KeyedHasher>,
     names: &[u8],
-    index: usize,
+    index: u32,
 ) -> Result<(), AllocError>
     ensures { OnOk result ((q : List ℕ) → indexed (λ k. k.items) indices.new.entries q
         ≡ or_else (indexed (λ k. k.items) indices.old.entries q) (named (alternatives names.now) index q)) }

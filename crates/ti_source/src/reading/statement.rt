@@ -1,6 +1,6 @@
 //! What the fields of an entry say.
 
-ghost use Rattle.std.specs.Prelude.{◌≡◌, ◌≤◌, ◌<◌, ◌∷◌, [], ◌++◌, Ok, OnOk, IfOk, true, false, length, replicate, slice_index_or, slice_set};
+ghost use Rattle.std.specs.Prelude.{◌≡◌, ◌≤◌, ◌<◌, ◌∷◌, [], ◌++◌, Ok, OnOk, OnErr, IfOk, true, false, length, replicate, slice_index_or, slice_set};
 ghost use Rattle.std.specs.List.{list_any};
 ghost use Rattle.ti_source.specs.Reading.Sources.{concerns};
 ghost use Rattle.ti_source.specs.Result.{Becomes, Gives};
@@ -102,11 +102,12 @@ impl SourceEntry {
         ensures { Becomes result (Ok (record self.old { statements = self.old.statements ++ (record { kind = kind; slot = slot; field_value = field_value }) ∷ [] })) self.new }
     {
         mark(&self.statements, &mut self.marks, kind, slot)?;
-        self.statements.push(Statement {
+        let statement = Statement {
             kind,
             slot,
             field_value,
-        })?;
+        };
+        push_statement(&mut self.statements, statement)?;
         Ok(())
     }
 
@@ -154,6 +155,19 @@ fn no_marks(alloc: Global, count: usize) -> Result<Vec<bool>, AllocError>
     ensures { IfOk result (λ v. v.items ≡ replicate count false) }
 {
     vec![in alloc; false; count]
+}
+
+/// Adds a statement. An entry gets room for its first one alone, so that nothing is left over beside it where it is the
+/// only one.
+fn push_statement(statements: &mut Vec<Statement>, statement: Statement) -> Result<(), AllocError>
+    ensures ok { OnOk result (statements.new.items ≡ statements.old.items ++ statement ∷ []) }
+    ensures err { OnErr result (statements.new.items ≡ statements.old.items) }
+{
+    if statements.is_empty() {
+        statements.reserve_exact(1)?;
+    }
+    statements.push(statement)?;
+    Ok(())
 }
 
 /// Marks one more capability; before the first field all marks are made anew.

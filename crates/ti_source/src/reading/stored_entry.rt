@@ -21,8 +21,8 @@ struct Fields {
     uses: Vec<Bytes>,
 }
 
-/// What an entry has besides its names. A source that is long and has many entries has little in each: what is not there takes
-/// no room.
+/// What an entry has besides its names. A source of very many entries has little in each, so what is not there takes no
+/// room.
 #[derive(Drop)]
 enum Body {
     Nothing,
