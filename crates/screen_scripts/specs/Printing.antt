@@ -146,11 +146,13 @@ ArePlans profile memory (Shown virtual ∷ events) (ops ∷ updates) last = IsPl
 ArePlans profile memory (Pressed key ∷ events) updates last = ArePlans profile memory events updates last
 
 -- The bytes of an update for each virtual screen that is shown. Each update is a plan for what is remembered of the
--- terminal by then, where nothing is at first: it sends no more than the joined repaint of what differs, where all is
--- known. And the updates show the pictures, whatever state the terminal was in at first.
+-- terminal by then, where nothing is at first: so where all is known it sends no more than the joined repaint of what
+-- differs, unless the screen is to be painted anew. And the updates show the pictures, whatever state the terminal was
+-- in at first.
 pub record AreSent (profile : ProfileView) (events : List Event) (text : List ℕ) : Type 0 where
   pub updates : List (List Op)
   pub bytes : text ≡ flat_map (all_bytes profile) updates
+  -- what is remembered behind the last of them
   pub last : MemoryView
   pub plans : ArePlans profile (unknown profile.rows profile.columns) events updates last
   pub show : (state : TerminalState) → IsState (abilities profile) state → RunToShow profile state updates (pictures_of events)
