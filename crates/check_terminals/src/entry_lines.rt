@@ -6,9 +6,9 @@ use check_scripts::troubles::Trouble;
 use check_scripts::words::Words;
 use scr_term::{Profile, ProfileFault};
 use std::alloc::Global;
-use ti_caps::{CapFault, Entry, Kind, Slot, find_name, name_of};
+use ti_caps::{CapFault, Entry, Kind, Slot, bundled, find_name, name_of};
 
-/// The lines `entry TEXT`, `flag NAME`, `number NAME N`, `string NAME TEXT` and `absent NAME`, which make an entry and have it
+/// The lines `entry TEXT`, `bundled`, `flag NAME`, `number NAME N`, `string NAME TEXT` and `absent NAME`, which make an entry and have it
 /// say something, and `admit` and `admit R C`, which make a profile of it. Tells whether a line is one of them.
 pub fn answer_of_entry(
     alloc: Global,
@@ -20,7 +20,11 @@ pub fn answer_of_entry(
     came: &mut Buffer,
 ) -> bool {
     match word {
-        "entry" => make_entry(alloc, entry, text, words, came),
+        "entry" => {
+            words.text(text);
+            add_made(Entry::new(alloc, text.bytes()), entry, came);
+        }
+        "bundled" => add_made(bundled(alloc), entry, came),
         "flag" | "number" | "string" | "absent" => {
             change_entry(entry, word != "absent", text, words, came)
         }
@@ -89,15 +93,9 @@ pub fn add_profile_fault(fault: ProfileFault, came: &mut Buffer) {
     }
 }
 
-fn make_entry(
-    alloc: Global,
-    entry: &mut Option<Entry>,
-    text: &mut Buffer,
-    words: &mut Words<'_>,
-    came: &mut Buffer,
-) {
-    words.text(text);
-    match Entry::new(alloc, text.bytes()) {
+// Keeps an entry, or adds why there is none.
+fn add_made(made: Result<Entry, CapFault>, entry: &mut Option<Entry>, came: &mut Buffer) {
+    match made {
         Ok(made) => {
             *entry = Some(made);
             add_word("Ok", came);

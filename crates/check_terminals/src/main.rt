@@ -2,6 +2,7 @@
 //! It prints how many lines agree, or the first that does not with what was wanted and what came (status 1).
 #![tactic(auto)]
 
+mod changed_texts;
 mod dumps;
 mod emulated_lines;
 mod entry_lines;
@@ -10,6 +11,7 @@ mod operation_lines;
 mod painting_lines;
 mod picture_lines;
 mod plain_lines;
+mod plain_screen;
 mod screen_lines;
 mod script_lines;
 mod stages;

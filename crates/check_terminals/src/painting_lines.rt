@@ -8,12 +8,12 @@ use check_scripts::buffers::Buffer;
 use check_scripts::troubles::Trouble;
 use check_scripts::words::Words;
 use scr_cells::{NoMemory, Picture};
-use scr_plan::scratch;
+use scr_plan::{scratch, scratch_bytes};
 use scr_term::{EcmaScreen, Op, Ops, Profile};
 use std::alloc::Global;
 
-/// The lines `scratch`, `painted`, `painted_count` and `feed_painted`, which feeds the screen what paints the picture. Tells whether a line
-/// is one of them.
+/// The lines `scratch`, `painted`, `painted_count`, `scratch_bytes`, all of these bytes, and `feed_painted`, which feeds the screen what
+/// paints the picture. Tells whether a line is one of them.
 pub fn answer_of_painting(
     alloc: Global,
     picture: &Option<Picture>,
@@ -25,7 +25,7 @@ pub fn answer_of_painting(
 ) -> bool {
     if !matches!(
         word,
-        "scratch" | "painted" | "painted_count" | "feed_painted"
+        "scratch" | "painted" | "painted_count" | "scratch_bytes" | "feed_painted"
     ) {
         return false;
     }
@@ -47,11 +47,22 @@ fn add_painting(
     if size.rows != other.rows || size.columns != other.columns {
         return Err(Trouble::Bad("the profile has another size"));
     }
+    if word == "scratch_bytes" {
+        add_bytes(scratch_bytes(alloc, profile, picture), came);
+        return Ok(());
+    }
     match scratch(alloc, profile, picture) {
         Ok(ops) => add_of_ops(alloc, profile, &ops, screen, word, came),
         Err(NoMemory) => add_word("NoMemory", came),
     }
     Ok(())
+}
+
+fn add_bytes(made: Result<Vec<u8>, NoMemory>, came: &mut Buffer) {
+    match made {
+        Ok(bytes) => add_text(&bytes, came),
+        Err(NoMemory) => add_word("NoMemory", came),
+    }
 }
 
 fn add_of_ops(
@@ -80,8 +91,8 @@ pub fn add_scratch(ops: &Ops, came: &mut Buffer) {
     }
 }
 
-// Adds the bytes of each of them, and how many there are in all.
-fn add_painted(alloc: Global, profile: &Profile, ops: &Ops, came: &mut Buffer) {
+/// Adds the bytes of each of them, and how many there are in all.
+pub fn add_painted(alloc: Global, profile: &Profile, ops: &Ops, came: &mut Buffer) {
     let mut bytes = Vec::new(alloc);
     add_each(profile, ops, &mut bytes, came);
 }

@@ -3,6 +3,7 @@
 use crate::emulated_lines::add_spot;
 use crate::joining_lines::add_joined;
 use crate::operation_lines::read_op;
+use crate::painting_lines::add_painted;
 use crate::picture_lines::ready;
 use crate::terminal_lines::ready as ready_profile;
 use check_scripts::answers::{add_colour, add_flag, add_look, add_number, add_word, read_size};
@@ -15,7 +16,8 @@ use scr_term::Profile;
 use std::alloc::Global;
 
 /// The lines `memory R C`, a terminal of this size of which nothing is known, `follow OP`, `disturb FIRST N`, `known`, `plain`, the operations
-/// that bring it to the picture, and `plain_count`, how many they are and how many bytes they have. Tells whether a line is one of them.
+/// that bring it to the picture, `plain_count`, how many they are and how many bytes they have, and `plain_texts`, the bytes of each and how
+/// many there are. Tells whether a line is one of them.
 pub fn answer_of_plain(
     alloc: Global,
     memory: &mut Option<Memory>,
@@ -52,7 +54,7 @@ fn answer_of_made(
             add_word("Ok", came)
         }
         "known" => add_flag(memory.known(), came),
-        "plain" | "plain_count" => {
+        "plain" | "plain_count" | "plain_texts" => {
             words.check(add_plain(alloc, memory, picture, profile, word, came))
         }
         _ => return false,
@@ -116,6 +118,7 @@ fn add_plain(
         return Err(Trouble::Bad("another size is remembered"));
     }
     match plain(alloc, profile, memory, picture) {
+        Ok(ops) if word == "plain_texts" => add_painted(alloc, profile, &ops, came),
         Ok(ops) => add_joined(profile, &ops, word == "plain", came),
         Err(NoMemory) => add_word("NoMemory", came),
     }

@@ -1,6 +1,7 @@
 //! What the lines of a script work on: one entry, one profile, one terminal, what is remembered of one, one picture and one screen,
 //! each from the line that makes it on.
 
+use crate::changed_texts::answer_of_changed_texts;
 use crate::dumps::{dump_entry, dump_picture, dump_profile};
 use crate::emulated_lines::{answer_of_emulated, dump_terminal};
 use crate::entry_lines::answer_of_entry;
@@ -113,5 +114,6 @@ impl TerminalStage {
             || answer_of_plain(alloc, &mut self.memory, picture, profile, word, words, came)
             || answer_of_screen(alloc, screen, text, &mut self.other_text, word, words, came)
             || answer_of_script(alloc, screen, text, word, words, came)
+            || answer_of_changed_texts(alloc, text, word, words, came)
     }
 }
