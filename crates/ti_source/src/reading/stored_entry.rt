@@ -50,8 +50,6 @@ impl Model for StoredEntry {
 }
 
 impl StoredEntry {
-    ghost use Rattle.ti_source.specs.Code.Stored.{statements_in, uses_in};
-
     pub(crate) fn new(
         alloc: Global,
         names: Names,
