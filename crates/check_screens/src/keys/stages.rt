@@ -21,6 +21,8 @@ pub struct KeyStage {
     alloc: Global,
     entry: Option<Entry>,
     keyboard: Option<Keyboard>,
+    // A keyboard that was opened beside that, and is not used.
+    beside: Option<Keyboard>,
 }
 
 impl Stage for KeyStage {
@@ -29,6 +31,7 @@ impl Stage for KeyStage {
             alloc,
             entry: None,
             keyboard: None,
+            beside: None,
         }
     }
 
@@ -36,6 +39,13 @@ impl Stage for KeyStage {
         let (alloc, word) = (self.alloc, words.next());
         match word {
             b"entry" | b"bundled" => make_entry(alloc, &mut self.entry, word, came),
+            b"beside" => match &self.entry {
+                Some(entry) => {
+                    let opened = open_into(alloc, entry, words.next(), &mut self.beside, came);
+                    words.check(add_opened(opened, came));
+                }
+                None => words.fail(Trouble::Bad("no entry")),
+            },
             b"text" | b"reader" | b"screen" | b"cuts" | b"generated" | b"pieces" =>
                 match &mut self.entry {
                     Some(entry) => {
@@ -62,7 +72,8 @@ impl Stage for KeyStage {
     }
 }
 
-// The lines `text NAME TEXT`, `cuts ..`, `generated ..` and `pieces ..`, and `reader` and `screen`, which open a keyboard.
+// The lines `text NAME TEXT`, `cuts ..`, `generated ..` and `pieces ..`, and `reader` and `screen`, which open a keyboard, as `beside reader`
+// and `beside screen` do beside it.
 fn answer_of_entry(
     alloc: Global,
     entry: &mut Entry,
