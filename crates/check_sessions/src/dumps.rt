@@ -13,7 +13,7 @@ use scr_windows::{Win, WindowRef};
 // More windows than a script makes on one screen.
 const WINDOWS: u32 = 16;
 
-/// Adds the windows, the picture, and what the terminal shows.
+/// Adds the windows, the picture, what the terminal shows, and what the writer took.
 pub fn dump_recorded(opened: &Recorded, bytes: &mut Buffer) {
     for number in 0..WINDOWS {
         if let Ok(window) = opened.screen.window(Win(number)) {
@@ -24,6 +24,7 @@ pub fn dump_recorded(opened: &Recorded, bytes: &mut Buffer) {
     }
     dump_picture(opened.screen.picture(), bytes);
     dump_emulated(&opened.emulated, bytes);
+    opened.dump_writer(bytes);
 }
 
 // Adds where a window is, and its settings.

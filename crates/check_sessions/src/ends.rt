@@ -6,6 +6,7 @@ use check_scripts::answers::add_word;
 use check_scripts::buffers::Buffer;
 use check_scripts::words::Words;
 use curses::SendFault;
+use ti_caps::{Entry, slots};
 
 /// Which of the two it is.
 #[derive(Clone, Copy, PartialEq, Eq)]
@@ -50,4 +51,11 @@ pub fn add_sent(sent: &Result<u64, SendFault>, came: &mut Buffer) {
             add_count(*sent, came)
         }
     }
+}
+
+/// Whether an entry has a text for the beginning or the end of a program's use of the screen.
+pub fn has_ends(entry: &Entry) -> bool {
+    [slots::SMCUP, slots::SMKX, slots::RMKX, slots::RMCUP]
+        .iter()
+        .any(|slot| entry.text(*slot).is_some())
 }

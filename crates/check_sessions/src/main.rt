@@ -18,6 +18,7 @@ mod entries;
 mod every_cut;
 mod generated;
 mod generating;
+mod listed;
 mod recorded;
 mod refusals;
 mod shown;

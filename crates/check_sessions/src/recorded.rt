@@ -3,7 +3,8 @@
 use crate::answers::{add_answer, ran_out};
 use crate::bounds::Left;
 use crate::displays::{Display, open_display};
-use crate::ends::{End, add_sent};
+use crate::ends::{End, add_sent, has_ends};
+use crate::listed::make_listed;
 use crate::shown::shows;
 use crate::writers::{Fails, Planned};
 use check_scripts::answers::add_word;
@@ -14,7 +15,7 @@ use curses::{Answer, Call, Counted, Device, OpenFault, Report, Screen, UpdateFau
 use scr_cells::Size;
 use scr_term::{EcmaScreen, Op, Ops, Profile};
 use std::alloc::Global;
-use ti_caps::{Entry, bundled, slots};
+use ti_caps::{Entry, bundled};
 
 /// A screen, its terminal, and what was called, answered and sent since it was opened.
 #[derive(Drop)]
@@ -38,6 +39,8 @@ pub struct Recorded {
     before: usize,
     // Whether the last update ended well.
     last_ok: bool,
+    /// Whether each call is made by a list of it alone.
+    pub is_listed: bool,
     /// The operations of the last update that ended well.
     pub last: Ops,
 }
@@ -90,6 +93,7 @@ impl Recorded {
             sent: Vec::new(alloc),
             before: 0,
             last_ok: false,
+            is_listed: false,
             last: Ops(Vec::new(alloc)),
         }
     }
@@ -105,7 +109,7 @@ impl Recorded {
 
     /// Updates with a writer that fails so, adds what the update answers, and tells whether all is as it has to be. Where that
     /// is Ok, the terminal has to show the picture, no more may be sent than the joined repaint, or than painting from scratch, and where
-    /// nothing is sent, the writer may not be called; adds what is not so.
+    /// nothing is sent or memory ran out, the writer may not be called; adds what is not so.
     pub fn update(&mut self, fails: Fails, came: &mut Buffer) -> Result<bool, Trouble> {
         self.device.writer.plan(fails)?;
         self.device.writer.calls = 0;
@@ -116,7 +120,7 @@ impl Recorded {
         }
         match ended {
             Ended::Well(bytes) => self.end_well(bytes, came),
-            Ended::RanOut => Ok(true),
+            Ended::RanOut => Ok(self.add_calls(came)),
             Ended::Failed => {
                 self.last_ok = false;
                 self.left.owe();
@@ -136,14 +140,31 @@ impl Recorded {
             End::Close => self.screen.close(&mut self.device),
         };
         add_sent(&sent, came);
-        if sent == Ok(0) && self.device.writer.calls > 0 {
-            add_word("and the writer was called", came);
+        if sent == Ok(0) {
+            let _uncalled = self.add_calls(came);
         }
         let fed = !has_ends(&self.entry);
         if fed && !self.feed()? {
             add_word("and an undefined text", came);
         }
         if fed { Ok(()) } else { self.keep_sent() }
+    }
+
+    /// Adds what the writer took, how often it failed, and whether the last update ended well.
+    pub fn dump_writer(&self, bytes: &mut Buffer) {
+        bytes.extend(&self.sent);
+        bytes.extend(&self.device.failed_puts.to_be_bytes());
+        bytes.extend(&self.device.failed_finishes.to_be_bytes());
+        bytes.push(u8::from(self.last_ok));
+    }
+
+    // Adds that the writer was called, where it was, and tells whether it was not.
+    fn add_calls(&self, came: &mut Buffer) -> bool {
+        let is_called = self.device.writer.calls > 0;
+        if is_called {
+            add_word("and the writer was called", came);
+        }
+        !is_called
     }
 
     /// Feeds the terminal what others write.
@@ -157,12 +178,11 @@ impl Recorded {
     pub fn add_session(&self, came: &mut Buffer) -> Result<(), Trouble> {
         let mut device = Device::new(self.device.writer.again(self.alloc, self.sent.len())?);
         match self.session(&mut device)? {
-            Some(report) => self.add_agrees(&device, &report, came),
-            None => {
-                add_word("NoMemory", came);
-                Ok(())
-            }
+            Some(report) => return self.add_agrees(&device, &report, came),
+            None if device.writer.calls > 0 => add_word("the writer was called", came),
+            None => add_word("NoMemory", came),
         }
+        Ok(())
     }
 
     /// Makes the calls by one session into a writer; `None` where the library was refused memory.
@@ -244,6 +264,12 @@ impl Recorded {
 
     // Makes the call, keeps it with its answer unless memory ran out, and adds the answer.
     fn make(&mut self, call: Call, came: &mut Buffer) -> Result<Answer, Trouble> {
+        if self.is_listed {
+            let (screen, device) = (&mut self.screen, &mut self.device);
+            let (call, answer) = make_listed(self.alloc, screen, call, device)?;
+            self.keep(call, &answer, came)?;
+            return Ok(answer);
+        }
         let answer = self.screen.make(self.alloc, &call, &mut self.device);
         self.keep(call, &answer, came)?;
         Ok(answer)
@@ -318,13 +344,6 @@ fn add_answers(report: &Report, answers: &mut Buffer) -> bool {
         add_answer(answer, answers);
     }
     true
-}
-
-// Whether an entry has a text for the beginning or the end of a program's use of the screen.
-fn has_ends(entry: &Entry) -> bool {
-    [slots::SMCUP, slots::SMKX, slots::RMKX, slots::RMCUP]
-        .iter()
-        .any(|slot| entry.text(*slot).is_some())
 }
 
 // How an update ended.

@@ -107,6 +107,7 @@ fn answer_of_opened(
             Ok(())
         }
         "update_within" => update_within(alloc, opened, words, came),
+        "all" => call_listed(alloc, opened, words, came),
         _ => call(alloc, opened, word, words, came),
     }
 }
@@ -132,6 +133,23 @@ fn call(
         words.fail(Trouble::Bad("no such call"));
     }
     Ok(())
+}
+
+// The line `all CALL`, where the call or the update is made by a list of it alone.
+fn call_listed(
+    alloc: Global,
+    opened: &mut Recorded,
+    words: &mut Words<'_>,
+    came: &mut Buffer,
+) -> Result<(), Trouble> {
+    let word = str::from_utf8(words.next()).unwrap_or("");
+    opened.is_listed = true;
+    let done = match word {
+        "update_within" => update_within(alloc, opened, words, came),
+        _ => call(alloc, opened, word, words, came),
+    };
+    opened.is_listed = false;
+    done
 }
 
 // The line `others TEXT`, a text that others write on the terminal.
