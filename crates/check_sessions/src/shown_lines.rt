@@ -1,4 +1,5 @@
 //! Lines about what the terminal shows, and what it is to show.
+ghost use Rattle.std.specs.Prelude.{◌≡◌};
 
 use crate::recorded::Recorded;
 use check_scripts::answers::{
@@ -8,8 +9,9 @@ use check_scripts::answers::{
 use check_scripts::buffers::Buffer;
 use check_scripts::troubles::Trouble;
 use check_scripts::words::Words;
-use scr_cells::{Attrs, Picture, Size};
-use scr_term::{EcmaScreen, Op, Spot};
+use scr_cells::{Attrs, NoMemory, Picture, Size};
+use scr_plan::{Memory, plan, up_to_date_laws};
+use scr_term::{EcmaScreen, Op, Ops, Profile, Spot};
 use scr_virtual::Virtual;
 use scr_windows::{Desk, Win, WinFault};
 use std::alloc::Global;
@@ -117,7 +119,8 @@ fn add_first_sent(opened: &Recorded, words: &mut Words<'_>, came: &mut Buffer) {
 /// The line `changed R C ROWS COLUMNS ROW COLUMN BYTE`: a virtual screen of R rows and C columns onto which the first window is
 /// taken, and which is settled then, as by an update that ends well; then a new window is taken, of so many rows and columns at a
 /// row and a column, whose first place has this byte. Adds for each row of the screen the first and the last column that may have
-/// changed since, and the first and the last that may look otherwise, or `none`.
+/// changed since, and the first and the last that may look otherwise, or `none`; then how many bytes a plan of the bundled entry sends
+/// where nothing is known of the terminal.
 pub fn check_changed(
     alloc: Global,
     words: &mut Words<'_>,
@@ -173,7 +176,7 @@ fn add_changed_by(
             add_byte(desk, win, byte)?;
             take(screen, desk, win)?;
             add_changed(screen, came);
-            Ok(())
+            add_plan(alloc, screen, came)
         }
         Err(WinFault::NoMemory) => add_no_memory(came),
         Err(_) => Err(Trouble::Bad("no such window")),
@@ -210,4 +213,36 @@ fn add_range(range: Option<(u32, u32)>, came: &mut Buffer) {
         Some((first, last)) => add_place(first, last, came),
         None => add_word("none", came),
     }
+}
+
+// Adds how many bytes a plan of the bundled entry sends where nothing is known of the terminal.
+fn add_plan(alloc: Global, screen: &Virtual, came: &mut Buffer) -> Result<(), Trouble> {
+    let Ok(profile) = Profile::ecma48(alloc, screen.size()) else {
+        return add_no_memory(came);
+    };
+    match planned(alloc, &profile, screen) {
+        Ok(ops) => add_number(price_of(&profile, &ops), came),
+        Err(_) => return add_no_memory(came),
+    }
+    Ok(())
+}
+
+// A plan on a terminal of which nothing is known.
+fn planned(alloc: Global, profile: &Profile, screen: &Virtual) -> Result<Ops, NoMemory>
+    requires rows { profile.now.rows ≡ screen.now.picture.rows }
+    requires columns { profile.now.columns ≡ screen.now.picture.columns }
+{
+    let _profile = profile.size();
+    let memory = Memory::unknown(alloc, screen.size())?;
+    up_to_date_laws();
+    plan(alloc, profile, &memory, screen)
+}
+
+// How many bytes operations have.
+fn price_of(profile: &Profile, ops: &Ops) -> i64 {
+    let mut bytes = 0usize;
+    for op in &ops.0 {
+        bytes = bytes.saturating_add(profile.cost(*op).unwrap_or(0));
+    }
+    i64::try_from(bytes).unwrap_or(-1)
 }
