@@ -5,8 +5,8 @@ use curses::{Answer, Call, Counted, Report, Screen, UpdateFault};
 use scr_cells::NoMemory;
 use std::alloc::Global;
 
-/// Makes a call on a screen by a list of it alone (`Screen::make_all`), and gives it back with what it answers: want of memory for the
-/// list's answers is answered as that of an update is.
+/// Makes a call on a screen by a list of it alone (`Screen::make_all`), and gives it back with what it answers: want of
+/// memory for the list's answers is answered as that of an update is.
 pub fn make_listed<W: Counted>(
     alloc: Global,
     screen: &mut Screen,

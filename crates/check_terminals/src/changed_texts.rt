@@ -1,5 +1,5 @@
-//! ECMA-48 texts that are made up and changed at random, by an emulated screen that is fed them whole, by one that is fed them in pieces, and
-//! by a plain, slow reading.
+//! ECMA-48 texts that are made up and changed at random, by an emulated screen that is fed them whole, by one that is
+//! fed them in pieces, and by a plain, slow reading.
 
 use crate::plain_screen::{End, PlainScreen};
 use check_scripts::answers::{add_number, add_text, add_word};
@@ -91,10 +91,11 @@ struct Screens {
     pieces: EcmaScreen,
 }
 
-/// The line `changed_texts SEED COUNT WHOLE WAITING UNDEFINED SCRIPT`, where the script is of the demonstration program, on a screen of 3 rows
-/// of 9: so many texts, of units that are made up, or a part of what the script's updates send, each with up to three bytes changed. Adds
-/// `as wanted` where the three readings of each agree, and at least so many end behind a unit, within one, and with something undefined;
-/// else the first text whose readings differ, or how many there were of each. Tells whether a line is it.
+/// The line `changed_texts SEED COUNT WHOLE WAITING UNDEFINED SCRIPT`, where the script is of the demonstration
+/// program, on a screen of 3 rows of 9: so many texts, of units that are made up, or a part of what the script's
+/// updates send, each with up to three bytes changed. Adds `as wanted` where the three readings of each agree, and at
+/// least so many end behind a unit, within one, and with something undefined; else the first text whose readings
+/// differ, or how many there were of each. Tells whether a line is it.
 pub fn answer_of_changed_texts(
     alloc: Global,
     text: &mut Buffer,
@@ -215,7 +216,8 @@ impl Texts {
         }
     }
 
-    // Changes a byte of the text: another bit of it, none in its place, two of it, another before it, or the text ends there.
+    // Changes a byte of the text: another bit of it, none in its place, two of it, another before it, or the text ends
+    // there.
     fn change(&mut self) {
         let count = u32::try_from(self.text.bytes().len()).unwrap_or(0);
         let at = self.random.below(count) as usize;
@@ -277,8 +279,8 @@ fn fed_end(screen: &mut EcmaScreen, piece: &[u8]) -> End {
     }
 }
 
-// Feeds a screen a text in pieces of up to eight bytes, some of them empty, and tells how the text ends; `None` where a piece behind
-// something undefined is answered as if there were nothing, as is a good unit at the end.
+// Feeds a screen a text in pieces of up to eight bytes, some of them empty, and tells how the text ends; `None` where a
+// piece behind something undefined is answered as if there were nothing, as is a good unit at the end.
 fn feed_pieces(screen: &mut EcmaScreen, text: &[u8], random: &mut Random) -> Option<End> {
     let mut rest = text;
     let mut end = End::Whole;

@@ -12,8 +12,8 @@ use scr_plan::{scratch, scratch_bytes};
 use scr_term::{EcmaScreen, Op, Ops, Profile};
 use std::alloc::Global;
 
-/// The lines `scratch`, `painted`, `painted_count`, `scratch_bytes`, all of these bytes, and `feed_painted`, which feeds the screen what
-/// paints the picture. Tells whether a line is one of them.
+/// The lines `scratch`, `painted`, `painted_count`, `scratch_bytes`, all of these bytes, and `feed_painted`, which
+/// feeds the screen what paints the picture. Tells whether a line is one of them.
 pub fn answer_of_painting(
     alloc: Global,
     picture: &Option<Picture>,

@@ -16,8 +16,8 @@ use scr_term::Profile;
 use std::alloc::Global;
 
 /// The lines `memory R C`, a terminal of this size of which nothing is known, `follow OP`, `disturb FIRST N`, `known`, `plain`, the operations
-/// that bring it to the picture, `plain_count`, how many they are and how many bytes they have, and `plain_texts`, the bytes of each and how
-/// many there are. Tells whether a line is one of them.
+/// that bring it to the picture, `plain_count`, how many they are and how many bytes they have, and `plain_texts`, the
+/// bytes of each and how many there are. Tells whether a line is one of them.
 pub fn answer_of_plain(
     alloc: Global,
     memory: &mut Option<Memory>,

@@ -1,5 +1,6 @@
-//! A plain, slow reading of ECMA-48 texts: a text is divided into units, and each of them changes a grid of places as the standard says
-//! (ECMA-48, 5.4 and 8.3). A unit without a meaning is undefined, one that would leave the screen too, and so is what begins no unit.
+//! A plain, slow reading of ECMA-48 texts: a text is divided into units, and each of them changes a grid of places as
+//! the standard says (ECMA-48, 5.4 and 8.3). A unit without a meaning is undefined, one that would leave the screen
+//! too, and so is what begins no unit.
 
 use check_scripts::troubles::Trouble;
 use scr_cells::Size;

@@ -72,8 +72,8 @@ impl Stage for KeyStage {
     }
 }
 
-// The lines `text NAME TEXT`, `cuts ..`, `generated ..` and `pieces ..`, and `reader` and `screen`, which open a keyboard, as `beside reader`
-// and `beside screen` do beside it.
+// The lines `text NAME TEXT`, `cuts ..`, `generated ..` and `pieces ..`, and `reader` and `screen`, which open a
+// keyboard, as `beside reader` and `beside screen` do beside it.
 fn answer_of_entry(
     alloc: Global,
     entry: &mut Entry,
