@@ -10,27 +10,27 @@ use scr_windows::{Added, Win, WinFault};
 /// What a call answered.
 #[derive(Debug, Drop)]
 pub enum Answer {
-    /// The call was made, and gives nothing.
+    /// The call was made, and has no result.
     Nothing,
     /// The number of the window that was made.
     Made(Win),
-    /// Whether the cursor went on.
+    /// Bytes were added: whether the cursor could go on each time.
     Added(Added),
-    /// The cell that is there.
+    /// The cell at that place.
     Seen(Cell),
-    /// A row and a column, or how many there are.
+    /// A row and a column, or the numbers of rows and columns.
     Pair(u32, u32),
-    /// Whether lines are touched.
+    /// Whether the line, or any line, is touched.
     Touched(bool),
-    /// The call was refused, and changed nothing.
+    /// The call was refused and changed nothing.
     Refused(WinFault),
-    /// The update ended well, and sent this.
+    /// The update ended well. This is what it sent.
     Sent(Sent),
     /// The update ended early.
     Failed(UpdateFault),
 }
 
-/// The answer of a call that gives nothing.
+/// The answer of a call that has no result.
 pub(crate) fn done_answer(came: Result<(), WinFault>) -> Answer
     ensures { result ≡ answered (λ _. answers.Nothing) came }
 {
@@ -70,7 +70,7 @@ pub(crate) fn seen_answer(came: Result<Cell, WinFault>) -> Answer
     }
 }
 
-/// The answer of a call that gives a row and a column.
+/// The answer of a call that gives a row and a column, or the numbers of rows and columns.
 pub(crate) fn pair_answer(came: Result<(u32, u32), WinFault>) -> Answer
     ensures { result ≡ answered (λ pair. answers.Pair pair.0 pair.1) came }
 {

@@ -1,5 +1,4 @@
-//! Why a screen is not opened; what an update answers: what it sent, or why it ended early; and why what begins or ends a program's
-//! use of a screen was not sent whole.
+//! The faults of opening, updating, starting and closing a screen, and what an update that ended well has sent.
 use scr_cells::NoMemory;
 use scr_term::{Ops, ProfileFault};
 use std::alloc::{AllocError, AllocFailed};
@@ -7,10 +6,11 @@ use std::io::ErrorKind;
 use thiserror::Error;
 use ti_caps::Slot;
 
-/// Why a screen is not opened, or its opening or closing text not made.
+/// Why a screen was not opened, or its opening or closing text not made.
 #[derive(Clone, Copy, Debug, PartialEq, Eq, Error)]
 pub enum OpenFault {
-    /// The terminal's entry and size make no profile, or a text of it cannot be run. Never with its `NoMemory`.
+    /// The terminal's entry and size make no profile, or its opening or closing text cannot be run. The fault inside is
+    /// never `NoMemory`.
     #[error("{0}")]
     Profile(ProfileFault),
     /// The text of the key at this position has more than 64 bytes without its padding.
@@ -21,63 +21,63 @@ pub enum OpenFault {
     NoMemory,
 }
 
-/// What an update sent that ended well.
+/// What an update that ended well has sent.
 #[derive(Debug, Drop)]
 pub struct Sent {
-    /// The operations that it began, all of them taken whole by the writer.
+    /// The operations of its plan. The writer took the text of each of them whole.
     pub begun: Ops,
     /// How many bytes the writer took, including those that were owed before.
     pub bytes: u64,
 }
 
-/// Why an update ended early. Windows, virtual screen and wishes stay as they were.
+/// Why an update ended early. Windows, virtual screen and requested repaints stay as they were.
 #[derive(Debug, Drop, Error)]
 pub enum UpdateFault {
     /// Memory ran out before anything was sent.
     #[error("out of memory")]
     NoMemory,
-    /// A write failed or took nothing. What was not taken of the text that it cut is owed, and the next call that sends
+    /// A write failed or took nothing. What was not taken of the text that it cut is *owed*: the next call that sends
     /// something sends it first.
     #[error("write failed")]
     Write {
-        /// The operations whose text was tried, the last of them perhaps taken in part; none where the write of owed bytes
+        /// The operations whose text was tried, the last of them perhaps taken in part; none if the write of owed bytes
         /// failed.
         begun: Ops,
         /// How many bytes the writer took, including those that were owed before.
         sent: u64,
-        /// What the write answered; `WriteZero` where it took nothing.
+        /// The kind of the error that the write gave; `WriteZero` if it took nothing.
         kind: ErrorKind,
     },
-    /// All was taken, and the flush failed. Nothing is owed.
+    /// Everything was taken, and the flush failed. Nothing is owed.
     #[error("flush failed")]
     Flush {
         /// The operations that were begun.
         begun: Ops,
         /// How many bytes the writer took.
         sent: u64,
-        /// What the flush answered.
+        /// The kind of the error that the flush gave.
         kind: ErrorKind,
     },
 }
 
-/// Why what begins or ends a program's use of a screen was not sent whole. Windows, virtual screen and wishes stay as they were.
+/// Why `start` or `close` did not send everything. Windows, virtual screen and requested repaints stay as they were.
 #[derive(Clone, Copy, Debug, PartialEq, Eq, Error)]
 pub enum SendFault {
-    /// A write failed or took nothing. What was not taken of the text that it cut is owed, and the next call that sends
+    /// A write failed or took nothing. What was not taken of the text that it cut is owed: the next call that sends
     /// something sends it first.
     #[error("write failed")]
     Write {
         /// How many bytes the writer took, including those that were owed before.
         sent: u64,
-        /// What the write answered; `WriteZero` where it took nothing.
+        /// The kind of the error that the write gave; `WriteZero` if it took nothing.
         kind: ErrorKind,
     },
-    /// All was taken, and the flush failed. Nothing is owed.
+    /// Everything was taken, and the flush failed. Nothing is owed.
     #[error("flush failed")]
     Flush {
         /// How many bytes the writer took.
         sent: u64,
-        /// What the flush answered.
+        /// The kind of the error that the flush gave.
         kind: ErrorKind,
     },
 }

@@ -12,18 +12,18 @@ use std::marker::Model;
 /// How a writer for tests fails.
 #[derive(Clone, Copy, Debug, PartialEq, Eq)]
 pub enum Failure {
-    /// A write answers an error of kind `Other`.
+    /// A write fails with an error of kind `Other`.
     Error,
-    /// A write takes nothing, and answers 0.
+    /// A write takes nothing and gives 0.
     Zero,
-    /// A flush answers an error of kind `Other`.
+    /// A flush fails with an error of kind `Other`.
     Flush,
 }
 
-/// A writer over memory for tests: it takes some bytes, then fails a number of times, and then takes all.
+/// A writer over memory for tests: it takes a number of bytes, then fails a number of times, and then takes everything.
 ///
-/// A write that begins before that limit goes up to it and no further. Memory that runs out in a write is an error of kind
-/// `OutOfMemory`, and nothing is taken then. Through `Device` an update can write to it.
+/// A write that begins before the limit takes bytes up to the limit and no further. If memory runs out in a write, the
+/// error is of kind `OutOfMemory` and nothing is taken. An update can write to it through `Device`.
 #[derive(Debug, Drop)]
 pub struct Faulty {
     taken: Vec<u8>,
@@ -41,7 +41,7 @@ impl Model for Faulty {
 }
 
 impl Faulty {
-    /// A writer that takes `limit` bytes, and then fails in this way so many times.
+    /// A writer that takes `limit` bytes, and then fails in this way `times` times.
     pub fn new(alloc: Global, limit: usize, failure: Failure, times: usize) -> Faulty
         ensures { result ≡ record { taken = []; limit = limit; failure = failure; left = times } }
     {
@@ -53,7 +53,7 @@ impl Faulty {
         }
     }
 
-    /// The bytes that it took so far.
+    /// The bytes that it has taken so far.
     pub fn taken(&self) -> &[u8]
         ensures { result.now ≡ self.now.taken }
     {
@@ -67,7 +67,7 @@ impl Faulty {
         self.taken.len() >= self.limit && self.left > 0
     }
 
-    // How many of so many bytes it takes where it does not fail.
+    // How many of `bytes` bytes it takes when it does not fail.
     fn room_for(&self, bytes: usize) -> usize
         ensures { result ≡ room_for self.now bytes }
     {

@@ -1,9 +1,10 @@
 //! Keys: bytes of the keyboard come in, and keys go out. The definitions are in `specs/Keyboard.antt` and in the crate
 //! `scr_keys`.
 //!
-//! The caller reads the keyboard and owns the clock. Where a program calls getch() and waits, it gives each byte that it reads to
-//! `key_byte` here, says by `key_idle` that none came for as long as it lets the bytes of one key take (which is what
-//! notimeout() and ESCDELAY set in curses), and takes keys by `key`. Keys are told from bytes always, as after keypad() with true.
+//! The program reads the keyboard itself and owns the clock. In place of calling getch() and waiting, it gives each
+//! byte that it reads to `key_byte`, and takes keys with `key`. It calls `key_idle` when no byte has come for as long
+//! as it lets the bytes of one key take, which is what notimeout() and ESCDELAY set in curses. Bytes are always read as
+//! keys, as after keypad() with true.
 ghost use Rattle.scr_keys.specs.Readers.{byte_read, idle_read, key_taken};
 ghost use Rattle.curses.specs.Keyboard.{OnKeys};
 
@@ -11,19 +12,19 @@ use crate::screens::Screen;
 use scr_keys::{Key, KeyFault};
 
 impl Screen {
-    /// A byte came from the keyboard: the keys that it decides wait to be taken by `key`, and bytes that could still become a key
+    /// Reads a byte of the keyboard. The keys that it decides are queued for `key`; bytes that could still become a key
     /// of the terminal wait for more.
     ///
-    /// Refused: QueueFull where the keys that wait and those that it decides are together more than 16 and the number of
-    /// bytes of the longest key; nothing is taken then, the byte neither. X/Open Curses Issue 7, getch(), keypad().
+    /// Refused: QueueFull if the keys queued and those that it decides would be more than 16 plus the number of bytes
+    /// of the longest key; nothing is taken then, not even the byte. X/Open Curses Issue 7, getch(), keypad().
     pub fn key_byte(&mut self, byte: u8) -> Result<(), KeyFault>
         ensures { OnKeys self.old self.new result (byte_read self.old.keys byte) }
     {
         self.keys.byte(byte)
     }
 
-    /// No byte came from the keyboard for a while: the bytes that wait for more are the keys that they are, an escape by
-    /// itself among them.
+    /// Tells the screen that no byte has come from the keyboard for a while: the bytes that wait for more become the
+    /// keys that they are, for example a lone escape.
     ///
     /// Refused: QueueFull, as for a byte; the bytes go on waiting then. X/Open Curses Issue 7, getch(), notimeout().
     pub fn key_idle(&mut self) -> Result<(), KeyFault>
@@ -32,8 +33,8 @@ impl Screen {
         self.keys.idle()
     }
 
-    /// Takes the first key that waits; `None` where none does, which is no end of the input. No window is refreshed, and
-    /// nothing is echoed. X/Open Curses Issue 7, getch().
+    /// Takes the first key of the queue; `None` if no key is queued, which is not the end of the input. No window is
+    /// refreshed, and nothing is echoed. X/Open Curses Issue 7, getch().
     pub fn key(&mut self) -> Option<Key>
         ensures { OnKeys self.old self.new result (key_taken self.old.keys) }
     {

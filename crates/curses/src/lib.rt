@@ -26,7 +26,7 @@ pub use starting::closing_laws;
 pub use texts::{closing_text, opening_text};
 pub use writers::{Counted, Device};
 
-// What a program names beside: windows, cells and keys, terminals, and the operations and faults of updates.
+// What a program names besides: windows, cells and keys, terminals, and the operations and faults of updates.
 pub use scr_cells::{Attrs, Cell, NoMemory, Picture, Size};
 pub use scr_keys::{Key, KeyFault, names as keys};
 pub use scr_term::{Op, Ops, ProfileFault};

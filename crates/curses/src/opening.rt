@@ -23,14 +23,16 @@ use std::alloc::Global;
 use ti_caps::{Entry, slots};
 
 impl Screen {
-    /// A screen on the terminal of an entry, of this size, or of the entry's `lines` and `cols` where none is given: one
-    /// window over all of it, a blank virtual screen, and nothing known of what the terminal shows. Its keys are those of the
-    /// entry, and none was pressed. `start` and `close` send the entry's opening and closing text, or nothing in place of one that
-    /// `opening_text` or `closing_text` refuses. Opening sends nothing.
+    /// Opens a screen on the terminal of an entry, of this size, or of the entry's `lines` and `cols` if none is given.
+    /// Nothing is sent.
     ///
-    /// Refused: Profile where the entry makes no profile, for the first reason that `Profile::admit` has; KeyTooLong with the
-    /// lowest position of a key whose text has more than 64 bytes; NoMemory where memory runs out. X/Open Curses Issue 7,
-    /// newterm(), keypad().
+    /// It has one blank window over the whole screen, `Win(0)`, a blank virtual screen, and the keys of the entry, none
+    /// of them pressed. Nothing is known of what the terminal shows. `start` and `close` send the entry's opening and
+    /// closing text, or nothing in place of one that `opening_text` or `closing_text` refuses.
+    ///
+    /// Refused: Profile if the entry makes no profile, for the first reason that `Profile::admit` has; KeyTooLong with
+    /// the lowest position of a key whose text has more than 64 bytes; NoMemory if memory runs out. X/Open Curses Issue
+    /// 7, newterm(), keypad().
     pub fn open(alloc: Global, entry: &Entry, size: Option<Size>) -> Result<Screen, OpenFault>
         ensures ok { IfOk result (IsOpened entry.now size) }
         ensures err { IfErr result (IsUnopened entry.now size) }
@@ -42,7 +44,7 @@ impl Screen {
         Ok(screen)
     }
 
-    /// A screen of this size on the terminal of an entry, as `open` opens it.
+    /// Opens a screen of this size on the terminal of an entry. The rest, refusals included, is as with `open`.
     pub fn open_sized(alloc: Global, entry: &Entry, size: Size) -> Result<Screen, OpenFault>
         ensures ok { IfOk result (IsOpened entry.now (Some size)) }
         ensures err { IfErr result (IsUnopened entry.now (Some size)) }
@@ -50,8 +52,9 @@ impl Screen {
         Screen::open(alloc, entry, Some(size))
     }
 
-    /// A screen of the entry's own `lines` and `cols`, as `open` opens it. The terminal may have another size by now: a program that can
-    /// ask for it opens a screen of that size.
+    /// Opens a screen of the entry's own `lines` and `cols`. The rest, refusals included, is as with `open`.
+    ///
+    /// The terminal may have another size by now: a program that can ask for it opens a screen of that size.
     pub fn open_at_own_size(alloc: Global, entry: &Entry) -> Result<Screen, OpenFault>
         ensures ok { IfOk result (IsOpened entry.now None) }
         ensures err { IfErr result (IsUnopened entry.now None) }
@@ -88,7 +91,7 @@ impl Screen {
     }
 }
 
-// What is sent before the first update and behind the last.
+// What is sent before the first update and after the last.
 #[derive(Drop)]
 struct Texts {
     opening: Vec<u8>,
@@ -114,7 +117,7 @@ struct Surfaces {
     wanted: Virtual,
 }
 
-// What a screen has beside its terminal and its keyboard.
+// What a screen has besides its terminal and its keyboard.
 #[derive(Drop)]
 struct Blank {
     surfaces: Surfaces,
@@ -122,7 +125,7 @@ struct Blank {
     owed: Vec<u8>,
 }
 
-// What a screen on the terminal of a profile has at first. Fails only when memory runs out.
+// What a new screen on the terminal of a profile has. Fails only when memory runs out.
 fn blank_on(alloc: Global, profile: &Profile, texts: &Texts) -> Result<Blank, NoMemory>
     requires opening { length texts.now.opening.items ≤ 2048 }
     requires closing { length texts.now.closing.items ≤ 2048 }
@@ -144,7 +147,7 @@ fn blank_on(alloc: Global, profile: &Profile, texts: &Texts) -> Result<Blank, No
     })
 }
 
-// One window over a screen of a size, and a blank virtual screen. Fails only when memory runs out.
+// One window over a screen of this size, and a blank virtual screen. Fails only when memory runs out.
 fn surfaces_of(alloc: Global, size: Size) -> Result<Surfaces, NoMemory>
     ensures desk { IfOk result (λ surfaces. surfaces.desk ≡ first_desk size.rows size.columns) }
     ensures wanted { IfOk result (λ surfaces. surfaces.wanted ≡ blank_virtual size.rows size.columns) }
@@ -156,7 +159,7 @@ fn surfaces_of(alloc: Global, size: Size) -> Result<Surfaces, NoMemory>
     Ok(Surfaces { desk, wanted })
 }
 
-// A buffer with room for the text of each operation, and for each of two others. Fails only when memory runs out.
+// A buffer with room for the text of each operation, and for each of two other texts. Fails only when memory runs out.
 fn buffer_for(alloc: Global, profile: &Profile, texts: &Texts) -> Result<Vec<u8>, NoMemory>
     requires opening { length texts.now.opening.items ≤ 2048 }
     requires closing { length texts.now.closing.items ≤ 2048 }
@@ -172,7 +175,7 @@ fn buffer_for(alloc: Global, profile: &Profile, texts: &Texts) -> Result<Vec<u8>
     Ok(buffer)
 }
 
-// A reader of the keys of an entry that has made a profile.
+// A reader for the keys of an entry that has made a profile.
 fn keys_of(
     alloc: Global,
     entry: &Entry,

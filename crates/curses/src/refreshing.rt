@@ -1,5 +1,6 @@
-//! Calls that say what the next update brings the terminal to: windows and pads that are taken, colour pairs, and rows that
-//! others wrote. The definitions are in `specs/Refreshing.antt` and in the crate `scr_virtual`.
+//! Calls that say what the next update brings the terminal to: windows, pads, colour pairs, and rows that others wrote.
+//!
+//! The definitions are in `specs/Refreshing.antt` and in the crate `scr_virtual`.
 ghost use Rattle.std.specs.Prelude.{◌≡◌};
 ghost use Rattle.scr_virtual.specs.Pairs.{set_pair_call};
 ghost use Rattle.scr_virtual.specs.Taking.{take_pad_call, take_window_call};
@@ -12,17 +13,17 @@ use scr_virtual::{ranges_hold_changes, sizes_stay};
 use scr_windows::{Win, WinFault};
 
 impl Screen {
-    /// The cells that the next update brings the terminal to, the colours of their pairs, and where its cursor is wished
-    /// (curs_refresh(3X), 'virtual screen').
+    /// The cells that the next update brings the terminal to, the colours of their pairs, and where its cursor is
+    /// wanted (curs_refresh(3X), 'virtual screen').
     pub fn picture(&self) -> &Picture
         ensures { result.now ≡ self.now.virtual.picture }
     {
         self.wanted.picture()
     }
 
-    /// Takes a window onto the virtual screen: its touched lines, none of which is touched any more, and its cursor, which is
-    /// wished from then on; with `leave_ok` no place is wished. Where `clear_ok` is set, the next update paints the whole
-    /// screen, and the setting goes off.
+    /// Takes a window onto the virtual screen: its touched lines are copied and become untouched. From then on the
+    /// terminal's cursor is wanted where the window's is, or nowhere in particular if `leave_ok` is set. If `clear_ok`
+    /// is set, the next update repaints the whole screen, and the setting is switched off.
     ///
     /// Refused: NoWindow; IsPad. X/Open Curses Issue 7, wnoutrefresh().
     pub fn noutrefresh(&mut self, win: Win) -> Result<(), WinFault>
@@ -35,12 +36,13 @@ impl Screen {
     }
 
     /// Takes a part of a pad onto the virtual screen: the rectangle of the screen from `top` and `left` to `bottom` and
-    /// `right`, both inside, gets the pad's cells from `row` and `column` on, whether touched or not; lines of the pad that it
-    /// shows are touched no more. The cursor is wished where the pad's is shown; where it is not, or with `leave_ok`, no place
-    /// is wished. `clear_ok` is as in `noutrefresh`.
+    /// `right`, both corners inside it, gets the pad's cells from `row` and `column` on, touched or not. The lines of
+    /// the pad that it shows become untouched. The terminal's cursor is wanted where the pad's is shown, or nowhere in
+    /// particular if it is not shown or `leave_ok` is set. `clear_ok` is as in `noutrefresh`.
     ///
-    /// Refused: NoWindow; NotPad; OffScreen where the corners are the wrong way round; OutOfWindow where the part is not
-    /// wholly in the pad; OffScreen where the rectangle is not wholly on the screen. X/Open Curses Issue 7, pnoutrefresh().
+    /// Refused: NoWindow; NotPad; OffScreen if the corners are the wrong way round; OutOfWindow if the part is not
+    /// wholly in the pad; OffScreen if the rectangle is not wholly on the screen. X/Open Curses Issue 7,
+    /// pnoutrefresh().
     pub fn pad_noutrefresh(
         &mut self,
         win: Win,
@@ -60,9 +62,9 @@ impl Screen {
             .take_pad(&mut self.desk, win, row, column, top, left, bottom, right)
     }
 
-    /// Sets the foreground and the background of a colour pair, in every place that has it.
+    /// Sets the foreground and the background of a colour pair, wherever it is used.
     ///
-    /// Refused: BadPair where the pair is not 1 to 63; BadColour where a colour is above 7. X/Open Curses Issue 7,
+    /// Refused: BadPair if the pair is not 1 to 63; BadColour if a colour is above 7. X/Open Curses Issue 7,
     /// init_pair().
     pub fn set_pair(&mut self, pair: u32, foreground: u32, background: u32) -> Result<(), WinFault>
         ensures { OnVirtual self.old self.new result (set_pair_call self.old.virtual pair foreground background) }
@@ -74,8 +76,9 @@ impl Screen {
         self.wanted.set_pair(pair, foreground, background)
     }
 
-    /// Says that others wrote on the rows of the screen where a window is: the next update takes nothing there for known.
-    /// No cell, no touched line and no wish changes.
+    /// Says that others wrote on the rows of the screen where a window is: the next update takes nothing there as
+    /// known, nor where the cursor is and what is written with. No cell, touched line, wanted cursor or requested
+    /// repaint changes.
     ///
     /// Refused: NoWindow; IsPad. X/Open Curses Issue 7, redrawwin().
     pub fn redraw_window(&mut self, win: Win) -> Result<(), WinFault>
@@ -85,10 +88,11 @@ impl Screen {
         self.redraw_lines(win, 0, lines)
     }
 
-    /// Says that others wrote on the rows of the screen where n lines of a window are, from one on. With n 0 no row is meant,
-    /// but where the cursor is and what is written with count as unknown then too. No cell, no touched line and no wish changes.
+    /// Says that others wrote on the rows of the screen where `n` lines of a window are, from line `first` on. If `n`
+    /// is 0 no row is meant, but where the cursor is and what is written with count as unknown then too. No cell,
+    /// touched line, wanted cursor or requested repaint changes.
     ///
-    /// Refused: NoWindow; IsPad; OutOfWindow where the window has fewer than `first + n` lines. X/Open Curses Issue 7,
+    /// Refused: NoWindow; IsPad; OutOfWindow if the window has fewer than `first + n` lines. X/Open Curses Issue 7,
     /// wredrawln().
     pub fn redraw_lines(&mut self, win: Win, first: u32, n: u32) -> Result<(), WinFault>
         ensures { OnTerminal self.old self.new result (redraw_lines_call self.old.virtual self.old.desk win.0 first n) (lines_disturbed self.old.memory self.old.desk win.0 first n) }

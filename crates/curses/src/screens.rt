@@ -10,10 +10,12 @@ use scr_windows::Desk;
 use std::fmt;
 use std::marker::Model;
 
-/// A screen of curses: windows, the virtual screen onto which they are taken, the terminal that updates bring to it,
+/// A curses screen: its windows, the virtual screen onto which they are taken, the terminal that updates bring to it,
 /// and the keys of its keyboard (X/Open Curses Issue 7, 'Screens, Windows and Terminals'; curs_refresh(3X)).
 ///
-/// Rows and columns are counted from 0. A refused call changes nothing.
+/// In every call rows and columns are counted from 0, from the window's first place unless the call says otherwise, and
+/// the corners of a rectangle are both inside it. A refused call changes nothing; if several refusals hold, the first
+/// that the call names is given.
 #[derive(Drop)]
 pub struct Screen {
     pub(crate) desk: Desk,
@@ -21,10 +23,11 @@ pub struct Screen {
     pub(crate) profile: Profile,
     // What is known of what the terminal shows.
     pub(crate) memory: Memory,
-    // What was begun to be sent and has still to be, with room for the text of each operation and for each of the two texts below.
+    // What has been begun and is still to be sent, with room for the text of each operation and for each of the two
+    // texts below.
     pub(crate) owed: Vec<u8>,
     pub(crate) keys: KeyReader,
-    // What is sent before the first update and behind the last.
+    // What is sent before the first update and after the last.
     pub(crate) opening: Vec<u8>,
     pub(crate) closing: Vec<u8>,
 }

@@ -1,4 +1,5 @@
-//! Sending: one text at a time goes to a writer, whole, and what a failed put did not take of it waits in a buffer.
+//! Sending: texts go to a writer one at a time, each whole, and what a failed put did not take of one waits in a
+//! buffer.
 ghost use Rattle.std.specs.Prelude.{◌≡◌, ◌≢◌, ◌≤◌, ◌<◌, ◌+◌, ◌^◌, [], ◌∷◌, All, None, true, length, take, drop, vec_capacity};
 ghost use Rattle.std.specs.Option.{is_some};
 ghost use Rattle.std.specs.Io.KnownBytes.{Appends};
@@ -12,7 +13,7 @@ use crate::writers::Counted;
 use scr_term::{Op, Profile};
 use std::io::ErrorKind;
 
-// How many operations were begun and how many bytes a writer took of them, and why it took no more.
+// How many operations were begun, how many of their bytes a writer took, and why it took no more.
 #[derive(Clone, Copy)]
 pub(crate) struct Progress {
     pub begun: usize,
@@ -57,8 +58,8 @@ pub(crate) fn send_all<W: Counted>(
     }
 }
 
-// Sends the texts of operations, one at a time, from a buffer that has room for each. What a failed put did not take of one
-// waits in the buffer, and the operations behind it are not begun.
+// Sends the texts of operations, one at a time, from a buffer that has room for each. What a failed put did not take of
+// one waits in the buffer, and the operations after it are not begun.
 fn send_operations<W: Counted>(
     profile: &Profile,
     ops: &[Op],
@@ -127,8 +128,8 @@ fn send_operation<W: Counted>(
     send_waiting(waiting, out)
 }
 
-// Sends a character, which is its own text. Most operations of a repaint are characters, so it waits in the buffer only where a put
-// fails.
+// Sends a character, which is its own text. Most operations of a repaint are characters, so a character goes to the
+// buffer only if its put fails.
 #[inline(always)]
 fn send_character<W: Counted>(byte: u8, waiting: &mut Vec<u8>, out: &mut W) -> Taken
     requires nothing { waiting.old.items ≡ [] }
@@ -149,7 +150,7 @@ fn send_character<W: Counted>(byte: u8, waiting: &mut Vec<u8>, out: &mut W) -> T
     taken
 }
 
-// Appends the text of an operation to an empty buffer that has room for it, so that this cannot fail.
+// Appends the text of an operation to an empty buffer that has room for it, so this cannot fail.
 fn append(profile: &Profile, op: Op, waiting: &mut Vec<u8>)
     requires has { has profile.now op ≡ true }
     requires nothing { waiting.old.items ≡ [] }
@@ -176,7 +177,7 @@ pub(crate) fn send_text<W: Counted>(text: &[u8], waiting: &mut Vec<u8>, out: &mu
     send_waiting(waiting, out)
 }
 
-// Has a text wait in an empty buffer that has room for it, so that this cannot fail.
+// Puts a text into an empty buffer that has room for it, so this cannot fail.
 fn wait(text: &[u8], waiting: &mut Vec<u8>)
     requires nothing { waiting.old.items ≡ [] }
     requires room { length text.now ≤ vec_capacity waiting.old }
@@ -193,7 +194,7 @@ pub(crate) struct Taken {
     pub fault: Option<ErrorKind>,
 }
 
-// Sends what waits in a buffer. What a failed put did not take goes on waiting.
+// Sends what waits in a buffer. What a failed put did not take stays there.
 fn send_waiting<W: Counted>(waiting: &mut Vec<u8>, out: &mut W) -> Taken
     ensures cut { IsCut waiting.old.items [] (W.told out.old).taken (W.told out.new).taken result.bytes waiting.new.items }
     ensures whole { result.fault ≡ None → waiting.new.items ≡ [] }
@@ -228,7 +229,7 @@ fn put_whole<W: Counted>(text: &[u8], out: &mut W) -> Taken
     Taken { bytes, fault: None }
 }
 
-// So many bytes were taken before a put failed.
+// What is told of a put that failed after this many bytes were taken.
 fn failed_at(bytes: usize, kind: ErrorKind) -> Taken
     ensures bytes { result.bytes ≡ bytes }
     ensures fault { is_some result.fault ≡ true }

@@ -1,4 +1,4 @@
-//! Sessions: calls on one screen, one after another. The definitions are in `specs/Sessions.antt`.
+//! Sessions: lists of calls on one screen. The definitions are in `specs/Sessions.antt`.
 ghost use Rattle.std.specs.Prelude.{◌≡◌, IfErr, IfOk, OnErr};
 ghost use Rattle.curses.specs.declared.calls.values.Call.TheVariants.{Doupdate};
 ghost use Rattle.curses.specs.Code.Progress.{AreMadeAfresh, IsFresh};
@@ -31,7 +31,7 @@ impl Model for Answers {
     ghost view = { λ a. a.0.items };
 }
 
-/// What came of a session.
+/// The result of a session.
 #[derive(Debug, Drop)]
 pub struct Report {
     /// One answer for each call.
@@ -40,16 +40,17 @@ pub struct Report {
     pub last_ok: bool,
 }
 
-/// Opens a screen on the terminal of an entry and makes calls one after another, whatever they answer. The room for all
-/// answers is got at opening.
+/// Opens a screen on the terminal of an entry and makes calls one after another, whatever they answer. The memory for
+/// all answers is allocated at opening.
 ///
-/// Each answer is that of the call, as `specs/Sessions.antt` defines it; what an update began is a plan, or after a failed write the
-/// first operations of one. Right after each update that ended well, whatever writes failed before it and whatever state of its
-/// profile the terminal was in at opening, the terminal shows the virtual screen, with its cursor where it is wished, and nothing is owed; on the bundled
-/// ECMA-48 entry the bytes that were taken lead there. After every call the bytes taken so far, and then those that are owed, are the
-/// texts of all operations begun. curs_refresh(3X).
+/// - Each answer is that of the call, as `specs/Sessions.antt` defines it. What an update began is a plan, or after a
+///   failed write the first operations of one.
+/// - Right after each update that ended well, the terminal shows the virtual screen, with its cursor where it is
+///   wanted, and nothing is owed. This holds whatever writes failed before it and whatever state of its profile the
+///   terminal was in at opening. On the bundled ECMA-48 entry the bytes that were taken lead there.
+/// - After every call, the bytes taken so far followed by those that are owed are the texts of all operations begun.
 ///
-/// Refused exactly where `Screen::open` is, memory aside, for its reasons; nothing is written then.
+/// Refused exactly if `Screen::open` is, memory aside, for its reasons; nothing is written then. curs_refresh(3X).
 pub fn session<W: Counted>(
     alloc: Global,
     entry: &Entry,
@@ -65,7 +66,7 @@ pub fn session<W: Counted>(
     made_on(screen, alloc, calls, out)
 }
 
-// Makes calls one after another on a screen that was just opened, and lets go of it. Fails only when memory runs out for the
+// Makes calls one after another on a screen that was just opened, and drops it. Fails only when memory runs out for the
 // answers, before the first call.
 fn made_on<W: Counted>(
     mut screen: Screen,
@@ -82,8 +83,8 @@ fn made_on<W: Counted>(
 }
 
 impl Screen {
-    /// Makes a call that is given as a value, by the method of its name, and answers what it answers. `specs/Making.antt` says what
-    /// that does to the screen and to the writer, which only an update writes to.
+    /// Makes a call that is given as a value, by the method of its name, and gives its answer. `specs/Making.antt` says
+    /// what that does to the screen and to the writer; only an update writes to it.
     pub fn make<W: Counted>(&mut self, alloc: Global, call: &Call, out: &mut W) -> Answer
         ensures { IsMade self.old self.new call.now result (W.told out.old) (W.told out.new) }
     {
@@ -103,14 +104,15 @@ impl Screen {
         }
     }
 
-    /// Makes calls one after another on this screen, whatever they answer. The room for all answers is got before the first call.
+    /// Makes calls one after another on this screen, whatever they answer. The memory for all answers is allocated
+    /// before the first call.
     ///
-    /// What `session` says of a screen that was just opened holds of any: from every state of the terminal that agrees with what is
-    /// remembered of it, and where nothing was owed at the beginning, also through the bytes. So calls may be made in parts, and where
-    /// others wrote on the terminal in between, the rows that they changed are marked by `redraw_lines` or `redraw_window`
-    /// (`disturbed_rows_hold_again`). curs_refresh(3X).
+    /// What `session` says of a screen that was just opened holds of any: from every state of the terminal that agrees
+    /// with what is remembered of it, and, if nothing was owed at the beginning, also through the bytes. So calls may
+    /// be made in parts; and if others wrote on the terminal in between, `redraw_lines` or `redraw_window` marks the
+    /// rows that they changed (`disturbed_rows_hold_again`). curs_refresh(3X).
     ///
-    /// NoMemory where there is no room for the answers: no call is made then.
+    /// Refused: NoMemory if there is no room for the answers; no call is made then.
     pub fn make_all<W: Counted>(
         &mut self,
         alloc: Global,
@@ -141,7 +143,7 @@ impl Screen {
 }
 
 impl Screen {
-    // Makes calls as `make_all` does; want of memory is the fault that an opening has for it.
+    // Makes calls as `make_all` does; if memory runs out, the fault is the one that an opening has for it.
     fn report<W: Counted>(
         &mut self,
         alloc: Global,
@@ -173,10 +175,14 @@ impl Screen {
     }
 }
 
-/// Where others changed rows of the terminal before the calls of a session (`Screen::make_all`), while nothing was owed, and left a state of
-/// its profile, and these calls mark each of the rows before any update, all that a session promises holds again from there on: the next
-/// update that ends well shows the picture, with its bytes, and the one after it is bounded by the joined repaint again. One mark there has
-/// to be, of no line too, where only the cursor or the rendition changed. X/Open Curses Issue 7, redrawwin(), wredrawln().
+/// If others changed rows of the terminal, and the next calls of a session (`Screen::make_all`) mark all of them before
+/// any update, everything that a session promises holds again from there on. X/Open Curses Issue 7, redrawwin(),
+/// wredrawln().
+///
+/// The others wrote before these calls, while nothing was owed, and left the terminal in a state of its profile. From
+/// the marks on, the next update that ends well shows the picture, with its bytes, and the one after it is bounded by
+/// the joined repaint again. There has to be at least one mark; it may be of no line, if only the cursor or the
+/// rendition changed.
 pub fn disturbed_rows_hold_again()
     ensures { DisturbedRowsHoldAgain }
 {

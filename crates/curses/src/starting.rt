@@ -13,12 +13,14 @@ use crate::writers::Counted;
 use scr_term::{Op, Profile, bytes_act_as_their_operations, profiles_have, run_laws};
 
 impl Screen {
-    /// Begins a program's use of the screen: sends what is owed, then the opening text of the entry that the screen was opened on
-    /// (`smcup` and `smkx`, as `opening_text` gives them; nothing where that is refused), and flushes the writer if it took something. It
-    /// answers how many bytes the writer took. Nothing is known of the terminal then, so the next update paints all.
+    /// Begins a program's use of the screen: sends what is owed, then the opening text of the entry that the screen was
+    /// opened on, and flushes the writer if it took something. The text is `smcup` and `smkx`, as `opening_text` gives
+    /// them, or nothing if that is refused. Gives how many bytes the writer took. Nothing is known of the terminal
+    /// then, so the next update repaints everything.
     ///
-    /// It takes no memory. Ended early: Write, where what was not taken of the text that was cut is owed; Flush. X/Open Curses
-    /// Issue 7, initscr(); terminfo(5), 'Cursor Motions'.
+    /// Allocates no memory. Ends early with Write if a write failed or took nothing, and what was not taken of the text
+    /// that it cut is then owed; with Flush if everything was taken and the flush failed. X/Open Curses Issue 7,
+    /// initscr(); terminfo(5), 'Cursor Motions'.
     pub fn start<W: Counted>(&mut self, out: &mut W) -> Result<u64, SendFault>
         ensures ok { IfOk result (IsStarted self.old self.new (W.told out.old) (W.told out.new)) }
         ensures err { IfErr result (IsNotStarted self.old self.new (W.told out.old) (W.told out.new)) }
@@ -28,14 +30,17 @@ impl Screen {
         send_whole(&self.profile, &none, &self.opening, &mut self.owed, out)
     }
 
-    /// Ends a program's use of the screen: sends what is owed; then what turns all attributes off, makes the colours default and takes
-    /// the cursor to the beginning of the last line, which is defined whatever the terminal shows and writes with; and then
-    /// the closing text of the entry that the screen was opened on (`rmkx` and `rmcup`, as `closing_text` gives them; nothing where that is
-    /// refused). It flushes the writer if it took something, and answers how many bytes the writer took. Nothing is known of the
-    /// terminal then: a program may `start` again, and its next update paints all.
+    /// Ends a program's use of the screen: sends what is owed; then what turns all attributes off, makes the colours
+    /// default and moves the cursor to the beginning of the last line; then the closing text of the entry that the
+    /// screen was opened on; and flushes the writer if it took something. Gives how many bytes the writer took.
     ///
-    /// It takes no memory. Ended early: Write, where what was not taken of the text that was cut is owed; Flush. Close again when
-    /// the terminal is there again. X/Open Curses Issue 7, endwin(); terminfo(5), 'Cursor Motions'.
+    /// What turns all off and moves the cursor is defined whatever the terminal shows and writes with. The closing text
+    /// is `rmkx` and `rmcup`, as `closing_text` gives them, or nothing if that is refused. Nothing is known of the
+    /// terminal then: a program may `start` again, and its next update repaints everything.
+    ///
+    /// Allocates no memory. Ends early with Write if a write failed or took nothing, and what was not taken of the text
+    /// that it cut is then owed; with Flush if everything was taken and the flush failed. Call `close` again when the
+    /// terminal is back. X/Open Curses Issue 7, endwin(); terminfo(5), 'Cursor Motions'.
     pub fn close<W: Counted>(&mut self, out: &mut W) -> Result<u64, SendFault>
         ensures ok { IfOk result (IsClosed self.old self.new (W.told out.old) (W.told out.new)) }
         ensures err { IfErr result (IsNotClosed self.old self.new (W.told out.old) (W.told out.new)) }
@@ -47,7 +52,7 @@ impl Screen {
     }
 }
 
-// Sends what waits in a buffer, what turns all off and takes the cursor to the last line, and then a text.
+// Sends what waits in a buffer, what turns everything off and takes the cursor to the last line, and then a text.
 fn send_closing<W: Counted>(
     profile: &Profile,
     text: &[u8],
@@ -71,7 +76,7 @@ fn send_closing<W: Counted>(
     }
 }
 
-// Sends what waits in a buffer, the texts of operations, and then a text, and has it all reach its end.
+// Sends what waits in a buffer, the texts of operations, and then a text, and flushes the writer if it took something.
 fn send_whole<W: Counted>(
     profile: &Profile,
     ops: &[Op],
@@ -106,8 +111,8 @@ fn send_whole<W: Counted>(
     Ok(sent)
 }
 
-/// From every state of every profile, what is sent in front of the closing text is defined and turns all off, and leaves the cursor
-/// at the beginning of the last line.
+/// From every state of every profile, what is sent before the closing text is defined, turns everything off, and leaves
+/// the cursor at the beginning of the last line.
 pub fn closing_laws()
     ensures { ClosingLaws }
 {

@@ -1,4 +1,4 @@
-//! What a program sends to a terminal before its first update and behind its last. The definitions are in
+//! What a program sends to a terminal before its first update and after its last. The definitions are in
 //! `specs/Texts.antt`.
 ghost use Rattle.std.specs.Prelude.{◌≡◌, ◌++◌, ◌∷◌, ◌≤◌, [], length, IfErr, IfOk, IfSome, OnOk, option_map};
 ghost use Rattle.ti_param.specs.Parsed.{parsed};
@@ -24,14 +24,14 @@ const MOST_DEPTH: usize = 20;
 // The most bytes that a text may give.
 const MOST_BYTES: usize = 1_024;
 
-/// The bytes that a program sends before its first update: the text of `smcup`, which enters the mode for cursor addresses,
-/// and then that of `smkx`, which has the keypad transmit (terminfo(5), 'Cursor Motions', 'Keypad and Function Keys').
-/// Each is without padding, and run with all parameters and variables 0; an absent one gives nothing. `Screen::start` sends
-/// them; they are at most 2,048.
+/// The bytes that a program sends before its first update: the text of `smcup`, which enters the mode for cursor
+/// addresses, and then that of `smkx`, which makes the keypad transmit (terminfo(5), 'Cursor Motions', 'Keypad and
+/// Function Keys'). Each is without padding, and run with all parameters and variables 0; an absent one gives nothing.
+/// There are at most 2,048 bytes. `Screen::start` sends them.
 ///
-/// Refused: Profile with BadString where the text of `smcup`, or else of `smkx`, is no parameter string, or its stack could
-/// hold more than 20 values; Profile with LongString where that of `smcup`, or else of `smkx`, could give more than 1,024
-/// bytes; NoMemory where memory runs out.
+/// Refused: Profile with BadString if the text of `smcup`, or else of `smkx`, is no parameter string, or its stack
+/// could hold more than 20 values; Profile with LongString if that of `smcup`, or else of `smkx`, could give more than
+/// 1,024 bytes; NoMemory if memory runs out.
 pub fn opening_text(alloc: Global, entry: &Entry) -> Result<Bytes, OpenFault>
     ensures ok { IfOk result (IsOpeningText entry.now) }
     ensures err { IfErr result (IsNoOpeningText entry.now) }
@@ -40,7 +40,7 @@ pub fn opening_text(alloc: Global, entry: &Entry) -> Result<Bytes, OpenFault>
     two_texts(alloc, entry, slots::SMCUP, slots::SMKX)
 }
 
-/// The bytes that a program sends behind its last update: the text of `rmkx`, and then that of `rmcup`, which end what
+/// The bytes that a program sends after its last update: the text of `rmkx`, and then that of `rmcup`, which end what
 /// the opening text began (terminfo(5), as there). Each is as in `opening_text`. `Screen::close` sends them.
 ///
 /// Refused as `opening_text` is, for `rmkx` before `rmcup`.
@@ -52,7 +52,7 @@ pub fn closing_text(alloc: Global, entry: &Entry) -> Result<Bytes, OpenFault>
     two_texts(alloc, entry, slots::RMKX, slots::RMCUP)
 }
 
-// One text and then another, or nothing where there is something against them. Fails only when memory runs out.
+// One text and then another, or nothing if either is refused. Fails only when memory runs out.
 pub(crate) fn texts_or_none(
     alloc: Global,
     entry: &Entry,
@@ -80,7 +80,8 @@ fn two_texts(alloc: Global, entry: &Entry, first: Slot, second: Slot) -> Result<
     both(alloc, &begin, first, &end, second)
 }
 
-// What one program gives, and then what another does, where all parameters and variables are 0 and neither can give too many bytes.
+// What one program gives, and then what another gives, with all parameters and variables 0, if neither can give too
+// many bytes.
 fn both(
     alloc: Global,
     begin: &Option<Program>,
@@ -129,7 +130,7 @@ fn plain_text(alloc: Global, entry: &Entry, slot: Slot) -> Result<Option<Vec<u8>
     Ok(Some(strip_padding(alloc, text)?))
 }
 
-// The program of a text; `None` where the text is no parameter string.
+// The program of a text; `None` if the text is no parameter string.
 fn parsed_program(alloc: Global, text: &[u8]) -> Result<Option<Program>, NoMemory>
     ensures { IfOk result (λ program. program ≡ parsed text.now) }
 {
@@ -143,7 +144,7 @@ fn parsed_program(alloc: Global, text: &[u8]) -> Result<Option<Program>, NoMemor
     }
 }
 
-// A program cannot give too many bytes; an absent one gives none.
+// Refuses a program that could give too many bytes; an absent one gives none.
 fn is_short(program: &Option<Program>, slot: Slot) -> Result<(), OpenFault>
     ensures { Judges result (long_program program.now slot) }
 {
@@ -155,7 +156,7 @@ fn is_short(program: &Option<Program>, slot: Slot) -> Result<(), OpenFault>
     }
 }
 
-// Appends what a program gives where all parameters and variables are 0.
+// Appends what a program gives with all parameters and variables 0.
 fn append(program: &Option<Program>, bytes: &mut Vec<u8>) -> Result<(), NoMemory>
     requires { IfSome program.now (λ p. depth p ≤ 20) }
     ensures { OnOk result (bytes.new.items ≡ bytes.old.items ++ written program.now (nine [])) }

@@ -1,4 +1,4 @@
-//! Updates: the operations that bring the terminal to a picture, made first and then sent. The definitions are in
+//! Updates: the operations that bring the terminal to a picture are made first, and then sent. The definitions are in
 //! `specs/Updates.antt`.
 ghost use Rattle.std.specs.Prelude.{◌≡◌, ◌≤◌, ◌^◌, IfOk, IfErr, IsErrOf, length, vec_capacity};
 ghost use Rattle.std.specs.Option.{is_some};
@@ -25,15 +25,24 @@ use std::alloc::Global;
 use std::io::ErrorKind;
 
 impl Screen {
-    /// Brings the terminal to the virtual screen: sends what is owed of an earlier call, then the operations that lead from what is
-    /// known of the terminal to the picture, and flushes the writer if it took something. Nothing is sent where nothing differs
-    /// and the cursor is as wished; rows that are not known are erased and painted, or the whole screen where that is shorter or
-    /// wished. After Ok the terminal shows the picture with its cursor where it is wished, all that it shows is known, nothing is owed,
-    /// and no repaint is wished.
+    /// Brings the terminal to the virtual screen. Sends what is *owed*, the rest of a text that a failed write cut off;
+    /// then the operations that lead from what is known of the terminal to the picture; and flushes the writer if it
+    /// took something.
     ///
-    /// The operations are made before the first byte is sent, and no memory is taken after that. Ended early: NoMemory,
-    /// where nothing is sent and all stays; Write, where the first operations of the plan were begun, up to that whose text was cut,
-    /// and what was not taken of it is owed; Flush. Windows, virtual screen and wishes stay then, and the next update paints all. curs_refresh(3X) and X/Open Curses Issue 7, doupdate().
+    /// Nothing is sent if nothing differs and the cursor is where it is wanted. Rows that are not known are erased and
+    /// painted, or the whole screen instead, if that is shorter or a repaint was requested. After Ok the terminal shows
+    /// the picture with its cursor where it is wanted, all that it shows is known, nothing is owed, and no requested
+    /// repaint is pending.
+    ///
+    /// The operations are made before the first byte is sent, and no memory is allocated after that. Windows, virtual
+    /// screen and requested repaints stay as they were if it ends early:
+    ///
+    /// - NoMemory: memory ran out. Nothing was sent, and nothing changes.
+    /// - Write: a write failed or took nothing. The first operations of the plan were begun, up to the one whose text
+    ///   was cut, and what was not taken of that text is owed. The next update repaints everything.
+    /// - Flush: everything was taken, and the flush failed. The next update repaints everything.
+    ///
+    /// curs_refresh(3X) and X/Open Curses Issue 7, doupdate().
     pub fn doupdate<W: Counted>(&mut self, alloc: Global, out: &mut W) -> Result<Sent, UpdateFault>
         ensures ok { IfOk result (IsShown self.old self.new (W.told out.old) (W.told out.new)) }
         ensures err { IfErr result (IsFailed self.old self.new (W.told out.old) (W.told out.new)) }
@@ -52,7 +61,7 @@ impl Screen {
         sent
     }
 
-    // What is known of the terminal, and what is to be painted, after an update that ended so.
+    // What is known of the terminal, and what is to be repainted, after an update that ended so.
     fn remember(&mut self, sent: &Result<Sent, UpdateFault>)
         requires { IfOk sent.now (λ sent. IsPlan self.old.profile self.old.memory self.old.virtual sent.begun) }
         ensures ok { IfOk sent.now (λ sent. self.new ≡ record self.old { virtual = settled self.old.virtual; memory = all_followed self.old.profile sent.begun self.old.memory }) }
@@ -88,8 +97,8 @@ impl Screen {
     }
 }
 
-// Brings a terminal to a picture: sends what waits in the buffer, which has room for the text of each operation, and then what
-// is planned.
+// Brings a terminal to a picture: sends what waits in the buffer, which has room for the text of each operation, and
+// then what is planned.
 pub(crate) fn update<W: Counted>(
     alloc: Global,
     profile: &Profile,
@@ -130,7 +139,7 @@ pub(crate) fn update<W: Counted>(
     })
 }
 
-// The operations that lead from every state of a terminal that agrees with what is remembered to one that shows the picture.
+// The operations that show the picture from every state of a terminal that agrees with what is remembered.
 fn planned(
     alloc: Global,
     profile: &Profile,
@@ -147,7 +156,7 @@ fn planned(
     plan_altered(alloc, profile, memory, wanted)
 }
 
-// Has what was sent reach its end, where something was sent, and answers why it failed, if it did.
+// Flushes the writer if something was sent, and gives the kind of the error if that failed.
 pub(crate) fn finish_after<W: Counted>(sent: u64, out: &mut W) -> Option<ErrorKind>
     ensures bytes { Keeps (W.told out.old).taken (W.told out.new).taken }
     ensures puts { (W.told out.new).failed_puts ≡ (W.told out.old).failed_puts }

@@ -1,4 +1,4 @@
-//! Writers that tell what they took and how often they failed.
+//! Writers that report what they took and count their failures.
 ghost use Rattle.std.specs.Prelude.{◌≡◌};
 ghost use Rattle.std.specs.Io.{WritesAtMost};
 ghost use Rattle.std.specs.Io.KnownBytes.{Keeps, WriteAppends};
@@ -6,40 +6,51 @@ ghost use Rattle.curses.specs.Writers.{WriterView, counted, is_failed_finish, is
 
 use std::io::{Result, Write};
 
-/// A writer that tells what it took, where that is known, and how often it failed.
+/// A writer that reports which bytes it took, if they are known, and counts its failures.
 ///
-/// An update writes to it by `put` and ends by `finish`. Both counts only grow, and stay at their greatest value.
+/// `Screen::doupdate`, `start` and `close` offer it one text at a time by `put`: what is owed, the text of each
+/// operation, and the opening or closing text. If a put takes only a beginning, the next one offers the rest. At the
+/// end there is one `finish`, if no put failed and the writer took something. Both counts only grow, and stay at their
+/// greatest value.
 pub trait Counted {
-    // What it tells of itself.
+    // What it reports of itself.
     ghost told: { Self → WriterView };
 
-    /// Takes a piece, or a beginning of it, and answers how many bytes it took. It took none where it answers an error.
+    /// Takes a piece, or a beginning of it, and gives how many bytes it took. It took none if it gives an error.
+    ///
+    /// A put of a piece that is not empty counts as failed if it gives an error or 0.
     fn put(&mut self, piece: &[u8]) -> Result<usize>
         ensures bound { WritesAtMost result piece.now }
         ensures bytes { WriteAppends (told self.old).taken (told self.new).taken result piece.now }
         ensures puts { (told self.new).failed_puts ≡ counted (is_failed_put piece.now result) (told self.old).failed_puts }
         ensures finishes { (told self.new).failed_finishes ≡ (told self.old).failed_finishes };
 
-    /// Has what was taken reach the terminal, as a flush does.
+    /// Makes what was taken reach the terminal, as a flush does. It counts as failed if it gives an error.
     fn finish(&mut self) -> Result<()>
         ensures bytes { Keeps (told self.old).taken (told self.new).taken }
         ensures puts { (told self.new).failed_puts ≡ (told self.old).failed_puts }
         ensures finishes { (told self.new).failed_finishes ≡ counted (is_failed_finish result) (told self.old).failed_finishes };
 }
 
-/// Any writer, with its failures counted: `put` is its `write`, and `finish` its `flush`.
+/// Makes any `Write` a `Counted` writer: `put` is its `write`, `finish` is its `flush`, and failures are counted.
+///
+/// It has no buffer: it makes one `write` call for each text of an operation, and most operations of a repaint are
+/// single characters. So a program wraps a writer to a terminal or a file in a `BufWriter`:
+/// `Device::new(BufWriter::new(alloc, writer)?)`. `finish` calls the flush of that `BufWriter`, so an update that ends
+/// well has written everything through. A byte counts as taken once the `BufWriter` has it, and what a failed flush
+/// leaves stays in its buffer.
 #[derive(Drop)]
 pub struct Device<W> {
     /// The writer.
     pub writer: W,
-    /// How many writes of something took nothing or failed.
+    /// How many writes of a piece that is not empty failed or took nothing.
     pub failed_puts: u64,
     /// How many flushes failed.
     pub failed_finishes: u64,
 }
 
 impl<W: Write> Device<W> {
-    /// A writer that has not failed yet.
+    /// Makes a device of a writer, with no failures counted yet.
     pub fn new(writer: W) -> Device<W>
         ensures { result ≡ record { writer = writer; failed_puts = 0; failed_finishes = 0 } }
     {
@@ -70,7 +81,7 @@ impl<W: Write> Counted for Device<W> {
     }
 }
 
-// Whether an answer says that nothing was taken.
+// Whether nothing was taken.
 fn took_none(answer: &Result<usize>) -> bool
     ensures { result ≡ took_none answer.now }
 {

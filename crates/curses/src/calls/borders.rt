@@ -6,10 +6,11 @@ use crate::screens::Screen;
 use scr_windows::{Win, WinFault, calls_keep_size};
 
 impl Screen {
-    /// Draws the edges of a window: left, right, top, bottom, then the corners top left, top right, bottom left and
-    /// bottom right.
+    /// Writes eight bytes 32 to 126 along the edges of a window: on the left, right, top and bottom edge, then in the
+    /// top left, top right, bottom left and bottom right corner. Where two of them meet, the later one stands. A blank
+    /// is written as the background's byte. The cursor stays, and all lines are touched.
     ///
-    /// Refused: NoWindow; NotAscii where any byte is not 32 to 126. X/Open Curses Issue 7, border().
+    /// Refused: NoWindow; NotAscii if any of them is another byte. X/Open Curses Issue 7, border().
     pub fn border(&mut self, win: Win, bytes: [u8; 8]) -> Result<(), WinFault>
         ensures { OnDesk self.old self.new result (border_call self.old.desk win.0 bytes) }
     {

@@ -8,11 +8,13 @@ use scr_windows::{Win, WinFault, calls_keep_size};
 use std::alloc::Global;
 
 impl Screen {
-    /// Copies cells of a window, from a row and a column on, to a rectangle of a window; with `overlay` a blank
-    /// leaves what is there.
+    /// Copies cells of the source window, from `row` and `column` on, to a rectangle of the target window. The
+    /// rectangle reaches from `top` and `left` to `bottom` and `right`, both corners inside it. The two windows may be
+    /// the same or share cells: all cells are read before any is written. With `overlay`, a blank (byte 32, whatever
+    /// its attributes) leaves the target's cell. All lines of the rectangle are touched.
     ///
-    /// Refused: NoWindow; OutOfWindow where the rectangle is not wholly in the target, or what is copied not wholly
-    /// in the source; NoMemory. X/Open Curses Issue 7, copywin().
+    /// Refused: NoWindow; OutOfWindow if the rectangle is not wholly in the target, the part copied is not wholly in
+    /// the source, or the corners are the wrong way round; NoMemory. X/Open Curses Issue 7, copywin().
     pub fn copy(
         &mut self,
         alloc: Global,
@@ -34,9 +36,11 @@ impl Screen {
         )
     }
 
-    /// Copies what two windows both cover of the screen from one to the other, but for blanks.
+    /// Copies the part of the screen that two windows both cover from the source to the target, except for blanks (byte
+    /// 32, whatever its attributes). The target's lines of this part are touched. Nothing changes if there is no such
+    /// part.
     ///
-    /// Refused: NoWindow; IsPad for either; NoMemory. X/Open Curses Issue 7, overlay().
+    /// Refused: NoWindow; IsPad if either is a pad; NoMemory. X/Open Curses Issue 7, overlay().
     pub fn overlay(&mut self, alloc: Global, source: Win, target: Win) -> Result<(), WinFault>
         ensures { OnDeskOrNoMemory self.old self.new result (overlay_call self.old.desk source.0 target.0 true) }
     {
@@ -44,9 +48,10 @@ impl Screen {
         self.desk.overlay(alloc, source, target)
     }
 
-    /// Copies what two windows both cover of the screen from one to the other, blanks too.
+    /// Copies the part of the screen that two windows both cover from the source to the target, blanks included. The
+    /// target's lines of this part are touched. Nothing changes if there is no such part.
     ///
-    /// Refused: NoWindow; IsPad for either; NoMemory. X/Open Curses Issue 7, overwrite().
+    /// Refused: NoWindow; IsPad if either is a pad; NoMemory. X/Open Curses Issue 7, overwrite().
     pub fn overwrite(&mut self, alloc: Global, source: Win, target: Win) -> Result<(), WinFault>
         ensures { OnDeskOrNoMemory self.old self.new result (overlay_call self.old.desk source.0 target.0 false) }
     {

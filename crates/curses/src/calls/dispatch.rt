@@ -10,7 +10,8 @@ use crate::screens::Screen;
 use std::alloc::Global;
 
 impl Screen {
-    // Calls on windows by their values. The first take memory: those that make a window, and those that copy cells.
+    // Calls on windows by their values. The first ones allocate memory: those that make a window, and those that copy
+    // cells.
     pub(crate) fn make_window_call(&mut self, alloc: Global, call: &Call) -> Answer
         ensures { OnDeskOrRefused self.old self.new result call.now }
     {
@@ -78,7 +79,7 @@ impl Screen {
         }
     }
 
-    // Calls that erase, move what is there, or exchange the background.
+    // Calls that erase, move what is there, or replace the background.
     fn make_erasing(&mut self, call: &Call) -> Answer
         ensures { OnDesk self.old self.new result (erasing self.old.desk call.now) }
     {

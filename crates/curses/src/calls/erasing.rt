@@ -6,7 +6,7 @@ use crate::screens::Screen;
 use scr_windows::{Win, WinFault, calls_keep_size};
 
 impl Screen {
-    /// Erases a window from the cursor to the end of the line.
+    /// Erases a window from the cursor to the end of the line: these places get the background. The cursor stays.
     ///
     /// Refused: NoWindow. X/Open Curses Issue 7, clrtoeol().
     pub fn clear_to_eol(&mut self, win: Win) -> Result<(), WinFault>
@@ -16,7 +16,8 @@ impl Screen {
         self.desk.clear_to_eol(win)
     }
 
-    /// Erases a window from the cursor to the end of the line, and all lines below.
+    /// Erases a window from the cursor to the end of the line, and all lines below: these places get the background.
+    /// The cursor stays.
     ///
     /// Refused: NoWindow. X/Open Curses Issue 7, clrtobot().
     pub fn clear_to_bottom(&mut self, win: Win) -> Result<(), WinFault>
@@ -26,7 +27,7 @@ impl Screen {
         self.desk.clear_to_bottom(win)
     }
 
-    /// Erases a whole window, and puts its cursor to the first place.
+    /// Erases a whole window: every place gets the background, and the cursor goes to the first place.
     ///
     /// Refused: NoWindow. X/Open Curses Issue 7, erase().
     pub fn erase(&mut self, win: Win) -> Result<(), WinFault>
@@ -36,7 +37,8 @@ impl Screen {
         self.desk.erase(win)
     }
 
-    /// Erases a whole window as `erase` does, and wishes that the next update with it paints the whole screen.
+    /// Erases a whole window as `erase` does, and sets `clear_ok`: the next update with this window repaints the whole
+    /// screen.
     ///
     /// Refused: NoWindow. X/Open Curses Issue 7, clear().
     pub fn clear(&mut self, win: Win) -> Result<(), WinFault>

@@ -7,10 +7,10 @@ use scr_windows::{Win, WinFault, calls_keep_size};
 use std::alloc::Global;
 
 impl Screen {
-    /// Makes a blank window at a row and a column of the screen; 0 rows or columns are those to the screen's end.
+    /// Makes a blank window at a row and a column of the screen; 0 rows or columns extend to the screen's end.
     ///
-    /// Refused: OffScreen where it is empty or not wholly on the screen; TooMany; NoMemory. X/Open Curses Issue 7,
-    /// newwin().
+    /// Refused: OffScreen if it is empty or not wholly on the screen; TooMany if there are 1,000 windows, or
+    /// 4,294,967,295 were made after the first; NoMemory. X/Open Curses Issue 7, newwin().
     pub fn new_window(
         &mut self,
         alloc: Global,
@@ -27,8 +27,8 @@ impl Screen {
 
     /// Makes a blank pad, a window that has no place on the screen.
     ///
-    /// Refused: OutOfWindow for 0 rows or columns; TooBig above 1,000,000 cells; TooMany; NoMemory. X/Open Curses
-    /// Issue 7, newpad().
+    /// Refused: OutOfWindow for 0 rows or columns; TooBig above 1,000,000 cells; TooMany as in `new_window`; NoMemory.
+    /// X/Open Curses Issue 7, newpad().
     pub fn new_pad(&mut self, alloc: Global, rows: u32, columns: u32) -> Result<Win, WinFault>
         ensures { OnDeskOrNoMemory self.old self.new result (new_pad_call self.old.desk rows columns) }
     {

@@ -6,9 +6,9 @@ use crate::screens::Screen;
 use scr_windows::{Win, WinFault, calls_keep_size};
 
 impl Screen {
-    /// Moves a window and its descendants to a row and a column of the screen, and touches its lines.
+    /// Moves a window to a row and a column of the screen, and all its descendants with it. Its own lines are touched.
     ///
-    /// Refused: NoWindow; IsPad; IsSub; OffScreen where it would not be wholly on the screen. X/Open Curses Issue 7,
+    /// Refused: NoWindow; IsPad; IsSub; OffScreen if it would not be wholly on the screen. X/Open Curses Issue 7,
     /// mvwin().
     pub fn move_window(&mut self, win: Win, row: u32, column: u32) -> Result<(), WinFault>
         ensures { OnDesk self.old self.new result (move_window_call self.old.desk win.0 row column) }
@@ -17,10 +17,10 @@ impl Screen {
         self.desk.move_window(win, row, column)
     }
 
-    /// Lets a subwindow share other cells of its parent, from a row and a column on, and touches its lines; its place
-    /// on the screen stays.
+    /// Makes a subwindow share its parent's cells from another row and column of the parent on. Its place on the screen
+    /// stays, its descendants share what is at the same place in it as before, and its own lines are touched.
     ///
-    /// Refused: NoWindow; IsPad; NotInParent where it would not be wholly in its parent, or has none. X/Open Curses
+    /// Refused: NoWindow; IsPad; NotInParent if it has no parent, or would not be wholly in the parent. X/Open Curses
     /// Issue 7, mvderwin().
     pub fn move_derived(&mut self, win: Win, row: u32, column: u32) -> Result<(), WinFault>
         ensures { OnDesk self.old self.new result (move_derived_call self.old.desk win.0 row column) }

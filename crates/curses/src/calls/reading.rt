@@ -1,4 +1,4 @@
-//! Calls that read: sizes, cells, cursors, touched lines, and what is lent. None changes anything.
+//! Calls that read: sizes, cells, cursors, touched lines, and what is lent. None of them changes anything.
 ghost use Rattle.std.specs.Prelude.{◌≡◌, ◌≤◌, ℕ, length, IfOk, MatchResult, Ok, Err};
 ghost use Rattle.scr_term.specs.Operations.Profiles.{has_colours, shown_set};
 ghost use Rattle.scr_windows.specs.Changes.{index_of};
@@ -18,7 +18,7 @@ impl Screen {
         self.desk.screen()
     }
 
-    /// How many windows there are.
+    /// How many windows there are, at most 1,000.
     pub fn count(&self) -> usize
         ensures count { result ≡ length self.now.desk.windows }
         ensures few { result ≤ 1000 }
@@ -26,28 +26,30 @@ impl Screen {
         self.desk.count()
     }
 
-    /// The window at an index among those that there are, by ascending numbers from index 0 on; `None` behind the last.
+    /// The window at an index, counted from 0, among those that there are, in ascending order of their numbers; `None`
+    /// past the last.
     pub fn nth(&self, index: usize) -> Option<Win>
         ensures { result ≡ nth_answer self.now.desk index }
     {
         self.desk.nth(index)
     }
 
-    /// The attributes that the terminal shows; others are dropped. X/Open Curses Issue 7, term_attrs().
+    /// The attributes that the terminal shows; it drops all others. X/Open Curses Issue 7, term_attrs().
     pub fn shows(&self) -> Attrs
         ensures { result.0 ≡ shown_set self.now.profile }
     {
         self.profile.shows()
     }
 
-    /// Whether the terminal shows colours; where it shows none, all is seen in its default colours. X/Open Curses Issue 7, has_colors().
+    /// Whether the terminal shows colours. If it shows none, everything is seen in its default colours. X/Open Curses
+    /// Issue 7, has_colors().
     pub fn colours(&self) -> bool
         ensures { result ≡ has_colours self.now.profile }
     {
         self.profile.colours()
     }
 
-    /// Lends a window for reading.
+    /// Lends a window for reading: everything that calls set in it or draw on it.
     ///
     /// Refused: NoWindow.
     pub fn window(&self, win: Win) -> Result<WindowRef<'_>, WinFault>
@@ -56,9 +58,9 @@ impl Screen {
         self.desk.window(win)
     }
 
-    /// Lends the cells of a row of a window from the left.
+    /// Lends the cells of a row of a window, from the left, as many as the window has columns. Curses has no such call.
     ///
-    /// Refused: NoWindow; OutOfWindow where the window has no such row.
+    /// Refused: NoWindow; OutOfWindow if the window has no such row.
     pub fn line(&self, win: Win, row: u32) -> Result<&[Cell], WinFault>
         ensures cells { MatchResult result (λ cells. row_answer self.now.desk win.0 row ≡ Ok cells.now) (λ fault. row_answer self.now.desk win.0 row ≡ Err fault) }
         ensures width { IfOk result (λ cells. (i : ℕ) → index_of self.now.desk win.0 ≡ Ok i → length cells.now ≡ (window_at self.now.desk i).frame.area.columns) }
@@ -66,7 +68,7 @@ impl Screen {
         self.desk.line(win, row)
     }
 
-    /// The cell in a row and a column of a window.
+    /// The cell at a row and a column of a window.
     ///
     /// Refused: NoWindow; OutOfWindow for a place outside the window. X/Open Curses Issue 7, inch().
     pub fn cell_at(&self, win: Win, row: u32, column: u32) -> Result<Cell, WinFault>
@@ -75,7 +77,7 @@ impl Screen {
         self.desk.cell_at(win, row, column)
     }
 
-    /// The row and the column of the cursor of a window.
+    /// The row and the column of a window's cursor.
     ///
     /// Refused: NoWindow. X/Open Curses Issue 7, getyx().
     pub fn cursor(&self, win: Win) -> Result<(u32, u32), WinFault>
@@ -93,7 +95,7 @@ impl Screen {
         self.desk.size(win)
     }
 
-    /// The row and the column of the screen where a window begins.
+    /// The row and the column of the screen where a window's first place is.
     ///
     /// Refused: NoWindow; IsPad. X/Open Curses Issue 7, getbegyx().
     pub fn origin(&self, win: Win) -> Result<(u32, u32), WinFault>
@@ -104,14 +106,14 @@ impl Screen {
 
     /// Whether a line of a window is touched.
     ///
-    /// Refused: NoWindow; OutOfWindow where the window has no such row. X/Open Curses Issue 7, is_linetouched().
+    /// Refused: NoWindow; OutOfWindow if the window has no such row. X/Open Curses Issue 7, is_linetouched().
     pub fn line_touched(&self, win: Win, row: u32) -> Result<bool, WinFault>
         ensures { result ≡ line_touched_answer self.now.desk win.0 row }
     {
         self.desk.line_touched(win, row)
     }
 
-    /// Whether some line of a window is touched.
+    /// Whether any line of a window is touched.
     ///
     /// Refused: NoWindow. X/Open Curses Issue 7, is_wintouched().
     pub fn window_touched(&self, win: Win) -> Result<bool, WinFault>

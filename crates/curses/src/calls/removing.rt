@@ -6,9 +6,10 @@ use crate::screens::Screen;
 use scr_windows::{Win, WinFault, calls_keep_size};
 
 impl Screen {
-    /// Deletes a window, and its cells where no other window shares them.
+    /// Deletes a window, and its cells if no other window shares them. The first window may go too. Its number is not
+    /// used again.
     ///
-    /// Refused: NoWindow; HasChildren where it has subwindows. X/Open Curses Issue 7, delwin().
+    /// Refused: NoWindow; HasChildren if it has subwindows. X/Open Curses Issue 7, delwin().
     pub fn delete(&mut self, win: Win) -> Result<(), WinFault>
         ensures { OnDesk self.old self.new result (delete_call self.old.desk win.0) }
     {

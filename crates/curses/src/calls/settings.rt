@@ -17,10 +17,10 @@ impl Screen {
         self.desk.move_cursor(win, row, column)
     }
 
-    /// Sets the first and the last row of a window's scrolling region.
+    /// Sets the first and the last row of a window's scrolling region, both inside it. They may be the same row.
     ///
-    /// Refused: NoWindow; BadRegion where the first is below the last, or the last outside the window. X/Open Curses
-    /// Issue 7, setscrreg().
+    /// Refused: NoWindow; BadRegion if `top` is greater than `bottom`, or `bottom` is not a row of the window. X/Open
+    /// Curses Issue 7, setscrreg().
     pub fn set_region(&mut self, win: Win, top: u32, bottom: u32) -> Result<(), WinFault>
         ensures { OnDesk self.old self.new result (set_region_call self.old.desk win.0 top bottom) }
     {
@@ -28,7 +28,7 @@ impl Screen {
         self.desk.set_region(win, top, bottom)
     }
 
-    /// Says whether a window's scrolling region may scroll.
+    /// Sets whether the scrolling region of a window may scroll.
     ///
     /// Refused: NoWindow. X/Open Curses Issue 7, scrollok().
     pub fn scroll_ok(&mut self, win: Win, on: bool) -> Result<(), WinFault>
@@ -38,7 +38,7 @@ impl Screen {
         self.desk.scroll_ok(win, on)
     }
 
-    /// Says whether the next update with a window paints the whole screen.
+    /// Sets whether the next update with a window repaints the whole screen.
     ///
     /// Refused: NoWindow. X/Open Curses Issue 7, clearok().
     pub fn clear_ok(&mut self, win: Win, on: bool) -> Result<(), WinFault>
@@ -48,7 +48,7 @@ impl Screen {
         self.desk.clear_ok(win, on)
     }
 
-    /// Says whether an update with a window may leave the terminal's cursor anywhere.
+    /// Sets whether the terminal's cursor may stay where an update with a window leaves it.
     ///
     /// Refused: NoWindow. X/Open Curses Issue 7, leaveok().
     pub fn leave_ok(&mut self, win: Win, on: bool) -> Result<(), WinFault>
@@ -58,7 +58,7 @@ impl Screen {
         self.desk.leave_ok(win, on)
     }
 
-    /// Adds attributes to those of a window.
+    /// Adds attributes to those that bytes are written with in a window.
     ///
     /// Refused: NoWindow. X/Open Curses Issue 7, attron().
     pub fn attr_on(&mut self, win: Win, attrs: Attrs) -> Result<(), WinFault>
@@ -68,7 +68,7 @@ impl Screen {
         self.desk.attr_on(win, attrs)
     }
 
-    /// Takes attributes off those of a window.
+    /// Removes attributes from those that bytes are written with in a window.
     ///
     /// Refused: NoWindow. X/Open Curses Issue 7, attroff().
     pub fn attr_off(&mut self, win: Win, attrs: Attrs) -> Result<(), WinFault>
@@ -78,7 +78,7 @@ impl Screen {
         self.desk.attr_off(win, attrs)
     }
 
-    /// Sets the attributes of a window.
+    /// Replaces the attributes that bytes are written with in a window.
     ///
     /// Refused: NoWindow. X/Open Curses Issue 7, attrset().
     pub fn attr_set(&mut self, win: Win, attrs: Attrs) -> Result<(), WinFault>
@@ -88,7 +88,7 @@ impl Screen {
         self.desk.attr_set(win, attrs)
     }
 
-    /// Sets the colour pair of a window; 0 stands for that of its background.
+    /// Sets the colour pair that bytes are written with in a window; 0 stands for the pair of the background.
     ///
     /// Refused: NoWindow; BadPair for a pair above 63. X/Open Curses Issue 7, color_set().
     pub fn color_set(&mut self, win: Win, pair: u32) -> Result<(), WinFault>
@@ -108,7 +108,9 @@ impl Screen {
         self.desk.set_background(win, cell)
     }
 
-    /// Sets the background of a window, and exchanges the old one for it in every cell.
+    /// Sets the background of a window, and replaces the old one in every cell: the old background's byte becomes the
+    /// new one's, its attributes are removed and the new ones added, and its colour pair becomes the new one. All lines
+    /// are touched.
     ///
     /// Refused: NoWindow. X/Open Curses Issue 7, bkgd().
     pub fn change_background(&mut self, win: Win, cell: Cell) -> Result<(), WinFault>

@@ -7,10 +7,11 @@ use scr_windows::{Win, WinFault, calls_keep_size};
 use std::alloc::Global;
 
 impl Screen {
-    /// Makes a subwindow at a row and a column of its parent; 0 rows or columns are those to the parent's end.
+    /// Makes a subwindow at a row and a column of its parent; 0 rows or columns extend to the parent's end. It shares
+    /// the parent's cells, and begins with its attributes, colour pair and background.
     ///
-    /// Refused: NoWindow; IsPad; NotInParent where it is empty or not wholly in the parent; TooMany; NoMemory. X/Open
-    /// Curses Issue 7, derwin().
+    /// Refused: NoWindow; IsPad; NotInParent if it is empty or not wholly in the parent; TooMany as in `new_window`;
+    /// NoMemory. X/Open Curses Issue 7, derwin().
     pub fn derive(
         &mut self,
         alloc: Global,
@@ -28,8 +29,8 @@ impl Screen {
 
     /// Makes a subwindow as `derive` does, at a row and a column of the screen.
     ///
-    /// Refused: NoWindow; IsPad; NotInParent where it is empty or not wholly in the parent; TooMany; NoMemory. X/Open
-    /// Curses Issue 7, subwin().
+    /// Refused: NoWindow; IsPad; NotInParent if it is empty or not wholly in the parent; TooMany as in `new_window`;
+    /// NoMemory. X/Open Curses Issue 7, subwin().
     pub fn sub(
         &mut self,
         alloc: Global,
@@ -45,10 +46,10 @@ impl Screen {
         self.desk.sub(alloc, win, rows, columns, row, column)
     }
 
-    /// Makes a subwindow of a pad as `derive` does.
+    /// Makes a subwindow of a pad as `derive` does of a window, at a row and a column of the pad.
     ///
-    /// Refused: NoWindow; NotPad; NotInParent where it is empty or not wholly in the parent; TooMany; NoMemory.
-    /// X/Open Curses Issue 7, subpad().
+    /// Refused: NoWindow; NotPad; NotInParent if it is empty or not wholly in the parent; TooMany as in `new_window`;
+    /// NoMemory. X/Open Curses Issue 7, subpad().
     pub fn sub_pad(
         &mut self,
         alloc: Global,

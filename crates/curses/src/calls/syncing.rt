@@ -6,7 +6,7 @@ use crate::screens::Screen;
 use scr_windows::{Win, WinFault, calls_keep_size};
 
 impl Screen {
-    /// Touches the lines of a window's ancestors that share a row with a touched line of it.
+    /// Touches each line of every ancestor of a window that shares a row of cells with a touched line of the window.
     ///
     /// Refused: NoWindow. X/Open Curses Issue 7, wsyncup().
     pub fn sync_up(&mut self, win: Win) -> Result<(), WinFault>
@@ -16,7 +16,7 @@ impl Screen {
         self.desk.sync_up(win)
     }
 
-    /// Touches the lines of a window that share a row with a touched line of an ancestor.
+    /// Touches each line of a window that shares a row of cells with a touched line of any of its ancestors.
     ///
     /// Refused: NoWindow. X/Open Curses Issue 7, wsyncdown().
     pub fn sync_down(&mut self, win: Win) -> Result<(), WinFault>

@@ -27,9 +27,9 @@ impl Screen {
         self.desk.untouch(win)
     }
 
-    /// Makes n lines of a window from one on touched, or untouched.
+    /// Makes `n` lines of a window, from line `first` on, touched, or untouched if `changed` is false.
     ///
-    /// Refused: NoWindow; OutOfWindow where the window has fewer than `first + n` lines. X/Open Curses Issue 7,
+    /// Refused: NoWindow; OutOfWindow if the window has fewer than `first + n` lines. X/Open Curses Issue 7,
     /// wtouchln().
     pub fn touch_lines(
         &mut self,

@@ -1,4 +1,4 @@
-//! Calls as values, of which a session is given a list.
+//! Calls as values: a session is given a list of them.
 use scr_cells::{Attrs, Cell};
 use scr_windows::Win;
 use ti_caps::Bytes;
