@@ -13,12 +13,11 @@ use crate::windows::{Window, index_of_number};
 use std::fmt;
 use std::marker::Model;
 
-/// The windows of a screen and the surfaces that they are on (X/Open Curses Issue 7, 'Screens, Windows
-/// and Terminals').
+/// The windows of a screen and the surfaces that they are on (X/Open Curses Issue 7, 'Screens, Windows and Terminals').
 ///
-/// In every call rows and columns are counted from 0, from the window's first place unless the call says
-/// otherwise, and the corners of a rectangle are both inside it. A refused call changes nothing; where
-/// several refusals hold, the first that the call names is given.
+/// In every call rows and columns are counted from 0, from the window's first place unless the call says otherwise, and
+/// the corners of a rectangle are both inside it. A refused call changes nothing; if several refusals hold, the first
+/// that the call names is given.
 #[derive(Drop)]
 pub struct Desk {
     pub(crate) rows: u32,
@@ -56,7 +55,7 @@ impl fmt::Debug for Desk {
 
 // What the calls are made of. An index is one among the desk's windows.
 impl Desk {
-    // Where a window stands among the windows.
+    // The index of a window among the windows.
     pub(crate) fn index_of(&self, win: Win) -> Result<usize, WinFault>
         ensures index { result ≡ index_of self.now win.0 }
         ensures placed { IfOk result (λ i. IsThere self.now i) }
@@ -67,7 +66,7 @@ impl Desk {
         }
     }
 
-    // Where a window stands, its area and what the calls set in it.
+    // The index of a window, its area and what the calls set in it.
     pub(crate) fn pen(&self, win: Win) -> Result<Pen, WinFault>
         ensures { MatchResult result (IsPen self.now win.0) (λ fault. index_of self.now win.0 ≡ Err fault) }
     {
@@ -113,7 +112,7 @@ impl Desk {
         self.windows[index].set_state(state);
     }
 
-    // Puts the cursor of the window at an index to a row and a column inside.
+    // Moves the cursor of the window at an index to a row and a column inside.
     #[inline(always)]
     pub(crate) fn set_cursor(&mut self, index: usize, row: u32, column: u32)
         requires here { index < length self.old.windows }

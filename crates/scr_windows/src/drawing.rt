@@ -50,7 +50,7 @@ impl Desk {
     }
 }
 
-// The first line that a drawing writes in a window of so many rows, and the line behind the last.
+// The first line that a drawing writes in a window of this many rows, and the end (exclusive).
 fn lines_of(drawing: &Drawing, rows: u32) -> (u32, u32)
     requires { (lines_drawn drawing.now rows).1 ≤ rows }
     ensures { result ≡ lines_drawn drawing.now rows }

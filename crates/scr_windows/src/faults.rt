@@ -1,22 +1,23 @@
-//! What calls answer: a window's number, whether a cursor went on, and why a call was refused, in the order of refusals.
+//! What calls answer: a window's number, whether a cursor could go on, and why a call was refused, in the order of
+//! refusals.
 use std::alloc::{AllocError, AllocFailed};
 use thiserror::Error;
 
-/// A window, by its number: the window of the desk's beginning has 0, and each one made after it the
-/// next number. No number is used again.
+/// A window, by its number. The first window of a desk has 0, and each one made after it the next number. No number is
+/// used again.
 #[derive(Clone, Copy, Debug, PartialEq, Eq)]
 pub struct Win(pub u32);
 
-/// Whether a cursor went on (X/Open Curses Issue 7, addch()).
+/// Whether a cursor could go on (X/Open Curses Issue 7, addch()).
 #[derive(Clone, Copy, Debug, PartialEq, Eq)]
 pub enum Added {
-    /// The bytes were added, and every newline among them, automatic or not, found a line.
+    /// The bytes were added, and a next line was there whenever one was needed.
     Done,
-    /// A newline found no line, so the cursor stayed.
+    /// A next line was needed and there was none, so the cursor stayed.
     Stayed,
 }
 
-/// Why a call was refused, in the order in which refusals come.
+/// Why a call was refused, in the order in which refusals come, unless a call names another.
 #[derive(Clone, Copy, Debug, PartialEq, Eq, Error)]
 pub enum WinFault {
     /// There is no window of this number.
@@ -25,7 +26,7 @@ pub enum WinFault {
     /// The window is a pad.
     #[error("the window is a pad")]
     IsPad,
-    /// The window is no pad.
+    /// The window is not a pad.
     #[error("the window is no pad")]
     NotPad,
     /// The window is a subwindow.
@@ -55,7 +56,7 @@ pub enum WinFault {
     /// A pad of more than 1,000,000 cells.
     #[error("the pad is too big")]
     TooBig,
-    /// 1,000 windows are there, or 4,294,967,295 were made.
+    /// There are 1,000 windows, or 4,294,967,295 were made after the first.
     #[error("too many windows")]
     TooMany,
     /// Memory ran out.

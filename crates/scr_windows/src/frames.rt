@@ -2,7 +2,7 @@
 use scr_cells::{Attrs, Cell};
 use scr_surfaces::Area;
 
-/// What of a window no drawing changes.
+/// The part of a window that no drawing changes.
 #[derive(Clone, Copy)]
 pub struct Frame {
     /// The window's number.
@@ -24,7 +24,7 @@ pub struct WindowState {
     pub cursor: (u32, u32),
     /// The attributes that bytes are added with.
     pub attrs: Attrs,
-    /// The colour pair that bytes are added with, 0 for the background's.
+    /// The colour pair that bytes are added with; 0 stands for the background's.
     pub pair: u32,
     /// The background.
     pub background: Cell,
@@ -38,7 +38,7 @@ pub struct WindowState {
     pub leave_ok: bool,
 }
 
-/// What a call that draws begins from.
+/// What a call that draws starts from.
 #[derive(Clone, Copy)]
 pub struct Pen {
     /// The index of the window among the desk's.

@@ -16,14 +16,14 @@ pub fn subwindows_share_cells()
     ensures { SubwindowsShareCells }
 {}
 
-/// Writing in a window leaves every place outside it.
+/// Writing in a window changes no place outside it.
 pub fn writing_stays_inside()
     ensures { WritingStaysInside }
 {
     surface_laws();
 }
 
-/// A window that is found has a part of its surface, and lies wholly on the screen where it has a place there. X/Open
+/// A window that is found has a part of its surface, and lies wholly on the screen if it has a place there. X/Open
 /// Curses Issue 7, newwin().
 pub fn windows_are_placed()
     ensures { WindowsArePlaced }

@@ -1,6 +1,6 @@
 //! A window that is lent for reading: everything that calls set in it or draw on it, found once.
 //!
-//! What changes a window is in the files of the calls. The definitions are in `specs/Lending.antt`.
+//! The calls that change a window are in the files of the calls. The definitions are in `specs/Lending.antt`.
 ghost use Rattle.std.specs.Prelude.{◌≡◌, ◌<◌, [], false, length, option_map, slice_index_or};
 ghost use Rattle.scr_windows.specs.Lending.{IsLent, lines_in};
 ghost use Rattle.scr_surfaces.specs.SurfaceViews.{IsPart};
@@ -43,7 +43,8 @@ impl<'a> WindowRef<'a> {
         WindowRef { window, surface }
     }
 
-    /// The number of the window that this is a subwindow of, if it is one. X/Open Curses Issue 7, derwin().
+    /// The number of the window that this is a subwindow of; `None` if it is no subwindow. X/Open Curses Issue 7,
+    /// derwin().
     pub fn parent(&self) -> Option<Win>
         ensures { result ≡ option_map (λ number. record { 0 = number }) self.now.window.frame.parent }
     {
@@ -53,7 +54,8 @@ impl<'a> WindowRef<'a> {
         }
     }
 
-    /// The row and column of the screen where its first place is; a pad has none. X/Open Curses Issue 7, getbegyx().
+    /// The row and the column of the screen where its first place is; `None` for a pad. X/Open Curses Issue 7,
+    /// getbegyx().
     pub fn origin(&self) -> Option<(u32, u32)>
         ensures { result ≡ self.now.window.frame.origin }
     {
@@ -99,7 +101,7 @@ impl<'a> WindowRef<'a> {
         self.window.state().background
     }
 
-    /// The first and the last row of its scrolling region. X/Open Curses Issue 7, setscrreg().
+    /// The first and the last row of its scrolling region, both inside it. X/Open Curses Issue 7, setscrreg().
     pub fn region(&self) -> (u32, u32)
         ensures { result ≡ self.now.window.state.region }
     {
@@ -113,7 +115,7 @@ impl<'a> WindowRef<'a> {
         self.window.state().scroll_ok
     }
 
-    /// Whether the next update that takes it is to paint the whole screen. X/Open Curses Issue 7, clearok().
+    /// Whether the next update that takes it repaints the whole screen. X/Open Curses Issue 7, clearok().
     pub fn clear_ok(&self) -> bool
         ensures { result ≡ self.now.window.state.clear_ok }
     {
@@ -127,7 +129,7 @@ impl<'a> WindowRef<'a> {
         self.window.state().leave_ok
     }
 
-    /// Whether a line is touched. X/Open Curses Issue 7, is_linetouched().
+    /// Whether a line is touched; the window has this row. X/Open Curses Issue 7, is_linetouched().
     pub fn is_touched(&self, row: u32) -> bool
         requires { row < self.now.window.frame.area.rows }
         ensures { result ≡ slice_index_or self.now.window.touched row false }
@@ -135,7 +137,7 @@ impl<'a> WindowRef<'a> {
         self.window.is_touched(row)
     }
 
-    /// The cells of a line from the left, as many as the window has columns.
+    /// The cells of a line from the left, as many as the window has columns; the window has this row.
     pub fn line(&self, row: u32) -> &'a [Cell]
         requires { row < self.now.window.frame.area.rows }
         ensures cells { result.now ≡ slice_index_or self.now.lines row [] }

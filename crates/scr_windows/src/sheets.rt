@@ -1,4 +1,5 @@
-//! The surfaces of a desk. Each bears the number of the window that was made with it, and the window's descendants share it.
+//! The surfaces of a desk. Each bears the number of the window that was made with it, and the window's descendants
+//! share it.
 //!
 //! The definitions are in `specs/Sheets.antt`.
 ghost use Rattle.std.specs.Prelude.{◌≡◌, ◌<◌, length, slice_index_or};
@@ -15,7 +16,7 @@ pub struct Sheet {
     pub surface: Surface,
 }
 
-/// Where the surface that bears a number stands.
+/// The index of the surface that bears a number.
 #[inline(always)]
 pub fn index_of_sheet(sheets: &[Sheet], number: u32) -> usize
     requires ascending { AreSheets sheets.now }

@@ -28,7 +28,7 @@ impl Model for Window {
 }
 
 impl Window {
-    /// A window before anything was done with it. Fails only when memory runs out.
+    /// A window as it is when it is made. Fails only when memory runs out.
     pub fn fresh(
         alloc: Global,
         frame: Frame,
@@ -95,28 +95,28 @@ impl Window {
         self.touched[row as usize]
     }
 
-    /// Whether some line is touched.
+    /// Whether any line is touched.
     pub fn is_any_touched(&self) -> bool
         ensures { result ≡ list_any (λ mark. mark) self.now.touched }
     {
         is_any(&self.touched)
     }
 
-    /// Puts the cursor to a row and a column.
+    /// Moves the cursor to a row and a column.
     pub fn set_cursor(&mut self, row: u32, column: u32)
         ensures { self.new ≡ record self.old { state = record self.old.state { cursor = (row, column) } } }
     {
         self.state.cursor = (row, column);
     }
 
-    /// Touches a line, if it is there.
+    /// Touches a line, if there is one at this row.
     pub fn touch_line(&mut self, row: u32)
         ensures { self.new ≡ marked row (row + 1) true self.old }
     {
         touch_one(&mut self.touched, row as usize);
     }
 
-    /// Marks the lines from one up to another as touched, or as not touched.
+    /// Makes the lines `first..end` touched, or untouched.
     pub fn mark(&mut self, first: u32, end: u32, mark: bool)
         ensures { self.new ≡ marked first end mark self.old }
     {
@@ -124,7 +124,7 @@ impl Window {
     }
 }
 
-/// Where the window of a number stands among windows by ascending numbers.
+/// The index of the window of a number, among windows in ascending order of their numbers.
 pub fn index_of_number(windows: &[Window], number: u32) -> Option<usize>
     requires { AreAscending windows.now }
     ensures { result ≡ position (λ (w : WindowView). w.frame.number == number) windows.now }
@@ -137,14 +137,14 @@ pub fn index_of_number(windows: &[Window], number: u32) -> Option<usize>
     }
 }
 
-// Whether some mark is set.
+// Whether any mark is set.
 fn is_any(marks: &[bool]) -> bool
     ensures { result ≡ list_any (λ mark. mark) marks.now }
 {
     marks.iter().any(|mark| *mark)
 }
 
-// Marks one line, if it is there.
+// Marks one line, if there is one.
 fn touch_one(touched: &mut [bool], line: usize)
     ensures { touched.new ≡ marked_lines line (line + 1) true touched.old }
 {
@@ -153,7 +153,7 @@ fn touch_one(touched: &mut [bool], line: usize)
     }
 }
 
-// Marks the lines from one up to another in a way.
+// Sets the marks of the lines `first..end`.
 fn mark_lines(touched: &mut [bool], first: usize, end: usize, mark: bool)
     ensures { touched.new ≡ marked_lines first end mark touched.old }
 {

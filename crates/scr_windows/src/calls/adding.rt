@@ -1,7 +1,7 @@
 //! Calls that add bytes: a byte, a text, an inserted byte, and lines of one byte.
 //!
-//! The definitions are in `specs/Calls/Adding.antt`; what is drawn of them is a matter of `scr_surfaces`.
-//! What a character takes is laid inline, and what ends a line or is rare is called, so that adding a text is one short loop.
+//! The definitions are in `specs/Calls/Adding.antt`; what is drawn for them is a matter of `scr_surfaces`. What every
+//! character needs is inlined, and what ends a line or is rare is called, so that adding a text is one short loop.
 ghost use Rattle.std.specs.Prelude.{◌≡◌, ◌+◌, ◌<◌, ◌≤◌, ◌⊎◌, length, leb, min, false};
 ghost use Rattle.std.specs.List.{list_any};
 ghost use Rattle.scr_cells.specs.CellViews.{IsPair};
@@ -16,14 +16,18 @@ use scr_cells::{Attrs, Cell, is_character};
 use scr_surfaces::Drawing;
 
 impl Desk {
-    /// Adds a byte at the cursor, with attributes beside those of the window and of its background, and with the
-    /// window's colour pair, or where that is 0 the background's.
+    /// Adds a byte at a window's cursor, with these attributes besides those of the window and of its background. Its
+    /// colour pair is the window's, or the background's if the window's is 0.
     ///
-    /// A byte 32 to 126 is written and the cursor goes right, from the last column to the first of the
-    /// line that follows. Byte 10 erases to the end of the line and begins the line that follows, 9
-    /// erases to the next column that is a multiple of 8, 8 goes left, 13 goes to the first column, and
-    /// another byte is shown as `^` and a character. `Stayed` says that no line followed where one was to
-    /// be begun, and the cursor stayed.
+    /// A byte 32 to 126 is written, a blank as the background's byte, and the cursor moves right, from the last column
+    /// to the first of the next line. Byte 10 erases to the end of the line and goes to the first column of the next
+    /// line. Byte 9 erases up to the next column that is a multiple of 8 and goes there, or acts as byte 10 if the line
+    /// has no such column. Byte 8 moves the cursor left, at most to column 0, and 13 moves it to column 0. Any other
+    /// byte below 128 is shown as `^` and a character.
+    ///
+    /// In the last row of the scrolling region, the region scrolls up by one if `scroll_ok` is set, and the next line
+    /// is that row again; without `scroll_ok` there is no next line. There is none below the window's last row either.
+    /// `Stayed` says that a next line was needed and there was none, so the cursor stayed.
     ///
     /// Refused: NoWindow; NotAscii for a byte from 128 on. X/Open Curses Issue 7, addch().
     #[tactic(auto, unfolding(crate::specs::Calls::Adding::add_byte_call))]
@@ -37,10 +41,10 @@ impl Desk {
         Ok(self.add_at(index, byte, attrs))
     }
 
-    /// Adds the bytes of a text one after another, as `add_byte` without attributes; `Stayed` where any
-    /// of them answered so.
+    /// Adds the bytes of a text one after another, as `add_byte` does without attributes. `Stayed` says that at least
+    /// one of them gave it.
     ///
-    /// Refused: NoWindow; NotAscii where any byte is 128 or more. X/Open Curses Issue 7, addnstr().
+    /// Refused: NoWindow; NotAscii if any byte is 128 or more. X/Open Curses Issue 7, addnstr().
     #[tactic(auto, unfolding(crate::specs::Calls::Adding::add_text_call))]
     pub fn add_text(&mut self, win: Win, text: &[u8]) -> Result<Added, WinFault>
         ensures { (self.new, result) ≡ add_text_call self.old win.0 text.now }
@@ -52,8 +56,8 @@ impl Desk {
         Ok(self.add_all(index, text))
     }
 
-    /// Inserts a byte 32 to 126 at the cursor: the rest of the line moves right by one, and its last cell
-    /// is lost. The cursor stays.
+    /// Inserts a byte 32 to 126 at a window's cursor, in the form that `add_byte` writes: the rest of the line moves
+    /// right by one, and its last cell is lost. The cursor stays.
     ///
     /// Refused: NoWindow; NotAscii for another byte. X/Open Curses Issue 7, insch().
     #[tactic(auto, unfolding(crate::specs::Calls::Adding::insert_byte_call))]
@@ -76,8 +80,8 @@ impl Desk {
         Ok(())
     }
 
-    /// Writes a byte 32 to 126 in n places of the cursor's line from the cursor on, at most to the edge.
-    /// The cursor stays.
+    /// Writes a byte 32 to 126 in `n` places of a window from the cursor to the right, at most to the edge. Its form is
+    /// that of `add_byte` without attributes. The cursor stays.
     ///
     /// Refused: NoWindow; NotAscii for another byte. X/Open Curses Issue 7, hline().
     #[tactic(auto, unfolding(crate::specs::Calls::Adding::line_across_call))]
@@ -105,8 +109,8 @@ impl Desk {
         Ok(())
     }
 
-    /// Writes a byte 32 to 126 in n places of the cursor's column from the cursor down, at most to the
-    /// edge. The cursor stays.
+    /// Writes a byte 32 to 126 in `n` places of a window from the cursor down, at most to the edge. Its form is that of
+    /// `add_byte` without attributes. The cursor stays.
     ///
     /// Refused: NoWindow; NotAscii for another byte. X/Open Curses Issue 7, vline().
     #[tactic(auto, unfolding(crate::specs::Calls::Adding::line_down_call))]
@@ -217,7 +221,7 @@ impl Desk {
         self.begin_line(index)
     }
 
-    // Erases to the next column that is a multiple of 8, and goes there; a newline where the line has none.
+    // Erases to the next column that is a multiple of 8, and goes there; a newline if the line has no such column.
     #[inline(never)]
     #[tactic(auto, unfolding(crate::specs::Calls::Adding::tab_added))]
     fn add_tab(&mut self, index: usize) -> Added
@@ -235,7 +239,7 @@ impl Desk {
         self.go_to(index, row, end)
     }
 
-    // Puts the cursor to a row and a column inside.
+    // Moves the cursor to a row and a column inside.
     #[inline(always)]
     fn go_to(&mut self, index: usize, row: u32, column: u32) -> Added
         requires here { index < length self.old.windows }
@@ -248,7 +252,7 @@ impl Desk {
         Added::Done
     }
 
-    // Begins the line that follows, if one follows.
+    // Goes to the first column of the next line, if there is one.
     #[inline(never)]
     #[tactic(auto, unfolding(crate::specs::Calls::Adding::line_begun))]
     fn begin_line(&mut self, index: usize) -> Added
@@ -281,7 +285,7 @@ impl Desk {
     }
 }
 
-// Where n places from one on end, at most at the edge.
+// Where `n` places from one on end, at most at the edge.
 fn end_of(first: u32, n: u32, edge: u32) -> u32
     requires { first ≤ edge }
     ensures { result ≡ min (first + n) edge }
@@ -308,7 +312,7 @@ pub(crate) fn written_form(byte: u8, attrs: Attrs, state: WindowState) -> Cell
     Cell::paired(shown, all, pair).unwrap_or(Cell::blank())
 }
 
-// Stayed where either is.
+// Stayed if either is.
 fn either(first: Added, second: Added) -> Added
     ensures { result ≡ either_stayed first second }
 {

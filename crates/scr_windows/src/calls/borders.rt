@@ -13,11 +13,11 @@ use scr_cells::{Attrs, Cell, is_character};
 use scr_surfaces::{Border, Drawing};
 
 impl Desk {
-    /// Writes bytes 32 to 126 along the edges of a window: those of the left, right, top and bottom edge, then those of the
-    /// corners top left, top right, bottom left and bottom right. Where two of them have one place the later one is there.
-    /// A blank is written as the background's byte. The cursor stays, and all lines are touched.
+    /// Writes eight bytes 32 to 126 along the edges of a window: on the left, right, top and bottom edge, then in the
+    /// top left, top right, bottom left and bottom right corner. Where two of them meet, the later one stands. A blank
+    /// is written as the background's byte. The cursor stays, and all lines are touched.
     ///
-    /// Refused: NoWindow; NotAscii where any of them is another byte. X/Open Curses Issue 7, border().
+    /// Refused: NoWindow; NotAscii if any of them is another byte. X/Open Curses Issue 7, border().
     #[tactic(auto, unfolding(crate::specs::Calls::Borders::border_call))]
     pub fn border(&mut self, win: Win, bytes: [u8; 8]) -> Result<(), WinFault>
         ensures { (self.new, result) ≡ border_call self.old win.0 bytes }

@@ -17,15 +17,13 @@ use scr_surfaces::{Area, surface_laws};
 use std::alloc::Global;
 
 impl Desk {
-    /// Copies cells of a window to a rectangle of a window, which may be the same or share its cells:
-    /// each place of the rectangle gets the cell that the source had before at the same distance from
-    /// the row and the column. The rectangle reaches from `top` and `left` to `bottom` and `right`, both
-    /// inside. With `overlay` a byte 32 leaves the target's cell, whatever its attributes. All lines of
-    /// the rectangle are touched.
+    /// Copies cells of the source window, from `row` and `column` on, to a rectangle of the target window. The
+    /// rectangle reaches from `top` and `left` to `bottom` and `right`, both corners inside it. The two windows may be
+    /// the same or share cells: all cells are read before any is written. With `overlay`, a blank (byte 32, whatever
+    /// its attributes) leaves the target's cell. All lines of the rectangle are touched.
     ///
-    /// Refused: NoWindow; OutOfWindow where the rectangle is not wholly in the target, the part copied
-    /// not wholly in the source, or the corners are the wrong way round; NoMemory. X/Open Curses Issue 7,
-    /// copywin().
+    /// Refused: NoWindow; OutOfWindow if the rectangle is not wholly in the target, the part copied is not wholly in
+    /// the source, or the corners are the wrong way round; NoMemory. X/Open Curses Issue 7, copywin().
     #[tactic(auto, unfolding(crate::specs::Calls::Copying::copy_call))]
     pub fn copy(
         &mut self,
@@ -59,20 +57,21 @@ impl Desk {
         self.copy_part(alloc, from.index, to.index, row, column, part, overlay)
     }
 
-    /// Copies the part of the screen that two windows both cover from one to the other, but for the
-    /// places where the source has a byte 32. The lines of this part are touched.
+    /// Copies the part of the screen that two windows both cover from the source to the target, except for blanks (byte
+    /// 32, whatever its attributes). The target's lines of this part are touched. Nothing changes if there is no such
+    /// part.
     ///
-    /// Refused: NoWindow; IsPad where either is a pad; NoMemory. X/Open Curses Issue 7, overlay().
+    /// Refused: NoWindow; IsPad if either is a pad; NoMemory. X/Open Curses Issue 7, overlay().
     pub fn overlay(&mut self, alloc: Global, source: Win, target: Win) -> Result<(), WinFault>
         ensures { Allocated self.old (overlay_call self.old source.0 target.0 true) (self.new, result) }
     {
         self.lay_over(alloc, source, target, true)
     }
 
-    /// Copies the part of the screen that two windows both cover from one to the other. The lines of
-    /// this part are touched.
+    /// Copies the part of the screen that two windows both cover from the source to the target, blanks included. The
+    /// target's lines of this part are touched. Nothing changes if there is no such part.
     ///
-    /// Refused: NoWindow; IsPad where either is a pad; NoMemory. X/Open Curses Issue 7, overwrite().
+    /// Refused: NoWindow; IsPad if either is a pad; NoMemory. X/Open Curses Issue 7, overwrite().
     pub fn overwrite(&mut self, alloc: Global, source: Win, target: Win) -> Result<(), WinFault>
         ensures { Allocated self.old (overlay_call self.old source.0 target.0 false) (self.new, result) }
     {
@@ -100,7 +99,8 @@ impl Desk {
         self.lay_shared(alloc, from, to, first, second, overlay)
     }
 
-    // Copies the part of the screen that the windows at two indices both cover, which stand at two places of it.
+    // Copies the part of the screen that the windows at two indices both cover; `first` and `second` are their places
+    // on it.
     fn lay_shared(
         &mut self,
         alloc: Global,
@@ -142,8 +142,8 @@ impl Desk {
         )
     }
 
-    // Copies cells of the window at an index, from a row and a column on, to a part of the window at
-    // another index, by way of memory of their own.
+    // Copies cells of the window at an index, from a row and a column on, to a part of the window at another index,
+    // through memory of their own.
     fn copy_part(
         &mut self,
         alloc: Global,
@@ -171,8 +171,7 @@ impl Desk {
         Ok(())
     }
 
-    // The cells of the window at an index from a row and a column on, as many rows and columns as the
-    // part has.
+    // The cells of the window at an index from a row and a column on, as many rows and columns as the part has.
     fn block(
         &self,
         alloc: Global,

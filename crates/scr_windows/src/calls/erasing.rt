@@ -9,7 +9,7 @@ use crate::faults::{Win, WinFault};
 use scr_surfaces::Drawing;
 
 impl Desk {
-    /// Erases the places from the cursor to the end of its line.
+    /// Erases a window from the cursor to the end of the line: these places get the background. The cursor stays.
     ///
     /// Refused: NoWindow. X/Open Curses Issue 7, clrtoeol().
     #[tactic(auto, unfolding(crate::specs::Calls::Erasing::clear_to_eol_call))]
@@ -21,7 +21,8 @@ impl Desk {
         Ok(())
     }
 
-    /// Erases the places from the cursor to the end of its line, and all lines below.
+    /// Erases a window from the cursor to the end of the line, and all lines below: these places get the background.
+    /// The cursor stays.
     ///
     /// Refused: NoWindow. X/Open Curses Issue 7, clrtobot().
     #[tactic(auto, unfolding(crate::specs::Calls::Erasing::clear_to_bottom_call))]
@@ -41,7 +42,7 @@ impl Desk {
         Ok(())
     }
 
-    /// Erases all places, and puts the cursor to the first.
+    /// Erases a whole window: every place gets the background, and the cursor goes to the first place.
     ///
     /// Refused: NoWindow. X/Open Curses Issue 7, erase().
     #[tactic(auto, unfolding(crate::specs::Calls::Erasing::erase_call))]
@@ -63,7 +64,8 @@ impl Desk {
         Ok(())
     }
 
-    /// Erases all places, puts the cursor to the first, and wishes that the next update paints the whole screen.
+    /// Erases a whole window as `erase` does, and sets `clear_ok`: the next update with this window repaints the whole
+    /// screen.
     ///
     /// Refused: NoWindow. X/Open Curses Issue 7, clear().
     #[tactic(auto, unfolding(crate::specs::Calls::Erasing::clear_call))]

@@ -21,7 +21,7 @@ use std::alloc::Global;
 const MOST_CELLS: u64 = 1_000_000;
 
 impl Desk {
-    /// A desk with one blank window, `Win(0)`, over the whole screen.
+    /// Makes a desk with one blank window, `Win(0)`, over the whole screen.
     ///
     /// Refused: NoMemory. X/Open Curses Issue 7, initscr().
     pub fn new(alloc: Global, size: Size) -> Result<Desk, WinFault>
@@ -56,11 +56,10 @@ impl Desk {
         })
     }
 
-    /// Makes a window at a row and a column of the screen; 0 rows or columns are those to the screen's
-    /// end.
+    /// Makes a blank window at a row and a column of the screen; 0 rows or columns extend to the screen's end.
     ///
-    /// Refused: OffScreen where it is not wholly on the screen, or empty; TooMany; NoMemory. X/Open Curses
-    /// Issue 7, newwin().
+    /// Refused: OffScreen if it is empty or not wholly on the screen; TooMany if there are 1,000 windows, or
+    /// 4,294,967,295 were made after the first; NoMemory. X/Open Curses Issue 7, newwin().
     #[tactic(auto, unfolding(crate::specs::Calls::Making::new_window_call))]
     pub fn new_window(
         &mut self,
@@ -79,10 +78,10 @@ impl Desk {
         self.add_root(alloc, area.rows, area.columns, Some((row, column)))
     }
 
-    /// Makes a pad.
+    /// Makes a blank pad, a window that has no place on the screen.
     ///
-    /// Refused: OutOfWindow for 0 rows or columns; TooBig above 1,000,000 cells; TooMany; NoMemory. X/Open
-    /// Curses Issue 7, newpad().
+    /// Refused: OutOfWindow for 0 rows or columns; TooBig above 1,000,000 cells; TooMany as in `new_window`; NoMemory.
+    /// X/Open Curses Issue 7, newpad().
     #[tactic(auto, unfolding(crate::specs::Calls::Making::new_pad_call))]
     pub fn new_pad(&mut self, alloc: Global, rows: u32, columns: u32) -> Result<Win, WinFault>
         ensures { Allocated self.old (new_pad_call self.old rows columns) (self.new, result) }
@@ -126,7 +125,7 @@ impl Desk {
         self.push_root(alloc, rows, columns, origin)
     }
 
-    // The same where one window more may be made.
+    // The same if one more window may be made.
     fn push_root(
         &mut self,
         alloc: Global,

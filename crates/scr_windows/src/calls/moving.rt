@@ -1,4 +1,5 @@
-//! Calls that move a window on the screen, or a subwindow in its parent. The definitions are in `specs/Calls/Moving.antt`.
+//! Calls that move a window on the screen, or a subwindow in its parent. The definitions are in
+//! `specs/Calls/Moving.antt`.
 ghost use Rattle.std.specs.Prelude.{◌≡◌, ◌+◌, ◌-◌, ◌<◌, All, MatchOption, length, leb, map};
 ghost use Rattle.scr_windows.specs.DeskViews.{WindowView, window_at};
 ghost use Rattle.scr_windows.specs.Code.Families.{IsNear, IsNearFrame, IsNearShift, IsShift, descends, family_frame, family_shifted, link_of};
@@ -10,7 +11,7 @@ use crate::frames::Frame;
 use crate::windows::Window;
 use scr_surfaces::Area;
 
-/// How a window and its descendants move: what is at the first place comes to the second.
+/// How a window and its descendants move: what is at the first place goes to the second.
 #[derive(Clone, Copy)]
 pub enum Shift {
     /// On the screen.
@@ -20,9 +21,9 @@ pub enum Shift {
 }
 
 impl Desk {
-    /// Moves a window to a row and a column of the screen, and all its descendants alike. Its own lines are touched.
+    /// Moves a window to a row and a column of the screen, and all its descendants with it. Its own lines are touched.
     ///
-    /// Refused: NoWindow; IsPad; IsSub; OffScreen where it would not be wholly on the screen. X/Open Curses Issue 7,
+    /// Refused: NoWindow; IsPad; IsSub; OffScreen if it would not be wholly on the screen. X/Open Curses Issue 7,
     /// mvwin().
     #[tactic(auto, unfolding(crate::specs::Calls::Moving::move_window_call))]
     pub fn move_window(&mut self, win: Win, row: u32, column: u32) -> Result<(), WinFault>
@@ -45,10 +46,10 @@ impl Desk {
         Ok(())
     }
 
-    /// Lets a subwindow share the cells from another row and column of its parent on. Its place on the screen stays, its
-    /// descendants share what has the same place in it as before, and its own lines are touched.
+    /// Makes a subwindow share its parent's cells from another row and column of the parent on. Its place on the screen
+    /// stays, its descendants share what is at the same place in it as before, and its own lines are touched.
     ///
-    /// Refused: NoWindow; IsPad; NotInParent where it would not be wholly in the parent, or has none. X/Open Curses
+    /// Refused: NoWindow; IsPad; NotInParent if it has no parent, or would not be wholly in the parent. X/Open Curses
     /// Issue 7, mvderwin().
     #[tactic(auto, unfolding(crate::specs::Calls::Moving::move_derived_call))]
     pub fn move_derived(&mut self, win: Win, row: u32, column: u32) -> Result<(), WinFault>
@@ -98,7 +99,7 @@ impl Desk {
     }
 }
 
-// Whether so many rows or columns from one on end at most there.
+// Whether `count` rows or columns from `start` on end at `end` at most.
 fn fits(start: u32, count: u32, end: u32) -> bool
     ensures { result ≡ leb (start + count) end }
 {
@@ -131,7 +132,7 @@ fn family_frame(windows: &[Window], ancestor: u32, shift: Shift, frame: Frame) -
     }
 }
 
-// Whether the window of a number is an ancestor, or descends from it.
+// Whether the window of a number is the ancestor, or descends from it.
 fn descends(windows: &[Window], ancestor: u32, number: u32) -> bool
     ensures { result ≡ descends (map link_of windows.now) ancestor (length windows.now) number }
 {
@@ -165,7 +166,7 @@ fn shifted(shift: Shift, frame: Frame) -> Frame
     frame
 }
 
-// A window's place on the screen, where it has one.
+// A window's place on the screen after a shift, if it has one.
 fn origin_shifted(
     from: (u32, u32),
     to: (u32, u32),
@@ -181,7 +182,7 @@ fn origin_shifted(
     }
 }
 
-// A window's part of its surface.
+// A window's part of its surface after a shift.
 fn area_shifted(from: (u32, u32), to: (u32, u32), area: Area) -> Area
     requires near { IsNear (area.top, area.left) }
     requires to { IsNear to }
@@ -196,7 +197,7 @@ fn area_shifted(from: (u32, u32), to: (u32, u32), area: Area) -> Area
     }
 }
 
-// Where a place comes to, when another comes to a third.
+// Where a place goes when `from` goes to `to`.
 fn place_shifted(from: (u32, u32), to: (u32, u32), place: (u32, u32)) -> (u32, u32)
     requires near { IsNear place }
     requires to { IsNear to }

@@ -1,4 +1,5 @@
-//! Calls that read: sizes, cells, cursors, touched lines, and a window lent whole. The definitions are in `specs/Calls/Reading.antt`.
+//! Calls that read: sizes, cells, cursors, touched lines, and a window lent whole. The definitions are in
+//! `specs/Calls/Reading.antt`.
 ghost use Rattle.std.specs.Prelude.{ℕ, ◌≡◌, ◌<◌, ◌≤◌, length, IfOk, MatchResult};
 ghost use Rattle.scr_windows.specs.Changes.{index_of};
 ghost use Rattle.scr_windows.specs.DeskViews.{IsDesk, window_at};
@@ -23,7 +24,7 @@ impl Desk {
         }
     }
 
-    /// How many windows there are.
+    /// How many windows there are, at most 1,000.
     pub fn count(&self) -> usize
         ensures count { result ≡ length self.now.windows }
         ensures few { result ≤ 1000 }
@@ -31,7 +32,8 @@ impl Desk {
         self.windows.len()
     }
 
-    /// The window at an index among those that there are, by ascending numbers from index 0 on; `None` behind the last.
+    /// The window at an index, counted from 0, among those that there are, in ascending order of their numbers; `None`
+    /// past the last.
     #[tactic(auto, unfolding(crate::specs::Calls::Reading::nth_answer))]
     pub fn nth(&self, index: usize) -> Option<Win>
         ensures { result ≡ nth_answer self.now index }
@@ -43,7 +45,7 @@ impl Desk {
         }
     }
 
-    /// Lends a window for reading.
+    /// Lends a window for reading: everything that calls set in it or draw on it.
     ///
     /// Refused: NoWindow.
     #[tactic(auto, unfolding(crate::specs::Calls::Reading::window_answer))]
@@ -54,7 +56,7 @@ impl Desk {
         Ok(self.lent(index))
     }
 
-    /// The cell in a row and a column of a window.
+    /// The cell at a row and a column of a window.
     ///
     /// Refused: NoWindow; OutOfWindow for a place outside the window. X/Open Curses Issue 7, inch().
     #[tactic(auto, unfolding(crate::specs::Calls::Reading::cell_at_answer))]
@@ -69,7 +71,7 @@ impl Desk {
         Ok(cells[column as usize])
     }
 
-    /// The row and the column of the cursor of a window.
+    /// The row and the column of a window's cursor.
     ///
     /// Refused: NoWindow. X/Open Curses Issue 7, getyx().
     #[tactic(auto, unfolding(crate::specs::Calls::Reading::cursor_answer))]
@@ -90,7 +92,7 @@ impl Desk {
         Ok((pen.area.rows, pen.area.columns))
     }
 
-    /// The place on the screen of a window's first row and column.
+    /// The row and the column of the screen where a window's first place is.
     ///
     /// Refused: NoWindow; IsPad. X/Open Curses Issue 7, getbegyx().
     #[tactic(auto, unfolding(crate::specs::Calls::Reading::origin_answer))]
@@ -104,9 +106,9 @@ impl Desk {
         }
     }
 
-    /// The first row on the screen of n lines of a window from one on, and n.
+    /// The row of the screen where `n` lines of a window begin, from line `first` on, and `n`.
     ///
-    /// Refused: NoWindow; IsPad; OutOfWindow where the window has fewer than `first + n` lines. X/Open Curses Issue 7,
+    /// Refused: NoWindow; IsPad; OutOfWindow if the window has fewer than `first + n` lines. X/Open Curses Issue 7,
     /// wredrawln().
     #[tactic(auto, unfolding(crate::specs::Calls::Reading::screen_rows_answer))]
     pub fn screen_rows(&self, win: Win, first: u32, n: u32) -> Result<(u32, u32), WinFault>
@@ -125,7 +127,7 @@ impl Desk {
 
     /// Whether a line of a window is touched.
     ///
-    /// Refused: NoWindow; OutOfWindow where the window has no such row. X/Open Curses Issue 7, is_linetouched().
+    /// Refused: NoWindow; OutOfWindow if the window has no such row. X/Open Curses Issue 7, is_linetouched().
     #[tactic(auto, unfolding(crate::specs::Calls::Reading::line_touched_answer))]
     pub fn line_touched(&self, win: Win, row: u32) -> Result<bool, WinFault>
         ensures { result ≡ line_touched_answer self.now win.0 row }
@@ -137,7 +139,7 @@ impl Desk {
         Ok(self.window_at(pen.index).is_touched(row))
     }
 
-    /// Whether some line of a window is touched.
+    /// Whether any line of a window is touched.
     ///
     /// Refused: NoWindow. X/Open Curses Issue 7, is_wintouched().
     #[tactic(auto, unfolding(crate::specs::Calls::Reading::window_touched_answer))]
@@ -148,9 +150,9 @@ impl Desk {
         Ok(self.window_at(index).is_any_touched())
     }
 
-    /// The cells of a row of a window from the left, lent. Curses has no such call.
+    /// Lends the cells of a row of a window, from the left, as many as the window has columns. Curses has no such call.
     ///
-    /// Refused: NoWindow; OutOfWindow where the window has no such row.
+    /// Refused: NoWindow; OutOfWindow if the window has no such row.
     #[tactic(auto, unfolding(crate::specs::Calls::Reading::row_answer))]
     pub fn line(&self, win: Win, row: u32) -> Result<&[Cell], WinFault>
         ensures cells { MatchResult result (λ cells. row_answer self.now win.0 row ≡ Ok cells.now) (λ fault. row_answer self.now win.0 row ≡ Err fault) }
@@ -173,7 +175,7 @@ impl Desk {
         WindowRef::new(window, &self.surfaces[sheet].surface)
     }
 
-    // The cells of a row of the window at an index among the desk's.
+    // The cells of a row of the window at an index.
     fn row_of(&self, index: usize, row: u32) -> &[Cell]
         requires here { index < length self.now.windows }
         requires row { row < (window_at self.now index).frame.area.rows }

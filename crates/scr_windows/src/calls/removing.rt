@@ -7,10 +7,10 @@ use crate::faults::{Win, WinFault};
 use crate::windows::Window;
 
 impl Desk {
-    /// Deletes a window, and its cells where no other window shares them. The first window may go too. Its number is not
+    /// Deletes a window, and its cells if no other window shares them. The first window may go too. Its number is not
     /// used again.
     ///
-    /// Refused: NoWindow; HasChildren where it has subwindows. X/Open Curses Issue 7, delwin().
+    /// Refused: NoWindow; HasChildren if it has subwindows. X/Open Curses Issue 7, delwin().
     #[tactic(auto, unfolding(crate::specs::Calls::Removing::delete_call))]
     pub fn delete(&mut self, win: Win) -> Result<(), WinFault>
         ensures { (self.new, result) ≡ delete_call self.old win.0 }

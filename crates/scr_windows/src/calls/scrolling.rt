@@ -1,5 +1,6 @@
-//! Calls that move what stands in a line, or lines: deleting a byte, inserting and deleting lines, scrolling. The definitions are in
-//! `specs/Calls/Scrolling.antt`.
+//! Calls that move cells within a line, or whole lines: deleting a byte, inserting and deleting lines, scrolling.
+//!
+//! The definitions are in `specs/Calls/Scrolling.antt`.
 ghost use Rattle.std.specs.Prelude.{◌≡◌};
 ghost use Rattle.scr_windows.specs.Calls.Scrolling.{delete_byte_call, insert_delete_lines_call, scroll_call};
 
@@ -8,8 +9,8 @@ use crate::faults::{Win, WinFault};
 use scr_surfaces::Drawing;
 
 impl Desk {
-    /// Deletes the byte at the cursor: what stands right of it in the line moves left by one, and the
-    /// background comes into the last column.
+    /// Deletes the byte at a window's cursor: what is right of it in the line moves left by one, and the last column
+    /// gets the background. The cursor stays.
     ///
     /// Refused: NoWindow. X/Open Curses Issue 7, delch().
     #[tactic(auto, unfolding(crate::specs::Calls::Scrolling::delete_byte_call))]
@@ -29,9 +30,8 @@ impl Desk {
         Ok(())
     }
 
-    /// Inserts n lines at the cursor's row where n is above 0, and deletes lines from it on where n is
-    /// below 0. The lines from the cursor's to the window's last move, and the background comes into
-    /// those left free. The cursor stays.
+    /// Inserts `n` lines at the cursor's row of a window, or deletes `-n` lines from there on if `n` is below 0. The
+    /// lines from the cursor's to the window's last move, and the lines left free get the background. The cursor stays.
     ///
     /// Refused: NoWindow. X/Open Curses Issue 7, insdelln().
     #[tactic(auto, unfolding(crate::specs::Calls::Scrolling::insert_delete_lines_call))]
@@ -65,10 +65,10 @@ impl Desk {
         Ok(())
     }
 
-    /// Moves the lines of the scrolling region up by n, or down where n is below 0; the background comes
-    /// into those left free.
+    /// Moves the lines of a window's scrolling region up by `n`, or down by `-n` if `n` is below 0. The lines left free
+    /// get the background. The cursor stays.
     ///
-    /// Refused: NoWindow; NoScroll. X/Open Curses Issue 7, scrl().
+    /// Refused: NoWindow; NoScroll if `scroll_ok` is off. X/Open Curses Issue 7, scrl().
     #[tactic(auto, unfolding(crate::specs::Calls::Scrolling::scroll_call))]
     pub fn scroll(&mut self, win: Win, n: i32) -> Result<(), WinFault>
         ensures { (self.new, result) ≡ scroll_call self.old win.0 n }
@@ -104,7 +104,7 @@ impl Desk {
     }
 }
 
-// The lines from a cursor's to a window's last: the first, and the one behind the last.
+// The lines from a cursor's to a window's last: the first, and the end (exclusive).
 fn lines_from(cursor: (u32, u32), rows: u32) -> (u32, u32)
     ensures first { result.0 ≡ cursor.0 }
     ensures end { result.1 ≡ rows }

@@ -26,9 +26,9 @@ impl Desk {
         Ok(())
     }
 
-    /// Sets the first and the last row of the scrolling region of a window.
+    /// Sets the first and the last row of a window's scrolling region, both inside it. They may be the same row.
     ///
-    /// Refused: NoWindow; BadRegion where the first is below the last or the last is not in the window. X/Open
+    /// Refused: NoWindow; BadRegion if `top` is greater than `bottom`, or `bottom` is not a row of the window. X/Open
     /// Curses Issue 7, setscrreg().
     #[tactic(auto, unfolding(crate::specs::Calls::Settings::set_region_call))]
     pub fn set_region(&mut self, win: Win, top: u32, bottom: u32) -> Result<(), WinFault>
@@ -43,7 +43,7 @@ impl Desk {
         Ok(())
     }
 
-    /// Says whether the region of a window may scroll.
+    /// Sets whether the scrolling region of a window may scroll.
     ///
     /// Refused: NoWindow. X/Open Curses Issue 7, scrollok().
     #[tactic(auto, unfolding(crate::specs::Calls::Settings::scroll_ok_call))]
@@ -56,7 +56,7 @@ impl Desk {
         Ok(())
     }
 
-    /// Says whether the next update with a window paints the whole screen.
+    /// Sets whether the next update with a window repaints the whole screen.
     ///
     /// Refused: NoWindow. X/Open Curses Issue 7, clearok().
     #[tactic(auto, unfolding(crate::specs::Calls::Settings::clear_ok_call))]
@@ -69,7 +69,7 @@ impl Desk {
         Ok(())
     }
 
-    /// Says whether the terminal's cursor may stay where an update leaves it.
+    /// Sets whether the terminal's cursor may stay where an update with a window leaves it.
     ///
     /// Refused: NoWindow. X/Open Curses Issue 7, leaveok().
     #[tactic(auto, unfolding(crate::specs::Calls::Settings::leave_ok_call))]
@@ -82,7 +82,7 @@ impl Desk {
         Ok(())
     }
 
-    /// Adds attributes to those that bytes are written with.
+    /// Adds attributes to those that bytes are written with in a window.
     ///
     /// Refused: NoWindow. X/Open Curses Issue 7, attron().
     #[tactic(auto, unfolding(crate::specs::Calls::Settings::attr_on_call))]
@@ -95,7 +95,7 @@ impl Desk {
         Ok(())
     }
 
-    /// Takes attributes off those that bytes are written with.
+    /// Removes attributes from those that bytes are written with in a window.
     ///
     /// Refused: NoWindow. X/Open Curses Issue 7, attroff().
     #[tactic(auto, unfolding(crate::specs::Calls::Settings::attr_off_call))]
@@ -108,7 +108,7 @@ impl Desk {
         Ok(())
     }
 
-    /// Sets the attributes that bytes are written with.
+    /// Replaces the attributes that bytes are written with in a window.
     ///
     /// Refused: NoWindow. X/Open Curses Issue 7, attrset().
     #[tactic(auto, unfolding(crate::specs::Calls::Settings::attr_set_call))]
@@ -121,7 +121,7 @@ impl Desk {
         Ok(())
     }
 
-    /// Sets the colour pair that bytes are written with; 0 stands for that of the background.
+    /// Sets the colour pair that bytes are written with in a window; 0 stands for the pair of the background.
     ///
     /// Refused: NoWindow; BadPair for a pair above 63. X/Open Curses Issue 7, color_set().
     #[tactic(auto, unfolding(crate::specs::Calls::Settings::color_set_call))]
@@ -150,9 +150,9 @@ impl Desk {
         Ok(())
     }
 
-    /// Sets the background of a window, and exchanges it in every cell: the old background's byte becomes
-    /// the new one's, the old attributes are taken off and the new ones put on, and the old colour pair becomes the
-    /// new one.
+    /// Sets the background of a window, and replaces the old one in every cell: the old background's byte becomes the
+    /// new one's, its attributes are removed and the new ones added, and its colour pair becomes the new one. All lines
+    /// are touched.
     ///
     /// Refused: NoWindow. X/Open Curses Issue 7, bkgd().
     #[tactic(auto, unfolding(crate::specs::Calls::Settings::change_background_call))]

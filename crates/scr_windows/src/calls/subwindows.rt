@@ -13,15 +13,14 @@ use crate::windows::Window;
 use scr_surfaces::Area;
 use std::alloc::Global;
 
-/// How many windows there may be.
+/// The greatest number of windows.
 pub const MOST: usize = 1000;
 
 impl Desk {
-    /// Makes a subwindow at a row and a column of its parent; 0 rows or columns are those to the parent's
-    /// end. It shares the parent's cells and begins with its attributes, colour pair and
-    /// background.
+    /// Makes a subwindow at a row and a column of its parent; 0 rows or columns extend to the parent's end. It shares
+    /// the parent's cells, and begins with its attributes, colour pair and background.
     ///
-    /// Refused: NoWindow; IsPad; NotInParent where it is not wholly in the parent, or empty; TooMany;
+    /// Refused: NoWindow; IsPad; NotInParent if it is empty or not wholly in the parent; TooMany as in `new_window`;
     /// NoMemory. X/Open Curses Issue 7, derwin().
     #[tactic(auto, unfolding(crate::specs::Calls::Subwindows::derive_call))]
     pub fn derive(
@@ -41,7 +40,7 @@ impl Desk {
 
     /// Makes a subwindow as `derive` does, at a row and a column of the screen.
     ///
-    /// Refused: NoWindow; IsPad; NotInParent where it is not wholly in the parent, or empty; TooMany;
+    /// Refused: NoWindow; IsPad; NotInParent if it is empty or not wholly in the parent; TooMany as in `new_window`;
     /// NoMemory. X/Open Curses Issue 7, subwin().
     #[tactic(auto, unfolding(crate::specs::Calls::Subwindows::sub_call))]
     pub fn sub(
@@ -65,9 +64,9 @@ impl Desk {
         self.derive_at(alloc, index, rows, columns, row - top, column - left)
     }
 
-    /// Makes a subwindow of a pad as `derive` does.
+    /// Makes a subwindow of a pad as `derive` does of a window, at a row and a column of the pad.
     ///
-    /// Refused: NoWindow; NotPad; NotInParent where it is not wholly in the parent, or empty; TooMany;
+    /// Refused: NoWindow; NotPad; NotInParent if it is empty or not wholly in the parent; TooMany as in `new_window`;
     /// NoMemory. X/Open Curses Issue 7, subpad().
     #[tactic(auto, unfolding(crate::specs::Calls::Subwindows::sub_pad_call))]
     pub fn sub_pad(
@@ -148,7 +147,7 @@ impl Desk {
     }
 }
 
-// A part of an area, from a row and a column of it on.
+// A part of an area, from a row and a column of it on; `None` if it is empty or not wholly inside.
 #[tactic(auto, unfolding(crate::specs::Calls::Making::part_of))]
 pub(crate) fn part_of(area: Area, rows: u32, columns: u32, row: u32, column: u32) -> Option<Area>
     requires below { area.top + area.rows ≤ 1000000 }

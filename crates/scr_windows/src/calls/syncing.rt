@@ -9,8 +9,7 @@ use crate::faults::{Win, WinFault};
 use crate::windows::index_of_number;
 
 impl Desk {
-    /// Touches each line of every ancestor of a window that shares a row of the surface with a touched
-    /// line of the window.
+    /// Touches each line of every ancestor of a window that shares a row of cells with a touched line of the window.
     ///
     /// Refused: NoWindow. X/Open Curses Issue 7, wsyncup().
     #[tactic(auto, unfolding(crate::specs::Calls::Syncing::sync_up_call))]
@@ -22,8 +21,7 @@ impl Desk {
         Ok(())
     }
 
-    /// Touches each line of a window that shares a row of the surface with a touched line of any of its
-    /// ancestors.
+    /// Touches each line of a window that shares a row of cells with a touched line of any of its ancestors.
     ///
     /// Refused: NoWindow. X/Open Curses Issue 7, wsyncdown().
     #[tactic(auto, unfolding(crate::specs::Calls::Syncing::sync_down_call))]
@@ -47,7 +45,7 @@ impl Desk {
         }
     }
 
-    // Touches lines of the window at an index as its ancestors' are.
+    // Touches lines of the window at an index for the touched lines of its ancestors.
     fn touch_down(&mut self, index: usize)
         requires { index < length self.old.windows }
         ensures { self.new ≡ touched_down (ancestors self.old index) self.old index }

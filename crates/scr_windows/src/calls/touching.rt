@@ -1,4 +1,5 @@
-//! Calls that touch lines, make them untouched, or take them for an update. The definitions are in `specs/Calls/Touching.antt`.
+//! Calls that touch lines, make them untouched, or take them for an update. The definitions are in
+//! `specs/Calls/Touching.antt`.
 ghost use Rattle.std.specs.Prelude.{◌≡◌, true, false};
 ghost use Rattle.scr_windows.specs.Calls.Touching.{take_lines_call, touch_all_call, touch_lines_call};
 
@@ -30,9 +31,9 @@ impl Desk {
         Ok(())
     }
 
-    /// Makes n lines of a window from one on touched, or untouched.
+    /// Makes `n` lines of a window, from line `first` on, touched, or untouched if `changed` is false.
     ///
-    /// Refused: NoWindow; OutOfWindow where the window has fewer than `first + n` lines. X/Open Curses Issue 7,
+    /// Refused: NoWindow; OutOfWindow if the window has fewer than `first + n` lines. X/Open Curses Issue 7,
     /// wtouchln().
     #[tactic(auto, unfolding(crate::specs::Calls::Touching::touch_lines_call))]
     pub fn touch_lines(
@@ -52,10 +53,10 @@ impl Desk {
         Ok(())
     }
 
-    /// Takes n lines of a window from one on for an update: they are no longer touched, and what `clear_ok` wished for
-    /// is answered and taken back.
+    /// Takes `n` lines of a window, from line `first` on, for an update: they become untouched, and `clear_ok` is
+    /// returned and switched off.
     ///
-    /// Refused: NoWindow; OutOfWindow where the window has fewer than `first + n` lines. curs_refresh(3X), wnoutrefresh().
+    /// Refused: NoWindow; OutOfWindow if the window has fewer than `first + n` lines. curs_refresh(3X), wnoutrefresh().
     #[tactic(auto, unfolding(crate::specs::Calls::Touching::take_lines_call))]
     pub fn take_lines(&mut self, win: Win, first: u32, n: u32) -> Result<bool, WinFault>
         ensures { (self.new, result) ≡ take_lines_call self.old win.0 first n }
