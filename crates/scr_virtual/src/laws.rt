@@ -1,27 +1,29 @@
-//! Laws of virtual screens, each the contract of a function that does nothing. A caller cites a law by calling its function.
+//! Laws of virtual screens, each the contract of a function that does nothing. A caller cites a law by calling its
+//! function.
 //!
 //! They are stated in `specs/Laws.antt`.
 ghost use Rattle.scr_virtual.specs.Laws.{OutsideStays, RangesHoldChanges, SizesStay, UntouchedChangesNothing};
 
 use scr_cells::{Cell, grid_laws};
 
-/// Whatever has another cell or is seen in another way after a taking, a new pair or a mark lies in the new ranges, a range
-/// never loses a column, and a screen that is settled has none. curs_refresh(3X), wnoutrefresh().
+/// The ranges hold every change of a taking, a new pair or a mark: every place outside the new ranges has its old cell
+/// and is seen as before, and no range loses a column. A screen that is settled has no ranges. curs_refresh(3X),
+/// wnoutrefresh().
 pub fn ranges_hold_changes()
     ensures { RangesHoldChanges }
 {
     grid_laws::<Cell>();
 }
 
-/// Taking a window leaves every place of the picture outside the window, and taking a pad every place outside the rectangle
-/// that shows it. curs_refresh(3X), wnoutrefresh(); curs_pad(3X), pnoutrefresh().
+/// Taking a window changes no place of the picture outside the window, and taking a pad none outside the rectangle that
+/// shows it. curs_refresh(3X), wnoutrefresh(); curs_pad(3X), pnoutrefresh().
 pub fn outside_stays()
     ensures { OutsideStays }
 {
     grid_laws::<Cell>();
 }
 
-/// Taking a window of which no line is touched changes no cell. X/Open Curses Issue 7, untouchwin().
+/// Taking a window of which no line is touched changes no cell of the picture. X/Open Curses Issue 7, untouchwin().
 pub fn untouched_changes_nothing()
     ensures { UntouchedChangesNothing }
 {

@@ -1,7 +1,7 @@
 //! Parts of windows, and where they are shown.
 
-/// A part of a window that is shown on the screen: the line and the column of the window that it begins at, how many rows and
-/// columns it has, and the row and the column of the screen where its first place is shown.
+/// A part of a window that is shown on the screen: the line and the column of the window where it begins, how many rows
+/// and columns it has, and the row and the column of the screen that show its first place.
 #[derive(Clone, Copy)]
 pub struct Part {
     /// The first line of the window that is shown.

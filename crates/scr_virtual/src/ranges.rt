@@ -12,7 +12,7 @@ use std::marker::Model;
 pub(crate) struct Ranges {
     // One for each row.
     columns: Vec<Option<(u32, u32)>>,
-    // The first and the last row that may have a range. What reads or empties the ranges looks at no other row.
+    // The first and the last row that may have a range. Whatever reads or empties the ranges looks at no other row.
     rows: Option<(u32, u32)>,
 }
 
@@ -28,7 +28,7 @@ impl Model for Ranges {
 }
 
 impl Ranges {
-    // None for each of so many rows, as a screen may have. Fails only when memory runs out.
+    // No range for any of this many rows, at most those of a screen. Fails only when memory runs out.
     pub(crate) fn new(alloc: Global, rows: u32) -> Result<Ranges, NoMemory>
         requires { rows ≤ 500 }
         ensures { IfOk result (λ ranges. ranges ≡ replicate rows None) }
@@ -61,7 +61,7 @@ impl Ranges {
         }
     }
 
-    // No row has a range any more.
+    // Removes the range of every row.
     pub(crate) fn clear(&mut self)
         ensures { self.new ≡ replicate (length self.old) None }
     {
@@ -70,7 +70,7 @@ impl Ranges {
         self.rows = None;
     }
 
-    // Rows `first..end` have one range.
+    // Gives the rows `first..end` one range.
     pub(crate) fn fill(&mut self, first: u32, end: u32, range: (u32, u32))
         requires order { first ≤ end }
         requires end { end ≤ length self.old }
@@ -80,7 +80,7 @@ impl Ranges {
         self.rows = with_rows(first, end, self.rows);
     }
 
-    // The range of a row holds another, if there is one, too.
+    // Extends the range of a row so that it holds another too, if there is one.
     pub(crate) fn join(&mut self, row: u32, other: Option<(u32, u32)>)
         requires { row < length self.old }
         ensures { self.new ≡ slice_set self.old row (joined other (slice_index_or self.old row None)) }
@@ -94,7 +94,7 @@ impl Ranges {
     }
 }
 
-// What two ranges hold between them, and all that is between.
+// The range that holds both of two ranges, and everything between them.
 fn joined(other: Option<(u32, u32)>, range: Option<(u32, u32)>) -> Option<(u32, u32)>
     ensures { result ≡ joined other range }
 {
@@ -105,7 +105,7 @@ fn joined(other: Option<(u32, u32)>, range: Option<(u32, u32)>) -> Option<(u32, 
     }
 }
 
-// The first and the last of the rows from `first` up to `end` and of those that there are.
+// The first and the last of the rows `first..end` together with those in `rows`.
 fn with_rows(first: u32, end: u32, rows: Option<(u32, u32)>) -> Option<(u32, u32)>
     ensures { result ≡ with_rows first end rows }
 {
@@ -116,7 +116,7 @@ fn with_rows(first: u32, end: u32, rows: Option<(u32, u32)>) -> Option<(u32, u32
     }
 }
 
-// One range, or none, in rows `first..end`.
+// Sets one range, or none, in the rows `first..end`.
 fn fill(ranges: &mut [Option<(u32, u32)>], first: usize, end: usize, range: Option<(u32, u32)>)
     requires order { first ≤ end }
     requires end { end ≤ length ranges.old }

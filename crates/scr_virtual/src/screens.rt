@@ -10,12 +10,14 @@ use scr_windows::WinFault;
 use std::alloc::Global;
 use std::marker::Model;
 
-/// What the terminal is to show after the next update (curs_refresh(3X), 'virtual screen'; X/Open Curses Issue 7,
-/// doupdate()): a picture, whether the whole screen is to be painted anew, and for each row the first and the last
-/// column that may have changed since `settle`, and the first and the last that may look otherwise.
+/// What the terminal is to show after the next update: a picture, whether the whole screen is to be repainted, and what
+/// may have changed (curs_refresh(3X), 'virtual screen'; X/Open Curses Issue 7, doupdate()).
 ///
-/// Rows and columns are counted from 0. A refused call changes nothing; where several refusals hold, the first that the
-/// call names is given. No call but `new` takes memory.
+/// For each row it has two ranges of columns, each a first and a last one: those that may have changed since `settle`,
+/// and those that may look different.
+///
+/// Rows and columns are counted from 0. A refused call changes nothing; if several refusals hold, the first that the
+/// call names is given. No call but `new` allocates memory.
 #[derive(Drop)]
 pub struct Virtual {
     pub(crate) picture: Picture,
@@ -35,7 +37,8 @@ impl Model for Virtual {
 }
 
 impl Virtual {
-    /// A blank picture without a wish, nothing to paint anew, and no range. Fails only when memory runs out.
+    /// Makes a blank picture, with no place where the cursor is wanted, nothing to repaint, and no ranges. Fails only
+    /// when memory runs out.
     pub fn new(alloc: Global, size: Size) -> Result<Virtual, NoMemory>
         ensures { IfOk result (λ screen. screen ≡ blank_virtual size.rows size.columns) }
     {
@@ -59,22 +62,22 @@ impl Virtual {
         self.picture.size()
     }
 
-    /// The cells that the screen is to show, the colours of their pairs, and where its cursor is wished.
+    /// The cells that the screen is to show, the colours of their pairs, and where its cursor is wanted.
     pub fn picture(&self) -> &Picture
         ensures { result.now ≡ self.now.picture }
     {
         &self.picture
     }
 
-    /// Whether the whole screen is to be painted anew. X/Open Curses Issue 7, clearok().
+    /// Whether the whole screen is to be repainted. X/Open Curses Issue 7, clearok().
     pub fn repaint(&self) -> bool
         ensures { result ≡ self.now.repaint }
     {
         self.repaint
     }
 
-    /// The first and the last column of a row that may have changed since `settle`, both inside; `None` where the row has
-    /// not changed.
+    /// The first and the last column of a row that may have changed since `settle`, both inside the range; `None` if
+    /// the row has not changed. The screen has this row.
     pub fn changed(&self, row: u32) -> Option<(u32, u32)>
         requires { row < self.now.picture.rows }
         ensures value { result ≡ range_at self.now row }
@@ -83,8 +86,10 @@ impl Virtual {
         self.changed.at(row)
     }
 
-    /// The first and the last column of a row that may look otherwise than at `settle`, both inside; `None` where the row looks
-    /// as it did. A line that is copied to where it stands already has changed, and looks as it did.
+    /// The first and the last column of a row that may look different than at `settle`, both inside the range; `None`
+    /// if the row looks as it did. The screen has this row.
+    ///
+    /// A line that is copied to where it already stands has changed, and looks as it did.
     pub fn altered(&self, row: u32) -> Option<(u32, u32)>
         requires { row < self.now.picture.rows }
         ensures value { result ≡ altered_at self.now row }
@@ -93,8 +98,8 @@ impl Virtual {
         self.altered.at(row)
     }
 
-    /// The first row and the end (exclusive) of the rows that may look otherwise than at `settle`. An update looks at these rows
-    /// alone, and costs nothing where nothing changed.
+    /// The first row and the end (exclusive) of the rows that may look different than at `settle`. An update looks at
+    /// these rows alone, and costs nothing where nothing changed.
     pub fn altered_rows(&self) -> (u32, u32)
         ensures order { result.0 ≤ result.1 }
         ensures end { result.1 ≤ self.now.picture.rows }
@@ -106,7 +111,7 @@ impl Virtual {
     /// Sets the foreground and the background of a colour pair. The picture has them at once, and every row may have
     /// changed in its whole width.
     ///
-    /// Refused: BadPair where the pair is not 1 to 63; BadColour where a colour is above 7. X/Open Curses Issue 7,
+    /// Refused: BadPair if the pair is not 1 to 63; BadColour if a colour is above 7. X/Open Curses Issue 7,
     /// init_pair().
     #[tactic(auto, unfolding(crate::specs::Pairs::set_pair_call))]
     pub fn set_pair(&mut self, pair: u32, foreground: u32, background: u32) -> Result<(), WinFault>
@@ -125,8 +130,8 @@ impl Virtual {
         Ok(())
     }
 
-    /// What an update leaves that ended well: the screen is not to be painted anew, and no row has a range. The picture
-    /// stays. X/Open Curses Issue 7, doupdate().
+    /// Records that an update ended well: the screen is not to be repainted, and no row has a range. The picture stays.
+    /// X/Open Curses Issue 7, doupdate().
     pub fn settle(&mut self)
         ensures { self.new ≡ settled self.old }
     {
@@ -135,8 +140,8 @@ impl Virtual {
         self.repaint = false;
     }
 
-    /// The ranges of n rows from one on, as many of them as there are, become whole: the terminal may show something else
-    /// there. X/Open Curses Issue 7, wredrawln().
+    /// Makes the ranges of `n` rows, from `row` on, whole, because the terminal may show something else there. Rows
+    /// past the last are left out. X/Open Curses Issue 7, wredrawln().
     pub fn mark(&mut self, row: u32, n: u32)
         ensures { self.new ≡ marked_rows row n self.old }
     {

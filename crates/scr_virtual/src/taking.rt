@@ -13,9 +13,9 @@ use scr_cells::{Cell, Size, first_difference, grid_laws, last_difference};
 use scr_windows::{Desk, Win, WinFault, WindowRef, windows_are_placed};
 
 impl Virtual {
-    /// Takes a window: its touched lines are copied to where it is on the screen, and no line of it is touched any more. The
-    /// cursor is wished where the window's cursor is on the screen, or nowhere under `leave_ok`. Where `clear_ok` is set, the
-    /// screen is to be painted anew and the setting goes off. The desk and this screen have one size.
+    /// Takes a window: its touched lines are copied to where it is on the screen, and become untouched. The cursor is
+    /// wanted where the window's cursor is on the screen, or nowhere if `leave_ok` is set. If `clear_ok` is set, the
+    /// whole screen is to be repainted, and the setting is switched off. The desk and this screen have one size.
     ///
     /// Refused: NoWindow; IsPad. curs_refresh(3X) and X/Open Curses Issue 7, wnoutrefresh().
     #[tactic(auto, unfolding(crate::specs::Taking::take_window_call))]
@@ -34,14 +34,14 @@ impl Virtual {
         Ok(())
     }
 
-    /// Takes a pad: the rectangle of the screen from `top` and `left` to `bottom` and `right`, both inside, gets the cells of
-    /// the pad from `row` and `column` on, touched or not, and the lines of the pad that are shown are no longer touched. The
-    /// cursor is wished where the pad's cursor is shown, and nowhere where it is not shown or under `leave_ok`; `clear_ok` is
-    /// as in `take_window`. The desk and this screen have one size.
+    /// Takes a pad: the rectangle of the screen from `top` and `left` to `bottom` and `right`, both corners inside it,
+    /// gets the cells of the pad from `row` and `column` on, touched or not. The lines of the pad that are shown become
+    /// untouched. The cursor is wanted where the pad's cursor is shown, or nowhere if it is not shown or `leave_ok` is
+    /// set; `clear_ok` is as in `take_window`. The desk and this screen have one size.
     ///
-    /// Refused: NoWindow; NotPad; OffScreen where the corners are the wrong way round; OutOfWindow where the part shown is not
-    /// wholly in the pad; OffScreen where the rectangle is not wholly on the screen. curs_pad(3X) and X/Open Curses Issue 7,
-    /// pnoutrefresh().
+    /// Refused: NoWindow; NotPad; OffScreen if the corners are the wrong way round; OutOfWindow if the part shown is
+    /// not wholly in the pad; OffScreen if the rectangle is not wholly on the screen. curs_pad(3X) and X/Open Curses
+    /// Issue 7, pnoutrefresh().
     #[tactic(auto, unfolding(crate::specs::Taking::take_pad_call))]
     pub fn take_pad(
         &mut self,
@@ -67,7 +67,7 @@ impl Virtual {
         Ok(())
     }
 
-    // Copies lines of a part of a window, all of them or those that are touched, and wishes the cursor.
+    // Copies lines of a part of a window, all of them or the touched ones, and sets where the cursor is wanted.
     fn show(&mut self, window: &WindowRef, part: Part, all: bool)
         requires { IsShown self.old window.now part }
         ensures { self.new ≡ shown part (copied_lines all window.now) (lent_at window.now) window.now.window.state self.old }
@@ -76,7 +76,7 @@ impl Virtual {
         self.wish(window, part);
     }
 
-    // Wishes the cursor of a window where it is shown in a part.
+    // Sets where the cursor is wanted: where that of a window is shown in a part, if it is.
     fn wish(&mut self, window: &WindowRef, part: Part)
         requires { IsShown self.old window.now part }
         ensures { self.new ≡ record self.old { picture = record self.old.picture { wish = wish_of part window.now.window.state } } }
@@ -140,7 +140,7 @@ impl Virtual {
         self.altered.join(row, altered);
     }
 
-    // The first and the last column of a row, from one on, in which it has another cell than these.
+    // The first and the last column of a row, from `column` on, in which it has another cell than these.
     fn unlike(&self, row: u32, column: u32, cells: &[Cell]) -> Option<(u32, u32)>
         requires row { row < self.now.picture.rows }
         requires end { column + length cells.now ≤ self.now.picture.columns }
@@ -158,7 +158,7 @@ impl Virtual {
         Some((column + first as u32, column + last as u32))
     }
 
-    // Takes the lines of a part of a window on a desk, and its wish to paint anew.
+    // Makes the lines of a part of a window on a desk untouched, and takes over its request to repaint.
     fn take_lines(&mut self, desk: &mut Desk, win: Win, part: Part)
         ensures desk { desk.new ≡ (take_lines_call desk.old win.0 part.row part.rows).0 }
         ensures screen { (i : ℕ) → index_of desk.old win.0 ≡ Ok i → part.row + part.rows ≤ (window_at desk.old i).frame.area.rows → self.new ≡ record self.old { repaint = self.old.repaint || (window_at desk.old i).state.clear_ok } }
@@ -227,7 +227,7 @@ fn pad_part(
     })
 }
 
-// Whether a line of a window is copied: each is, or those that are touched.
+// Whether a line of a window is copied: all are, or the touched ones.
 fn is_copied(window: &WindowRef, line: u32, all: bool) -> bool
     requires { line < window.now.window.frame.area.rows }
     ensures { result ≡ copied_lines all window.now line }
