@@ -1,16 +1,16 @@
-//! Why keys are not read.
+//! Why keys cannot be read.
 use out_of_memory::NoMemory;
 use std::alloc::{AllocError, AllocFailed};
 use thiserror::Error;
 use ti_caps::Slot;
 
-/// Why a table of keys is not made, or a byte not taken.
+/// Why a table of keys was not made, or a byte not taken.
 #[derive(Clone, Copy, Debug, PartialEq, Eq, Error)]
 pub enum KeyFault {
-    /// A key's text has more than 64 bytes without its padding.
+    /// The text of the key at this position has more than 64 bytes without its padding.
     #[error("a key's text is too long")]
     KeyTooLong(Slot),
-    /// More keys would wait than there is room for. Nothing was taken.
+    /// There is no room for the keys that would be queued. Nothing was taken.
     #[error("too many keys wait")]
     QueueFull,
     /// Memory ran out.

@@ -5,17 +5,17 @@ use ti_caps::{Kind, Slot, name_of};
 
 /// What was pressed: a key of the terminal's entry, or a byte.
 ///
-/// The module `names` has a constant for each key of the table of capabilities.
+/// The module `names` has a constant for each key of the capability table.
 #[derive(Clone, Copy, Debug, PartialEq, Eq)]
 pub enum Key {
-    /// The key whose text stands at this position (terminfo(5), 'Function Keys').
+    /// The key whose text is at this position of the table (terminfo(5), 'Function Keys').
     Slot(u16),
-    /// A byte that is no key's.
+    /// A byte that belongs to no key.
     Byte(u8),
 }
 
-/// A key as the name of its capability, or as `position N` where the table has none; a byte as its character, as `^X` where that is a control
-/// character, or as a backslash and three octal digits where it is not ASCII.
+/// A key is shown as the name of its capability, or as `position N` if the table has none. A byte is shown as its
+/// character, as `^X` if that is a control character, or as a backslash and three octal digits if it is not ASCII.
 impl fmt::Display for Key {
     fn fmt<W: fmt::Write>(&self, f: &mut fmt::Formatter<W>) -> fmt::Result {
         match *self {

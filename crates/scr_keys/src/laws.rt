@@ -3,8 +3,8 @@
 //! They are stated in `specs/Laws.antt`.
 ghost use Rattle.scr_keys.specs.Laws.{PiecesDoNotMatter};
 
-/// Over any bytes and idles, the keys that a reader adds one by one are those that the whole input has, in order (X/Open Curses
-/// Issue 7, getch()).
+/// How input is cut into pieces does not matter: over any bytes and idles, the keys that a reader adds one by one are
+/// those of the whole input, in order (X/Open Curses Issue 7, getch()).
 pub fn pieces_do_not_matter()
     ensures { PiecesDoNotMatter }
 {}

@@ -44,7 +44,7 @@ fn add(
     Ok(())
 }
 
-// Gives a position to a text, unless it has one.
+// Gives a position to a text, unless it has one already.
 fn put(
     alloc: Global,
     map: &mut IndexMap<Vec<u8>, u16>,

@@ -1,5 +1,7 @@
-//! The keys that a terminfo entry may have, by name: a constant for each capability of a key in the table (terminfo(5), 'Predefined
-//! Capabilities'; X/Open Curses Issue 7, 'Key Codes'). They may stand in a pattern of a `match`.
+//! The keys that a terminfo entry may have, by name: a constant for each key of the capability table.
+//!
+//! The names of the keys are in terminfo(5), 'Predefined Capabilities', and X/Open Curses Issue 7, 'Key Codes'. The
+//! constants may be patterns of a `match`.
 
 ghost use Rattle.scr_keys.specs.Names.{KeysAreNamed};
 
@@ -55,7 +57,7 @@ pub const INSERT: Key = Key::Slot(77);
 pub const INSERT_LINE: Key = Key::Slot(78);
 /// Left arrow: `kcub1`.
 pub const LEFT: Key = Key::Slot(79);
-/// Home down: the lower left corner: `kll`.
+/// Home down, the lower left corner: `kll`.
 pub const HOME_DOWN: Key = Key::Slot(80);
 /// Next page: `knp`.
 pub const PAGE_DOWN: Key = Key::Slot(81);
@@ -246,7 +248,7 @@ pub const F62: Key = Key::Slot(267);
 /// Function key 63: `kf63`.
 pub const F63: Key = Key::Slot(268);
 
-/// Each of these keys is at the position that its name has in the table of capabilities.
+/// Each of these keys is at the position that its name has in the capability table.
 pub fn keys_are_named()
     ensures { KeysAreNamed }
 {}

@@ -11,11 +11,11 @@ use out_of_memory::NoMemory;
 use std::alloc::Global;
 use std::marker::Model;
 
-/// Keys from bytes that come in one at a time (X/Open Curses Issue 7, getch(), keypad()).
+/// Reads keys from bytes that come in one at a time (X/Open Curses Issue 7, getch(), keypad()).
 ///
-/// A byte that could begin a longer key waits for those that follow; `idle` says that none came for a while, for the caller owns
-/// the clock. Keys wait until `next` takes them, at most 16 more than the longest text of a key has bytes. No call but `new`
-/// takes memory.
+/// A byte that could begin a longer key waits for those that follow. The caller owns the clock, and calls `idle` when
+/// no byte has come for a while. Keys are queued until `next` takes them, at most 16 more than the longest text of a
+/// key has bytes. No call but `new` allocates memory.
 #[derive(Drop)]
 pub struct KeyReader {
     table: KeyTable,
@@ -36,7 +36,7 @@ impl Model for KeyReader {
 }
 
 impl KeyReader {
-    /// A reader of these keys, which has read nothing. Fails only when memory runs out.
+    /// Makes a reader of these keys, which has read nothing. Fails only when memory runs out.
     pub fn new(alloc: Global, table: KeyTable) -> Result<KeyReader, KeyFault>
         ensures ok { IfOk result (λ reader. reader ≡ record { keys = table; queue = []; waiting = [] }) }
         ensures err { IfErr result (λ fault. fault ≡ KeyFault.NoMemory) }
@@ -49,10 +49,10 @@ impl KeyReader {
         })
     }
 
-    /// A byte came: the keys that it decides wait to be taken, and the bytes that could still become a key wait for more.
+    /// Reads a byte: the keys that it decides are queued, and bytes that could still become a key wait for more.
     ///
-    /// Refused: QueueFull where the keys that wait and those that it decides are together more than 16 and the number of
-    /// bytes of the longest key; nothing is taken then, the byte neither. X/Open Curses Issue 7, getch().
+    /// Refused: QueueFull if the keys queued and those that it decides would be more than 16 plus the number of bytes
+    /// of the longest key; nothing is taken then, not even the byte. X/Open Curses Issue 7, getch().
     pub fn byte(&mut self, byte: u8) -> Result<(), KeyFault>
         ensures { (self.new, result) ≡ byte_read self.old byte }
     {
@@ -72,7 +72,8 @@ impl KeyReader {
         }
     }
 
-    /// No byte came for a while: the bytes that wait are the keys that they are, and none waits any more.
+    /// Tells the reader that no byte has come for a while: the bytes that wait become the keys that they are, and none
+    /// waits any more.
     ///
     /// Refused: QueueFull, as for a byte; the bytes go on waiting then. X/Open Curses Issue 7, notimeout().
     pub fn idle(&mut self) -> Result<(), KeyFault>
@@ -87,7 +88,7 @@ impl KeyReader {
         Ok(())
     }
 
-    /// Takes the first key that waits. X/Open Curses Issue 7, getch().
+    /// Takes the first key of the queue; `None` if no key is queued. X/Open Curses Issue 7, getch().
     pub fn next(&mut self) -> Option<Key>
         ensures { (self.new, result) ≡ key_taken self.old }
     {
@@ -98,7 +99,7 @@ impl KeyReader {
     }
 }
 
-// Room for so many keys, and for 64 bytes that wait, as many as the longest text of a key has.
+// Room for this many keys, and for 64 waiting bytes, as many as the longest text of a key may have.
 fn rooms(alloc: Global, keys: usize) -> Result<(Vec<Key>, Vec<u8>), NoMemory>
     ensures empty { IfOk result (λ both. (both.0.items ≡ []) × (both.1.items ≡ [])) }
     ensures keys { IfOk result (λ both. keys ≤ vec_capacity both.0) }
@@ -109,8 +110,8 @@ fn rooms(alloc: Global, keys: usize) -> Result<(Vec<Key>, Vec<u8>), NoMemory>
     Ok((queue, waiting))
 }
 
-// Adds the keys of bytes to those that wait, up to where the rest could become a key where more may follow, and answers how many
-// bytes these keys have; or `None` where there is no room for all of them.
+// Adds the keys of bytes to the queue. If more bytes may follow, it stops where the rest could still become a key.
+// Gives how many bytes these keys have, or `None` if there is no room for all of them.
 fn decide(table: &KeyTable, bytes: &[u8], more: bool, queue: &mut Vec<Key>) -> Option<usize>
     requires few { length queue.old.items ≤ 16 + longest_text table.now }
     requires room { 16 + longest_text table.now ≤ vec_capacity queue.old }
@@ -135,14 +136,14 @@ fn decide(table: &KeyTable, bytes: &[u8], more: bool, queue: &mut Vec<Key>) -> O
     Some(start)
 }
 
-// Whether bytes could become a key, where more may follow.
+// Whether bytes could still become a key, if more may follow.
 fn waits(table: &KeyTable, bytes: &[u8], more: bool) -> bool
     ensures { result ≡ (more && goes_on table.now bytes.now) }
 {
     more && table.goes_on(bytes)
 }
 
-// Drops bytes from the front, whose room stays.
+// Drops bytes from the front; the room stays.
 fn drop_front(waiting: &mut Vec<u8>, count: usize)
     requires { count ≤ length waiting.old.items }
     ensures rest { waiting.new.items ≡ drop count waiting.old.items }

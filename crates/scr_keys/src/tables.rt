@@ -23,7 +23,7 @@ pub struct KeyTable {
     beginnings: IndexMap<Vec<u8>, u16>,
     // How many bytes the longest text has.
     longest: usize,
-    // How many bytes the longest text has that begins with each byte.
+    // For each byte, how many bytes the longest text has that begins with it.
     firsts: [u8; 256],
 }
 
@@ -39,10 +39,10 @@ impl Model for KeyTable {
 }
 
 impl KeyTable {
-    /// The keys of an entry: the texts whose names begin with `k`, without padding, all other bytes as they are. A text
-    /// that is empty is no key; of two keys that send the same, the one at the lower position counts.
+    /// Makes the table of an entry's keys: the texts whose names begin with `k`, without padding, all other bytes as
+    /// they are. An empty text is no key; of two keys that send the same, the one at the lower position counts.
     ///
-    /// Refused: KeyTooLong with the lowest position whose text has more than 64 bytes; NoMemory where a growth is refused.
+    /// Refused: KeyTooLong with the lowest position whose text has more than 64 bytes; NoMemory if memory runs out.
     /// terminfo(5), 'Function Keys'.
     pub fn of(alloc: Global, entry: &Entry) -> Result<KeyTable, KeyFault>
         ensures ok { IfOk result (AreKeysOf entry.now) }
@@ -71,7 +71,7 @@ impl KeyTable {
         }
     }
 
-    // One key more, unless it sends nothing, or what a key before it sends.
+    // Adds a key, unless it sends nothing, or what a key before it sends.
     fn with_key(self, alloc: Global, text: &[u8], slot: u16) -> Result<KeyTable, NoMemory>
         requires { length text.now ≤ 64 }
         ensures { IfOk result (λ table. table ≡ with_key self text.now slot) }
@@ -102,22 +102,22 @@ impl KeyTable {
         !text.is_empty() && self.key(text).is_none()
     }
 
-    // The key that sends just this text.
+    // The key that sends exactly this text.
     fn key(&self, text: &[u8]) -> Option<u16>
         ensures { result ≡ key_of self.now text.now }
     {
         position_of(&self.texts, text)
     }
 
-    /// Whether some key begins with these bytes and has more.
+    /// Whether any key begins with these bytes and has more.
     pub(crate) fn goes_on(&self, bytes: &[u8]) -> bool
         ensures { result ≡ goes_on self.now bytes.now }
     {
         bytes.len() < self.longest_like(bytes) && position_of(&self.beginnings, bytes).is_some()
     }
 
-    // How many bytes the longest text has that begins with the same byte; where there are no bytes, the longest of all. So most
-    // bytes are decided with no look-up in a map.
+    // How many bytes the longest text has that begins with the same byte as these; if there are none, the longest of
+    // all. With this, most bytes are decided without a look-up in a map.
     fn longest_like(&self, bytes: &[u8]) -> usize
         ensures { result ≡ longest_like self.now bytes.now }
     {
@@ -172,7 +172,7 @@ fn is_too_long(text: &[u8]) -> bool
     text.len() > 64
 }
 
-// What the key at a position sends, without padding; nothing where there is no key.
+// What the key at a position sends, without padding; nothing if there is no key.
 fn text_of_key(alloc: Global, entry: &Entry, slot: Slot) -> Result<Vec<u8>, NoMemory>
     ensures { IfOk result (λ text. text.items ≡ text_of_key entry.now slot.0) }
 {
