@@ -1,6 +1,7 @@
 //! Parts of a surface.
 
-/// A part of a surface, or of another area: the place of its first row and column there, and how many rows and columns it has.
+/// A part of a surface, or of another area: the row and the column there of its first place, and how many rows and
+/// columns it has.
 #[derive(Clone, Copy)]
 pub struct Area {
     /// The row there that is the area's row 0.

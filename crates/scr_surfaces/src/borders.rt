@@ -30,8 +30,8 @@ pub struct Border {
 }
 
 impl Surface {
-    // A border along the edges of an area: the sides, then the first and the last row, then the corners, so that where two of
-    // them have one place the later one is there.
+    // Draws a border along the edges of an area: the sides, then the first and the last row, then the corners, so that
+    // where two of them meet the later one stands.
     pub(crate) fn draw_border(&mut self, area: Area, border: Border)
         requires part { IsPart self.old area }
         requires surface { IsSurface self.old }
@@ -49,7 +49,7 @@ impl Surface {
         self.put_row(bottom, right, right + 1, border.bottom_right);
     }
 
-    // Cells in the first and the last column of an area.
+    // Puts cells in the first and the last column of an area.
     fn draw_sides(&mut self, area: Area, left: Cell, right: Cell)
         requires part { IsPart self.old area }
         requires surface { IsSurface self.old }

@@ -1,4 +1,5 @@
-//! The drawings that fill and move places of an area. Each is a private function, and every place outside the area stays.
+//! The drawings that fill and move places of an area. Each is a private function, and every place outside the area
+//! stays.
 ghost use Rattle.std.specs.Prelude.{◌≡◌, ◌+◌, ◌-◌, ◌<◌, ◌≤◌};
 ghost use Rattle.scr_surfaces.specs.SurfaceViews.{IsPart, IsSurface, filled, inside_at};
 ghost use Rattle.scr_surfaces.specs.Formulas.{run_put, rows_put, below_put, column_put, all_exchanged, row_opened, row_closed, rows_up, rows_down};
@@ -8,7 +9,7 @@ use crate::surfaces::Surface;
 use scr_cells::Cell;
 
 impl Surface {
-    // Puts a cell in the places of a row of the area from one column up to another.
+    // Fills columns `from..end` of a row of the area.
     pub(crate) fn fill_run(&mut self, area: Area, row: u32, from: u32, end: u32, cell: Cell)
         requires part { IsPart self.old area }
         requires row { row < area.rows }
@@ -20,7 +21,7 @@ impl Surface {
         self.put_row(area.top + row, area.left + from, area.left + end, cell);
     }
 
-    // Puts a cell everywhere in the rows of the area from one up to another.
+    // Fills rows `first..end` of the area.
     pub(crate) fn fill_rows(&mut self, area: Area, first: u32, end: u32, cell: Cell)
         requires part { IsPart self.old area }
         requires order { first ≤ end }
@@ -33,7 +34,7 @@ impl Surface {
         }
     }
 
-    // Puts a cell in the places from one to the end of its row, and everywhere in the rows below.
+    // Fills the places from one to the end of its row, and the rows below.
     pub(crate) fn fill_below(&mut self, area: Area, row: u32, column: u32, cell: Cell)
         requires part { IsPart self.old area }
         requires row { row < area.rows }
@@ -48,7 +49,8 @@ impl Surface {
         }
     }
 
-    // Moves the places of a row of the area from one column on right by one, and puts a cell there.
+    // Moves the places of a row of the area, from one column on, right by one, and puts a cell in the free place. The
+    // last one is lost.
     pub(crate) fn open_row(&mut self, area: Area, row: u32, column: u32, cell: Cell)
         requires part { IsPart self.old area }
         requires row { row < area.rows }
@@ -63,7 +65,7 @@ impl Surface {
         self.put_row(row, column, column + 1, cell);
     }
 
-    // Moves the places of a row of the area after one column left by one, and puts a cell in the last.
+    // Moves the places of a row of the area after one column left by one, and puts a cell in the last place.
     pub(crate) fn close_row(&mut self, area: Area, row: u32, column: u32, cell: Cell)
         requires part { IsPart self.old area }
         requires row { row < area.rows }
@@ -78,8 +80,7 @@ impl Surface {
         self.put_row(row, end - 1, end, cell);
     }
 
-    // Moves the rows of the area from one up to another up by n among themselves, and puts a cell in
-    // those left free.
+    // Moves rows `first..end` of the area up by `n` among themselves, and fills those left free.
     #[inline(never)]
     pub(crate) fn move_up(&mut self, area: Area, first: u32, end: u32, n: u32, cell: Cell)
         requires part { IsPart self.old area }
@@ -100,8 +101,7 @@ impl Surface {
         }
     }
 
-    // Moves the rows of the area from one up to another down by n among themselves, and puts a cell in
-    // those left free.
+    // Moves rows `first..end` of the area down by `n` among themselves, and fills those left free.
     #[inline(never)]
     pub(crate) fn move_down(&mut self, area: Area, first: u32, end: u32, n: u32, cell: Cell)
         requires part { IsPart self.old area }
@@ -123,7 +123,7 @@ impl Surface {
         }
     }
 
-    // Puts a cell in the places of a column of the area from one row up to another.
+    // Fills rows `first..end` of a column of the area.
     pub(crate) fn fill_column(&mut self, area: Area, column: u32, first: u32, end: u32, cell: Cell)
         requires part { IsPart self.old area }
         requires column { column < area.columns }
@@ -138,7 +138,7 @@ impl Surface {
         }
     }
 
-    // Exchanges a background in all places of the area.
+    // Replaces a background in all places of the area.
     pub(crate) fn exchange(&mut self, area: Area, old: Cell, new: Cell)
         requires part { IsPart self.old area }
         requires surface { IsSurface self.old }

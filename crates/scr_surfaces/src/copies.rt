@@ -10,7 +10,7 @@ use scr_cells::{Cell, Grid, NoMemory};
 use std::alloc::Global;
 
 impl Surface {
-    /// The cells of an area, as a block of their own. Fails only when memory runs out.
+    /// Copies the cells of an area to a block of their own. Fails only when memory runs out.
     pub fn block(&self, alloc: Global, area: Area) -> Result<Grid<Cell>, NoMemory>
         requires { IsPart self.now area }
         ensures { IfOk result (λ block. block ≡ record { rows = area.rows; columns = area.columns; lines = grid_of area.rows area.columns (inside_at self.now area) }) }
@@ -22,8 +22,9 @@ impl Surface {
         Ok(block)
     }
 
-    /// Lays a block of cells over the places of an area from a row and a column on, as many as the block has; with `overlay` a
-    /// byte 32 of the block leaves its place (X/Open Curses Issue 7, copywin()). Every other place stays.
+    /// Lays a block of cells over an area, from a row and a column on: as many places as the block has, which are in
+    /// the area. With `overlay`, a byte 32 of the block leaves its place (X/Open Curses Issue 7, copywin()). Every
+    /// other place stays.
     pub fn lay(&mut self, area: Area, top: u32, left: u32, block: &Grid<Cell>, overlay: bool)
         requires area { IsPart self.old area }
         requires below { top + block.now.rows ≤ area.rows }
@@ -35,7 +36,7 @@ impl Surface {
         self.lay_block(area, top, left, block, overlay);
     }
 
-    // The same, of what is known to be a surface.
+    // The same, for what is known to be a surface.
     fn lay_block(&mut self, area: Area, top: u32, left: u32, block: &Grid<Cell>, overlay: bool)
         requires area { IsPart self.old area }
         requires below { top + block.now.rows ≤ area.rows }

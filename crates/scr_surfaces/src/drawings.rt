@@ -2,8 +2,8 @@
 use crate::borders::Border;
 use scr_cells::Cell;
 
-/// What is drawn in an area. Rows and columns are those of the area, counted from 0; every place that is not named keeps its
-/// cell.
+/// What is drawn in an area. Rows and columns are those of the area, counted from 0. Every place that is not named
+/// keeps its cell.
 #[derive(Clone, Copy)]
 pub enum Drawing {
     /// The cell in columns `from..end` of a row.
@@ -19,7 +19,8 @@ pub enum Drawing {
         end: u32,
         cell: Cell,
     },
-    /// The cell from a place to the end of its row, and everywhere in the rows below (X/Open Curses Issue 7, clrtobot()).
+    /// The cell from a place to the end of its row, and everywhere in the rows below (X/Open Curses Issue 7,
+    /// clrtobot()).
     Below {
         row: u32,
         column: u32,
@@ -32,7 +33,8 @@ pub enum Drawing {
         end: u32,
         cell: Cell,
     },
-    /// The places of a row from a column on move right by one, the last one is lost, and the cell takes the place (insch()).
+    /// The places of a row from a column on move right by one, the last one is lost, and the cell takes the free place
+    /// (insch()).
     Opened {
         row: u32,
         column: u32,
@@ -58,7 +60,7 @@ pub enum Drawing {
         count: u32,
         cell: Cell,
     },
-    /// Everywhere a new background in place of an old one (bkgd()).
+    /// A new background replaces an old one everywhere (bkgd()).
     Exchanged {
         old: Cell,
         new: Cell,

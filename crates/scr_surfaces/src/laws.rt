@@ -3,7 +3,7 @@ ghost use Rattle.scr_surfaces.specs.SurfaceLaws.{SurfaceLaws};
 
 use scr_cells::{Cell, grid_laws};
 
-/// The laws of surfaces: what is so of every surface that is filled in an area.
+/// The laws of surfaces: what holds for every surface that is filled in an area.
 pub fn surface_laws()
     ensures { SurfaceLaws }
 {

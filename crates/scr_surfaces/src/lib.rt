@@ -1,7 +1,7 @@
 //! Surfaces of cells, and what is drawn on them: what the windows of a curses screen stand on.
 //!
-//! A *surface* is a grid of cells that windows share, and an *area* the part of it that a window has. A *drawing* changes cells
-//! of an area and no other.
+//! A *surface* is a grid of cells that windows share, and an *area* is the part of it that a window has. A *drawing*
+//! changes cells of an area and no others.
 #![tactic(auto)]
 
 mod areas;

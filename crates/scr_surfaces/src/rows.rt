@@ -9,7 +9,7 @@ use crate::surfaces::Surface;
 use scr_cells::{Cell, grid_laws};
 
 impl Surface {
-    // The cell in columns `from..end` of a row.
+    // Fills columns `from..end` of a row with a cell.
     pub(crate) fn put_row(&mut self, row: u32, from: u32, end: u32, cell: Cell)
         requires row { row < self.old.rows }
         requires order { from ≤ end }
@@ -20,7 +20,7 @@ impl Surface {
         self.grid.fill(row, from, end, cell);
     }
 
-    // The cell in one place.
+    // Puts a cell in one place.
     pub(crate) fn put_place(&mut self, row: u32, column: u32, cell: Cell)
         requires row { row < self.old.rows }
         requires column { column < self.old.columns }
@@ -30,7 +30,7 @@ impl Surface {
         self.grid.put(row, column, cell);
     }
 
-    // A new background in place of an old one in columns `from..end` of a row.
+    // Replaces an old background with a new one in columns `from..end` of a row.
     pub(crate) fn exchange_row(&mut self, row: u32, from: u32, end: u32, old: Cell, new: Cell)
         requires row { row < self.old.rows }
         requires order { from ≤ end }
@@ -42,7 +42,7 @@ impl Surface {
             .change(row, from, end, |_, cell| cell.exchanged(old, new));
     }
 
-    // Cells over those in columns `from..end` of a row; with overlay a blank leaves its place.
+    // Lays cells over columns `from..end` of a row; with `overlay`, a blank leaves its place.
     pub(crate) fn lay_row(&mut self, row: u32, from: u32, end: u32, cells: &[Cell], overlay: bool)
         requires row { row < self.old.rows }
         requires end { end ≤ self.old.columns }
@@ -56,7 +56,7 @@ impl Surface {
         }
     }
 
-    // Columns `start..end` of a row in a row from column `to` on, also where the two overlap.
+    // Copies columns `start..end` of a row to a row from column `to` on, also if the two overlap.
     pub(crate) fn move_row(&mut self, source: u32, start: u32, end: u32, row: u32, to: u32)
         requires source { source < self.old.rows }
         requires row { row < self.old.rows }
@@ -69,7 +69,7 @@ impl Surface {
         self.grid.copy(source, start, end, row, to);
     }
 
-    // Cells in place of those in columns `from..end` of a row.
+    // Replaces columns `from..end` of a row with cells.
     fn overwrite_row(&mut self, row: u32, from: u32, end: u32, cells: &[Cell])
         requires row { row < self.old.rows }
         requires end { end ≤ self.old.columns }
@@ -80,7 +80,7 @@ impl Surface {
         self.grid.lay(row, from, cells);
     }
 
-    // Cells over those in columns `from..end` of a row, but for the blanks among them.
+    // Lays cells over columns `from..end` of a row, except for the blanks among them.
     fn overlay_row(&mut self, row: u32, from: u32, end: u32, cells: &[Cell])
         requires row { row < self.old.rows }
         requires end { end ≤ self.old.columns }
@@ -96,7 +96,7 @@ impl Surface {
     }
 }
 
-// A cell laid over another: a blank leaves it.
+// A cell laid over another: a blank leaves the other.
 fn over(cell: Cell, under: Cell) -> Cell
     ensures { result ≡ over cell under }
 {

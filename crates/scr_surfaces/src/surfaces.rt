@@ -28,7 +28,10 @@ impl Model for Surface {
 }
 
 impl Surface {
-    /// Blanks without attributes everywhere. Fails only when memory runs out.
+    /// Makes a surface of this many rows and columns with blanks without attributes everywhere. Fails only when memory
+    /// runs out.
+    ///
+    /// It has at least one row and one column, and at most 1,000,000 places.
     pub fn blank(alloc: Global, rows: u32, columns: u32) -> Result<Surface, NoMemory>
         requires { IsSurfaceSize rows columns }
         ensures { IfOk result (λ surface. surface ≡ blank_surface rows columns) }
@@ -47,7 +50,7 @@ impl Surface {
         (self.grid.rows(), self.grid.columns())
     }
 
-    /// The cells of a row of an area.
+    /// The cells of a row of an area, as many as the area has columns. The area is on the surface, and has the row.
     pub fn line(&self, area: Area, row: u32) -> &[Cell]
         requires part { IsPart self.now area }
         requires row { row < area.rows }
@@ -59,8 +62,9 @@ impl Surface {
             .part(area.top + row, area.left, area.left + area.columns)
     }
 
-    /// Puts a cell in one place of an area. Every other place stays. This is a drawing too, of a run of one place; it is a call of its
-    /// own since text is added so.
+    /// Puts a cell in one place of an area. Every other place stays.
+    ///
+    /// This is a drawing too, of a run of one place. It is a call of its own because text is added with it.
     pub fn put(&mut self, area: Area, row: u32, column: u32, cell: Cell)
         requires part { IsPart self.old area }
         requires row { row < area.rows }
@@ -72,7 +76,7 @@ impl Surface {
         self.put_place(area.top + row, area.left + column, cell);
     }
 
-    /// Draws in an area. Every place outside the area stays.
+    /// Draws in an area, which has the places that the drawing names. Every place outside the area stays.
     pub fn draw(&mut self, area: Area, drawing: &Drawing)
         requires part { IsPart self.old area }
         requires fitting { IsFitting drawing.now area.rows area.columns }
