@@ -17,8 +17,8 @@ const NAMES: [(u8, &str); 7] = [
 
 /// A set of video attributes (X/Open Curses Issue 7, 'Attributes'), as bits.
 ///
-/// The union of two sets is `union`, their difference `difference`, membership `contains`, all by
-/// `bitflags::Flags`. Bit 128 names no attribute: a set keeps it, and no terminal shows it.
+/// `bitflags::Flags` has its operations: the union of two sets is `union`, their difference `difference`, membership
+/// `contains`. Bit 128 names no attribute: a set keeps it, and no terminal shows it.
 #[derive(Clone, Copy, PartialEq, Eq, Debug)]
 pub struct Attrs(pub u8);
 
@@ -73,14 +73,14 @@ impl Flags for Attrs {
     }
 }
 
-/// Their names, with a blank between two of them.
+/// A set is shown as the names of its attributes, with a blank between two of them.
 impl fmt::Display for Attrs {
     fn fmt<W: fmt::Write>(&self, f: &mut fmt::Formatter<W>) -> fmt::Result {
         write_names(self.0, &NAMES, f)
     }
 }
 
-// Writes the names of these that are in a set.
+// Writes those of these names that are in a set.
 fn write_names<W: fmt::Write>(
     set: u8,
     names: &[(u8, &str)],

@@ -36,7 +36,7 @@ impl Cell {
     /// The greatest number of a colour pair.
     pub const MOST_PAIR: u32 = 63;
 
-    /// The cell of a byte and attributes, with pair 0; `None` where the byte is not 32 to 126.
+    /// The cell of a byte and attributes, with pair 0; `None` if the byte is not 32 to 126.
     pub fn new(byte: u8, attrs: Attrs) -> Option<Cell>
         ensures character { IsSome result ↔ IsCharacter byte }
         ensures holds { IfSome result (λ cell. cell ≡ record { byte = byte; attrs = attrs.0; pair = 0 }) }
@@ -49,7 +49,7 @@ impl Cell {
         })
     }
 
-    /// The cell of a byte, attributes and a colour pair; `None` where the byte is not 32 to 126 or the pair is above 63
+    /// The cell of a byte, attributes and a colour pair; `None` if the byte is not 32 to 126 or the pair is above 63
     /// (X/Open Curses Issue 7, 'Color').
     pub fn paired(byte: u8, attrs: Attrs, pair: u32) -> Option<Cell>
         ensures fits { IsSome result ↔ (IsCharacter byte × IsPair pair) }
@@ -94,8 +94,8 @@ impl Cell {
         self.packed / 65536
     }
 
-    /// The cell with a new background in place of an old one: where it has the byte of the old one it gets that of the new
-    /// one, the same of the colour pair, and the attributes of the old one are taken off and those of the new one put on
+    /// The cell with a new background in place of an old one. If it has the old one's byte, it gets the new one's; the
+    /// same holds for the colour pair. The attributes of the old one are removed, and those of the new one added
     /// (X/Open Curses Issue 7, bkgd()).
     pub fn exchanged(self, old: Cell, new: Cell) -> Cell
         ensures { result ≡ exchanged old new self }
@@ -116,7 +116,8 @@ impl Cell {
         }
     }
 
-    // The cell with the byte of a new one, where it has that of an old one. By sums, which LLVM does for four cells at a time.
+    // The cell with the byte of a new one, if it has that of an old one. It is made by sums, which LLVM does for four
+    // cells at a time.
     fn with_byte_of(self, old: Cell, new: Cell) -> Cell
         requires { self.byte ≡ old.byte }
         ensures { result ≡ record self { byte = new.byte } }
@@ -126,7 +127,7 @@ impl Cell {
         }
     }
 
-    // The cell with the colour pair of a new one, where it has that of an old one.
+    // The cell with the colour pair of a new one, if it has that of an old one.
     fn with_pair_of(self, old: Cell, new: Cell) -> Cell
         requires { self.pair ≡ old.pair }
         ensures { result ≡ record self { pair = new.pair } }
@@ -137,7 +138,7 @@ impl Cell {
     }
 }
 
-/// Whether a byte is a character: 32 to 126, the blank or a graphic character of ASCII.
+/// Whether a byte is a character: 32 to 126, which is the blank or a graphic character of ASCII.
 pub fn is_character(byte: u8) -> bool
     ensures value { result ≡ is_character byte }
     ensures character { IsTrue result ↔ IsCharacter byte }

@@ -1,7 +1,8 @@
-//! Where two rows of cells, or of looks, differ: offered to callers that compare such rows. An update compares looks with cells, by
-//! what is in `showing.rt`.
+//! Where two rows of cells, or of looks, differ: for callers that compare such rows.
 //!
-//! Both types are one `u32`, so that eight places are compared at a time. The lanes are a filter: where they find a difference
+//! An update compares looks with cells instead, with what is in `showing.rt`.
+//!
+//! Both types are one `u32`, so eight places are compared at a time. The lanes are a filter: if they find a difference
 //! among eight, or fewer than eight are left, the places are compared one by one.
 ghost use Rattle.std.specs.Prelude.{ℕ, ◌≡◌, ◌≢◌, ◌+◌, ◌<◌, ◌≤◌, length, true};
 ghost use Rattle.scr_cells.specs.Code.Lanes.{HasEight};
@@ -10,7 +11,7 @@ ghost use Rattle.scr_cells.specs.Differences.{IsFirstDifference, IsLastDifferenc
 use crate::{Cell, Look};
 use std::simd::prelude::*;
 
-/// The least place at which two rows of cells differ in byte, attributes or colour pair; `None` where they are the same.
+/// The lowest place at which two rows of cells differ in byte, attributes or colour pair; `None` if they are the same.
 /// The rows have one length.
 pub fn first_difference(a: &[Cell], b: &[Cell]) -> Option<usize>
     requires { length a.now ≡ length b.now }
@@ -19,7 +20,7 @@ pub fn first_difference(a: &[Cell], b: &[Cell]) -> Option<usize>
     first_place(a, b)
 }
 
-/// The greatest place at which two rows of cells differ in byte, attributes or colour pair; `None` where they are the same.
+/// The highest place at which two rows of cells differ in byte, attributes or colour pair; `None` if they are the same.
 /// The rows have one length.
 pub fn last_difference(a: &[Cell], b: &[Cell]) -> Option<usize>
     requires { length a.now ≡ length b.now }
@@ -28,7 +29,7 @@ pub fn last_difference(a: &[Cell], b: &[Cell]) -> Option<usize>
     last_place(a, b)
 }
 
-/// The least place at which two rows of looks differ in byte, attributes or colours; `None` where they are the same. The
+/// The lowest place at which two rows of looks differ in byte, attributes or colours; `None` if they are the same. The
 /// rows have one length.
 pub fn first_look_difference(a: &[Look], b: &[Look]) -> Option<usize>
     requires { length a.now ≡ length b.now }
@@ -37,7 +38,7 @@ pub fn first_look_difference(a: &[Look], b: &[Look]) -> Option<usize>
     first_place(a, b)
 }
 
-/// The greatest place at which two rows of looks differ in byte, attributes or colours; `None` where they are the same. The
+/// The highest place at which two rows of looks differ in byte, attributes or colours; `None` if they are the same. The
 /// rows have one length.
 pub fn last_look_difference(a: &[Look], b: &[Look]) -> Option<usize>
     requires { length a.now ≡ length b.now }
@@ -52,7 +53,7 @@ pub(crate) trait Packed: Copy {
 
     ghost coded: { ℕ → Self };
 
-    /// The number, by which the element is told from all others.
+    /// The number, which tells the element from all others.
     fn packed(self) -> u32
         ensures value { result ≡ code self }
         ensures back { coded result ≡ self };

@@ -1,5 +1,6 @@
-//! Rows of elements of one type: what pictures, surfaces and emulated screens are made of. The rows stand in one vector, and
-//! where a row begins in it is reckoned here alone.
+//! Rows of elements of one type: what pictures, surfaces and emulated screens are made of.
+//!
+//! The rows are in one vector, and only this file computes where a row begins in it.
 ghost use Rattle.std.specs.Prelude.{ℕ, ◌≡◌, ◌+◌, ◌-◌, ◌*◌, ◌<◌, ◌≤◌, Option, length, take, drop, replicate, slice_range, IfOk, OnOk, OnErr, [], ◌∷◌, ◌++◌, ◌^◌};
 ghost use Rattle.scr_cells.specs.Grids.{IsGrid, changed_run, grid_at, grid_of, grid_row, grid_with, grid_with_run, line_with_run};
 ghost use Rattle.scr_cells.specs.MadeRuns.{made_while};
@@ -8,7 +9,7 @@ use crate::NoMemory;
 use std::alloc::Global;
 use std::marker::Model;
 
-/// Rows of elements, from the top, each of them its elements from the left. Rows and columns are counted from 0.
+/// Rows of elements, from the top, each with its elements from the left. Rows and columns are counted from 0.
 #[derive(Drop)]
 pub struct Grid<T> {
     rows: u32,
@@ -31,7 +32,7 @@ impl<T> Model for Grid<T> {
 }
 
 impl<T: Copy> Grid<T> {
-    /// A grid of so many rows and columns with the same element everywhere. Fails only when memory runs out.
+    /// Makes a grid of this many rows and columns with the same element everywhere. Fails only when memory runs out.
     pub fn new(alloc: Global, rows: u32, columns: u32, element: T) -> Result<Grid<T>, NoMemory>
         ensures { IfOk result (λ grid. grid ≡ record { rows = rows; columns = columns; lines = grid_of rows columns (λ _ _. element) }) }
     {
@@ -43,7 +44,7 @@ impl<T: Copy> Grid<T> {
         })
     }
 
-    /// A grid of no rows, with room for so many rows of so many columns. Fails only when memory runs out.
+    /// Makes a grid of no rows, with room for this many rows of this many columns. Fails only when memory runs out.
     pub fn with_room(alloc: Global, rows: u32, columns: u32) -> Result<Grid<T>, NoMemory>
         ensures { IfOk result (λ grid. grid ≡ record { rows = 0; columns = columns; lines = [] }) }
     {
@@ -55,7 +56,8 @@ impl<T: Copy> Grid<T> {
         })
     }
 
-    /// Adds a row at the end. Fails only when memory runs out, and nothing is changed then.
+    /// Adds a row of as many elements as there are columns at the end. Fails only when memory runs out, and nothing is
+    /// changed then.
     pub fn push_row(&mut self, row: &[T]) -> Result<(), NoMemory>
         requires few { self.old.rows < 4294967295 }
         requires width { length row.now ≡ self.old.columns }
@@ -83,7 +85,7 @@ impl<T: Copy> Grid<T> {
         self.columns
     }
 
-    /// The elements of a row.
+    /// The elements of a row, as many as there are columns.
     pub fn row(&self, row: u32) -> &[T]
         requires { row < self.now.rows }
         ensures elements { result.now ≡ grid_row self.now.lines row }
@@ -105,7 +107,7 @@ impl<T: Copy> Grid<T> {
         &self.items[start..start + (end - from) as usize]
     }
 
-    /// The element in a row and a column.
+    /// The element at a row and a column.
     pub fn at(&self, row: u32, column: u32) -> T
         requires row { row < self.now.rows }
         requires column { column < self.now.columns }
@@ -153,8 +155,9 @@ impl<T: Copy> Grid<T> {
         copy_all(&mut self.items[start..start + run.len()], run);
     }
 
-    /// Writes what `make` makes of each source, one after another, into a row from column `from` on: up to the end of the row, or the first
-    /// source of which it makes nothing. Gives how many it wrote. Nothing else changes.
+    /// Writes what `make` makes of each source, one after another, into a row from column `from` on. It ends at the end
+    /// of the row, or at the first source of which `make` makes nothing. Gives how many elements it wrote. Nothing else
+    /// changes.
     pub fn lay_while<S: Copy, F: Fn(S) -> Option<T>>(
         &mut self,
         row: u32,
@@ -177,7 +180,8 @@ impl<T: Copy> Grid<T> {
         )
     }
 
-    /// Copies columns `start..end` of a row to a row from column `to` on, also where the two overlap. Nothing else changes.
+    /// Copies columns `start..end` of a row to a row from column `to` on, also if the two overlap. Nothing else
+    /// changes.
     pub fn copy(&mut self, source: u32, start: u32, end: u32, row: u32, to: u32)
         requires source { source < self.old.rows }
         requires order { start ≤ end }
@@ -191,7 +195,8 @@ impl<T: Copy> Grid<T> {
         copy_run(&mut self.items, from, place, (end - start) as usize);
     }
 
-    /// Replaces each element in columns `from..end` of a row by `change` of its column and itself. Nothing else changes.
+    /// Replaces each element in columns `from..end` of a row by what `change` makes of its column and itself. Nothing
+    /// else changes.
     pub fn change<F: Fn(u32, T) -> T>(&mut self, row: u32, from: u32, end: u32, change: F)
         requires row { row < self.old.rows }
         requires order { from ≤ end }
@@ -204,7 +209,7 @@ impl<T: Copy> Grid<T> {
         change_all(&mut self.items[start..start + count], from, change);
     }
 
-    // Where the element of a row and a column stands.
+    // The index of the element at a row and a column.
     fn place(&self, row: u32, column: u32) -> usize
         requires row { row < self.now.rows }
         requires column { column ≤ self.now.columns }
@@ -214,7 +219,7 @@ impl<T: Copy> Grid<T> {
     }
 }
 
-// So many times the same element.
+// The same element, `count` times.
 fn constant<T: Copy>(alloc: Global, count: usize, element: T) -> Result<Vec<T>, NoMemory>
     ensures { IfOk result (λ items. items.items ≡ replicate count element) }
 {
@@ -223,7 +228,7 @@ fn constant<T: Copy>(alloc: Global, count: usize, element: T) -> Result<Vec<T>, 
     Ok(items)
 }
 
-// One element in every place of a slice.
+// Fills a slice with one element.
 fn fill_all<T: Copy>(elements: &mut [T], element: T)
     ensures { elements.new ≡ replicate (length elements.old) element }
 {
@@ -232,7 +237,7 @@ fn fill_all<T: Copy>(elements: &mut [T], element: T)
     }
 }
 
-// The elements of a slice in those of another.
+// Copies the elements of a slice to another of the same length.
 fn copy_all<T: Copy>(elements: &mut [T], run: &[T])
     requires { length elements.old ≡ length run.now }
     ensures { elements.new ≡ run.now }
@@ -240,7 +245,8 @@ fn copy_all<T: Copy>(elements: &mut [T], run: &[T])
     elements.copy_from_slice(run);
 }
 
-// What a function makes of each source, in the places of a slice of as many, up to the first of which it makes nothing; how many they are.
+// Writes what a function makes of each source into a slice of as many places, up to the first of which it makes
+// nothing. Gives how many it wrote.
 fn lay_made<S: Copy, T: Copy, F: Fn(S) -> Option<T>>(
     elements: &mut [T],
     sources: &[S],
@@ -260,7 +266,8 @@ fn lay_made<S: Copy, T: Copy, F: Fn(S) -> Option<T>>(
     sources.len()
 }
 
-// What a function makes of each element of a slice and its column, the first of them in the column `from`.
+// Replaces each element of a slice by what a function makes of its column and itself; the first one is in column
+// `from`.
 fn change_all<T: Copy, F: Fn(u32, T) -> T>(elements: &mut [T], from: u32, change: F)
     requires fits { from + length elements.old < 2 ^ 32 }
     requires callable { (column : ℕ) (x : T) → from ≤ column → column < from + length elements.old → F.pre change column x }
@@ -273,7 +280,7 @@ fn change_all<T: Copy, F: Fn(u32, T) -> T>(elements: &mut [T], from: u32, change
     }
 }
 
-// The elements from one place on in the places from another on. Parts that do not overlap are copied in one piece.
+// Copies elements from one place on to the places from another on. Parts that do not overlap are copied in one piece.
 fn copy_run<T: Copy>(elements: &mut [T], from: usize, to: usize, count: usize)
     requires source { from + count ≤ length elements.old }
     requires target { to + count ≤ length elements.old }
@@ -290,7 +297,7 @@ fn copy_run<T: Copy>(elements: &mut [T], from: usize, to: usize, count: usize)
     }
 }
 
-// The same where the two overlap.
+// The same if the two overlap.
 #[inline(never)]
 fn copy_overlapping<T: Copy>(elements: &mut [T], from: usize, to: usize, count: usize)
     requires source { from + count ≤ length elements.old }

@@ -5,7 +5,7 @@ ghost use Rattle.scr_cells.specs.Grids.{GridLaws};
 
 use crate::Attrs;
 
-/// The laws of grids: what the words of the contracts of `Grid` say of each place.
+/// The laws of grids: what the words of `Grid`'s contracts say of each place.
 pub fn grid_laws<T: Copy>()
     ensures { GridLaws T }
 {}

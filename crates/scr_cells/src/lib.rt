@@ -1,7 +1,8 @@
 //! What a curses screen is made of: sizes, attribute sets, pens, cells, looks, grids of them and pictures.
 //!
-//! A *cell* is what a window holds in one place, and a *look* what a terminal shows there. They are two types, since a
-//! cell has the number of a colour pair, and a look has colours, by its *pen*: what a character is written with.
+//! A *cell* is what a window holds in one place, and a *look* is what a terminal shows there. They are two types
+//! because a cell has the number of a colour pair, while a look has colours, those of its *pen*: what a character is
+//! written with.
 #![tactic(auto)]
 
 mod attributes;

@@ -35,7 +35,7 @@ impl Model for Look {
 }
 
 impl Look {
-    /// The look of a byte with attributes, a foreground and a background; `None` where the byte is not 32 to 126 or a
+    /// The look of a byte with attributes, a foreground and a background; `None` if the byte is not 32 to 126 or a
     /// colour is above 7. A colour that is `None` is the terminal's default.
     pub fn new(
         byte: u8,
@@ -50,7 +50,7 @@ impl Look {
         Look::written(byte, pen)
     }
 
-    /// The look of a byte that is written with a pen; `None` where the byte is not 32 to 126.
+    /// The look of a byte that is written with a pen; `None` if the byte is not 32 to 126.
     pub fn written(byte: u8, pen: Pen) -> Option<Look>
         ensures character { IsSome result ↔ IsCharacter byte }
         ensures holds { IfSome result (λ look. look ≡ record { byte = byte; pen = pen }) }
@@ -96,7 +96,7 @@ impl Look {
         self.pen().attrs()
     }
 
-    /// The colour of the character, if it is not the default.
+    /// The colour of the character, 0 to 7; `None` if it is the default.
     pub fn foreground(self) -> Option<u8>
         ensures value { result ≡ self.pen.foreground }
         ensures look { IsLook self }
@@ -104,7 +104,7 @@ impl Look {
         self.pen().foreground()
     }
 
-    /// The colour of its ground, if it is not the default.
+    /// The colour of its ground, 0 to 7; `None` if it is the default.
     pub fn background(self) -> Option<u8>
         ensures value { result ≡ self.pen.background }
         ensures look { IsLook self }

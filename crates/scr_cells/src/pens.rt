@@ -37,7 +37,7 @@ impl Pen {
     /// The greatest colour.
     pub const MOST: u8 = 7;
 
-    /// The pen of these attributes, foreground and background; `None` where a colour is above 7.
+    /// The pen of these attributes, foreground and background; `None` if a colour is above 7.
     pub fn new(attrs: Attrs, foreground: Option<u8>, background: Option<u8>) -> Option<Pen>
         ensures colours { IsSome result ↔ (IfSome foreground IsColour × IfSome background IsColour) }
         ensures holds { IfSome result (λ pen. pen ≡ record { attrs = attrs.0; foreground = foreground; background = background }) }
@@ -49,7 +49,7 @@ impl Pen {
         Some(Pen { packed: code * 256 })
     }
 
-    /// No attribute, in default colours.
+    /// The pen without attributes, in default colours.
     pub fn plain() -> Pen
         ensures { result ≡ plain_pen }
     {
@@ -64,7 +64,7 @@ impl Pen {
         Attrs((self.packed / 256 % 256) as u8)
     }
 
-    /// The colour of the character, if it is not the default.
+    /// The colour of the character, 0 to 7; `None` if it is the default.
     pub fn foreground(self) -> Option<u8>
         ensures value { result ≡ self.foreground }
         ensures pen { IsPen self }
@@ -72,7 +72,7 @@ impl Pen {
         colour_of(self.packed / 65536 % 16)
     }
 
-    /// The colour of its ground, if it is not the default.
+    /// The colour of its ground, 0 to 7; `None` if it is the default.
     pub fn background(self) -> Option<u8>
         ensures value { result ≡ self.background }
         ensures pen { IsPen self }
@@ -111,7 +111,7 @@ impl Pen {
         }
     }
 
-    /// Whether there is no attribute, in default colours.
+    /// Whether it has no attribute and default colours.
     pub fn is_plain(self) -> bool
         ensures value { result ≡ is_plain_pen self }
     {

@@ -10,8 +10,8 @@ use crate::{Cell, Grid, NoMemory, Size, grid_laws};
 use std::alloc::Global;
 use std::marker::Model;
 
-/// The cells that a screen is to show, the colours of their pairs, and where its cursor is wished (X/Open Curses
-/// Issue 7, 'Screens, Windows and Terminals' and 'Color'; curs_refresh(3X), 'virtual screen').
+/// The cells that a screen is to show, the colours of their pairs, and where its cursor is wanted (X/Open Curses Issue
+/// 7, 'Screens, Windows and Terminals' and 'Color'; curs_refresh(3X), 'virtual screen').
 #[derive(Drop)]
 pub struct Picture {
     grid: Grid<Cell>,
@@ -31,7 +31,8 @@ impl Model for Picture {
 }
 
 impl Picture {
-    /// Blanks everywhere, no wish, and each pair 7 on 0. Fails only when memory runs out.
+    /// Makes a picture of blanks, with no place where the cursor is wanted, and each pair colour 7 on colour 0. Fails
+    /// only when memory runs out.
     pub fn new(alloc: Global, size: Size) -> Result<Picture, NoMemory>
         ensures { IfOk result (λ picture. picture ≡ blank_picture size.rows size.columns) }
     {
@@ -55,7 +56,7 @@ impl Picture {
         }
     }
 
-    /// The cells of a row, counted from 0 at the top.
+    /// The cells of a row, counted from 0 at the top; the picture has this row.
     pub fn row(&self, row: u32) -> &[Cell]
         requires { row < self.now.rows }
         ensures cells { result.now ≡ grid_row self.now.lines row }
@@ -64,7 +65,7 @@ impl Picture {
         self.grid.row(row)
     }
 
-    /// Puts a cell in the place at a row and a column. Nothing else changes.
+    /// Puts a cell in the place at a row and a column of the picture. Nothing else changes.
     pub fn put(&mut self, row: u32, column: u32, cell: Cell)
         requires { IsPlace self.old.rows self.old.columns (row, column) }
         ensures { self.new ≡ record self.old { lines = grid_with self.old.lines row column cell } }
@@ -73,7 +74,7 @@ impl Picture {
         self.grid.put(row, column, cell);
     }
 
-    /// Puts cells next to one another into a row, from a column on. Nothing else changes.
+    /// Puts cells next to one another into a row, from a column on; they fit in the row. Nothing else changes.
     pub fn put_row(&mut self, row: u32, column: u32, cells: &[Cell])
         requires row { row < self.old.rows }
         requires end { column + length cells.now ≤ self.old.columns }
@@ -83,7 +84,7 @@ impl Picture {
         self.grid.lay(row, column, cells);
     }
 
-    /// Where the cursor is wished, as a row and a column, if anywhere.
+    /// The row and the column where the cursor is wanted; `None` if it is wanted nowhere in particular.
     pub fn wish(&self) -> Option<(u32, u32)>
         ensures wish { result ≡ self.now.wish }
         ensures inside { IfSome result (IsPlace self.now.rows self.now.columns) }
@@ -91,7 +92,8 @@ impl Picture {
         self.wish
     }
 
-    /// Wishes the cursor at a row and a column, or nowhere. Nothing else changes.
+    /// Sets the row and the column where the cursor is wanted, or `None` for nowhere in particular. Nothing else
+    /// changes.
     pub fn set_wish(&mut self, wish: Option<(u32, u32)>)
         requires { ForSome wish (IsPlace self.old.rows self.old.columns) }
         ensures { self.new ≡ record self.old { wish = wish } }
@@ -99,7 +101,7 @@ impl Picture {
         self.wish = wish;
     }
 
-    /// The foreground and the background of a colour pair, each 0 to 7; `None` where the pair is not 1 to 63 (X/Open
+    /// The foreground and the background of a colour pair, each 0 to 7; `None` if the pair is not 1 to 63 (X/Open
     /// Curses Issue 7, 'pair_content').
     pub fn pair(&self, pair: u32) -> Option<(u8, u8)>
         ensures some { IsSome result ↔ (0 < pair × pair < 64) }
@@ -136,8 +138,8 @@ fn first_pairs() -> [(u8, u8); 63]
     [(7, 0); 63]
 }
 
-// What holds of every cell holds of each of these. The loop is for the proof alone, which learns what holds of a cell from a
-// call on it. It does nothing, and LLVM leaves it out.
+// What holds for every cell holds for each of these. The loop is for the proof alone, which learns what holds for a
+// cell from a call on it. It does nothing, and LLVM leaves it out.
 fn each_is_cell(cells: &[Cell])
     ensures { All IsCell cells.now }
 {

@@ -1,5 +1,6 @@
-//! Which places of a row surely show what is seen of their cells, or surely do not, eight at a time: a filter in front of a comparison
-//! place by place.
+//! Which places of a row surely show, or surely do not show, what is seen of their cells.
+//!
+//! They are looked at eight at a time: a filter before a comparison place by place.
 ghost use Rattle.std.specs.Prelude.{ℕ, ◌≡◌, ◌≢◌, ◌+◌, ◌%◌, ◌<◌, ◌≤◌, IfSome, length, slice_index_or, true};
 ghost use Rattle.scr_cells.specs.CellViews.{blank_cell};
 ghost use Rattle.scr_cells.specs.Showing.{HasRendition, IsSeenAt, IsUnseenAt};
@@ -9,10 +10,12 @@ use crate::differences::{Packed, eight};
 use crate::{Attrs, Cell, Look};
 use std::simd::prelude::*;
 
-/// A count of places from the left each of which shows what is seen of its cell on a terminal that shows these attributes, whatever
-/// the colours of its pairs are; they are looked at eight at a time. The count ends, at the latest, before a cell with a pair, and
-/// before one with an attribute where not every attribute is shown, so a caller goes on from there place by place. The rows have
-/// one length.
+/// A count of places from the left, each of which shows what is seen of its cell on a terminal that shows these
+/// attributes, whatever the colours of its pairs are.
+///
+/// The places are looked at eight at a time. The count ends, at the latest, before a cell with a pair, and before one
+/// with an attribute if not every attribute is shown, so a caller goes on from there place by place. The rows have one
+/// length.
 pub fn shown_before(looks: &[Look], cells: &[Cell], shown: Attrs) -> usize
     requires { length looks.now ≡ length cells.now }
     ensures inside { result ≤ length looks.now }
@@ -52,10 +55,11 @@ fn are_below(numbers: u32x8, limit: u32) -> bool
     numbers.simd_ge(u32x8::splat(limit)).to_bitmask() == 0
 }
 
-/// A count of places from the left none of which shows what is seen of its cell on a terminal that shows these attributes, whatever
-/// the colours of its pairs are, and whose cells have the attributes of the first cell and no pair; they are looked at eight at a
-/// time. It is 0 where the first cell has a pair, or an attribute where not every attribute is shown. A caller goes on from there place
-/// by place. The rows have one length.
+/// A count of places from the left, none of which shows what is seen of its cell on a terminal that shows these
+/// attributes, whatever the colours of its pairs are. Their cells have the attributes of the first cell, and no pair.
+///
+/// The places are looked at eight at a time. The count is 0 if the first cell has a pair, or an attribute if not every
+/// attribute is shown. A caller goes on from there place by place. The rows have one length.
 pub fn unshown_before(looks: &[Look], cells: &[Cell], shown: Attrs) -> usize
     requires { length looks.now ≡ length cells.now }
     ensures inside { result ≤ length looks.now }
@@ -72,8 +76,8 @@ pub fn unshown_before(looks: &[Look], cells: &[Cell], shown: Attrs) -> usize
     at
 }
 
-/// A count of places from the left whose cells have the attributes and the pair of the first cell; they are looked at eight at a time. A
-/// caller goes on from there place by place.
+/// A count of places from the left whose cells have the attributes and the pair of the first cell. They are looked at
+/// eight at a time, and a caller goes on from there place by place.
 pub fn alike_before(cells: &[Cell]) -> usize
     ensures inside { result ≤ length cells.now }
     ensures alike { (i : ℕ) → i < result → HasRendition (slice_index_or cells.now 0 blank_cell) cells.now i }
@@ -89,7 +93,8 @@ pub fn alike_before(cells: &[Cell]) -> usize
     at
 }
 
-// The least number of a cell with the attributes and the pair of the first one, if each such cell has the number of its look.
+// The lowest number of a cell with the attributes and the pair of the first one, if each such cell has the number of
+// its look.
 fn base_of(cells: &[Cell], shown: Attrs) -> Option<u32>
     ensures { IfSome result (HasBase shown.0 cells.now) }
 {
@@ -110,7 +115,7 @@ fn first_number(cells: &[Cell]) -> Option<u32>
     Some(cells[0].packed())
 }
 
-// Whether eight looks have other numbers than their cells, and these are between a base and the next.
+// Whether eight looks have other numbers than their cells, and the cells' are from a base on and below the next.
 fn are_unshown(looks: &[Look], cells: &[Cell], at: usize, base: u32) -> bool
     requires looks { at + 8 ≤ length looks.now }
     requires cells { at + 8 ≤ length cells.now }
@@ -120,7 +125,7 @@ fn are_unshown(looks: &[Look], cells: &[Cell], at: usize, base: u32) -> bool
     are_other(eight(looks, at), numbers) && are_between(numbers, base)
 }
 
-// Whether of eight numbers none is the one in the same place of eight others.
+// Whether none of eight numbers is the one in the same place of eight others.
 fn are_other(a: u32x8, b: u32x8) -> bool
     requires a { length a ≡ 8 }
     requires b { length b ≡ 8 }
@@ -129,7 +134,7 @@ fn are_other(a: u32x8, b: u32x8) -> bool
     a.simd_eq(b).to_bitmask() == 0
 }
 
-// Whether eight numbers are from a base on, and below the next.
+// Whether eight numbers are from a base on and below the next.
 fn are_between(numbers: u32x8, base: u32) -> bool
     requires { length numbers ≡ 8 }
     ensures from { result ≡ true → (k : ℕ) → k < 8 → base ≤ slice_index_or numbers k 0 }

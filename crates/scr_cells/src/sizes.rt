@@ -16,7 +16,7 @@ impl Size {
     /// The greatest number of rows, and of columns.
     pub const MOST: u32 = 500;
 
-    /// A size of that many rows and columns; `None` where either is 0 or above 500.
+    /// A size of this many rows and columns; `None` if either is 0 or above 500.
     pub fn new(rows: u32, columns: u32) -> Option<Size>
         ensures fits { IsSome result ↔ IsSize rows columns }
         ensures rows { IfSome result (λ size. size.rows ≡ rows) }
