@@ -1,4 +1,5 @@
-//! What the emulated terminals share: a grid of looks, the cursor's spot and the pen, and how these change.
+//! What both emulated terminals share: a grid of looks, the cursor's spot, the pen, and their
+//! changes.
 
 mod changes;
 mod display;

@@ -1,4 +1,5 @@
-//! The emulated screen: which bytes make a control function, what that changes, and the laws about texts.
+//! The emulated ECMA-48 screen: which bytes make a control function, what it changes, and the laws
+//! of texts.
 
 mod controls;
 mod laws;

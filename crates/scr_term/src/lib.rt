@@ -1,5 +1,4 @@
-//! The terminal: its operations, what they do, the bytes that are sent for them, and a screen that
-//! is fed those bytes.
+//! A terminal: its operations, what they do and which bytes they send, and two emulated terminals.
 #![tactic(auto)]
 
 mod displays;

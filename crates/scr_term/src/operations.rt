@@ -1,4 +1,5 @@
-//! The operations of a terminal, what is known of it, the bytes that are sent for an operation, and the laws about them.
+//! The operations of a terminal, its profile, the bytes that an operation sends, and the laws of
+//! these.
 
 mod admission;
 mod capability;

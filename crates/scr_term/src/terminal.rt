@@ -1,4 +1,4 @@
-//! An emulated terminal that is stepped by operations.
+//! An emulated terminal that executes operations.
 ghost use Rattle.std.specs.Prelude.{◌≡◌, ◌≢◌, ◌<◌, ◌≤◌, ◌↔◌, ℕ, IfOk, IsOk, IsTrue, bit_and, is_some, length, option_map, take, true};
 ghost use Rattle.std.specs.List.{list_all};
 ghost use Rattle.std.specs.Option.{ForSome};
@@ -22,8 +22,8 @@ use scr_cells::{Attrs, Look, NoMemory, Pen, Size};
 use std::alloc::Global;
 use std::marker::Model;
 
-/// A terminal that does what each operation of a profile means (terminfo(5)), and shows the result: programs can be
-/// tried on it where there is no terminal.
+/// An emulated terminal: it does what each operation of a profile means (terminfo(5)), and shows
+/// the result. Use it to test a program without a terminal.
 #[derive(Drop)]
 pub struct Terminal {
     display: Display,
@@ -40,7 +40,8 @@ impl Model for Terminal {
 }
 
 impl Terminal {
-    /// A blank terminal with the cursor at 0 0, no attribute on and default colours. Fails only when memory runs out.
+    /// A blank terminal: cursor at row 0, column 0, no attribute on, default colours. Fails only
+    /// when memory runs out.
     pub fn new(alloc: Global, size: Size) -> Result<Terminal, NoMemory>
         ensures { IfOk result (λ terminal. terminal ≡ blank_display size.rows size.columns) }
     {
@@ -49,10 +50,16 @@ impl Terminal {
         Ok(Terminal { display })
     }
 
-    /// Does what an operation means on a terminal of this profile, whose size is the terminal's. `Undefined`: the terminal
-    /// does not have the operation, or it leads off the screen; it erases, or moves without `msgr`, while an attribute or a
-    /// colour is on; at the margin it is another one than `Home`, `Move`, `Clear`, `Reset`, `Enter` or `Set`; or it erases
-    /// below from another column than the first. Nothing changes then.
+    /// Does what an operation means on a terminal of this profile, which has to be of this
+    /// terminal's size.
+    ///
+    /// Returns `Undefined`, and changes nothing, if
+    ///
+    /// - the terminal does not have the operation, or it leads off the screen;
+    /// - it erases while an attribute or a colour is on, or moves then without `msgr`;
+    /// - the cursor is at the margin and the operation is not `Home`, `Move`, `Clear`, `Reset`,
+    ///   `Enter` or `Set`;
+    /// - it is `EraseBelow` and the cursor is not in the first column.
     pub fn step(&mut self, profile: &Profile, op: Op) -> Result<(), Undefined>
         requires rows { profile.now.rows ≡ self.old.rows }
         requires columns { profile.now.columns ≡ self.old.columns }
@@ -69,8 +76,8 @@ impl Terminal {
         if is_defined { Ok(()) } else { Err(Undefined) }
     }
 
-    /// Does what the characters mean that operations begin with, one after another, as far as the cursor's row takes them, and gives how many
-    /// they are: for callers that write many of them. At the margin it takes none.
+    /// Writes the characters that `ops` begins with, as many as fit in the cursor's row, and
+    /// returns their number: for callers that write many. At the margin it writes none.
     pub fn step_characters(&mut self, profile: &Profile, ops: &[Op]) -> usize
         requires columns { profile.now.columns ≡ self.old.columns }
         ensures count { result ≡ characters_ahead self.old.columns self.old.state.spot ops.now }
@@ -84,7 +91,7 @@ impl Terminal {
         count
     }
 
-    /// How many rows and columns there are.
+    /// The number of rows and columns.
     pub fn size(&self) -> Size
         ensures rows { result.rows ≡ self.now.rows }
         ensures columns { result.columns ≡ self.now.columns }
@@ -93,7 +100,7 @@ impl Terminal {
         self.display.size()
     }
 
-    /// What is shown at a row and a column, counted from 0 at the top left.
+    /// The look at a row and a column, which count from 0 at the top left.
     pub fn cell(&self, row: u32, column: u32) -> Look
         requires { IsPlace self.now.rows self.now.columns (row, column) }
         ensures value { (other : LookView) → result ≡ grid_at other self.now.state.grid row column }
@@ -102,7 +109,7 @@ impl Terminal {
         self.display.cell(row, column)
     }
 
-    /// What is shown in a row, counted from 0 at the top.
+    /// The looks of a row, from the left; rows count from 0 at the top.
     pub fn row(&self, row: u32) -> &[Look]
         requires { row < self.now.rows }
         ensures cells { result.now ≡ grid_row self.now.state.grid row }
@@ -119,7 +126,7 @@ impl Terminal {
         self.display.spot()
     }
 
-    /// What is written with: the attributes that are on, and the current colours.
+    /// The pen: the attributes that are on, and the current colours.
     pub fn pen(&self) -> Pen
         ensures value { result ≡ self.now.state.pen }
         ensures shown { IsShownPen (full_abilities self.now.rows self.now.columns) result }
@@ -135,7 +142,7 @@ impl Terminal {
         self.display.pen().attrs()
     }
 
-    /// The current foreground and background, each `None` where it is the default.
+    /// The current foreground and background, each `None` if it is the default.
     pub fn colours(&self) -> (Option<u8>, Option<u8>)
         ensures foreground { result.0 ≡ self.now.state.pen.foreground }
         ensures background { result.1 ≡ self.now.state.pen.background }
@@ -144,7 +151,7 @@ impl Terminal {
         (pen.foreground(), pen.background())
     }
 
-    // Writes a character; at the margin it answers false and changes nothing.
+    // Writes a character; at the margin it returns false and changes nothing.
     #[tactic(auto, unfolding(crate::specs::Operations::Texts::has))]
     fn write(&mut self, profile: &Profile, byte: u8) -> bool
         requires has { IsTrue (has profile.now (Put byte)) }
@@ -157,7 +164,7 @@ impl Terminal {
         is_defined
     }
 
-    // Does what another operation means; where it is undefined this answers false and changes nothing.
+    // Does what any other operation means; if that is undefined, returns false and changes nothing.
     fn change(&mut self, profile: &Profile, op: Op) -> bool
         requires has { IsTrue (has profile.now op) }
         requires rows { profile.now.rows ≡ self.old.rows }
@@ -170,7 +177,7 @@ impl Terminal {
         self.make(change)
     }
 
-    // Makes a change; where there is none it answers false.
+    // Makes a change; returns false if there is none.
     fn make(&mut self, change: Option<Change>) -> bool
         requires { ForSome change (IsChange self.old.rows self.old.columns) }
         ensures answer { result ≡ is_some change }

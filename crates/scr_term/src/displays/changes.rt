@@ -1,4 +1,4 @@
-//! What changes on an emulated terminal, worked out before anything does.
+//! Changes of an emulated terminal, worked out before any of them is made.
 ghost use Rattle.std.specs.Prelude.{◌≤◌, IfSome};
 ghost use Rattle.scr_term.specs.Operations.States.{IsSpot, characters_erased, moved_down, moved_left, moved_right, moved_to, moved_to_column, moved_to_row, moved_up, rest_of_line_erased};
 ghost use Rattle.scr_term.specs.Code.Changes.{IsChange, Makes, MakesAt};
@@ -9,21 +9,21 @@ use scr_cells::{Pen, Size};
 /// A change of an emulated terminal.
 #[derive(Clone, Copy)]
 pub(crate) enum Change {
-    /// The cursor goes there.
+    /// The cursor goes to this spot.
     Moved(Spot),
-    /// A row's places from one column up to another are erased.
+    /// Columns `from..end` of a row are erased; the numbers are the row, `from` and `end`.
     ErasedRun(u32, u32, u32),
-    /// The places from a row and a column on are erased.
+    /// The places from a row and a column to the end of the screen are erased.
     ErasedFrom(u32, u32),
     /// Every place is erased.
     ErasedAll,
-    /// Every place is erased, and the cursor goes to the first.
+    /// Every place is erased, and the cursor goes to row 0, column 0.
     Cleared,
-    /// What is written is written with this pen.
+    /// This is the pen from now on.
     Rendered(Pen),
 }
 
-/// The cursor at a row and a column; `None` off the screen.
+/// Moves the cursor to a row and a column; `None` if these are off the screen.
 pub(crate) fn moved_to(size: Size, row: u32, column: u32) -> Option<Change>
     ensures value { Makes size.rows size.columns result (λ state. moved_to size.rows size.columns state row column) }
     ensures change { IfSome result (IsChange size.rows size.columns) }
@@ -35,7 +35,7 @@ pub(crate) fn moved_to(size: Size, row: u32, column: u32) -> Option<Change>
     }
 }
 
-/// The cursor so many places up; `None` off the screen, and at the margin.
+/// Moves the cursor up by `count` rows; `None` if that is off the screen, and at the margin.
 pub(crate) fn moved_up(size: Size, spot: Spot, count: u32) -> Option<Change>
     requires { IsSpot size.rows size.columns spot }
     ensures value { MakesAt size.rows size.columns spot result (λ state. moved_up size.rows size.columns state count) }
@@ -47,7 +47,7 @@ pub(crate) fn moved_up(size: Size, spot: Spot, count: u32) -> Option<Change>
     }
 }
 
-/// The cursor so many places down; `None` off the screen, and at the margin.
+/// Moves the cursor down by `count` rows; `None` if that is off the screen, and at the margin.
 pub(crate) fn moved_down(size: Size, spot: Spot, count: u32) -> Option<Change>
     requires spot { IsSpot size.rows size.columns spot }
     requires few { count ≤ 65535 }
@@ -60,7 +60,7 @@ pub(crate) fn moved_down(size: Size, spot: Spot, count: u32) -> Option<Change>
     }
 }
 
-/// The cursor so many places to the right; `None` off the screen, and at the margin.
+/// Moves the cursor right by `count` columns; `None` if that is off the screen, and at the margin.
 pub(crate) fn moved_right(size: Size, spot: Spot, count: u32) -> Option<Change>
     requires spot { IsSpot size.rows size.columns spot }
     requires few { count ≤ 65535 }
@@ -73,7 +73,7 @@ pub(crate) fn moved_right(size: Size, spot: Spot, count: u32) -> Option<Change>
     }
 }
 
-/// The cursor so many places to the left; `None` off the screen, and at the margin.
+/// Moves the cursor left by `count` columns; `None` if that is off the screen, and at the margin.
 pub(crate) fn moved_left(size: Size, spot: Spot, count: u32) -> Option<Change>
     requires { IsSpot size.rows size.columns spot }
     ensures value { MakesAt size.rows size.columns spot result (λ state. moved_left size.rows size.columns state count) }
@@ -85,7 +85,7 @@ pub(crate) fn moved_left(size: Size, spot: Spot, count: u32) -> Option<Change>
     }
 }
 
-/// The cursor in another column of its row; `None` off the screen, and at the margin.
+/// Moves the cursor to a column of its row; `None` if that is off the screen, and at the margin.
 pub(crate) fn moved_to_column(size: Size, spot: Spot, column: u32) -> Option<Change>
     ensures value { MakesAt size.rows size.columns spot result (λ state. moved_to_column size.rows size.columns state column) }
     ensures change { IfSome result (IsChange size.rows size.columns) }
@@ -96,7 +96,7 @@ pub(crate) fn moved_to_column(size: Size, spot: Spot, column: u32) -> Option<Cha
     }
 }
 
-/// The cursor in another row of its column; `None` off the screen, and at the margin.
+/// Moves the cursor to a row, in its column; `None` if that is off the screen, and at the margin.
 pub(crate) fn moved_to_row(size: Size, spot: Spot, row: u32) -> Option<Change>
     ensures value { MakesAt size.rows size.columns spot result (λ state. moved_to_row size.rows size.columns state row) }
     ensures change { IfSome result (IsChange size.rows size.columns) }
@@ -107,7 +107,7 @@ pub(crate) fn moved_to_row(size: Size, spot: Spot, row: u32) -> Option<Change>
     }
 }
 
-/// The places from the cursor to the end of the line erased; `None` at the margin.
+/// Erases from the cursor to the end of the line; `None` at the margin.
 pub(crate) fn rest_of_line_erased(size: Size, spot: Spot) -> Option<Change>
     requires { IsSpot size.rows size.columns spot }
     ensures value { MakesAt size.rows size.columns spot result (λ state. rest_of_line_erased size.rows size.columns state) }
@@ -119,7 +119,8 @@ pub(crate) fn rest_of_line_erased(size: Size, spot: Spot) -> Option<Change>
     }
 }
 
-/// So many characters erased from the cursor on; `None` past the end of the line, and at the margin.
+/// Erases `count` characters from the cursor on; `None` if these go past the end of the line, and
+/// at the margin.
 pub(crate) fn characters_erased(size: Size, spot: Spot, count: u32) -> Option<Change>
     requires spot { IsSpot size.rows size.columns spot }
     requires few { count ≤ 65535 }

@@ -1,4 +1,4 @@
-//! The grid, the spot and the pen of an emulated terminal.
+//! The grid, the cursor's spot and the pen of an emulated terminal.
 ghost use Rattle.std.specs.Prelude.{◌≡◌, ◌<◌, ◌≤◌, IfOk, is_some, length};
 ghost use Rattle.scr_cells.specs.CellViews.{IsCharacter};
 ghost use Rattle.scr_cells.specs.Grids.{grid_at, grid_filled, grid_row, is_in_run};
@@ -35,7 +35,8 @@ impl Model for Display {
 }
 
 impl Display {
-    /// A blank one, with the cursor at 0 0, no attribute on and default colours. Fails only when memory runs out.
+    /// A blank display: cursor at row 0, column 0, no attribute on, default colours. Fails only
+    /// when memory runs out.
     pub(crate) fn new(alloc: Global, size: Size) -> Result<Display, NoMemory>
         ensures { IfOk result (λ display. display ≡ blank_display size.rows size.columns) }
     {
@@ -47,7 +48,7 @@ impl Display {
         })
     }
 
-    /// How many rows and columns there are.
+    /// The number of rows and columns.
     pub(crate) fn size(&self) -> Size
         ensures rows { result.rows ≡ self.now.rows }
         ensures columns { result.columns ≡ self.now.columns }
@@ -59,7 +60,7 @@ impl Display {
         }
     }
 
-    /// What is shown at a row and a column.
+    /// The look at a row and a column.
     pub(crate) fn cell(&self, row: u32, column: u32) -> Look
         requires { IsPlace self.now.rows self.now.columns (row, column) }
         ensures value { (other : LookView) → result ≡ grid_at other self.now.state.grid row column }
@@ -70,7 +71,7 @@ impl Display {
         look
     }
 
-    /// What is shown in a row.
+    /// The looks of a row, from the left.
     pub(crate) fn row(&self, row: u32) -> &[Look]
         requires { row < self.now.rows }
         ensures cells { result.now ≡ grid_row self.now.state.grid row }
@@ -87,7 +88,7 @@ impl Display {
         self.spot
     }
 
-    /// What the next character is written with.
+    /// The pen that the next character is written with.
     pub(crate) fn pen(&self) -> Pen
         ensures value { result ≡ self.now.state.pen }
         ensures shown { IsShownPen (full_abilities self.now.rows self.now.columns) result }
@@ -95,7 +96,8 @@ impl Display {
         self.pen
     }
 
-    /// Writes a graphic character at the cursor, which goes right; at the margin it answers false and changes nothing.
+    /// Writes a graphic character at the cursor, which goes right. At the margin it returns false
+    /// and changes nothing.
     pub(crate) fn write(&mut self, byte: u8) -> bool
         requires { IsCharacter byte }
         ensures answer { result ≡ is_some (character_written self.old.columns self.old.state byte) }
@@ -116,8 +118,8 @@ impl Display {
         }
     }
 
-    /// Writes the characters that operations begin with, as far as the cursor's row takes them, and gives how many; the cursor goes behind
-    /// them.
+    /// Writes the leading characters of `ops`, as many as fit in the cursor's row, and moves the
+    /// cursor behind them. Returns their number.
     pub(crate) fn write_ahead(&mut self, ops: &[Op]) -> usize
         ensures count { result ≡ length (looks_ahead self.old.columns self.old.state ops.now) }
         ensures state { self.new ≡ record self.old { state = looks_written self.old.columns self.old.state (looks_ahead self.old.columns self.old.state ops.now) self.old.state.spot } }
@@ -153,7 +155,7 @@ impl Display {
     }
 }
 
-// The look of a character that is written with a pen; `None` of another operation.
+// The look of a character written with a pen; `None` if the operation writes no character.
 fn look_of(op: Op, pen: Pen) -> Option<Look>
     ensures { result ≡ look_of pen op }
 {
@@ -163,7 +165,7 @@ fn look_of(op: Op, pen: Pen) -> Option<Look>
     }
 }
 
-// The place in a column of a row, and behind the last column the margin.
+// The place at a row and a column, or the margin if the column is behind the last.
 fn spot_behind(columns: u32, row: u32, column: u32) -> Spot
     ensures { result ≡ spot_behind columns row column }
 {
@@ -174,7 +176,7 @@ fn spot_behind(columns: u32, row: u32, column: u32) -> Spot
     }
 }
 
-// Erases a row's places from one column up to another.
+// Erases columns `from..end` of a row.
 fn erase_run(grid: &mut Grid<Look>, row: u32, from: u32, end: u32)
     requires row { row < grid.old.rows }
     requires order { from ≤ end }
@@ -186,7 +188,7 @@ fn erase_run(grid: &mut Grid<Look>, row: u32, from: u32, end: u32)
     grid.fill(row, from, end, Look::blank());
 }
 
-// Erases the places from a row and a column on.
+// Erases the places from a row and a column to the end of the screen.
 fn erase_from(grid: &mut Grid<Look>, row: u32, column: u32)
     requires row { row < grid.old.rows }
     requires column { column < grid.old.columns }

@@ -1,5 +1,5 @@
-//! Control functions: what a whole unit changes. How the parameters of a control sequence are read is in `parameters`, and the
-//! changes are made by `displays`.
+//! Control functions: what a whole unit of an ECMA-48 text changes. `parameters` reads the
+//! parameters of a control sequence, and `displays` makes the changes.
 ghost use Rattle.std.specs.Prelude.{◌≡◌, ◌≤◌, ℕ, List, ◌∷◌, None, option_and_then, option_map, IfSome, unwrap_or};
 ghost use Rattle.scr_cells.specs.PenViews.{IsColour, with_attribute};
 ghost use Rattle.scr_term.specs.Operations.Abilities.{full_abilities};
@@ -19,7 +19,7 @@ use crate::ecma::readings::Reading;
 use bitflags::Flags;
 use scr_cells::{Attrs, Pen, Size};
 
-/// What a control sequence changes, by the part of it before its last byte; `None` where it is
+/// What a control sequence changes; `part` is all of it but its final byte, `last`. `None` if it is
 /// undefined (ECMA-48, 5.4 'Control sequences').
 pub(crate) fn control_sequence(
     size: Size,
@@ -38,7 +38,8 @@ pub(crate) fn control_sequence(
     control_function(size, spot, pen, list.as_slice(), last)
 }
 
-/// What a control function of one byte changes: BS, one left, or CR, the first column (ECMA-48, 8.3.5 and 8.3.15).
+/// What a control function of one byte changes: BS moves the cursor one column left, CR to the
+/// first column (ECMA-48, 8.3.5 and 8.3.15).
 pub(crate) fn control_character(size: Size, spot: Spot, byte: u8) -> Option<Change>
     requires { IsSpot size.rows size.columns spot }
     ensures value { MakesAt size.rows size.columns spot result (λ state. meaning size.rows size.columns state (Control byte)) }
@@ -51,7 +52,8 @@ pub(crate) fn control_character(size: Size, spot: Spot, byte: u8) -> Option<Chan
     }
 }
 
-/// The one parameter of a motion or of ECH: 1 where it is absent, and not 0.
+/// The one parameter of a motion or of ECH, 1 if it is absent; `None` if it is 0 or there are
+/// several.
 fn count_of(parameters: &[Option<u16>]) -> Option<u32>
     ensures value { result ≡ count_of parameters.now }
     ensures few { IfSome result (λ count. count ≤ 65535) }
@@ -69,7 +71,7 @@ fn count_of(parameters: &[Option<u16>]) -> Option<u32>
     }
 }
 
-/// The one parameter of ED or EL: 0 where it is absent.
+/// The one parameter of ED or EL, 0 if it is absent; `None` if there are several.
 fn choice_of(parameters: &[Option<u16>]) -> Option<u32>
     ensures { result ≡ choice_of parameters.now }
 {
@@ -79,7 +81,7 @@ fn choice_of(parameters: &[Option<u16>]) -> Option<u32>
     }
 }
 
-/// CHA: a column of the same line, from 1 (ECMA-48, 8.3.9).
+/// CHA: moves the cursor to a column of the same line, counted from 1 (ECMA-48, 8.3.9).
 fn cursor_character_absolute(size: Size, spot: Spot, column: u32) -> Option<Change>
     ensures value { MakesAt size.rows size.columns spot result (λ state. cursor_character_absolute size.rows size.columns state column) }
     ensures change { IfSome result (IsChange size.rows size.columns) }
@@ -87,7 +89,7 @@ fn cursor_character_absolute(size: Size, spot: Spot, column: u32) -> Option<Chan
     moved_to_column(size, spot, column.saturating_sub(1))
 }
 
-/// VPA: a line, from 1, and the same column (ECMA-48, 8.3.158).
+/// VPA: moves the cursor to a line, counted from 1, in the same column (ECMA-48, 8.3.158).
 fn line_position_absolute(size: Size, spot: Spot, row: u32) -> Option<Change>
     ensures value { MakesAt size.rows size.columns spot result (λ state. line_position_absolute size.rows size.columns state row) }
     ensures change { IfSome result (IsChange size.rows size.columns) }
@@ -95,7 +97,7 @@ fn line_position_absolute(size: Size, spot: Spot, row: u32) -> Option<Change>
     moved_to_row(size, spot, row.saturating_sub(1))
 }
 
-/// The cursor at a row and a column, which count from 1.
+/// Moves the cursor to a row and a column, which count from 1.
 fn cursor_at(size: Size, row: u16, column: u16) -> Option<Change>
     ensures value { Makes size.rows size.columns result (λ state. cursor_at size.rows size.columns state row column) }
     ensures change { IfSome result (IsChange size.rows size.columns) }
@@ -107,7 +109,7 @@ fn cursor_at(size: Size, row: u16, column: u16) -> Option<Change>
     }
 }
 
-/// CUP: the cursor goes to a row and a column, each 1 where it is absent (ECMA-48, 8.3.21).
+/// CUP: moves the cursor to a row and a column, each 1 if it is absent (ECMA-48, 8.3.21).
 fn cursor_position(size: Size, parameters: &[Option<u16>]) -> Option<Change>
     ensures value { Makes size.rows size.columns result (λ state. cursor_position size.rows size.columns state parameters.now) }
     ensures change { IfSome result (IsChange size.rows size.columns) }
@@ -119,7 +121,7 @@ fn cursor_position(size: Size, parameters: &[Option<u16>]) -> Option<Change>
     }
 }
 
-/// ED: from the cursor to the end of the screen, or every place (ECMA-48, 8.3.39).
+/// ED: erases from the cursor to the end of the screen, or the whole screen (ECMA-48, 8.3.39).
 fn erase_in_page(size: Size, spot: Spot, choice: u32) -> Option<Change>
     requires { IsSpot size.rows size.columns spot }
     ensures value { MakesAt size.rows size.columns spot result (λ state. erase_in_page size.rows size.columns state choice) }
@@ -132,7 +134,7 @@ fn erase_in_page(size: Size, spot: Spot, choice: u32) -> Option<Change>
     }
 }
 
-/// EL: from the cursor to the end of the line (ECMA-48, 8.3.41).
+/// EL: erases from the cursor to the end of the line (ECMA-48, 8.3.41).
 fn erase_in_line(size: Size, spot: Spot, choice: u32) -> Option<Change>
     requires { IsSpot size.rows size.columns spot }
     ensures value { MakesAt size.rows size.columns spot result (λ state. erase_in_line size.rows size.columns state choice) }
@@ -160,7 +162,8 @@ fn rendition_attribute(parameter: u16) -> Option<Attrs>
     }
 }
 
-/// One parameter of SGR: the default, a colour, or one more attribute (ECMA-48, 8.3.117).
+/// The pen after one parameter of SGR, which makes it plain, sets a colour or adds an attribute
+/// (ECMA-48, 8.3.117).
 fn rendition(pen: Pen, parameter: u16) -> Option<Pen>
     ensures { result ≡ rendition pen parameter }
 {
@@ -177,7 +180,7 @@ fn rendition(pen: Pen, parameter: u16) -> Option<Pen>
     }
 }
 
-/// SGR: its parameters one after another, each 0 where it is absent (ECMA-48, 8.3.117).
+/// SGR: applies its parameters one after another, each 0 if it is absent (ECMA-48, 8.3.117).
 fn renditions(mut pen: Pen, parameters: &[Option<u16>]) -> Option<Pen>
     ensures { result ≡ renditions pen parameters.now }
 {
@@ -187,8 +190,8 @@ fn renditions(mut pen: Pen, parameters: &[Option<u16>]) -> Option<Pen>
     Some(pen)
 }
 
-/// What a control sequence changes, by its final byte: CUU, CUD, CUF, CUB, CHA, CUP, ED, EL, ECH, VPA, SGR; `None` where it is
-/// undefined (ECMA-48, 8.3).
+/// What a control sequence changes, by its final byte: CUU, CUD, CUF, CUB, CHA, CUP, ED, EL, ECH,
+/// VPA or SGR. `None` if it is undefined (ECMA-48, 8.3).
 #[tactic(auto, unfolding(crate::specs::Ecma::Meanings::control_function))]
 fn control_function(
     size: Size,

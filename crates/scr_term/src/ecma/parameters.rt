@@ -1,4 +1,4 @@
-//! The parameters of a control sequence, as numbers. What they mean is in `controls`.
+//! Parsing the parameters of a control sequence as numbers. `controls` says what they mean.
 ghost use Rattle.std.specs.Prelude.{◌≡◌, ◌≤◌, length, option_map, IsTrue};
 ghost use Rattle.std.specs.Char.{is_ascii_digit};
 ghost use Rattle.std.specs.List.{AllByRecursion};
@@ -7,16 +7,16 @@ ghost use Rattle.scr_term.specs.Ecma.Meanings.{parameter, parameters_of};
 
 use arrayvec::ArrayVec;
 
-/// The greatest number that a parameter may be.
+/// The greatest value of a parameter.
 const GREATEST: u32 = 9_999;
 
-/// How many parameters a control sequence of at most 64 bytes has at most.
+/// The most parameters that a control sequence of at most 64 bytes can have.
 const MOST: usize = 62;
 
 /// The parameters of a control sequence, each a number or absent.
 pub(crate) type Parameters = ArrayVec<Option<u16>, MOST>;
 
-/// The parameters of a control sequence, which semicolons divide; `None` where one is above 9,999
+/// The parameters of a control sequence, separated by semicolons; `None` if one is above 9,999
 /// (ECMA-48, 5.4 'Control sequences').
 pub(crate) fn parameters(bytes: &[u8]) -> Option<Parameters>
     requires digits { AllByRecursion (λ byte. IsTrue (is_parameter_byte byte)) bytes.now }
@@ -30,8 +30,8 @@ pub(crate) fn parameters(bytes: &[u8]) -> Option<Parameters>
     Some(list)
 }
 
-/// A parameter: `Some(None)` where it is absent, `None` where its number is above 9,999 (ECMA-48,
-/// 5.4 'Control sequences').
+/// One parameter: `Some(None)` if it is absent, `None` if it is above 9,999 (ECMA-48, 5.4 'Control
+/// sequences').
 fn parameter(digits: &[u8]) -> Option<Option<u16>>
     requires { AllByRecursion (λ byte. IsTrue (is_ascii_digit byte)) digits.now }
     ensures { result ≡ parameter digits.now }

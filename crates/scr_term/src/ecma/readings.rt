@@ -1,4 +1,4 @@
-//! What the next byte of a text is, after a part of a unit. Nothing changes here.
+//! What the next byte of a text is, after the beginning of a unit. Nothing changes here.
 ghost use Rattle.std.specs.Prelude.{◌≡◌, [], ◌⊎◌};
 ghost use Rattle.scr_term.specs.Ecma.Units.{IsWaiting, is_parameter_byte};
 ghost use Rattle.scr_term.specs.Code.Readings.{IsReading};
@@ -8,22 +8,23 @@ use scr_cells::is_character;
 /// What the next byte of a text is.
 #[derive(Clone, Copy)]
 pub(crate) enum Reading {
-    /// A graphic character, or a blank.
+    /// A graphic character or a blank.
     Graphic,
-    /// One more byte of a control sequence that is not at its end yet.
+    /// A byte of a control sequence that does not end it.
     Held,
-    /// The last byte of a control sequence.
+    /// The final byte of a control sequence.
     Last,
     /// A control function of one byte.
     Control,
-    /// A byte that belongs to no unit.
+    /// A byte that cannot be part of a unit here.
     Other,
 }
 
-/// How many bytes a control sequence has at most.
+/// The most bytes that a control sequence has.
 const LONGEST: usize = 64;
 
-/// What a byte is after a part of a unit (ECMA-48, 5.4 'Control sequences').
+/// What `byte` is after `part`, which is empty or the beginning of a unit (ECMA-48, 5.4 'Control
+/// sequences').
 pub(crate) fn read_byte(part: &[u8], byte: u8) -> Reading
     requires { (part.now ≡ []) ⊎ IsWaiting part.now }
     ensures { IsReading part.now byte result }
@@ -58,7 +59,7 @@ pub(crate) fn read_byte(part: &[u8], byte: u8) -> Reading
     }
 }
 
-/// Whether a byte is a digit, or the semicolon between two parameters.
+/// Whether a byte is a digit, or the semicolon that separates parameters.
 fn is_parameter_byte(byte: u8) -> bool
     ensures { result ≡ is_parameter_byte byte }
 {

@@ -1,5 +1,5 @@
-//! A screen that is fed the bytes of a text. Which bytes make a control function, and what that changes, is in the files
-//! beside this one.
+//! A screen that is fed the bytes of an ECMA-48 text. The files beside this one say which bytes
+//! make a control function, and what it changes.
 ghost use Rattle.std.specs.Prelude.{◌≡◌, ◌+◌, ◌<◌, ◌↔◌, false, length, [], ◌∷◌, bit_and, option_map, IfOk, IsOk, IsTrue};
 ghost use Rattle.std.specs.Option.{ForSome};
 ghost use Rattle.scr_cells.specs.Attributes.{every_attribute};
@@ -22,14 +22,15 @@ use scr_cells::{Attrs, Look, NoMemory, Size};
 use std::alloc::Global;
 use std::marker::Model;
 
-/// A screen that is fed an ECMA-48 text in pieces, and shows what the text does.
+/// An emulated ECMA-48 screen: it reads a text in pieces, and shows what the text does.
 ///
-/// Graphic characters, BS, CR, CUU, CUD, CUF, CUB, CHA, VPA, CUP, ED of 0 and 2, EL of 0, ECH and SGR with its colours
-/// have a meaning; every other unit is undefined. After the first undefined one the screen stays as it is.
+/// These have a meaning: graphic characters, BS, CR, CUU, CUD, CUF, CUB, CHA, VPA, CUP, ED with 0
+/// or 2, EL with 0, ECH, and SGR with its colours. Every other unit is undefined. After the first
+/// undefined unit the screen stays as it is.
 #[derive(Drop)]
 pub struct EcmaScreen {
     display: Display,
-    // The part of a control sequence that came after the last whole unit.
+    // The beginning of a control sequence, after the last whole unit.
     waiting: ArrayVec<u8, 64>,
     undefined: bool,
 }
@@ -57,7 +58,7 @@ impl Model for EcmaScreen {
 }
 
 impl EcmaScreen {
-    /// A blank screen with the cursor at 0 0, no attribute on and default colours. Fails only when
+    /// A blank screen: cursor at row 0, column 0, no attribute on, default colours. Fails only when
     /// memory runs out.
     pub fn new(alloc: Global, size: Size) -> Result<EcmaScreen, NoMemory>
         ensures { IfOk result (λ screen. screen ≡ blank_screen size.rows size.columns) }
@@ -71,9 +72,11 @@ impl EcmaScreen {
         })
     }
 
-    /// Feeds the next piece of the text, which may end anywhere. `Undefined` where something in the
-    /// text so far is undefined: the screen then stays as after the last unit before that, and every
-    /// later piece is answered so too (ECMA-48, 5.4 'Control sequences').
+    /// Reads the next piece of the text, which may end anywhere.
+    ///
+    /// Returns `Undefined` if something in the text so far is undefined. The screen then stays as
+    /// it was after the last unit before that, and every later piece gives `Undefined` too
+    /// (ECMA-48, 5.4 'Control sequences').
     pub fn feed(&mut self, piece: &[u8]) -> Result<(), Undefined>
         ensures fed { IsFed self.old piece.now self.new }
         ensures answer { IsOk result ↔ (self.new.undefined ≡ false) }
@@ -92,7 +95,7 @@ impl EcmaScreen {
         }
     }
 
-    /// How many rows and columns there are.
+    /// The number of rows and columns.
     pub fn size(&self) -> Size
         ensures rows { result.rows ≡ self.now.rows }
         ensures columns { result.columns ≡ self.now.columns }
@@ -101,7 +104,7 @@ impl EcmaScreen {
         self.display.size()
     }
 
-    /// What is shown at a row and a column, which count from 0 at the top left.
+    /// The look at a row and a column, which count from 0 at the top left.
     pub fn cell(&self, row: u32, column: u32) -> Look
         requires { IsPlace self.now.rows self.now.columns (row, column) }
         ensures value { (other : LookView) → result ≡ grid_at other self.now.state.grid row column }
@@ -110,7 +113,7 @@ impl EcmaScreen {
         self.display.cell(row, column)
     }
 
-    /// What is shown in a row, counted from 0 at the top.
+    /// The looks of a row, from the left; rows count from 0 at the top.
     pub fn row(&self, row: u32) -> &[Look]
         requires { row < self.now.rows }
         ensures cells { result.now ≡ grid_row self.now.state.grid row }
@@ -135,7 +138,8 @@ impl EcmaScreen {
         self.display.pen().attrs()
     }
 
-    /// The current foreground and background, each `None` where it is the default (ECMA-48, 8.3.117 SGR).
+    /// The current foreground and background, each `None` if it is the default (ECMA-48, 8.3.117
+    /// SGR).
     pub fn colours(&self) -> (Option<u8>, Option<u8>)
         ensures foreground { result.0 ≡ self.now.state.pen.foreground }
         ensures background { result.1 ≡ self.now.state.pen.background }
@@ -151,7 +155,7 @@ impl EcmaScreen {
         !self.waiting.as_slice().is_empty()
     }
 
-    /// Takes the next byte.
+    /// Reads the next byte.
     fn feed_byte(&mut self, byte: u8)
         ensures { IsFed self.old (byte ∷ []) self.new }
     {
@@ -168,7 +172,8 @@ impl EcmaScreen {
         }
     }
 
-    // Takes a control function of one byte. It stands apart, as the next one does, so that graphic characters set up no change.
+    // Reads a control function of one byte. This function and the next are separate so that graphic
+    // characters set up no change.
     #[inline(never)]
     fn take_control(&mut self, byte: u8)
         requires defined { self.old.undefined ≡ false }
@@ -179,7 +184,7 @@ impl EcmaScreen {
         self.apply(change);
     }
 
-    // Takes the last byte of a control sequence.
+    // Reads the final byte of a control sequence.
     #[inline(never)]
     fn take_last(&mut self, byte: u8)
         requires defined { self.old.undefined ≡ false }
@@ -204,7 +209,7 @@ impl EcmaScreen {
         let _size = self.display.size();
     }
 
-    /// Makes a change, or becomes undefined where there is none.
+    /// Makes a change, or becomes undefined if there is none.
     fn apply(&mut self, change: Option<Change>)
         requires { ForSome change (IsChange self.old.rows self.old.columns) }
         ensures { self.new ≡ acted self.old (option_map (changed self.old.rows self.old.columns self.old.state) change) }

@@ -1,4 +1,4 @@
-//! How a terminfo entry becomes a profile, and why it does not.
+//! How a terminfo entry becomes a profile, or why it does not.
 ghost use Rattle.std.specs.Prelude.{◌≡◌, ◌≢◌, ◌++◌, ◌∷◌, [], OnOk, IfOk, IfErr, IsErrOf, Some, map, length, option_map};
 ghost use Rattle.ti_param.specs.Parsed.{parsed};
 ghost use Rattle.scr_term.specs.Operations.Admission.{IsAdmitted, IsBundledAdmitted, IsEcma48, IsRefused, RanOut, first_where, is_bad_string, is_over_bound, is_present, named_text, planned_program, screen_size, sent_text, size_fault};
@@ -13,7 +13,8 @@ use std::alloc::Global;
 use ti_caps::{Entry, Kind, Slot, bundled, slots};
 use ti_param::{ParamFault, Program, padding_is_removed, strip_padding, text_is_parsed};
 
-// The capabilities of printing and overstriking terminals, and of others that do not show each cell for itself.
+// The capabilities of printing and overstriking terminals, and of others on which cells cannot be
+// shown independently.
 const UNSUITABLE: [(Kind, Slot); 9] = [
     (Kind::Flag, slots::HC),
     (Kind::Flag, slots::OS),
@@ -26,29 +27,33 @@ const UNSUITABLE: [(Kind, Slot); 9] = [
     (Kind::Number, slots::XMC),
 ];
 
-// The capabilities that a terminal has to have.
+// The capabilities that every terminal needs.
 const NEEDED: [Capability; 2] = [Capability::Cup, Capability::Clear];
 
-// The greatest stack that the programs of a profile may need.
+// The deepest stack that a program of a profile may need.
 const MOST_DEPTH: usize = 20;
 
 // The most bytes that a program of a profile may give.
 const MOST_BYTES: usize = 1_024;
 
 impl Profile {
-    /// The profile of a terminal by its entry, on a screen of this size, or of the entry's `lines` and `cols` where none
-    /// is given (terminfo(5)). A refusal is the first of these that there is.
+    /// The profile of a terminal by its entry, on a screen of `size`, or of the entry's `lines` and
+    /// `cols` if `size` is `None` (terminfo(5)).
+    ///
+    /// It gives the first of these refusals that applies:
     ///
     /// 1. `Unsuitable`: `hc`, `os`, `gn`, `hz`, `ul`, `xhp`, `xt`, `sam` or `xmc` is present.
     /// 2. `AutoMargin`: `am` is present and `xenl` is not.
-    /// 3. `Missing`: `cup`, or else `clear`, is absent. A text of which nothing is left without its padding counts as
-    ///    absent.
-    /// 4. `NoSize`: no size is given, and `lines` or `cols` is absent.
+    /// 3. `Missing`: `cup`, or else `clear`, is absent. A text that consists of padding alone
+    ///    counts as absent.
+    /// 4. `NoSize`: `size` is `None`, and `lines` or `cols` is absent.
     /// 5. `BadSize`: the entry's `lines` or `cols` is not 1 to 500.
-    /// 6. `BadString`: the text of a capability is no parameter string, or its stack could hold more than 20 values. Only
-    ///    capabilities that operations send are looked at, in the order of their positions.
+    /// 6. `BadString`: the text of a capability is not a parameter string, or could need a stack of
+    ///    more than 20 values. Only capabilities that operations send are checked, in the order of
+    ///    their positions.
     /// 7. `LongString`: the text of such a capability could give more than 1,024 bytes.
-    /// 8. `NoMemory`: a growth was refused, whatever would have followed. The first two are looked at before any growth.
+    /// 8. `NoMemory`: an allocation failed, whatever refusal would have followed. The first two are
+    ///    checked before any allocation.
     pub fn admit(alloc: Global, entry: &Entry, size: Option<Size>) -> Result<Profile, ProfileFault>
         ensures ok { IfOk result (IsAdmitted entry.now size) }
         ensures err { IfErr result (IsRefused entry.now size) }
@@ -65,8 +70,8 @@ impl Profile {
         Ok(profile(entry, size, programs).priced(entry))
     }
 
-    /// The profile of the bundled ECMA-48 entry on a screen of this size: that which `admit` makes of it. The only
-    /// refusal is `NoMemory`.
+    /// The profile of the bundled ECMA-48 entry on a screen of this size, which is what `admit`
+    /// makes of it. The only refusal is `NoMemory`.
     pub fn ecma48(alloc: Global, size: Size) -> Result<Profile, ProfileFault>
         ensures admitted { IfOk result (IsBundledAdmitted size) }
         ensures entry { IfOk result IsEcma48 }
@@ -81,7 +86,7 @@ impl Profile {
     }
 }
 
-// No capability is present that no suitable terminal has.
+// Refuses an entry that has a capability of an unsuitable terminal.
 fn is_suitable(entry: &Entry) -> Result<(), ProfileFault>
     ensures judged { Judges result (unsuitable_fault entry.now) }
     ensures lasting { IfErr result (λ fault. fault ≢ ProfileFault.NoMemory) }
@@ -115,7 +120,7 @@ fn is_present(entry: &Entry, capability: (Kind, Slot)) -> bool
     }
 }
 
-// A character in the last place does not scroll the screen.
+// Refuses a terminal that scrolls when a character is written in the last place.
 fn keeps_its_margin(entry: &Entry) -> Result<(), ProfileFault>
     ensures judged { Judges result (margin_fault entry.now) }
     ensures lasting { IfErr result (λ fault. fault ≢ ProfileFault.NoMemory) }
@@ -127,7 +132,7 @@ fn keeps_its_margin(entry: &Entry) -> Result<(), ProfileFault>
     }
 }
 
-// The texts are there that each terminal has to have.
+// Refuses an entry that lacks a needed text.
 fn has_needed_texts(alloc: Global, entry: &Entry) -> Result<(), ProfileFault>
     ensures { Judges result (missing_fault entry.now) }
 {
@@ -140,7 +145,7 @@ fn has_needed_texts(alloc: Global, entry: &Entry) -> Result<(), ProfileFault>
     }
 }
 
-// The first of these capabilities for which nothing is sent.
+// The first of these capabilities for which nothing would be sent.
 fn first_missing(
     alloc: Global,
     entry: &Entry,
@@ -156,7 +161,7 @@ fn first_missing(
     Ok(None)
 }
 
-// What the terminal is sent for a capability: its text without padding, if anything is left of it.
+// What the terminal is sent for a capability: its text without padding; `None` if that is empty.
 fn sent_text(
     alloc: Global,
     entry: &Entry,
@@ -176,7 +181,7 @@ fn sent_text(
     }
 }
 
-// The size of the screen: that which is given, or else the entry's.
+// The size of the screen: the given one, or else the entry's.
 fn screen_size(entry: &Entry, size: Option<Size>) -> Result<Size, ProfileFault>
     ensures judged { Judges result (size_fault (screen_size entry.now size)) }
     ensures size { IfOk result (λ s. screen_size entry.now size ≡ Some (s.rows, s.columns)) }
@@ -215,7 +220,7 @@ fn programs(
     Ok(programs)
 }
 
-// One more program.
+// Appends a program.
 fn add(programs: &mut Vec<Option<Program>>, program: Option<Program>) -> Result<(), NoMemory>
     ensures { OnOk result (programs.new.items ≡ programs.old.items ++ program ∷ []) }
 {
@@ -223,7 +228,7 @@ fn add(programs: &mut Vec<Option<Program>>, program: Option<Program>) -> Result<
     Ok(())
 }
 
-// The program of a capability, if there is a text for it.
+// The program of a capability; `None` if it has no text.
 fn planned_program(
     alloc: Global,
     entry: &Entry,
@@ -247,7 +252,7 @@ fn planned_program(
     }
 }
 
-// The program of a text; `None` where the text is no parameter string.
+// The program of a text; `None` if the text is not a parameter string.
 fn parsed_program(alloc: Global, text: &[u8]) -> Result<Option<Program>, NoMemory>
     ensures { IfOk result (λ program. program ≡ parsed text.now) }
 {

@@ -4,7 +4,8 @@ ghost use Rattle.scr_term.specs.Operations.Capabilities.{ordinal, slot_of};
 
 use ti_caps::{Slot, slots};
 
-/// A capability that an operation sends, in the order of the positions (terminfo(5), "Predefined Capabilities").
+/// A capability that an operation sends, in the order of positions (terminfo(5), "Predefined
+/// Capabilities").
 #[derive(Clone, Copy, Debug, PartialEq, Eq)]
 pub enum Capability {
     /// `cr`.
@@ -101,14 +102,14 @@ impl Capability {
         Capability::Setab,
     ];
 
-    /// Its number among them, from 0.
+    /// Its index in `EACH`.
     pub(crate) fn ordinal(self) -> usize
         ensures { result ≡ ordinal self }
     {
         self as usize
     }
 
-    /// Its position among the texts of an entry.
+    /// Its position among the string capabilities of an entry.
     pub fn slot(self) -> Slot
         ensures { result ≡ slot_of self }
     {

@@ -1,24 +1,26 @@
-//! Laws about operations, their steps and their bytes, for the crates above: functions that do nothing, whose contracts are
-//! the laws.
+//! Laws of operations, their steps and their bytes, for the crates above: empty functions whose
+//! contracts are the laws.
 ghost use Rattle.scr_term.specs.Operations.Bundled.{BundledIsEcma48};
 ghost use Rattle.scr_term.specs.Operations.Ecma48.{Ecma48Laws};
 ghost use Rattle.scr_term.specs.Operations.Laws.{BlankLaws, BytesActAsTheirOperation, BytesActAsTheirOperations, ProfilesHave, RunLaws, StepsKeepStates};
 
 use ti_param::{increment_adds_one, number_writes_decimal};
 
-/// Each profile moves the cursor everywhere, clears the screen and writes each character; it can reset what it can turn on,
-/// and turn on each attribute and set each colour that it shows. Without `sgr0` it shows none.
+/// What every profile has: it moves the cursor anywhere, clears the screen and writes every
+/// character. If it has `sgr0` it can reset; it can turn on each attribute and set each colour that
+/// it shows. Without `sgr0` it shows none.
 pub fn profiles_have()
     ensures { ProfilesHave }
 {}
 
-/// A step leads from a state of a profile to a state of that profile.
+/// A step leads from a state of a profile to a state of the same profile.
 pub fn steps_keep_states()
     ensures { StepsKeepStates }
 {}
 
-/// On the bundled ECMA-48 entry, the bytes of an operation do to the negative of a state what the
-/// operation's step does, wherever the step is defined.
+/// On the bundled ECMA-48 entry, the bytes of an operation do to the negative of a state what its
+/// step does to the state, wherever the step is defined. (The negative has reverse in place of
+/// standout, since both look alike there.)
 pub fn bytes_act_as_their_operation()
     ensures { BytesActAsTheirOperation }
 {
@@ -26,25 +28,28 @@ pub fn bytes_act_as_their_operation()
     increment_adds_one();
 }
 
-/// The same of operations one after another.
+/// The same for operations one after another.
 pub fn bytes_act_as_their_operations()
     ensures { BytesActAsTheirOperations }
 {
     bytes_act_as_their_operation();
 }
 
-/// The profile of the bundled ECMA-48 entry is determined by its size, and it shows every attribute and colours.
+/// The profile of the bundled ECMA-48 entry is determined by its size, and shows every attribute
+/// and colours.
 pub fn ecma48_laws()
     ensures { Ecma48Laws }
 {}
 
-/// What the bundled entry makes on a screen of any size, or of its own, is a profile whose bytes are spoken of: `IsEcma48`.
+/// Every profile that is admitted from the bundled entry, with or without a given size, is an
+/// `IsEcma48`: the laws of bytes hold for it.
 pub fn bundled_is_ecma48()
     ensures { BundledIsEcma48 }
 {}
 
-/// Runs of operations join, also where the first is undefined, and so do their bytes. A run leads from a state of a profile to a state of that profile, and has
-/// only operations that the profile has.
+/// Runs of operations can be joined, also if the first is undefined, and so can their bytes. A run
+/// leads from a state of a profile to a state of the same profile, and has only operations that the
+/// profile has.
 pub fn run_laws()
     ensures { RunLaws }
 {}

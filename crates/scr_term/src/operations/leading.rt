@@ -1,5 +1,4 @@
-//! Where operations lead that change no cell: motions to another spot, and those that turn attributes or set colours to
-//! another pen.
+//! Where operations lead that change no cell: motions to another spot, renditions to another pen.
 ghost use Rattle.std.specs.Prelude.{◌↔◌, ℕ, IsTrue, IfSome};
 ghost use Rattle.scr_term.specs.Operations.Abilities.{full_abilities};
 ghost use Rattle.scr_term.specs.Operations.Leading.{GoesTo, TurnsTo};
@@ -13,12 +12,14 @@ use bitflags::Flags;
 use scr_cells::{Attrs, Pen};
 
 impl Profile {
-    /// Where the cursor is behind a motion that the terminal has, from a spot and with a pen: `Home`, `Move`, `Column`, `Line`, `Up`,
-    /// `Down`, `Left`, `Right` or `Return`. It changes nothing else. Whether the terminal has it, `cost` says too.
+    /// The spot to which a motion leads from `spot` with `pen`: `Home`, `Move`, `Column`, `Line`,
+    /// `Up`, `Down`, `Left`, `Right` or `Return`. The motion changes nothing else. The terminal has
+    /// to have the operation; `cost` is `Some` if it does.
     ///
-    /// `None` where the operation is none of these or is undefined: it leads off the screen; it is not `Home` or `Move`, and the
-    /// cursor is at the margin; or an attribute or a colour is on, and there is no `msgr`. So too where the spot is off the screen,
-    /// or the pen has an attribute that there is not.
+    /// `None` if the operation is none of these or is undefined: it leads off the screen; the
+    /// cursor is at the margin, and it is neither `Home` nor `Move`; or an attribute or a colour is
+    /// on, and the terminal has no `msgr`. Also `None` if `spot` is off the screen, or `pen` has an
+    /// unknown attribute.
     pub fn moved_by(&self, spot: Spot, pen: Pen, op: Op) -> Option<Spot>
         requires { IsTrue (has self.now op) }
         ensures { IfSome result (GoesTo self.now spot pen op) }
@@ -35,11 +36,11 @@ impl Profile {
         }
     }
 
-    /// The pen behind an operation that turns attributes on or off or sets a colour, from a spot and with a pen: `Reset`,
-    /// `Enter`, `Set`, `Fore` or `Back`. It changes nothing else.
+    /// The pen after an operation that turns attributes on or off or sets a colour, from `spot`
+    /// with `pen`: `Reset`, `Enter`, `Set`, `Fore` or `Back`. The operation changes nothing else.
     ///
-    /// `None` where the operation is none of these, the terminal does not have it, or it is undefined: it sets a colour,
-    /// and the cursor is at the margin.
+    /// `None` if the operation is none of these, if the terminal does not have it, or if it is
+    /// undefined: it sets a colour while the cursor is at the margin.
     #[tactic(auto, unfolding(crate::specs::Operations::Texts::has))]
     pub fn turned(&self, spot: Spot, pen: Pen, op: Op) -> Option<Pen>
         ensures { IfSome result (TurnsTo self.now spot pen op) }

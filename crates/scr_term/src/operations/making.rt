@@ -1,4 +1,5 @@
-//! The profile of an entry that nothing is against: what it shows, and how long its texts can be.
+//! The profile of an entry that has passed all checks: what it shows, and how long its texts can
+//! be.
 ghost use Rattle.std.specs.Prelude.{◌≡◌, false, is_some, map, filter, length};
 ghost use Rattle.scr_term.specs.Operations.Admission.{admitted, has_palette, planned_program};
 ghost use Rattle.scr_term.specs.Operations.Capabilities.{each_capability};
@@ -14,7 +15,7 @@ use scr_cells::{Attrs, Size};
 use ti_caps::{Entry, slots};
 use ti_param::{Program, text_is_bounded};
 
-/// The profile of an entry that nothing is against.
+/// The profile of an entry that has passed all checks.
 pub(crate) fn profile(entry: &Entry, size: Size, programs: Vec<Option<Program>>) -> Profile
     requires texts { AreTexts entry.now }
     requires programs { programs.items ≡ map (planned_program entry.now) each_capability }
@@ -37,7 +38,8 @@ pub(crate) fn profile(entry: &Entry, size: Size, programs: Vec<Option<Program>>)
     }
 }
 
-// The entry promises eight colours and 64 pairs, and each attribute can be shown with a colour.
+// Whether the entry promises eight colours and 64 pairs, and each attribute can be combined with
+// colours.
 fn has_palette(entry: &Entry) -> bool
     ensures { result ≡ has_palette entry.now }
 {
@@ -58,7 +60,8 @@ fn is_there(programs: &[Option<Program>], capability: Capability) -> bool
     programs[capability.ordinal()].is_some()
 }
 
-// Which of these attributes can be turned on, and all be turned off; from the last one on, as `set_of` unites them.
+// Those of these attributes that the terminal can turn on, if it can turn all off. Goes from the
+// last to the first, as `set_of` does.
 fn shown_set(programs: &[Option<Program>], attributes: &[Attrs]) -> Attrs
     requires { length programs.now ≡ 29 }
     ensures { result.0 ≡ set_of (filter (is_shown (with_programs false programs.now)) (map (λ a. a.0) attributes.now)) }
@@ -82,7 +85,7 @@ fn is_shown(programs: &[Option<Program>], attribute: Attrs) -> bool
     is_there(programs, Capability::Sgr0) && is_there(programs, entering(attribute))
 }
 
-// Whether colours are shown, where the entry promises them or not.
+// Whether colours are shown; `palette` says whether the entry promises them.
 #[tactic(auto, unfolding(crate::specs::Operations::Profiles::has_colours))]
 fn has_colours(palette: bool, programs: &[Option<Program>]) -> bool
     requires { length programs.now ≡ 29 }
@@ -95,7 +98,7 @@ fn has_colours(palette: bool, programs: &[Option<Program>]) -> bool
         && is_there(programs, Capability::Setab)
 }
 
-// A number of bytes that no operation's text exceeds: where there are colours, `op` may be sent behind another text.
+// A bound on the bytes of any operation. If there are colours, `op` may follow another text.
 fn longest(programs: &[Option<Program>], colours: bool) -> usize
     requires whole { length programs.now ≡ 29 }
     requires planned { ArePlanned programs.now }
@@ -109,7 +112,7 @@ fn longest(programs: &[Option<Program>], colours: bool) -> usize
     }
 }
 
-// The most bytes that the program of a capability gives.
+// The most bytes that the program of a capability can give.
 fn bound_of(programs: &[Option<Program>], capability: Capability) -> usize
     requires { length programs.now ≡ 29 }
     ensures { result ≡ counted_bound (program_in programs.now capability) }
@@ -117,7 +120,7 @@ fn bound_of(programs: &[Option<Program>], capability: Capability) -> usize
     counted_bound(&programs[capability.ordinal()])
 }
 
-// The most bytes that one program gives, and at least the one of a character.
+// The most bytes that any of these programs can give, and at least 1, for a character.
 fn greatest_bound(programs: &[Option<Program>]) -> usize
     ensures { result ≡ greatest_bound 1 programs.now }
 {
@@ -128,7 +131,7 @@ fn greatest_bound(programs: &[Option<Program>]) -> usize
     greatest
 }
 
-// The most bytes that a program gives.
+// The most bytes that a program can give.
 fn counted_bound(program: &Option<Program>) -> usize
     ensures { result ≡ counted_bound program.now }
 {

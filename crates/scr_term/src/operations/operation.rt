@@ -1,55 +1,60 @@
-//! The operations of a terminal, and the places of its cursor. What they do is in `specs/Operations/Steps.antt`, their bytes in
-//! `rendering`.
+//! The operations of a terminal, and the spots of its cursor. `specs/Operations/Steps.antt` says
+//! what they do; `rendering` gives their bytes.
 use scr_cells::Attrs;
 use std::fmt;
 use std::marker::Model;
 
-/// One operation of a terminal: a character, or the text of a capability, behind which `op` may stand (terminfo(5)).
+/// One operation of a terminal: a character, or the text of a capability, which `op` may follow
+/// (terminfo(5)).
 ///
 /// Rows and columns count from 0 at the top left.
 #[derive(Clone, Copy, Debug, PartialEq, Eq)]
 pub enum Op {
-    /// `home`: the cursor goes to the first place.
+    /// `home`: moves the cursor to row 0, column 0.
     Home,
-    /// `cup`: the cursor goes to a row and a column.
+    /// `cup`: moves the cursor to a row and a column.
     Move(u32, u32),
-    /// `hpa`: the cursor goes to a column of the same row.
+    /// `hpa`: moves the cursor to a column of the same row.
     Column(u32),
-    /// `vpa`: the cursor goes to a row, in the same column.
+    /// `vpa`: moves the cursor to a row, in the same column.
     Line(u32),
-    /// `cuu1` or `cuu`: the cursor goes so many rows up, 1 to 500.
+    /// `cuu1` or `cuu`: moves the cursor up by 1 to 500 rows.
     Up(u32),
-    /// `cud1` or `cud`: the cursor goes so many rows down, 1 to 500.
+    /// `cud1` or `cud`: moves the cursor down by 1 to 500 rows.
     Down(u32),
-    /// `cub1` or `cub`: the cursor goes so many columns to the left, 1 to 500.
+    /// `cub1` or `cub`: moves the cursor left by 1 to 500 columns.
     Left(u32),
-    /// `cuf1` or `cuf`: the cursor goes so many columns to the right, 1 to 500.
+    /// `cuf1` or `cuf`: moves the cursor right by 1 to 500 columns.
     Right(u32),
-    /// `cr`: the cursor goes to the first column of the same row.
+    /// `cr`: moves the cursor to the first column of the same row.
     Return,
-    /// `clear`: the screen becomes blank and the cursor goes to the first place.
+    /// `clear`: makes the screen blank and moves the cursor to row 0, column 0.
     Clear,
-    /// `el`: the row becomes blank from the cursor on.
+    /// `el`: makes the row blank from the cursor on.
     EraseLine,
-    /// `ed`: from the first column, the row of the cursor and those below it become blank.
+    /// `ed`, sent in the first column: makes the cursor's row and those below it blank.
     EraseBelow,
-    /// `ech`: so many places of the row become blank from the cursor on, 1 to 500.
+    /// `ech`: makes 1 to 500 places of the row blank, from the cursor on.
     EraseChars(u32),
-    /// `sgr0`, and `op` where colours are shown: no attribute is on any more, and the colours are the default ones.
+    /// `sgr0`, then `op` if colours are shown: turns all attributes off and makes the colours
+    /// default.
     Reset,
-    /// `smso`, `smul`, `rev`, `blink`, `dim`, `bold`, `invis`: one more attribute is on, the single one of the set.
+    /// `smso`, `smul`, `rev`, `blink`, `dim`, `bold` or `invis`: turns on one attribute more, the
+    /// only one of the set.
     Enter(Attrs),
-    /// `sgr`, and `op` where colours are shown: these attributes and no others are on, and the colours are the default ones.
+    /// `sgr`, then `op` if colours are shown: turns on exactly these attributes and makes the
+    /// colours default.
     Set(Attrs),
-    /// `setaf`: what is written has this foreground, 0 to 7.
+    /// `setaf`: sets the foreground, 0 to 7.
     Fore(u8),
-    /// `setab`: what is written has this background, 0 to 7.
+    /// `setab`: sets the background, 0 to 7.
     Back(u8),
-    /// A character, 32 to 126: it is written with the attributes that are on and the colours that are set.
+    /// Writes a character, 32 to 126, with the attributes that are on and the current colours.
     Put(u8),
 }
 
-/// An operation by its name, with its numbers, attributes or character: `Home`, `Move(4, 9)`, `Set(underline bold)`, `Put(q)`.
+/// Writes an operation as its name with its numbers, attributes or character: `Home`, `Move(4, 9)`,
+/// `Set(underline bold)`, `Put(q)`.
 impl fmt::Display for Op {
     fn fmt<W: fmt::Write>(&self, f: &mut fmt::Formatter<W>) -> fmt::Result {
         match self {
@@ -64,9 +69,10 @@ impl fmt::Display for Op {
 /// Where the cursor of a terminal is.
 #[derive(Clone, Copy, Debug, PartialEq, Eq)]
 pub enum Spot {
-    /// In a place, by its row and column.
+    /// In a place: its row and column.
     At(u32, u32),
-    /// Behind the last column of a row, after a character was written there (`xenl` of terminfo(5)).
+    /// Behind the last column of this row, after a character was written there (`xenl` of
+    /// terminfo(5)).
     Margin(u32),
 }
 

@@ -1,4 +1,5 @@
-//! What each operation sends: characters, and texts of capabilities with their parameters.
+//! The pieces that each operation sends: characters, and texts of capabilities with their
+//! parameters.
 ghost use Rattle.std.specs.Prelude.{◌≡◌, ◌≤◌, ◌==◌, ◌<◌, IsTrue, pos, bit_and};
 ghost use Rattle.scr_term.specs.Operations.Profiles.{entering};
 ghost use Rattle.scr_term.specs.Operations.Texts.{first_piece, is_within, motion, nine, one_if_in, renditions_of, resets_colours, text, text_of_one, text_of_two};
@@ -9,19 +10,20 @@ use crate::{Op, Profile};
 use bitflags::Flags;
 use scr_cells::Attrs;
 
-/// A piece of what an operation sends. Only `sgr` takes more than two numbers, so that a piece is small.
+/// A piece of what an operation sends. Only `sgr` takes more than two numbers, so it has a variant
+/// of its own to keep the type small.
 #[derive(Clone, Copy)]
 pub(crate) enum Sent {
     /// A character.
     Byte(u8),
-    /// The text of a capability, with two parameters; the others are 0.
+    /// The text of a capability with two parameters; the others are 0.
     Numbers(Capability, i32, i32),
     /// The text of `sgr` for a set of attributes.
     Renditions(Attrs),
 }
 
 impl Profile {
-    /// What an operation that is within the terminal's limits sends, or sends first.
+    /// The only or first piece of an operation that is within the terminal's limits.
     #[inline(always)]
     pub(crate) fn first_piece(&self, op: Op) -> Sent
         requires { IsTrue (is_within self.now op) }
@@ -51,7 +53,8 @@ impl Profile {
         }
     }
 
-    // A motion by one place where the terminal has a text for it, else by a number of places.
+    // A motion by one place uses the text for one place if the terminal has it, otherwise the one
+    // with a count.
     fn motion(&self, one: Capability, many: Capability, count: u32) -> Sent
         requires { count ≤ 500 }
         ensures { piece_of result ≡ motion self.now one many count }
@@ -64,7 +67,7 @@ impl Profile {
     }
 }
 
-/// Whether the colours are the default ones behind an operation.
+/// Whether an operation makes the colours default.
 pub(crate) fn resets_colours(op: Op) -> bool
     ensures { result ≡ resets_colours op }
 {
@@ -110,14 +113,15 @@ pub(crate) fn entering(attribute: Attrs) -> Capability
     }
 }
 
-// 1 for an attribute of a set.
+// 1 if the set has the attribute, else 0.
 fn one_if_in(set: Attrs, attribute: Attrs) -> i32
     ensures { result ≡ one_if_in set.0 attribute.0 }
 {
     i32::from(set.contains(attribute))
 }
 
-/// The parameters of `sgr`: one for each attribute in its order, and none for protected and alternate characters.
+/// The nine parameters of `sgr`: one for each attribute in its order, and 0 for protected and
+/// alternate characters.
 pub(crate) fn renditions_of(attributes: Attrs) -> [i32; 9]
     ensures { result ≡ renditions_of attributes.0 }
 {

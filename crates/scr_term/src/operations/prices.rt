@@ -1,5 +1,5 @@
-//! What each operation of a terminal costs, in bytes: estimates that are looked up and not worked out, to choose between
-//! operations. How many bytes an operation has exactly is in `rendering`.
+//! Prices of operations: estimates of their bytes, looked up when operations are compared.
+//! `rendering` gives the exact numbers.
 ghost use Rattle.std.specs.Prelude.{◌≡◌, ◌<◌, IfSome};
 
 use crate::operations::capability::Capability;
@@ -8,11 +8,11 @@ use bitflags::Flags;
 use scr_cells::Attrs;
 use ti_caps::Entry;
 
-/// What an operation costs that the terminal does not have: more than all others together.
+/// The price of an operation that the terminal does not have: more than all others together.
 pub const FAR: u32 = 1_000_000;
 
-// What is priced of each text with a number: its operations with numbers of one digit, two and three, of which those of
-// `hpa` and `vpa` count from 1. A motion has one by a single place besides.
+// The operations by which a text with a number is priced: one with a number of one digit, one of
+// two and one of three. `hpa` and `vpa` count from 1. A motion also has one by a single place.
 const ERASURES: [Op; 3] = [Op::EraseChars(1), Op::EraseChars(10), Op::EraseChars(100)];
 
 const COLUMNS: [Op; 3] = [Op::Column(0), Op::Column(9), Op::Column(99)];
@@ -27,15 +27,16 @@ const LEFTS: [Op; 4] = [Op::Left(1), Op::Left(2), Op::Left(10), Op::Left(100)];
 
 const RIGHTS: [Op; 4] = [Op::Right(1), Op::Right(2), Op::Right(10), Op::Right(100)];
 
-// The same of `cup`, in the first column and in the first row.
+// The same for `cup`, in the first column and in the first row.
 const ADDRESSED_ROWS: [Op; 3] = [Op::Move(0, 0), Op::Move(9, 0), Op::Move(99, 0)];
 
 const ADDRESSED_COLUMNS: [Op; 3] = [Op::Move(0, 0), Op::Move(0, 9), Op::Move(0, 99)];
 
-/// What each operation of a terminal costs, in bytes: an estimate, made when the entry was read.
+/// The prices of a terminal's operations: estimates of their bytes, made when the entry is
+/// admitted.
 ///
-/// The texts without a number are counted. A text with a number is counted for one number of one digit, one of two and
-/// one of three, and its price for another is that of a number with as many digits.
+/// A text without a number is counted. A text with a number is counted for one number of each
+/// length, one digit to three; its price for another number is that of the one with as many digits.
 #[derive(Clone, Copy)]
 pub struct Prices {
     home: u32,
@@ -50,21 +51,21 @@ pub struct Prices {
     down: Counted,
     left: Counted,
     right: Counted,
-    // Of `cup`: for the first place, and what a row and a column add to it.
+    // `cup`: the price of the first place, and what the row and the column add to it.
     address: u32,
     address_row: ByDigits,
     address_column: ByDigits,
     reset: u32,
     fore: u32,
     back: u32,
-    // By the number of the attribute in `Attrs::EACH`.
+    // By the index of the attribute in `Attrs::EACH`.
     enter: [u32; 7],
-    // Of `sgr`: for no attribute, and what each attribute adds to it.
+    // `sgr`: the price without attributes, and what each attribute adds to it.
     set: u32,
     set_more: [u32; 7],
 }
 
-// The price of a text with a number, by how many digits the number has that is sent.
+// The price of a text with a number, by the digits of the number that is sent.
 #[derive(Clone, Copy)]
 struct ByDigits {
     one: u32,
@@ -72,7 +73,7 @@ struct ByDigits {
     three: u32,
 }
 
-// The price of a motion by so many places: one place can have a text of its own.
+// The price of a motion by a count; one place can have a text of its own.
 #[derive(Clone, Copy)]
 struct Counted {
     one: u32,
@@ -80,7 +81,7 @@ struct Counted {
 }
 
 impl ByDigits {
-    // Of a text that the terminal does not have.
+    // For a text that the terminal does not have.
     fn far() -> ByDigits {
         ByDigits {
             one: FAR,
@@ -99,7 +100,7 @@ impl ByDigits {
         }
     }
 
-    // The price with the number behind this one: `cup`, `hpa` and `vpa` count from 1.
+    // The price with the next number: `cup`, `hpa` and `vpa` count from 1.
     #[inline(always)]
     fn with_next(self, number: u32) -> u32 {
         self.with(number.saturating_add(1))
@@ -107,7 +108,7 @@ impl ByDigits {
 }
 
 impl Counted {
-    // The price of a motion by so many places.
+    // The price of a motion by `count` places.
     #[inline(always)]
     fn by(self, count: u32) -> u32 {
         if count == 1 {
@@ -119,8 +120,10 @@ impl Counted {
 }
 
 impl Prices {
-    /// How many bytes an operation has, about; `FAR` where the terminal does not have it, or where its text has a line feed,
-    /// to which the terminal's driver could add a carriage return.
+    /// About how many bytes an operation has; `FAR` if the terminal does not have its text.
+    ///
+    /// Also `FAR` for `Clear`, an erasure, or a motion other than `Move`, if its text contains a
+    /// line feed: the terminal's driver could add a carriage return.
     #[inline(always)]
     pub fn of(&self, op: Op) -> u32 {
         match op {
@@ -146,12 +149,12 @@ impl Prices {
         }
     }
 
-    /// What it costs to turn on these attributes, one by one.
+    /// The price of turning on these attributes, one by one.
     pub fn enters(&self, attributes: Attrs) -> u32 {
         sum(0, &self.enter, attributes)
     }
 
-    /// What a motion costs from one part of a row to another: the least of `Right(2)`, `Column(9)` and `Move(9, 9)`.
+    /// The price of a motion within a row: the least of `Right(2)`, `Column(9)` and `Move(9, 9)`.
     pub fn easy_motion(&self) -> u32 {
         self.of(Op::Right(2))
             .min(self.of(Op::Column(9)))
@@ -166,7 +169,7 @@ impl Prices {
             .saturating_add(self.address_column.with_next(column))
     }
 
-    /// Those of a terminal without operations.
+    /// The prices of a terminal without operations.
     pub(crate) fn none() -> Prices {
         let number = ByDigits::far();
         let count = Counted {
@@ -199,7 +202,7 @@ impl Prices {
     }
 }
 
-// A price, and what each of these attributes adds to it.
+// A price plus what each of these attributes adds.
 #[inline(always)]
 fn sum(first: u32, prices: &[u32; 7], attributes: Attrs) -> u32 {
     if attributes.is_empty() {
@@ -211,7 +214,7 @@ fn sum(first: u32, prices: &[u32; 7], attributes: Attrs) -> u32 {
     }
 }
 
-// The number of an attribute in `Attrs::EACH`; `None` of several.
+// The index of an attribute in `Attrs::EACH`; `None` for a set that is not a single attribute.
 #[inline(always)]
 fn number_of(attribute: Attrs) -> Option<usize>
     ensures { IfSome result (λ number. number < 7) }
@@ -228,7 +231,7 @@ fn number_of(attribute: Attrs) -> Option<usize>
     }
 }
 
-// A price, and what each of several attributes adds to it.
+// A price plus what each of several attributes adds.
 #[inline(never)]
 fn sum_of_several(first: u32, prices: &[u32; 7], attributes: Attrs) -> u32 {
     let mut sum = first;
@@ -241,12 +244,12 @@ fn sum_of_several(first: u32, prices: &[u32; 7], attributes: Attrs) -> u32 {
 }
 
 impl Profile {
-    /// What each operation costs, about: to choose between operations.
+    /// Estimates of the bytes of each operation, to compare operations by.
     pub fn prices(&self) -> &Prices {
         &self.prices
     }
 
-    /// The same profile, with the prices of the texts of its entry.
+    /// The same profile, with the prices of its entry's texts.
     pub(crate) fn priced(self, entry: &Entry) -> Profile
         ensures { result ≡ self }
     {
@@ -256,7 +259,7 @@ impl Profile {
         profile
     }
 
-    // The prices of the texts of an entry.
+    // The prices of the entry's texts.
     fn prices_by(&self, entry: &Entry) -> Prices {
         let address = self.price(Op::Move(0, 0));
         let set = self.price(Op::Set(Attrs::empty()));
@@ -285,7 +288,7 @@ impl Profile {
         }
     }
 
-    // How many bytes an operation has.
+    // The bytes of an operation, at most `FAR`.
     fn price(&self, op: Op) -> u32 {
         match self.cost(op) {
             Some(cost) => u32::try_from(cost).unwrap_or(FAR).min(FAR),
@@ -293,7 +296,7 @@ impl Profile {
         }
     }
 
-    // The same where the text of its capability has no line feed.
+    // The same, but `FAR` if the capability's text contains a line feed.
     fn price_of(&self, entry: &Entry, capability: Capability, op: Op) -> u32 {
         if has_line_feed(entry, capability) {
             FAR
@@ -302,8 +305,8 @@ impl Profile {
         }
     }
 
-    // The prices of operations whose numbers have one digit, two and three. Where the screen is too small for the last, they
-    // cost what those before them do.
+    // The prices of operations with numbers of one, two and three digits. If the screen is too
+    // small for one of them, it gets the price of the one before.
     fn ladder(&self, ops: [Op; 3]) -> ByDigits {
         let one = self.price(ops[0]);
         let two = self.price(ops[1]);
@@ -316,7 +319,7 @@ impl Profile {
         }
     }
 
-    // The same where the text of their capability has no line feed.
+    // The same, but `FAR` if the capability's text contains a line feed.
     fn prices_of(&self, entry: &Entry, capability: Capability, ops: [Op; 3]) -> ByDigits {
         if has_line_feed(entry, capability) {
             ByDigits::far()
@@ -325,7 +328,7 @@ impl Profile {
         }
     }
 
-    // What they cost more than another operation.
+    // By how much these exceed another price.
     fn prices_above(&self, price: u32, ops: [Op; 3]) -> ByDigits {
         let ladder = self.ladder(ops);
         ByDigits {
@@ -335,7 +338,7 @@ impl Profile {
         }
     }
 
-    // The prices of a motion with a text for one place and one for a number of places.
+    // The prices of a motion that has one text for one place and one with a count.
     fn motion_prices(
         &self,
         entry: &Entry,
@@ -375,7 +378,7 @@ impl Profile {
     }
 }
 
-// Whether the text of a capability has a line feed.
+// Whether the text of a capability contains a line feed.
 fn has_line_feed(entry: &Entry, capability: Capability) -> bool {
     match entry.text(capability.slot()) {
         Some(text) => text.contains(&b'\n'),

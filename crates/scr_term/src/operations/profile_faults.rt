@@ -1,19 +1,20 @@
-//! Why a terminal has no profile.
+//! Why an entry makes no profile.
 
 use thiserror::Error;
 use ti_caps::{Kind, Slot, name_of};
 
-/// Why a terminal's entry and size give no profile (terminfo(5)). A capability is given by its kind and position.
+/// Why a terminal's entry and size make no profile (terminfo(5)). A capability is given by its kind
+/// and position.
 #[derive(Clone, Copy, Debug, PartialEq, Eq, Error)]
 pub enum ProfileFault {
-    /// A capability of a printing or overstriking terminal, or of another one that does not show each cell for itself,
-    /// is present: `hc`, `os`, `gn`, `hz`, `ul`, `xhp`, `xt`, `sam` or `xmc`.
+    /// `hc`, `os`, `gn`, `hz`, `ul`, `xhp`, `xt`, `sam` or `xmc` is present: the terminal prints or
+    /// overstrikes, or for another reason cannot show cells independently.
     #[error("unsuitable capability {}", name(.0))]
     Unsuitable((Kind, Slot)),
     /// `am` is present and `xenl` is not: a character in the last place would scroll the screen.
     #[error("am without xenl")]
     AutoMargin,
-    /// `cup` or `clear` is absent, or nothing is left of it without its padding.
+    /// `cup` or `clear` is absent, or consists of padding alone.
     #[error("missing capability {}", name(.0))]
     Missing((Kind, Slot)),
     /// `lines` or `cols` is absent, and no size is given.
@@ -22,7 +23,8 @@ pub enum ProfileFault {
     /// The rows or the columns are not 1 to 500.
     #[error("bad size")]
     BadSize,
-    /// The text of a capability is no parameter string, or could need a stack of more than 20 values.
+    /// The text of a capability is not a parameter string, or could need a stack of more than 20
+    /// values.
     #[error("bad string {}", name(.0))]
     BadString((Kind, Slot)),
     /// The text of a capability could give more than 1,024 bytes.
@@ -33,7 +35,7 @@ pub enum ProfileFault {
     NoMemory,
 }
 
-// The name of a capability, where the table has one for it.
+// The name of a capability, if the table has one.
 fn name(capability: &(Kind, Slot)) -> &'static str {
     name_of(capability.0, capability.1).unwrap_or("?")
 }

@@ -1,5 +1,6 @@
-//! What is known of a terminal, and which operations it has. How an entry becomes a profile is in `admission`, what an
-//! operation sends in `pieces`, and its bytes and their number are in `rendering`.
+//! The profile of a terminal: what is known of it, and which operations it has. `admission` makes a
+//! profile of an entry; `pieces` says what an operation sends, and `rendering` gives its bytes and
+//! their number.
 ghost use Rattle.std.specs.Prelude.{◌≡◌, ◌≤◌, length};
 ghost use Rattle.scr_term.specs.declared.operations.capability.Capability.TheVariants.{Sgr0};
 ghost use Rattle.scr_term.specs.declared.operations.operation.Op.{Op};
@@ -16,12 +17,12 @@ use scr_cells::{Attrs, Size, is_character};
 use std::marker::Model;
 use ti_param::Program;
 
-/// What is known of a terminal from its terminfo entry and its size: which operations it has, their texts, and which
-/// attributes and colours it shows (terminfo(5)).
+/// The profile of a terminal, from its terminfo entry and its size: which operations it has, their
+/// texts, and which attributes and colours it shows (terminfo(5)).
 #[derive(Drop)]
 pub struct Profile {
     pub(crate) size: Size,
-    // By the number of the capability.
+    // By the index of the capability.
     pub(crate) programs: Vec<Option<Program>>,
     pub(crate) msgr: bool,
     pub(crate) palette: bool,
@@ -47,7 +48,7 @@ impl Model for Profile {
 }
 
 impl Profile {
-    /// How many rows and columns the screen has.
+    /// The number of rows and columns of the screen.
     pub fn size(&self) -> Size
         ensures rows { result.rows ≡ self.now.rows }
         ensures columns { result.columns ≡ self.now.columns }
@@ -56,23 +57,24 @@ impl Profile {
         self.size
     }
 
-    /// The attributes that the terminal shows: those that it can turn on, if it can turn all off. Others are dropped.
+    /// The attributes that the terminal shows: those that it can turn on, if it can turn all off.
+    /// All others are dropped.
     pub fn shows(&self) -> Attrs
         ensures { result.0 ≡ shown_set self.now }
     {
         self.shown
     }
 
-    /// Whether the terminal shows colours: it can set both, make both the default ones again and turn attributes off, and
-    /// has at least eight colours and 64 pairs and no attribute that excludes a colour (`ncv`). Where it shows none, all
-    /// is seen in the default colours.
+    /// Whether the terminal shows colours. It does if it can set both, make both default again and
+    /// turn attributes off, and has at least eight colours and 64 pairs and no attribute that
+    /// excludes colours (`ncv`). If not, everything has the default colours.
     pub fn colours(&self) -> bool
         ensures { result ≡ has_colours self.now }
     {
         self.colours
     }
 
-    /// A number of bytes that the text of no operation exceeds, at most 2,048.
+    /// A bound on the bytes of any operation's text, at most 2,048.
     pub fn longest(&self) -> usize
         ensures prices { (op : Op) → length (bytes_of self.now op) ≤ result }
         ensures few { result ≤ 2048 }
@@ -80,8 +82,9 @@ impl Profile {
         self.longest
     }
 
-    /// Whether the terminal has an operation: its numbers are on the screen (a count is 1 to 500), its attributes and
-    /// colours are shown (that of `Enter` is a single one), its byte is 32 to 126, and the entry has its text.
+    /// Whether the terminal has an operation: the entry has its text, its place is on the screen,
+    /// its count is 1 to 500, its attributes and colours are shown (for `Enter`, a single
+    /// attribute), its byte is 32 to 126.
     #[tactic(auto, unfolding(crate::specs::Operations::Texts::has))]
     pub fn has(&self, op: Op) -> bool
         ensures { result ≡ has self.now op }
@@ -96,7 +99,8 @@ impl Profile {
         self.programs[capability.ordinal()].is_some()
     }
 
-    /// Whether the terminal can turn attributes off (`sgr0`). Where it cannot, it shows no attribute and no colour.
+    /// Whether the terminal can turn attributes off (`sgr0`). If not, it shows no attribute and no
+    /// colour.
     pub fn can_reset(&self) -> bool
         ensures { result ≡ is_there self.now Sgr0 }
     {
@@ -110,7 +114,8 @@ impl Profile {
         self.msgr
     }
 
-    /// Whether the numbers of an operation are on the screen, its attributes and colours shown, its byte a character.
+    /// Whether an operation's numbers are within the limits, its attributes and colours are shown,
+    /// and its byte is a character.
     #[inline(always)]
     pub(crate) fn is_within(&self, op: Op) -> bool
         ensures { result ≡ is_within self.now op }
@@ -139,7 +144,7 @@ impl Profile {
         self.is_there(Capability::Sgr0) && self.is_there(entering(attribute))
     }
 
-    /// Whether the terminal can be sent a piece.
+    /// Whether the terminal has the text of a piece.
     #[inline(always)]
     pub(crate) fn is_sendable(&self, piece: Sent) -> bool
         ensures { result ≡ is_sendable self.now (piece_of piece) }
@@ -152,14 +157,14 @@ impl Profile {
     }
 }
 
-// Whether a motion or an erasure can be by so many places.
+// Whether a motion or an erasure can have this count.
 fn is_count(count: u32) -> bool
     ensures { result ≡ is_count count }
 {
     (1..=500).contains(&count)
 }
 
-// Whether the set has one attribute alone.
+// Whether the set has exactly one attribute.
 fn is_attribute(set: Attrs) -> bool
     ensures { result ≡ is_attribute set.0 }
 {

@@ -1,4 +1,5 @@
-//! The bytes of each operation, and how many they are. Nothing is sent here: they are appended to a vector.
+//! The bytes of each operation, and their number. Nothing is sent here: bytes are appended to a
+//! vector.
 ghost use Rattle.std.specs.Prelude.{◌≡◌, ◌+◌, ◌<◌, ◌≤◌, ◌∷◌, [], ◌++◌, ◌&&◌, IsTrue, OnOk, OnErr, Some, None, if◌then◌else◌, length, vec_len, vec_capacity};
 ghost use Rattle.scr_term.specs.Operations.Profiles.{has_colours, is_there, program_of};
 ghost use Rattle.scr_term.specs.Code.Sent.{piece_of};
@@ -12,7 +13,8 @@ use scr_cells::{Attrs, NoMemory};
 use ti_param::{RunFault, Vars, stack_is_enough, text_is_bounded};
 
 impl Profile {
-    /// How many bytes an operation's text has; `None` where the terminal does not have the operation.
+    /// The number of bytes of an operation's text; `None` if the terminal does not have the
+    /// operation.
     #[inline(always)]
     pub fn cost(&self, op: Op) -> Option<usize>
         ensures { result ≡ if has self.now op then Some (length (bytes_of self.now op)) else None }
@@ -23,7 +25,8 @@ impl Profile {
         }
     }
 
-    // How many bytes a cursor address has. It stands apart, since a plan asks for these most often.
+    // The number of bytes of a cursor address. It is a function of its own since plans ask for it
+    // most often.
     #[inline(always)]
     #[tactic(auto, using(crate::proofs::RenderingLaws::bytes_of_one), unfolding(crate::specs::Operations::Texts::has))]
     fn address_cost(&self, row: u32, column: u32) -> Option<usize>
@@ -36,7 +39,7 @@ impl Profile {
         None
     }
 
-    // How many bytes any operation has that the terminal has.
+    // The number of bytes of any operation; `None` if the terminal does not have it.
     #[inline(never)]
     #[tactic(auto, using(crate::proofs::RenderingLaws::bytes_of_one), unfolding(crate::specs::Operations::Texts::has))]
     fn any_cost(&self, op: Op) -> Option<usize>
@@ -57,11 +60,12 @@ impl Profile {
         }
     }
 
-    /// Appends the bytes of an operation that the terminal has: the text of its capability for its parameters, without
-    /// padding, and that of `op` behind it where the colours are to be the default ones (terminfo(5)).
+    /// Appends the bytes of an operation that the terminal has: the text of its capability with its
+    /// parameters, without padding, followed by that of `op` if the operation makes the colours
+    /// default (terminfo(5)).
     ///
-    /// Fails only when memory runs out, and then nothing is appended; never fails where `out` has room for the bytes. Its
-    /// capacity never shrinks.
+    /// Fails only when memory runs out, and then appends nothing; never fails if `out` has room for
+    /// the bytes. The capacity of `out` never shrinks.
     pub fn render(&self, op: Op, out: &mut Vec<u8>) -> Result<(), NoMemory>
         requires { IsTrue (has self.now op) }
         ensures ok { OnOk result (out.new.items ≡ out.old.items ++ bytes_of self.now op) }
@@ -76,7 +80,8 @@ impl Profile {
         }
     }
 
-    // Appends a character. It stands apart, since a third of what paints a screen is characters.
+    // Appends a character. It is a function of its own since a third of what paints a screen is
+    // characters.
     #[tactic(auto, unfolding(crate::specs::Operations::Texts::bytes_of))]
     fn render_character(&self, byte: u8, out: &mut Vec<u8>) -> Result<(), NoMemory>
         ensures ok { OnOk result (out.new.items ≡ out.old.items ++ bytes_of self.now (Put byte)) }
@@ -88,7 +93,7 @@ impl Profile {
         Ok(())
     }
 
-    // Appends a cursor address. It stands apart, since another third is these.
+    // Appends a cursor address. It is a function of its own since another third is these.
     #[inline(never)]
     #[tactic(auto, using(crate::proofs::RenderingLaws::bytes_of_one), unfolding(crate::specs::Operations::Texts::has))]
     fn render_address(&self, row: u32, column: u32, out: &mut Vec<u8>) -> Result<(), NoMemory>
@@ -123,7 +128,7 @@ impl Profile {
         Ok(())
     }
 
-    // What an operation that the terminal has sends, or sends first.
+    // The only or first piece of an operation that the terminal has.
     #[inline(always)]
     #[tactic(auto, unfolding(crate::specs::Operations::Texts::has))]
     fn first_sent(&self, op: Op) -> Sent
@@ -134,7 +139,7 @@ impl Profile {
         self.first_piece(op)
     }
 
-    // Whether `op` is sent behind an operation.
+    // Whether `op` follows an operation's text.
     #[tactic(auto, unfolding(crate::specs::Operations::Profiles::has_colours))]
     fn makes_colours_default(&self, op: Op) -> bool
         ensures value { result ≡ (resets_colours op && has_colours self.now) }
@@ -143,7 +148,7 @@ impl Profile {
         resets_colours(op) && self.colours
     }
 
-    // How many bytes a piece has.
+    // The number of bytes of a piece.
     #[inline(always)]
     fn piece_cost(&self, piece: Sent) -> usize
         requires { IsTrue (is_sendable self.now (piece_of piece)) }
@@ -159,7 +164,7 @@ impl Profile {
         }
     }
 
-    // How many bytes the text of a capability has for two numbers.
+    // The number of bytes of a capability's text with two numbers.
     #[inline(always)]
     fn numbers_cost(&self, capability: Capability, first: i32, second: i32) -> usize
         requires { IsTrue (is_there self.now capability) }
@@ -174,7 +179,7 @@ impl Profile {
         program.length_of_two(first, second).unwrap_or(0)
     }
 
-    // How many bytes the text of `sgr` has for a set of attributes.
+    // The number of bytes of the text of `sgr` for a set of attributes.
     #[inline(never)]
     fn renditions_cost(&self, set: Attrs) -> usize
         requires { IsTrue (is_there self.now Capability.Sgr) }
@@ -212,7 +217,7 @@ impl Profile {
         }
     }
 
-    // Appends the text of a capability for two numbers.
+    // Appends the text of a capability with two numbers.
     #[inline(always)]
     fn render_numbers(
         &self,

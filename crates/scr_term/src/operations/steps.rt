@@ -1,4 +1,4 @@
-//! What each operation but a character changes on an emulated terminal.
+//! What each operation changes on an emulated terminal, except for writing characters.
 ghost use Rattle.std.specs.Prelude.{◌≡◌, ◌≢◌, ◌||◌, ℕ, Some, None, IsTrue, IfSome, if◌then◌else◌};
 ghost use Rattle.scr_cells.specs.PenViews.{is_plain_pen};
 ghost use Rattle.scr_term.specs.declared.operations.operation.Op.TheVariants.{Put};
@@ -16,7 +16,8 @@ use crate::{Op, Profile, Spot};
 use bitflags::Flags;
 use scr_cells::{Pen, Size};
 
-/// What an operation that the terminal has, and that writes no character, changes; `None` where it is undefined.
+/// What an operation changes that the terminal has and that writes no character; `None` if it is
+/// undefined.
 #[tactic(auto, unfolding(crate::specs::Operations::Texts::has))]
 pub(crate) fn change_of(profile: &Profile, spot: Spot, pen: Pen, op: Op) -> Option<Change>
     requires has { IsTrue (has profile.now op) }
@@ -48,7 +49,7 @@ pub(crate) fn change_of(profile: &Profile, spot: Spot, pen: Pen, op: Op) -> Opti
     }
 }
 
-// A motion: with an attribute or a colour on it is defined where the terminal has `msgr` alone.
+// A motion. With an attribute or a colour on, it is defined only if the terminal has `msgr`.
 fn motion(profile: &Profile, pen: Pen, change: Option<Change>) -> Option<Change>
     requires { IfSome change (IsChange profile.now.rows profile.now.columns) }
     ensures value { result ≡ if profile.now.msgr || is_plain_pen pen then change else None }
@@ -61,14 +62,14 @@ fn motion(profile: &Profile, pen: Pen, change: Option<Change>) -> Option<Change>
     }
 }
 
-// An erasure: with an attribute or a colour on it is undefined.
+// An erasure. With an attribute or a colour on, it is undefined.
 fn erasure(pen: Pen, change: Option<Change>) -> Option<Change>
     ensures { result ≡ if is_plain_pen pen then change else None }
 {
     if pen.is_plain() { change } else { None }
 }
 
-// The row of the cursor and those below it are erased, from the first column alone.
+// Erases the cursor's row and those below it; `None` unless the cursor is in the first column.
 fn lines_below_erased(size: Size, spot: Spot) -> Option<Change>
     requires { IsSpot size.rows size.columns spot }
     ensures value { MakesAt size.rows size.columns spot result (λ state. lines_below_erased size.rows size.columns state) }
@@ -80,7 +81,7 @@ fn lines_below_erased(size: Size, spot: Spot) -> Option<Change>
     }
 }
 
-// The pen behind an operation that turns attributes on or off.
+// The pen after an operation that turns attributes on or off.
 pub(crate) fn next_pen(pen: Pen, op: Op) -> Pen
     ensures { result ≡ next_pen pen op }
 {
@@ -92,7 +93,7 @@ pub(crate) fn next_pen(pen: Pen, op: Op) -> Pen
     }
 }
 
-// Another pen, but at the margin.
+// Sets the pen; `None` at the margin.
 fn coloured(spot: Spot, pen: Pen) -> Option<Change>
     ensures { result ≡ from_place spot (λ _ _. Some (Change.Rendered pen)) }
 {
