@@ -1,4 +1,5 @@
-//! Where the names of capabilities stand, in buckets by a number that is computed from their bytes.
+//! Finding a capability by name: the table's names in buckets, by a number computed from their
+//! bytes.
 
 ghost use Rattle.std.specs.Prelude.{◌≡◌, ◌<◌, [], option_map, slice_index_or};
 ghost use Rattle.ti_caps.specs.Buckets.{bucket_number, found_at, found_in};
@@ -6,10 +7,11 @@ ghost use Rattle.ti_caps.specs.Table.{capability_of};
 
 use crate::table::{Kind, Slot, run_at};
 
-/// The address that is none: there is no such run.
+/// An address that no name has: there is no such run.
 const NONE: (u8, u8) = (8, 0);
 
-/// For each number the names whose bytes give it: the index of a name's run, and its index there.
+/// For each bucket number the addresses of its names: the index of a name's run, and its index in
+/// the run.
 static BUCKETS: [[(u8, u8); 6]; 128] = [
     [(2, 28), (4, 35), (7, 5), NONE, NONE, NONE],
     [(2, 4), (2, 33), (2, 36), (7, 6), NONE, NONE],
@@ -141,7 +143,7 @@ static BUCKETS: [[(u8, u8); 6]; 128] = [
     [(2, 23), (7, 4), NONE, NONE, NONE, NONE],
 ];
 
-/// The kind and the position of a capability by its name; None where the table has no such name
+/// The kind and position of the capability with this name; `None` if the table has no such name
 /// (terminfo(5)).
 pub fn find_name(name: &[u8]) -> Option<(Kind, Slot)>
     ensures { option_map (λ r. (r.0, r.1.0)) result ≡ capability_of name.now }
@@ -162,7 +164,7 @@ fn bucket_number(name: &[u8]) -> usize
     number
 }
 
-/// The bucket of a number; empty where there is none.
+/// The bucket with this number; empty if there is none.
 fn bucket_of(buckets: &[[(u8, u8); 6]], number: usize) -> &[(u8, u8)]
     ensures { result.now ≡ slice_index_or buckets.now number [] }
 {
@@ -172,7 +174,7 @@ fn bucket_of(buckets: &[[(u8, u8); 6]], number: usize) -> &[(u8, u8)]
     }
 }
 
-/// The capability at an address, where this is its name.
+/// The capability at an address; `None` unless this is its name.
 fn found_at(address: (u8, u8), name: &[u8]) -> Option<(Kind, Slot)>
     ensures { option_map (λ c. (c.0, c.1.0)) result ≡ found_at name.now address }
 {

@@ -1,4 +1,4 @@
-//! The bundled entry, `ecma48`: a terminal that takes control functions of ECMA-48.
+//! The bundled entry, `ecma48`: a terminal that understands control functions of ECMA-48.
 
 ghost use Rattle.std.specs.Prelude.{◌≡◌, ◌≤◌, ◌<◌, All, IfErr, IfOk, OnOk, Some, map, slice_set, true};
 ghost use Rattle.std.specs.List.{AllPass};
@@ -62,8 +62,9 @@ static TEXTS: [(Slot, &str); 34] = [
     (KBS, "\x08"),
 ];
 
-/// The bundled entry, `ecma48`: a terminal of 24 by 80 places, eight colours and all seven attributes, whose texts are control
-/// functions of ECMA-48 (8.3) and whose keys are the arrows and backspace. Fails only when memory runs out.
+/// The bundled entry, `ecma48`: a terminal of 24 rows and 80 columns with eight colours and all
+/// seven attributes. Its texts are control functions of ECMA-48 (8.3), and its keys are the arrows
+/// and backspace. Fails only when memory runs out.
 pub fn bundled(alloc: Global) -> Result<Entry, CapFault>
     ensures entry { IfOk result IsBundled }
     ensures memory { IfErr result (λ fault. fault ≡ NoMemory) }

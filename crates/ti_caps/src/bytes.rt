@@ -1,9 +1,9 @@
-//! Text as bytes.
+//! Strings of bytes, which contracts see as lists.
 
 use std::marker::Model;
 use std::ops::DerefSlice;
 
-/// A text of any bytes, which contracts see as a list.
+/// A string of any bytes, which contracts see as a list.
 #[derive(Debug, Drop)]
 pub struct Bytes(pub Vec<u8>);
 

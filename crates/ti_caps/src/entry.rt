@@ -1,4 +1,4 @@
-//! Terminal descriptions.
+//! Entries: descriptions of terminals in memory.
 
 ghost use Rattle.std.specs.Prelude.{◌≡◌, ◌≤◌, ◌<◌, ◌↔◌, None, true, false, replicate, is_none, option_map, slice_set, length, map, is_some, IfSome, IfOk, OnOk, OnErr, IsOk, IsErrOf, IsOkUnless};
 ghost use Rattle.ti_caps.specs.Names.{are_names};
@@ -12,20 +12,20 @@ use crate::table::{Kind, Slot, name_of};
 use std::alloc::{AllocError, Global};
 use std::marker::Model;
 
-/// How many positions there are for flags.
+/// The number of positions for flags.
 pub const MOST_FLAGS: usize = 64;
 
-/// How many positions there are for numbers.
+/// The number of positions for numbers.
 pub const MOST_NUMBERS: usize = 64;
 
-/// How many positions there are for texts.
+/// The number of positions for texts.
 pub const MOST_TEXTS: usize = 512;
 
-/// The greatest number that an entry has.
+/// The greatest value of a number.
 pub const MOST_NUMBER: u16 = 32_767;
 
-/// A terminal description: names, and for each position of each kind what the terminal has there
-/// (terminfo(5)). It has room for 64 flags, 64 numbers and 512 texts.
+/// A terminal's entry: its names, and for each position of each kind the terminal's capability
+/// there, if it has one (terminfo(5)). It has room for 64 flags, 64 numbers and 512 texts.
 #[derive(Drop)]
 pub struct Entry {
     names: Bytes,
@@ -45,9 +45,11 @@ impl Model for Entry {
 }
 
 impl Entry {
-    /// An entry with these names, in which nothing is present. BadNames where the names are not
-    /// 1 to 511 bytes from 32 to 126 without a comma, where an alternative is empty, or where the
-    /// first has a blank or begins with `#`; then NoMemory.
+    /// An entry with these names and no capabilities.
+    ///
+    /// Refused with `BadNames` if the names are not 1 to 511 bytes from 32 to 126 without a comma,
+    /// if an alternative is empty, or if the first has a blank or begins with `#`; then with
+    /// `NoMemory`.
     pub fn new(alloc: Global, names: &[u8]) -> Result<Entry, CapFault>
         ensures bad { IsErrOf result CapFault.BadNames ↔ (are_names names.now ≡ false) }
         ensures good { are_names names.now ≡ true → IsOkUnless result CapFault.NoMemory }
@@ -66,7 +68,7 @@ impl Entry {
         })
     }
 
-    /// The names, as they were given.
+    /// The names, as given to `new`.
     pub fn names(&self) -> &[u8]
         ensures names { result.now ≡ self.now.names }
         ensures described { IsDescription self.now }
@@ -74,7 +76,7 @@ impl Entry {
         self.names.0.as_slice()
     }
 
-    /// Whether a flag is present; false past the limit.
+    /// Whether a flag is present; false from position 64 on.
     pub fn flag(&self, slot: Slot) -> bool
         ensures { result ≡ flag_at self.now slot.0 }
     {
@@ -84,7 +86,7 @@ impl Entry {
         }
     }
 
-    /// A number from 0 to 32,767, where it is present; None past the limit.
+    /// A number, 0 to 32,767; `None` if it is absent, and from position 64 on.
     pub fn number(&self, slot: Slot) -> Option<u16>
         ensures value { result ≡ number_at self.now slot.0 }
         ensures small { IfSome result (λ n. n ≤ 32767) }
@@ -95,7 +97,7 @@ impl Entry {
         }
     }
 
-    /// A text, where it is present, without a byte 0; None past the limit.
+    /// A text, without a byte 0; `None` if it is absent, and from position 512 on.
     pub fn text(&self, slot: Slot) -> Option<&[u8]>
         ensures value { option_map (λ t. t.now) result ≡ text_at self.now slot.0 }
         ensures whole { IfSome result (λ t. has_nul t.now ≡ false) }
@@ -106,7 +108,7 @@ impl Entry {
         }
     }
 
-    /// Sets one flag, present or absent. SlotTooBig from 64 on.
+    /// Makes a flag present or absent. Refused with `SlotTooBig` from position 64 on.
     pub fn set_flag(&mut self, slot: Slot, present: bool) -> Result<(), CapFault>
         ensures too_big { IsErrOf result CapFault.SlotTooBig ↔ (64 ≤ slot.0) }
         ensures fits { slot.0 < 64 → IsOk result }
@@ -121,7 +123,8 @@ impl Entry {
         Ok(())
     }
 
-    /// Sets one number, which is at most 32,767, or makes it absent. SlotTooBig from 64 on.
+    /// Sets a number, at most 32,767, or makes it absent. Refused with `SlotTooBig` from position
+    /// 64 on.
     pub fn set_number(&mut self, slot: Slot, number: Option<u16>) -> Result<(), CapFault>
         requires { IfSome number (λ n. n ≤ 32767) }
         ensures too_big { IsErrOf result CapFault.SlotTooBig ↔ (64 ≤ slot.0) }
@@ -137,8 +140,10 @@ impl Entry {
         Ok(())
     }
 
-    /// Sets one text, or makes it absent. SlotTooBig from 512 on; then NulInText where the text
-    /// has a byte 0; then NoMemory, never for an absent text.
+    /// Sets a text or makes it absent.
+    ///
+    /// Refused with `SlotTooBig` from position 512 on, then with `NulInText` if the text has a byte
+    /// 0, then with `NoMemory`, which does not happen for an absent text.
     pub fn set_text(&mut self, slot: Slot, text: Option<&[u8]>) -> Result<(), CapFault>
         ensures too_big { IsErrOf result CapFault.SlotTooBig ↔ (512 ≤ slot.0) }
         ensures nul { IsErrOf result CapFault.NulInText ↔ ((slot.0 < 512) × (text_has_nul (option_map (λ t. t.now) text.entry) ≡ true)) }
@@ -159,7 +164,7 @@ impl Entry {
         Ok(())
     }
 
-    /// How many present capabilities have no name in the table.
+    /// The number of present capabilities that have no name in the table.
     pub fn unnamed(&self) -> usize
         ensures { result ≡ unnamed_count self.now }
     {
@@ -179,7 +184,7 @@ fn no_texts(alloc: Global) -> Result<Vec<Option<Bytes>>, AllocError>
     Ok(texts)
 }
 
-/// What a text holds are bytes.
+/// The elements of a byte slice are bytes.
 fn holds_bytes(text: &[u8])
     ensures { AreBytes text.now }
 {}

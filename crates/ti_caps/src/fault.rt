@@ -1,18 +1,18 @@
-//! Why an entry refuses something.
+//! Why a call on an entry was refused.
 
 use std::alloc::{AllocError, AllocFailed};
 use thiserror::Error;
 
-/// Why a call on an entry was refused, in the order in which refusals come.
+/// Why a call on an entry was refused, in the order of the checks.
 #[derive(Clone, Copy, Debug, PartialEq, Eq, Error)]
 pub enum CapFault {
-    /// The names break the rule of `Entry::new`.
+    /// The names break the rules of `Entry::new`.
     #[error("bad names")]
     BadNames,
-    /// A position past the limits: 64 for flags and numbers, 512 for texts.
+    /// The position is too great: 64 or more for flags and numbers, 512 or more for texts.
     #[error("slot too big")]
     SlotTooBig,
-    /// A text with a byte 0.
+    /// The text has a byte 0.
     #[error("NUL in a text")]
     NulInText,
     /// Memory ran out.

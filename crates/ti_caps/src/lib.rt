@@ -1,4 +1,4 @@
-//! The capabilities of terminfo(5), and the entries that say which of them a terminal has.
+//! The capability table of terminfo(5), and entries, which say which capabilities a terminal has.
 #![tactic(auto)]
 
 mod buckets;

@@ -1,11 +1,12 @@
-//! The names of an entry.
+//! The names of an entry, and their alternatives.
 
 ghost use Rattle.std.specs.Prelude.{◌≡◌, ◌<◌, ◌∷◌, IfSome, length, option_map};
 ghost use Rattle.std.specs.List.{list_all};
 ghost use Rattle.ti_caps.specs.Cuts.{alternatives_behind};
 ghost use Rattle.ti_caps.specs.Names.{alternatives, are_names, begins_with_hash, first_name, has_bytes, has_no_blank, is_name_byte};
 
-/// The first alternative of some names, and what stands behind its `|`.
+/// Splits names at the first `|`: the first alternative, and the rest behind the `|` if there is
+/// one.
 pub fn cut_name(names: &[u8]) -> (&[u8], Option<&[u8]>)
     ensures first { result.0.now ≡ first_name names.now }
     ensures cut { alternatives names.now ≡ result.0.now ∷ alternatives_behind (option_map (λ s. s.now) result.1) }
@@ -15,24 +16,23 @@ pub fn cut_name(names: &[u8]) -> (&[u8], Option<&[u8]>)
     (&names[..end], names.get(end + 1..))
 }
 
-/// The first alternative of some names, by which their entry is listed: all up to the first `|`.
+/// The first alternative, by which an entry is listed: everything up to the first `|`.
 pub fn first_name(names: &[u8]) -> &[u8]
     ensures { result.now ≡ first_name names.now }
 {
     cut_name(names).0
 }
 
-/// Whether no byte of a name is a blank: an alternative without one is a name of reference
-/// (term(5)).
+/// Whether a name has no blank; an alternative without blanks is a reference name (term(5)).
 pub fn has_no_blank(name: &[u8]) -> bool
     ensures { result ≡ has_no_blank name.now }
 {
     name.iter().all(|b| *b != b' ')
 }
 
-/// Whether a text is good for the names of an entry: 1 to 511 bytes from 32 to 126 without a
-/// comma, cut into alternatives at `|`; no alternative is empty, and the first has no blank and
-/// doesn't begin with `#` (terminfo(5)).
+/// Whether a text can be the names of an entry: 1 to 511 bytes from 32 to 126 without a comma,
+/// divided into alternatives by `|`. No alternative is empty, and the first has no blank and does
+/// not begin with `#` (terminfo(5)).
 pub fn are_names(names: &[u8]) -> bool
     ensures { result ≡ are_names names.now }
 {

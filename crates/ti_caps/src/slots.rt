@@ -1,5 +1,6 @@
-//! Positions of the capabilities that this library names in its code: those that a terminal has to have or must not have, those
-//! that its operations send, and the keys of the bundled entry (terminfo(5), "Predefined Capabilities").
+//! The positions of capabilities that the code refers to (terminfo(5), "Predefined Capabilities").
+//! These are the ones that a terminal must have or must not have, those that operations send, and
+//! the keys of the bundled entry.
 
 ghost use Rattle.ti_caps.specs.Slots.{SlotsAreNamed};
 
@@ -121,7 +122,7 @@ pub const SETAF: Slot = Slot(359);
 /// `setab`.
 pub const SETAB: Slot = Slot(360);
 
-/// Each of these positions is that of its name in the table, among the positions of its kind.
+/// Each of these positions is that of its name in the table, for its kind.
 pub fn slots_are_named()
     ensures { SlotsAreNamed }
 {}

@@ -1,4 +1,4 @@
-//! The capability table: the names of terminfo(5) by kind and position, in runs without a gap.
+//! The capability table: the names of terminfo(5) by kind and position, in runs without gaps.
 
 ghost use Rattle.std.specs.Prelude.{ℕ, List, Some, ◌≡◌, ◌+◌, ◌<◌, length, option_map, slice_get, MatchOption, ⊤};
 ghost use Rattle.ti_caps.specs.Buckets.{if_same};
@@ -83,11 +83,11 @@ pub enum Kind {
     Text,
 }
 
-/// A position in the list of one kind, counted from 0.
+/// A position among the capabilities of one kind, counted from 0.
 #[derive(Clone, Copy, Debug, PartialEq, Eq)]
 pub struct Slot(pub u16);
 
-/// Names of one kind at neighbouring positions, the first of them at `first`.
+/// Names of one kind at consecutive positions, beginning at `first`.
 #[derive(Clone, Copy)]
 pub(crate) struct Run {
     pub(crate) kind: Kind,
@@ -119,7 +119,7 @@ pub(crate) fn run_at(index: usize) -> Option<Run>
 }
 
 impl Run {
-    /// The position of the name at an index of the run, where it is this name.
+    /// The position of the name at an index of the run; `None` unless it is this name.
     pub(crate) fn slot_of(&self, index: u8, name: &[u8]) -> Option<Slot>
         requires { self.now.first + length self.now.names.now < 65536 }
         ensures { option_map (λ s. (self.now.kind, s.0)) result ≡ if_same name.now self.now.kind (self.now.first + index) (slice_get (seen self.now).names index) }
@@ -149,7 +149,7 @@ impl Run {
     }
 }
 
-/// The name of a capability; None where its position has none (terminfo(5)).
+/// The name of a capability; `None` if its position has none (terminfo(5)).
 pub fn name_of(kind: Kind, slot: Slot) -> Option<&'static str>
     ensures { option_map (λ s. s.now) result ≡ name_at kind slot.0 }
 {
@@ -162,8 +162,8 @@ pub fn name_of(kind: Kind, slot: Slot) -> Option<&'static str>
     None
 }
 
-/// The table as a law: a capability's name is found as that capability, and what is found has that
-/// name. So no name stands twice, and no position has two names.
+/// The law of the table: looking up a capability's name finds that capability, and what is found
+/// has that name. So no name occurs twice, and no position has two names.
 pub fn names_stand_once()
     ensures found { (kind : Kind) (position : ℕ) (name : List ℕ) →
         name_at kind position ≡ Some name → capability_of name ≡ Some (kind, position) }
