@@ -1,5 +1,5 @@
-//! Parameter strings of terminfo(5): texts of capabilities that take parameters, read as programs
-//! whose output, and the most that it can be, is known before they run.
+//! Parameter strings of terminfo(5): reading, measuring and running texts that take parameters. A
+//! text is read as a program, whose output, and the most that it can be, is known before it runs.
 #![tactic(auto)]
 
 mod builder;

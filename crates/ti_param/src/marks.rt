@@ -1,4 +1,5 @@
-//! The marks of conditionals, `%? %t %e %;`, as they follow one another: terminfo(5), 'Parameterized Strings'.
+//! The marks of conditionals, `%? %t %e %;`, and their order (terminfo(5), 'Parameterized
+//! Strings').
 
 ghost use Rattle.std.specs.Prelude.{◌≡◌, [], length, Ok, Err};
 ghost use Rattle.ti_param.specs.Code.Marks.{entered};
@@ -21,13 +22,13 @@ pub enum Part {
 /// Why a mark does not fit.
 #[derive(Clone, Copy)]
 pub enum Misfit {
-    /// It has no place there.
+    /// It cannot be there.
     Misplaced,
     /// It opens a 33rd conditional.
     Deep,
 }
 
-/// The parts of the conditionals that are open, at the end of the array, the innermost first.
+/// The parts of the open conditionals, at the end of the array, the innermost first.
 #[derive(Drop)]
 pub struct Marks {
     parts: [Part; NESTING],
@@ -63,7 +64,7 @@ impl Marks {
         NESTING - self.first
     }
 
-    /// Goes past a directive or mark. Nothing changes where it does not fit.
+    /// Goes past a directive or mark. Changes nothing if it does not fit.
     pub fn enter(&mut self, token: Token) -> Result<(), Misfit>
         ensures { Enters result self.new (entered token self.old) }
     {
@@ -76,7 +77,7 @@ impl Marks {
         }
     }
 
-    // A conditional is opened.
+    // Opens a conditional.
     fn open_one(&mut self) -> Result<(), Misfit>
         ensures { Enters result self.new (entered Token.If self.old) }
     {
@@ -88,7 +89,7 @@ impl Marks {
         Ok(())
     }
 
-    // A then part begins, behind a test or, as an else-if, behind an else part.
+    // Begins a then part, after a test or, as an else-if, after an else part.
     fn begin_first(&mut self) -> Result<(), Misfit>
         ensures { Enters result self.new (entered Token.Then self.old) }
     {
@@ -99,7 +100,7 @@ impl Marks {
         Ok(())
     }
 
-    // An else part begins, behind a then part.
+    // Begins an else part, after a then part.
     fn begin_second(&mut self) -> Result<(), Misfit>
         ensures { Enters result self.new (entered Token.Else self.old) }
     {
@@ -110,7 +111,7 @@ impl Marks {
         Ok(())
     }
 
-    // A conditional ends.
+    // Ends a conditional.
     #[tactic(auto, using(crate::proofs::BuilderLaws::closed))]
     fn close(&mut self) -> Result<(), Misfit>
         ensures { Enters result self.new (entered Token.EndIf self.old) }

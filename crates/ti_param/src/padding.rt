@@ -1,4 +1,4 @@
-//! Padding in capability texts: terminfo(5), 'Delays and Padding'.
+//! Padding in the texts of capabilities (terminfo(5), 'Delays and Padding').
 
 ghost use Rattle.std.specs.Prelude.{◌≡◌, ◌+◌, ◌≤◌, length, IfOk, slice_index};
 ghost use Rattle.ti_param.specs.Padding.{Stripped};
@@ -7,17 +7,18 @@ ghost use Rattle.ti_param.specs.Code.Padding.{digits_at, point_at, marks_at, pad
 use out_of_memory::NoMemory;
 use std::alloc::{AllocError, Global};
 
-/// A capability's text without its padding, which is removed in one pass from the left: `$<`, at least one digit,
-/// a point and one digit or nothing, `*` and `/` in either order, either of them or nothing, and `>`. By
-/// `padding_is_removed_once` there is one such text. Fails only when memory runs out. terminfo(5), 'Delays and
-/// Padding'.
+/// A capability's text without its padding (terminfo(5), 'Delays and Padding').
+///
+/// Padding is removed in one pass from the left. It is `$<`, at least one digit, optionally a point
+/// and one digit, optionally `*` and `/` in either order, and `>`. By `padding_is_removed_once` the
+/// result is unique. Fails only when memory runs out.
 pub fn strip_padding(alloc: Global, bytes: &[u8]) -> Result<Vec<u8>, NoMemory>
     ensures { IfOk result (λ text. Stripped bytes.now text.items) }
 {
     one_pass(alloc, bytes).map_err(|_| NoMemory)
 }
 
-// The text without the padding that one pass from the left meets.
+// The text without the padding that one pass from the left finds.
 fn one_pass(alloc: Global, bytes: &[u8]) -> Result<Vec<u8>, AllocError>
     ensures { IfOk result (λ text. Stripped bytes.now text.items) }
 {
@@ -35,7 +36,7 @@ fn one_pass(alloc: Global, bytes: &[u8]) -> Result<Vec<u8>, AllocError>
     Ok(text)
 }
 
-// How long the padding is with which a text begins, or 0.
+// The length of the padding at the beginning of a text, or 0.
 fn padding_length(text: &[u8]) -> usize
     ensures value { result ≡ padding_length text.now }
     ensures bound { result ≤ length text.now }
@@ -60,7 +61,7 @@ fn byte_at(text: &[u8], index: usize) -> u8
     if index < text.len() { text[index] } else { 0 }
 }
 
-// How many digits a text has from an index on.
+// The number of digits of a text from an index on.
 fn digits_at(text: &[u8], index: usize) -> usize
     ensures value { result ≡ digits_at text.now index }
     ensures bound { result ≤ length text.now }
@@ -72,7 +73,7 @@ fn digits_at(text: &[u8], index: usize) -> usize
     end - index
 }
 
-// How long the point and its digit are that a text has at an index.
+// The length of the point and digit at an index of a text, or 0.
 fn point_at(text: &[u8], index: usize) -> usize
     requires { index ≤ length text.now + 2 }
     ensures value { result ≡ point_at text.now index }
@@ -85,7 +86,7 @@ fn point_at(text: &[u8], index: usize) -> usize
     }
 }
 
-// How many of `*` and `/` a text has at an index.
+// How many of `*` and `/` are at an index of a text.
 fn marks_at(text: &[u8], index: usize) -> usize
     requires { index ≤ length text.now + 4 }
     ensures value { result ≡ marks_at text.now index }

@@ -1,4 +1,4 @@
-//! The directives of a parameter string, one after another: terminfo(5), 'Parameterized Strings'.
+//! Splitting a parameter string into directives and marks (terminfo(5), 'Parameterized Strings').
 
 ghost use Rattle.std.specs.Prelude.{◌≡◌, ◌^◌, ◌-◌, ◌<◌, ◌≤◌, min, ℕ, length, IfOk, Option, option_map};
 ghost use Rattle.ti_param.specs.Spelling.{begins_with};
@@ -25,15 +25,15 @@ pub enum Token {
 /// What is wrong with a directive.
 #[derive(Clone, Copy)]
 pub enum Flaw {
-    /// The text ends in it.
+    /// The text ends inside it.
     Cut,
     /// There is no such directive.
     Wrong,
-    /// It is for texts, which parameters are not here.
+    /// It is for texts, and no parameter is a text here.
     Text,
 }
 
-/// The directive with which a text begins, or the byte that stands for itself, and the text behind it.
+/// The directive, mark or literal byte at the beginning of a text, and the text after it.
 pub fn first_token(text: &[u8]) -> Result<(Token, &[u8]), Flaw>
     ensures gives { Gives (λ x. (x.0, x.1.now)) result (token text.now) }
     ensures shorter { IfOk result (λ x. length x.1.now < length text.now) }
@@ -48,7 +48,7 @@ pub fn first_token(text: &[u8]) -> Result<(Token, &[u8]), Flaw>
     }
 }
 
-// What stands behind a `%`.
+// The directive or mark after a `%`.
 fn directive(text: &[u8]) -> Result<(Token, &[u8]), Flaw>
     ensures gives { Gives (λ x. (x.0, x.1.now)) result (directive text.now) }
     ensures shorter { IfOk result (λ x. length x.1.now < length text.now) }
@@ -73,7 +73,7 @@ fn directive(text: &[u8]) -> Result<(Token, &[u8]), Flaw>
     }
 }
 
-// The operator of a byte.
+// The operator for a byte.
 fn operator(byte: u8) -> Option<Operator>
     ensures { result ≡ operator byte }
 {
@@ -128,7 +128,7 @@ fn parameter(text: &[u8]) -> Result<(Token, &[u8]), Flaw>
     }
 }
 
-// The letter of a variable that is set.
+// The letter of a variable to set.
 fn setter(text: &[u8]) -> Result<(Token, &[u8]), Flaw>
     ensures gives { Gives (λ x. (x.0, x.1.now)) result (letter_of SetDynamic SetStatic text.now) }
     ensures shorter { IfOk result (λ x. length x.1.now < length text.now) }
@@ -145,7 +145,7 @@ fn setter(text: &[u8]) -> Result<(Token, &[u8]), Flaw>
     }
 }
 
-// The letter of a variable that is pushed.
+// The letter of a variable to push.
 fn getter(text: &[u8]) -> Result<(Token, &[u8]), Flaw>
     ensures gives { Gives (λ x. (x.0, x.1.now)) result (letter_of GetDynamic GetStatic text.now) }
     ensures shorter { IfOk result (λ x. length x.1.now < length text.now) }
@@ -180,7 +180,7 @@ fn quoted(text: &[u8]) -> Result<(Token, &[u8]), Flaw>
     }
 }
 
-// Digits or none, and `}`.
+// Any number of digits, and `}`.
 fn constant(text: &[u8]) -> Result<(Token, &[u8]), Flaw>
     ensures gives { Gives (λ x. (x.0, x.1.now)) result (constant text.now) }
     ensures shorter { IfOk result (λ x. length x.1.now < length text.now) }
@@ -196,7 +196,7 @@ fn constant(text: &[u8]) -> Result<(Token, &[u8]), Flaw>
     }
 }
 
-// The number that digits write, as far as 32 bits count, and the text behind them.
+// The number that digits spell, as far as 32 bits count, and the text after them.
 fn digits(text: &[u8]) -> (u32, &[u8])
     ensures value { result.0 ≡ min ((digits 0 text.now).0) (2 ^ 32 - 1) }
     ensures rest { result.1.now ≡ (digits 0 text.now).1 }
@@ -225,7 +225,7 @@ fn number(text: &[u8]) -> Result<(Token, &[u8]), Flaw>
     finished(format, width, precision, rest)
 }
 
-// A text begins with a byte.
+// Whether a text begins with a byte.
 fn begins_with(byte: u8, text: &[u8]) -> bool
     ensures { result ≡ begins_with byte text.now }
 {
@@ -235,7 +235,7 @@ fn begins_with(byte: u8, text: &[u8]) -> bool
     }
 }
 
-// A `:` and flags, or flags that need none.
+// A `:` and flags, or flags that need no `:`.
 fn all_flags(text: &[u8]) -> (Format, &[u8])
     ensures format { result.0 ≡ (all_flags text.now).0 }
     ensures rest { result.1.now ≡ (all_flags text.now).1 }
@@ -248,7 +248,7 @@ fn all_flags(text: &[u8]) -> (Format, &[u8])
     }
 }
 
-// The flags with which a text begins.
+// The flags at the beginning of a text.
 fn flags(colon: bool, text: &[u8]) -> (Format, &[u8])
     ensures format { result.0 ≡ (flags colon plain text.now).0 }
     ensures rest { result.1.now ≡ (flags colon plain text.now).1 }
@@ -281,7 +281,7 @@ const PLAIN: Format = Format {
     precision: None,
 };
 
-// A point and digits, as far as 32 bits count, or none.
+// A point and digits, as far as 32 bits count; `None` if there is no point.
 fn precision(text: &[u8]) -> (Option<u32>, &[u8])
     ensures value { result.0 ≡ option_map (λ n. min n (2 ^ 32 - 1)) ((precision text.now).0) }
     ensures rest { result.1.now ≡ (precision text.now).1 }

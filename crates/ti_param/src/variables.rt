@@ -4,7 +4,7 @@ ghost use Rattle.std.specs.Prelude.{◌≡◌, pos, replicate};
 
 use std::marker::Model;
 
-/// How many variables there are of each kind: one for each letter.
+/// The number of variables of each kind: one for each letter.
 pub(crate) const LETTERS: usize = 26;
 
 /// The static variables `A` to `Z` of terminfo(5), which last from one run to the next.
