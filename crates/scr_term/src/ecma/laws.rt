@@ -1,5 +1,5 @@
-//! Laws of ECMA-48 texts and of the screens that read them: empty functions whose contracts are the
-//! laws.
+//! Laws of ECMA-48 texts and of the screens that read them, as contracts of functions that do
+//! nothing.
 ghost use Rattle.scr_term.specs.Ecma.Laws.{HasOneDivision, PiecesDoNotMatter, ScreensFollowTexts};
 
 /// A text divides in at most one way into units followed by a rest that is empty or the beginning

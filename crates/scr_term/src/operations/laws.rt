@@ -1,5 +1,5 @@
-//! Laws of operations, their steps and their bytes, for the crates above: empty functions whose
-//! contracts are the laws.
+//! Laws of operations and their bytes, for the crates above, as contracts of functions that do
+//! nothing.
 ghost use Rattle.scr_term.specs.Operations.Bundled.{BundledIsEcma48};
 ghost use Rattle.scr_term.specs.Operations.Ecma48.{Ecma48Laws};
 ghost use Rattle.scr_term.specs.Operations.Laws.{BlankLaws, BytesActAsTheirOperation, BytesActAsTheirOperations, ProfilesHave, RunLaws, StepsKeepStates};
