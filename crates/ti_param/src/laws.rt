@@ -1,4 +1,4 @@
-//! Laws of texts and programs: empty functions whose contracts are the laws.
+//! Laws of texts and programs, as contracts of functions that do nothing.
 
 ghost use Rattle.ti_param.specs.ProgramLaws.{AddsOne, HasNotBoth, HasOneFault, HasOneTree, HasTreeOrFault, IsBounded, IsParsed, IsStripped, StackIsEnough, WritesDecimal, WritesItself, WritesRowAndColumn};
 ghost use Rattle.ti_param.specs.Padding.{IsStrippedOnce};
