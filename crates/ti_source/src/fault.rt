@@ -3,19 +3,19 @@
 use std::alloc::{AllocError, AllocFailed};
 use thiserror::Error;
 
-/// Why a source was refused, with the line where the fault stands in one.
+/// Why a source or a name of it was refused, with the line if the fault is in one.
 #[derive(Clone, Copy, Debug, PartialEq, Eq, Error)]
 pub enum SourceFault {
     /// A byte 0, or one from 128 on, outside a comment.
     #[error("line {0}: not ASCII")]
     NotAscii(u32),
-    /// A line of fields before any entry.
+    /// A line of fields that precedes every entry.
     #[error("line {0}: field before any entry")]
     FieldBeforeEntry(u32),
-    /// Names that break the rule of `Entry::new`.
+    /// Names that break the rules of `Entry::new`.
     #[error("line {0}: bad names")]
     BadNames(u32),
-    /// A number without digits, or with another byte.
+    /// A number without digits, or with a byte that is not a digit.
     #[error("line {0}: bad number")]
     BadNumber(u32),
     /// A reference name that an earlier entry has.
@@ -27,7 +27,7 @@ pub enum SourceFault {
     /// A name that no entry of the source has.
     #[error("unknown name")]
     UnknownName,
-    /// A use that leads back to an entry on its own chain.
+    /// A `use=` that leads back to an entry on its own chain.
     #[error("use cycle")]
     UseCycle,
     /// Memory ran out.

@@ -1,4 +1,4 @@
-//! Terminfo source as terminfo(5) has it: read, resolved and printed.
+//! Terminfo source, as in terminfo(5): reading, resolving and printing it.
 #![tactic(auto)]
 
 mod fault;

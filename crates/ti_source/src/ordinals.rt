@@ -1,4 +1,4 @@
-//! The number of a capability among those of all kinds: its ordinal.
+//! Ordinals: the number of a capability among those of all kinds.
 
 ghost use Rattle.std.specs.Prelude.{◌≡◌, ◌<◌};
 ghost use Rattle.ti_caps.specs.Slots.{positions_of};
@@ -6,10 +6,10 @@ ghost use Rattle.ti_source.specs.Code.FirstFields.{ordinal};
 
 use ti_caps::{Kind, MOST_FLAGS, MOST_NUMBERS, MOST_TEXTS, Slot};
 
-/// How many capabilities there are at most.
+/// The number of positions of all kinds.
 pub(crate) const CAPABILITIES: usize = MOST_FLAGS + MOST_NUMBERS + MOST_TEXTS;
 
-/// How many positions a kind has.
+/// The number of positions of a kind.
 pub(crate) fn room(kind: Kind) -> u16
     ensures { result ≡ positions_of kind }
 {
@@ -20,7 +20,8 @@ pub(crate) fn room(kind: Kind) -> u16
     }
 }
 
-/// The ordinal of a capability: flags come first, then numbers, then texts. Past a kind's room the ordinals are those of others.
+/// The ordinal of a capability: flags come first, then numbers, then texts. A position too great
+/// for its kind gets an ordinal of the next kind.
 pub(crate) fn ordinal(kind: Kind, slot: Slot) -> usize
     ensures value { result ≡ ordinal kind slot.0 }
     ensures inside { slot.0 < positions_of kind → result < 640 }

@@ -1,3 +1,3 @@
-//! The source text of an entry.
+//! Printing an entry as source text.
 
 pub(crate) mod printer;

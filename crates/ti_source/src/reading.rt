@@ -1,4 +1,4 @@
-//! Reading a source: lines, fields, the forms of fields, and the entries that are made of them.
+//! Reading a source: lines, fields, the forms of fields, and the entries made of them.
 
 pub(crate) mod entries;
 pub(crate) mod escape;

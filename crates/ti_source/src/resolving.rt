@@ -1,4 +1,4 @@
-//! Entries with their uses taken in.
+//! Resolving entries: following their `use=`.
 
 pub(crate) mod fields;
 pub(crate) mod first_fields;

@@ -1,4 +1,4 @@
-//! A source that was read.
+//! A source that was read: its entries and notes.
 
 ghost use Rattle.std.specs.Prelude.{◌≡◌, ◌<◌, ◌↔◌, IfSome, IsTrue, length, true};
 ghost use Rattle.std.specs.Prelude.{slice_get, map, Some};
@@ -11,7 +11,7 @@ use std::fmt;
 use std::marker::Model;
 use ti_caps::first_name;
 
-/// The entries of a source (terminfo(5)), in their order, and the notes on its doubtful fields.
+/// The entries of a source (terminfo(5)), in order, and the notes on its doubtful fields.
 #[derive(Drop)]
 pub struct Source {
     entries: Entries,
@@ -26,7 +26,7 @@ impl Model for Source {
     ghost view = { λ s. record { entries = s.entries; notes = s.notes.items } };
 }
 
-// What a source is made of is private.
+// The parts of a source are private.
 impl fmt::Debug for Source {
     fn fmt<W: fmt::Write>(&self, f: &mut fmt::Formatter<W>) -> fmt::Result {
         f.write_str("Source")
@@ -48,7 +48,7 @@ impl Source {
         (entries, notes)
     }
 
-    /// The notes, in the order of the fields that they are on.
+    /// The notes, in the order of the fields.
     pub fn notes(&self) -> &[Note]
         ensures { result.now ≡ self.now.notes }
     {
@@ -62,22 +62,22 @@ impl Source {
         self.into_parts().1
     }
 
-    /// How many entries there are.
+    /// The number of entries.
     pub fn len(&self) -> usize
         ensures { result ≡ length self.now.entries }
     {
         self.entries.as_slice().len()
     }
 
-    /// Whether there is no entry.
+    /// Whether there are no entries.
     pub fn is_empty(&self) -> bool
         ensures { IsTrue result ↔ (length self.now.entries ≡ 0) }
     {
         self.entries.as_slice().is_empty()
     }
 
-    /// The first reference name of an entry, by which it is listed. The caller knows that there
-    /// are more than i entries.
+    /// The first reference name of the entry at index `i`, which is less than `len()`: the name by
+    /// which it is listed.
     pub fn name(&self, i: usize) -> &[u8]
         requires { i < length self.now.entries }
         ensures { slice_get (map (λ e. first_name e.names) self.now.entries) i ≡ Some result.now }
@@ -86,8 +86,8 @@ impl Source {
         first_name(entry.names())
     }
 
-    /// For the entry of a name, where it has no fields of its own and uses one other: its names, and the name that it uses. None for any other
-    /// entry, and where no entry has the name.
+    /// For the entry with this name, if it has no fields of its own and exactly one use: its names,
+    /// and the name that it uses. `None` for any other entry, and if no entry has the name.
     pub fn passed_on(&self, name: &[u8]) -> Option<(&[u8], &[u8])>
         ensures passes { IfSome result (λ r. IsPassedOn self.now.entries name.now r.0.now r.1.now) }
         ensures named { IfSome result (λ r. are_names r.0.now ≡ true) }

@@ -1,4 +1,4 @@
-//! The source text of an entry.
+//! Printing an entry as source text, and the laws that it reads back.
 
 ghost use Rattle.std.specs.Fmt.{decimal};
 ghost use Rattle.std.specs.Prelude.{◌<◌, ◌^◌, Some, List, ℕ, ◌≡◌, ◌++◌, IfOk, OnOk, IsOkUnless, length, option_map};
@@ -15,17 +15,18 @@ use ti_caps::{Bytes, Entry, Kind, Slot, name_of, names_stand_once};
 /// An entry as source text.
 #[derive(Debug, Drop)]
 pub struct Printed {
-    /// The names and a line for each present capability that has a name.
+    /// The names, and a line for each present capability that has a name.
     pub text: Bytes,
-    /// How many present capabilities have no name and are left out.
+    /// The number of present capabilities that have no name, and are left out.
     pub unnamed: usize,
 }
 
-/// The source text of an entry (tic(1), infocmp(1)): its names, then a line for each present
-/// capability that has a name, booleans, numbers and strings, each in slot order; and how many
-/// present capabilities have none. The text is a source of one entry without a note, which resolves
-/// by its first reference name to the entry without its unnamed capabilities. The one fault is
-/// NoMemory.
+/// Prints an entry as source text (tic(1), infocmp(1)): its names, then a line for each present
+/// capability that has a name. Booleans come first, then numbers, then strings, each in the order
+/// of positions. Also counts the present capabilities that have no name.
+///
+/// The text is a source of one entry without a note. By its first reference name it resolves to the
+/// entry without its unnamed capabilities. The only fault is `NoMemory`.
 pub fn print(alloc: Global, entry: &Entry) -> Result<Printed, SourceFault>
     ensures text { IfOk result (λ p. p.text ≡ printed entry.now) }
     ensures unnamed { IfOk result (λ p. p.unnamed ≡ unnamed_count entry.now) }
@@ -38,19 +39,18 @@ pub fn print(alloc: Global, entry: &Entry) -> Result<Printed, SourceFault>
     Ok(Printed { text, unnamed })
 }
 
-/// A printed text stands for the text that it was printed from, as a law: what a string field says
-/// is what `print` wrote.
+/// Law: reading a printed text gives the text that was printed.
 pub fn texts_read_back()
     ensures { (text : List ℕ) → IsText text → decoded (printed_text text) ≡ text }
 {}
 
-/// A printed number stands for the number that it was printed from, as a law.
+/// Law: reading a printed number gives the number that was printed.
 pub fn numbers_read_back()
     ensures { (n : ℕ) → n < 2 ^ 16 → number (decimal n) ≡ Some n }
 {}
 
-/// A printed text is a source of one entry without a note, as a law, and that entry resolves by its
-/// first reference name to the description that was printed, without its unnamed capabilities.
+/// Law: a printed entry is a source of one entry without a note, which resolves by its first
+/// reference name to what was printed, without its unnamed capabilities.
 pub fn printed_reads_back()
     ensures { EachReadsBack }
 {

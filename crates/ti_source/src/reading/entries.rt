@@ -18,7 +18,7 @@ use std::alloc::{AllocError, Global};
 use std::marker::Model;
 use ti_caps::{cut_name, has_no_blank};
 
-/// Entries in their order, each of which is found by its reference names.
+/// Entries in order, each of which can be found by its reference names.
 #[derive(Drop)]
 pub(crate) struct Entries {
     items: Vec<StoredEntry>,
@@ -47,7 +47,7 @@ impl Entries {
         }
     }
 
-    /// The entries with one more, which is the last.
+    /// These entries with one more at the end.
     pub(crate) fn with_entry(
         self,
         alloc: Global,
@@ -69,7 +69,7 @@ impl Entries {
         Ok(Entries { items, indices })
     }
 
-    /// Whether an entry has one of these names as a reference name.
+    /// Whether any entry has one of these names as a reference name.
     pub(crate) fn has_any_name(&self, names: &[u8]) -> bool
         ensures { result ≡ is_taken names.now self.now }
     {
@@ -86,7 +86,7 @@ impl Entries {
         }
     }
 
-    /// The index of the first entry that has this reference name.
+    /// The index of the first entry with this reference name.
     pub(crate) fn index_of(&self, name: &[u8]) -> Option<usize>
         ensures { result ≡ index_of self.now name.now }
     {
@@ -102,7 +102,7 @@ impl Entries {
         self.items.as_slice()
     }
 
-    /// Whether an entry has this reference name.
+    /// Whether any entry has this reference name.
     fn has_name(&self, name: &[u8]) -> bool
         ensures { result ≡ list_any (has_name name.now) self.now }
     {
@@ -110,8 +110,8 @@ impl Entries {
     }
 }
 
-/// The index of an entry behind so many others. Each name has one, in 32 bits; entries past these count as want of
-/// memory.
+/// The index of an entry that `count` others precede. An index has 32 bits; an entry past that is
+/// refused as if memory had run out.
 fn index_after(count: usize) -> Result<u32, AllocError>
     ensures { IfOk result (λ index. index ≡ count) }
 {
@@ -121,7 +121,7 @@ fn index_after(count: usize) -> Result<u32, AllocError>
     }
 }
 
-/// Gives an index to a name without a blank that has none yet.
+/// Gives an index to a name, unless it has a blank or an index already.
 fn put_name(
     alloc: Global,
     indices: &mut IndexMap<Names, u32, KeyedHasher>,
@@ -138,7 +138,7 @@ fn put_name(
     Ok(())
 }
 
-/// Gives an index to the reference names among these names that have none yet.
+/// Gives an index to those of these names that are reference names and have none yet.
 fn put_names(
     alloc: Global,
     indices: &mut IndexMap<Names, u32, KeyedHasher>,

@@ -1,4 +1,4 @@
-//! The escapes of a string's text.
+//! Decoding the text of a string field: its escapes.
 
 ghost use Rattle.std.specs.Prelude.{◌≡◌, ◌≤◌, ◌<◌, false, length, IfOk, IsTrue};
 ghost use Rattle.ti_caps.specs.Description.{has_nul};
@@ -9,7 +9,7 @@ ghost use Rattle.ti_source.specs.Reading.Spelling.{AreSpelled};
 use std::alloc::{AllocError, Global};
 use ti_caps::Bytes;
 
-/// The text that a string field stands for.
+/// The text that a string field means.
 pub(crate) fn decode(alloc: Global, text: &[u8]) -> Result<Bytes, AllocError>
     ensures value { IfOk result (λ bytes. bytes ≡ decoded text.now) }
     ensures whole { IfOk result (λ bytes. has_nul bytes ≡ false) }
@@ -24,13 +24,13 @@ pub(crate) fn decode(alloc: Global, text: &[u8]) -> Result<Bytes, AllocError>
     Ok(Bytes(decoded))
 }
 
-/// The text of a string field is the one that the field's bytes spell, by a rule for each escape
-/// (terminfo(5), "Types of Capabilities"), and they spell no other.
+/// Law: a string field means the text that its bytes spell, by a rule for each escape (terminfo(5),
+/// "Types of Capabilities"), and they spell no other text.
 pub fn texts_are_spelled()
     ensures { AreSpelled }
 {}
 
-/// What the first character of a text stands for, and how many bytes it is written with.
+/// What the first character of a text means, and how many bytes spell it.
 fn character(bytes: &[u8]) -> (u8, usize)
     requires { 0 < length bytes.now }
     ensures value { result.0 ≡ not_nul (meant bytes.now) }
@@ -44,7 +44,7 @@ fn character(bytes: &[u8]) -> (u8, usize)
     (not_nul(meant(bytes)), written_length(bytes))
 }
 
-/// Whether a byte stands for itself, whatever comes after it.
+/// Whether a byte means itself, whatever follows it.
 fn is_plain(b: u8) -> bool
     ensures { result ≡ is_plain b }
 {

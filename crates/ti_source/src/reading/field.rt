@@ -1,4 +1,4 @@
-//! The fields of a line and their forms.
+//! Splitting a line into fields, and the forms of fields.
 
 ghost use Rattle.std.specs.Prelude.{◌≡◌, ◌≤◌, ◌<◌, ◌+◌, ◌∷◌, IfSome, ◌&&◌, ◌==◌, not, length, take, drop, option_map};
 ghost use Rattle.ti_source.specs.Reading.Cutting.{AreCut};
@@ -17,7 +17,7 @@ pub(crate) enum Form<'a> {
     Odd(&'a [u8]),
 }
 
-/// The first field, and what stands behind its comma.
+/// The first field of a text, and what follows its comma if there is one.
 pub(crate) fn split_field(bytes: &[u8]) -> (&[u8], Option<&[u8]>)
     ensures cut { fields bytes.now ≡ result.0.now ∷ fields_behind (option_map (λ s. s.now) result.1) }
     ensures shorter { IfSome result.1 (λ rest. length rest.now < length bytes.now) }
@@ -54,13 +54,13 @@ pub(crate) fn form_of(field: &[u8]) -> Form<'_>
     }
 }
 
-/// A line's fields are the parts between its commas, where a comma behind `\` or `^` ends nothing
-/// (terminfo(5), "Preparing Descriptions"), and a line has no others.
+/// Law: the fields of a line are the parts between its commas, except that a comma after `\` or `^`
+/// ends no field (terminfo(5), "Preparing Descriptions"); a line has no other fields.
 pub fn fields_are_cut()
     ensures { AreCut }
 {}
 
-/// Whether a byte neither ends a field nor takes the next byte with it: most bytes don't.
+/// Whether a byte neither ends a field nor escapes the next byte: most bytes do neither.
 fn is_inner(b: u8) -> bool
     ensures { result ≡ is_inner b }
 {

@@ -1,10 +1,12 @@
-//! How the names of a source are hashed.
+//! Hashing the names of a source with a key that depends on the source.
 //!
-//! A file's author picks its names, and a map of names whose hashes are all alike takes quadratic time. So names are hashed
-//! with a key that is a digest of all lines that begin entries, with their ends. All names that the map holds stand in those
-//! lines, and their digest tells where each line ends: who changes a name, adds one or cuts the lines in another way, so that
-//! names collide, changes the key too, and with it the hashes of all names. Names of `use=` are only looked up, and what a look-up
-//! costs is bounded by how the names that the map holds collide: so their lines are not digested.
+//! The author of a file picks its names, and a map of names whose hashes all collide takes
+//! quadratic time. So names are hashed with a key: the digest of all lines that begin entries, with
+//! their line ends. All names in the map are in these lines, and the digest depends on where each
+//! line ends. Whoever changes or adds a name, or breaks the lines differently, to make names
+//! collide also changes the key, and with it the hashes of all names. Names of `use=` are only
+//! looked up, and the cost of a look-up is bounded by how the names in the map collide, so lines of
+//! `use=` are not digested.
 
 ghost use Rattle.std.specs.Prelude.{◌≡◌};
 ghost use Rattle.sha2.specs.Sha512.{sha512};
@@ -15,14 +17,14 @@ use bstr::ByteSlice;
 use sha2::{Digest, Sha512};
 use std::hash::{BuildHasher, DefaultHasher, Hasher};
 
-/// SipHash with the digest of a source's lines of names written before each name.
+/// SipHash of a name, preceded by the digest of the source's lines of names.
 #[derive(Clone, Copy)]
 pub(crate) struct KeyedHasher {
     keyed: DefaultHasher,
 }
 
 impl KeyedHasher {
-    /// The hasher of the names in a source of these bytes.
+    /// The hasher for the names of this source.
     pub(crate) fn new(source: &[u8]) -> KeyedHasher
         ensures { result.keyed ≡ keyed source.now }
     {
@@ -55,7 +57,7 @@ fn digest_of_names(source: &[u8]) -> [u8; 64]
     digest.finalize()
 }
 
-/// Whether a line may begin an entry: it is no comment and begins with no blank.
+/// Whether a line may begin an entry: it is not a comment and does not begin with a blank.
 fn begins_entry(line: &[u8]) -> bool
     ensures { result ≡ begins_entry line.now }
 {

@@ -1,4 +1,4 @@
-//! The lines of a source.
+//! The kinds of lines of a source: comments, lines of names, lines of fields.
 
 ghost use Rattle.std.specs.Prelude.{◌≡◌};
 ghost use Rattle.std.specs.List.{after_first, before_first, list_all};
@@ -8,7 +8,7 @@ ghost use Rattle.ti_source.specs.Code.Seen.{seen_line};
 
 use crate::reading::field::is_blank;
 
-/// A line by what it is; its fields are not cut yet.
+/// A line by its kind; its fields are not split yet.
 pub(crate) enum Line<'a> {
     Skipped,
     NonAscii,
@@ -16,7 +16,7 @@ pub(crate) enum Line<'a> {
     Begins(&'a [u8], &'a [u8]),
 }
 
-/// What a line is.
+/// The kind of a line.
 pub(crate) fn line_of(bytes: &[u8]) -> Line<'_>
     ensures { seen_line result ≡ line_of bytes.now }
 {
@@ -63,7 +63,7 @@ fn are_ascii(bytes: &[u8]) -> bool
     bytes.iter().all(|b| 1 <= *b && *b < 128)
 }
 
-/// The names of a line, and what stands behind their comma.
+/// The names of a line, and what follows their comma.
 fn split_names(bytes: &[u8]) -> (&[u8], &[u8])
     ensures names { result.0.now ≡ before_first is_comma bytes.now }
     ensures rest { result.1.now ≡ after_first is_comma bytes.now }

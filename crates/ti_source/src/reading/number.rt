@@ -1,12 +1,12 @@
-//! Numbers of a source.
+//! Parsing the numbers of a source.
 
 ghost use Rattle.std.specs.Prelude.{◌≡◌, ◌≤◌, min, option_map};
 ghost use Rattle.ti_source.specs.Reading.Number.{digit, digits, number};
 
-/// A number above the greatest that a capability has.
+/// A value for all numbers greater than a capability can have.
 pub(crate) const TOO_GREAT: u32 = 32768;
 
-/// The number that a text stands for, or 32,768 where it is greater.
+/// The number that a text spells, at most 32,768; `None` if it spells none.
 pub(crate) fn number(bytes: &[u8]) -> Option<u32>
     ensures { result ≡ option_map (λ n. min n 32768) (number bytes.now) }
 {

@@ -1,4 +1,4 @@
-//! An entry that is being read.
+//! An entry that is being read, with its notes.
 
 ghost use Rattle.std.specs.Prelude.{ℕ, ◌≡◌, ◌≤◌, Ok, Some, min};
 ghost use Rattle.ti_caps.specs.Table.{capability_of};
@@ -19,7 +19,7 @@ use std::alloc::Global;
 use std::marker::Model;
 use ti_caps::{Bytes, Kind, MOST_NUMBER, Slot, find_name};
 
-/// How many uses an entry may have.
+/// The most uses that an entry may have.
 const USES: usize = 32;
 
 /// An entry that is being read, and the notes so far.
@@ -38,7 +38,7 @@ impl Model for OpenEntry {
 }
 
 impl OpenEntry {
-    /// The entry and the notes after the fields of a text, which is part of one line.
+    /// Adds the fields of a text, which is part of the line with this number.
     pub(crate) fn with_fields(
         &mut self,
         alloc: Global,

@@ -21,7 +21,8 @@ use std::marker::Model;
 use std::mem;
 use ti_caps::{Bytes, are_names};
 
-/// The entries before, and the entry that the last line belongs to with the notes so far.
+/// The entries that are complete, the entry that the next line of fields continues, and the notes
+/// so far.
 #[derive(Drop)]
 struct ReaderState {
     hasher: KeyedHasher,
@@ -37,10 +38,12 @@ impl Model for ReaderState {
     ghost view = { λ s. record { done = s.done; current = entry_of s.current; notes = notes_of s.current } };
 }
 
-/// Reads a source: its entries, and a note for each doubtful field, in their order
-/// (terminfo(5)). A line ends at LF, CR LF or the end of the bytes, and lines count from 1. The
-/// fault is that of the first faulty line: NotAscii before any other of that line, else the
-/// leftmost; BadNames before DuplicateName.
+/// Reads a source: its entries in order, and a note for each doubtful field, in the order of fields
+/// (terminfo(5)).
+///
+/// A line ends at LF, at CR LF or at the end of the bytes, and lines count from 1. The fault is
+/// that of the first faulty line: `NotAscii` before any other fault of that line, otherwise the
+/// leftmost one; `BadNames` before `DuplicateName`.
 pub fn read(alloc: Global, bytes: &[u8]) -> Result<Source, SourceFault>
     ensures { Gives result (source_of bytes.now) }
 {
@@ -64,14 +67,14 @@ impl ReaderState {
         }
     }
 
-    /// The state, in whose place is one at the start.
+    /// Moves the state out, and leaves an empty one in its place.
     fn take(&mut self, alloc: Global) -> ReaderState
         ensures { result ≡ self.old }
     {
         mem::replace(self, ReaderState::new(alloc, self.hasher))
     }
 
-    /// The entries with the last one among them, and the notes.
+    /// All entries, with the last one among them, and the notes.
     fn close(self, alloc: Global) -> Result<Source, SourceFault>
         ensures { Gives result (whole self) }
     {
@@ -100,7 +103,7 @@ impl ReaderState {
         }
     }
 
-    /// Puts an entry behind others, with the fields of a text.
+    /// Appends an entry with the fields of a text.
     fn fill(
         &mut self,
         alloc: Global,
@@ -115,7 +118,7 @@ impl ReaderState {
         self.continued(alloc, line, text)
     }
 
-    /// Puts an entry behind others, as the one that the next line of fields goes on with.
+    /// Appends an entry, as the one that the next line of fields continues.
     fn put(&mut self, done: Entries, open_entry: OpenEntry)
         ensures { self.new ≡ record { done = done; current = Some open_entry.entry; notes = open_entry.notes } }
     {

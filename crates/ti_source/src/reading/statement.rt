@@ -1,4 +1,4 @@
-//! What the fields of an entry say.
+//! Statements: what the fields of an entry say of its capabilities.
 
 ghost use Rattle.std.specs.Prelude.{◌≡◌, ◌≤◌, ◌<◌, ◌∷◌, [], ◌++◌, Ok, OnOk, OnErr, IfOk, true, false, length, replicate, slice_index_or, slice_set};
 ghost use Rattle.std.specs.List.{list_any};
@@ -27,7 +27,7 @@ pub(crate) enum FieldValue {
     Cancelled,
 }
 
-/// A field that counts: the first of its entry that is about the capability.
+/// A field that counts: the first of its entry about a capability.
 #[derive(Drop)]
 pub(crate) struct Statement {
     pub(crate) kind: Kind,
@@ -41,7 +41,8 @@ pub(crate) struct SourceEntry {
     names: Bytes,
     statements: Vec<Statement>,
     uses: Vec<Bytes>,
-    /// For each capability whether a field may be about it: where a mark is false there is none.
+    /// For each capability whether there may be a field about it: if a mark is false, there is
+    /// none.
     marks: Vec<bool>,
 }
 
@@ -111,7 +112,8 @@ impl SourceEntry {
         Ok(())
     }
 
-    /// The entry as it is kept, without what only serves the reading of more fields: its marks and spare room.
+    /// The entry as it is stored: without its marks and spare room, which only serve reading more
+    /// fields.
     pub(crate) fn stored(self, alloc: Global) -> Result<StoredEntry, SourceFault>
         ensures { Gives result (Ok self) }
     {
@@ -131,7 +133,7 @@ impl SourceEntry {
         requires { length self.old.uses < 32 }
         ensures { Becomes result (Ok (record self.old { uses = self.old.uses ++ other ∷ [] })) self.new }
     {
-        // Most entries have one use: they get room for it alone, so that nothing is left over beside it.
+        // Most entries have one use: they get room for exactly one, so that none is wasted.
         if self.uses.is_empty() {
             self.uses.reserve_exact(1)?;
         }
@@ -157,8 +159,8 @@ fn no_marks(alloc: Global, count: usize) -> Result<Vec<bool>, AllocError>
     vec![in alloc; false; count]
 }
 
-/// Adds a statement. An entry gets room for its first one alone, so that nothing is left over beside it where it is the
-/// only one.
+/// Adds a statement. The first one gets room for exactly one, so that none is wasted if it stays
+/// the only one.
 fn push_statement(statements: &mut Vec<Statement>, statement: Statement) -> Result<(), AllocError>
     ensures ok { OnOk result (statements.new.items ≡ statements.old.items ++ statement ∷ []) }
     ensures err { OnErr result (statements.new.items ≡ statements.old.items) }
@@ -170,7 +172,7 @@ fn push_statement(statements: &mut Vec<Statement>, statement: Statement) -> Resu
     Ok(())
 }
 
-/// Marks one more capability; before the first field all marks are made anew.
+/// Marks a capability; before the first field, all marks are made anew.
 fn mark(
     statements: &[Statement],
     marks: &mut Vec<bool>,
@@ -198,7 +200,7 @@ fn put_mark(marks: &mut Vec<bool>, kind: Kind, slot: Slot)
     }
 }
 
-/// Whether a capability is marked, or past the marks.
+/// Whether a capability is marked, or has no mark.
 fn may_be_stated(marks: &[bool], kind: Kind, slot: Slot) -> bool
     ensures { result ≡ slice_index_or marks.now (ordinal kind slot.0) true }
 {

@@ -1,4 +1,4 @@
-//! Entries that were read.
+//! Entries as a source stores them, in little room.
 
 ghost use Rattle.std.specs.Prelude.{◌≡◌, ◌≤◌, ◌∷◌, [], IfOk, IfSome, length, true};
 ghost use Rattle.ti_source.specs.Described.{AreGood, IsDescribed};
@@ -11,7 +11,7 @@ use std::marker::Model;
 use std::slice;
 use ti_caps::Bytes;
 
-/// Names that take no memory of their own up to this length.
+/// Names that need no allocation up to this length.
 pub(crate) type Names = SmallVec<u8, 16>;
 
 /// The fields and the uses of an entry.
@@ -21,17 +21,17 @@ struct Fields {
     uses: Vec<Bytes>,
 }
 
-/// What an entry has besides its names. A source of very many entries has little in each, so what is not there takes no
-/// room.
+/// What an entry has besides its names. A source of very many entries has little in each, so what
+/// an entry does not have takes no room.
 #[derive(Drop)]
 enum Body {
     Nothing,
-    /// One use, and no field.
+    /// One use, and no fields.
     Use(Box<Bytes>),
     Both(Box<Fields>),
 }
 
-/// An entry of a source that was read. A source keeps all of them, so it has no spare room.
+/// A stored entry. A source keeps all of them, so it has no spare room.
 #[derive(Drop)]
 pub(crate) struct StoredEntry {
     names: Names,
@@ -91,7 +91,7 @@ impl StoredEntry {
         }
     }
 
-    /// The name that it uses, where it has no fields of its own and uses one other.
+    /// The name that the entry uses, if it has no fields of its own and exactly one use.
     pub(crate) fn only_use(&self) -> Option<&[u8]>
         ensures { IfSome result (λ other. (self.now.statements ≡ []) × (self.now.uses ≡ other.now ∷ [])) }
     {

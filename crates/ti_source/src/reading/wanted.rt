@@ -1,4 +1,4 @@
-//! Names as they are looked up in the map of entries.
+//! Names that are looked up in the map of entries, without a copy.
 
 ghost use Rattle.std.specs.Cmp.{on_equiv, on_per};
 ghost use Rattle.std.specs.Cmp.Lexicographic.{lists_equiv, lists_per, pointwise};
@@ -9,7 +9,7 @@ use indexmap::Equivalent;
 use smallvec::SmallVec;
 use std::hash::{Hash, Hasher};
 
-/// Elements that are looked up, as the bytes of a name. They stand for a key of the same elements, and are hashed as that.
+/// A name to look up. It equals a key with the same elements, and has the same hash.
 #[derive(Clone, Copy)]
 pub(crate) struct Wanted<'a, T>(pub(crate) &'a [T]);
 

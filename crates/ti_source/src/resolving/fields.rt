@@ -1,5 +1,5 @@
-//! Fields that were read (each is a `Statement`), in an order in which the first that speaks of a
-//! capability counts.
+//! Lists of fields, in an order in which the first about a capability counts. Each field is a
+//! `Statement`.
 
 ghost use Rattle.std.specs.Prelude.{◌≡◌, ◌<◌, ◌∷◌, [], ◌++◌, Some, OnOk, length, map, slice_get};
 ghost use Rattle.ti_source.specs.Described.{AreGood, IsGood};
@@ -8,7 +8,7 @@ use crate::reading::statement::Statement;
 use std::alloc::{AllocError, Global};
 use std::marker::Model;
 
-/// Fields by reference.
+/// Fields, by reference.
 #[derive(Drop)]
 pub(crate) struct Fields<'a>(Vec<&'a Statement>);
 
@@ -31,7 +31,7 @@ impl<'a> Fields<'a> {
         Fields(Vec::new(alloc))
     }
 
-    /// The fields without spare room for more.
+    /// The fields, without spare room.
     pub(crate) fn shrunk(mut self) -> Fields<'a>
         ensures { result ≡ self.entry }
     {

@@ -1,4 +1,4 @@
-//! Which field comes first for each capability.
+//! Finding the first field about each capability.
 
 ghost use Rattle.std.specs.Prelude.{◌≡◌, ◌<◌, ◌+◌, IfOk, length, replicate, None, drop};
 ghost use Rattle.ti_source.specs.Code.FirstFields.{AreEffective, Indexes, IsIndex, is_effective, is_present};
@@ -9,7 +9,7 @@ use crate::resolving::fields::Fields;
 use std::alloc::{AllocError, Global};
 use ti_caps::Kind;
 
-/// For each capability the place of the first field that is about it.
+/// For each capability the index of the first field about it.
 pub(crate) fn index_of(alloc: Global, fields: &Fields<'_>) -> Result<Vec<Option<usize>>, AllocError>
     ensures { IfOk result (λ v. IsIndex fields.now v.items) }
 {
@@ -22,7 +22,7 @@ pub(crate) fn index_of(alloc: Global, fields: &Fields<'_>) -> Result<Vec<Option<
     Ok(index)
 }
 
-/// The fields that take effect: those that make a capability present, where none before is about it.
+/// The fields that take effect: those that make a capability present and are the first about it.
 pub(crate) fn effective_fields<'a>(
     alloc: Global,
     fields: &Fields<'a>,
@@ -46,7 +46,7 @@ fn no_places(alloc: Global, count: usize) -> Result<Vec<Option<usize>>, AllocErr
     vec![in alloc; None; count]
 }
 
-/// Puts a field at its capability's place; the index is one of the fields behind it.
+/// Puts a field at its capability's place in the index of the fields after it.
 fn put(index: &mut [Option<usize>], fields: &Fields<'_>, i: usize)
     requires there { i < length fields.now }
     requires long { length index.now ≡ 640 }
@@ -72,7 +72,7 @@ fn is_present(kind: Kind, field_value: &FieldValue) -> bool
     }
 }
 
-/// Whether the field at a place takes effect.
+/// Whether the field with index `i` takes effect.
 fn is_effective(field: &Statement, index: &[Option<usize>], i: usize) -> bool
     requires { length index.now ≡ 640 }
     ensures { result ≡ is_effective index.now i field.now }

@@ -1,4 +1,4 @@
-//! An entry of the fields that speak of its capabilities.
+//! Making an entry of fields.
 
 ghost use Rattle.std.specs.Prelude.{◌≡◌, ◌≤◌, [], Some, None, IfOk, IfErr, IfSome, OnOk, option_map, false, true};
 ghost use Rattle.ti_caps.specs.Description.{has_nul};
@@ -16,8 +16,8 @@ use crate::resolving::fields::Fields;
 use std::alloc::Global;
 use ti_caps::{CapFault, Entry, Kind};
 
-/// The entry of these names with what these fields say. They are laid one over the other from the last to the first, so that the
-/// first about a capability stays.
+/// The entry with these names and what these fields say. They are applied from the last to the
+/// first, so that the first about a capability stays.
 pub(crate) fn merge(alloc: Global, names: &[u8], fields: &Fields<'_>) -> Result<Entry, SourceFault>
     requires { are_names names.now ≡ true }
     ensures ok { IfOk result (λ e. e ≡ merged (of_fields names.now fields.now) []) }
@@ -35,7 +35,7 @@ pub(crate) fn merge(alloc: Global, names: &[u8], fields: &Fields<'_>) -> Result<
     Ok(entry)
 }
 
-/// Lays a field over those behind it, which an entry was made of.
+/// Applies a field over those after it, of which the entry was made.
 fn lay(entry: &mut Entry, field: &Statement) -> Result<(), SourceFault>
     requires { IsGood field.now.field_value }
     ensures ok { OnOk result (IsLaid field.now entry.old entry.new) }
@@ -83,7 +83,7 @@ fn text_of(field_value: &FieldValue) -> Option<&[u8]>
     }
 }
 
-/// Names are good and no text has a byte 0, so that nothing but memory can fail.
+/// Only memory can run out here: the names are good and no text has a byte 0.
 fn want_of_memory(_fault: CapFault) -> SourceFault
     requires { _fault ≡ cap.NoMemory }
     ensures { result ≡ SourceFault.NoMemory }

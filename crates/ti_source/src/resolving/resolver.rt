@@ -1,4 +1,4 @@
-//! Entries with their uses taken in.
+//! Resolving entries by name.
 
 ghost use Rattle.std.specs.Prelude.{◌≡◌, [], Err, IfErr, IfOk, IfSome, IsOkUnless, false};
 ghost use Rattle.std.specs.List.{list_any};
@@ -20,13 +20,15 @@ use std::alloc::Global;
 use std::marker::Model;
 use ti_caps::Entry;
 
-/// Resolves names of one source, one after another (terminfo(5), "Similar Terminals"). An entry that others
-/// use is followed once, and its fields that take effect are kept, as are faults; of an entry that is only asked for no
-/// list is kept. Contracts see the source's entries.
+/// Resolves names of one source, one after another (terminfo(5), "Similar Terminals"). Contracts
+/// see the source's entries.
+///
+/// An entry that others use is followed once: its fields that take effect are kept, and so are
+/// faults. For an entry that is only asked for, no list of fields is kept.
 #[derive(Drop)]
 pub struct Resolver<'a> {
     entries: &'a Entries,
-    /// None until an entry with uses is followed.
+    /// `None` until an entry with uses is followed.
     walk: Option<Walk<'a>>,
 }
 
@@ -43,7 +45,7 @@ impl<'a> Model for Resolver<'a> {
 }
 
 impl<'a> Resolver<'a> {
-    /// A resolver of a source's names.
+    /// A resolver for the names of a source.
     pub fn new(source: &'a Source) -> Resolver<'a>
         ensures { result ≡ source.entry.now.entries }
     {
@@ -53,8 +55,8 @@ impl<'a> Resolver<'a> {
         }
     }
 
-    /// The entry of a name with its uses taken in, as `resolve` gives it, whatever was asked before.
-    /// UnknownName, UseCycle, NoMemory as there.
+    /// The entry with this name, its uses resolved, as `resolve` gives it, whatever was asked
+    /// before. It has the same refusals: `UnknownName`, `UseCycle`, `NoMemory`.
     pub fn resolve(&mut self, alloc: Global, name: &[u8]) -> Result<Entry, SourceFault>
         ensures same { self.new ≡ self.old }
         ensures ok { IfOk result (λ e. Resolved self.old name.now e) }
@@ -88,13 +90,16 @@ impl<'a> Resolver<'a> {
     }
 }
 
-/// The entry of a name with its uses taken in (terminfo(5), "Similar Terminals"): for each
-/// capability its own field, present or cancelled, else the first `use=` whose resolved entry has
-/// it present. A used entry is resolved by itself, whole before the next, and carries no
-/// cancellation. UnknownName where no entry has the name, or a used one; UseCycle where a use
-/// leads back to an entry on its own chain; the first fault from left to right; NoMemory where
-/// memory runs out, which a name that no entry has does not come to. A `Resolver` is for many names
-/// of one source.
+/// The entry with this name, its uses resolved (terminfo(5), "Similar Terminals"): for each
+/// capability its own field, present or cancelled, otherwise the first `use=` whose resolved entry
+/// has it present. A used entry is resolved on its own, completely before the next one, and passes
+/// on no cancellation.
+///
+/// The fault is the first from left to right. `UnknownName`: no entry has the name, or one that is
+/// used. `UseCycle`: a use leads back to an entry on its own chain. `NoMemory`: memory ran out,
+/// which cannot happen for a name that no entry has.
+///
+/// To resolve many names of one source, use a `Resolver`.
 pub fn resolve(alloc: Global, source: &Source, name: &[u8]) -> Result<Entry, SourceFault>
     ensures ok { IfOk result (λ e. Resolved source.now.entries name.now e) }
     ensures err { IfErr result (λ f. Stops f (Unresolved source.now.entries name.now f)) }
@@ -104,29 +109,29 @@ pub fn resolve(alloc: Global, source: &Source, name: &[u8]) -> Result<Entry, Sou
     Resolver::new(source).resolve(alloc, name)
 }
 
-/// Names resolve to one list of entries at most.
+/// Law: a name resolves to at most one entry.
 pub fn names_resolve_once()
     ensures { ResolveOnce }
 {}
 
-/// Names have one fault at most, the first from left to right.
+/// Law: a name has at most one fault, the first from left to right.
 pub fn names_have_one_fault()
     ensures { FaultOnce }
 {}
 
-/// Names that resolve have no fault.
+/// Law: a name that resolves has no fault.
 pub fn resolved_names_have_no_fault()
     ensures { ResolveOrFault }
 {}
 
-/// Of an entry that has no fields of its own and uses one other: it resolves to what the other resolves to, with its own names, and where it
-/// resolves, so does the other.
+/// Laws of an entry that has no fields of its own and exactly one use: it resolves to what the used
+/// entry resolves to, with its own names; and if it resolves, so does the used entry.
 pub fn entries_pass_on()
     ensures on { PassOn }
     ensures back { PassBack }
 {}
 
-/// The entry at an index, where it uses no other.
+/// The entry at an index, if it uses no other.
 fn without_uses(entries: &Entries, index: Option<usize>) -> Option<&StoredEntry>
     ensures { IfSome result (λ e. StandsAlone entries.now index e.now) }
 {
@@ -139,7 +144,7 @@ fn without_uses(entries: &Entries, index: Option<usize>) -> Option<&StoredEntry>
     }
 }
 
-/// An entry that uses no other.
+/// An entry that uses no other, resolved.
 fn alone(alloc: Global, entry: &StoredEntry) -> Result<Entry, SourceFault>
     ensures ok { IfOk result (λ e. e ≡ merged entry.now []) }
     ensures err { IfErr result (λ f. f ≡ SourceFault.NoMemory) }

@@ -1,4 +1,4 @@
-//! The way through the uses of entries, each entry being entered at most once.
+//! The walk through the uses of entries, which enters each entry at most once.
 
 ghost use Rattle.std.specs.Prelude.{◌≡◌, ◌<◌, ◌∷◌, [], ◌++◌, length, Some, None, true, IfOk, IfErr, IfSome, OnErr, OnOk, map, replicate, reverse, slice_get, slice_set};
 ghost use Rattle.ti_source.specs.Code.Walk.{AreKnown, FaultAt, Gathers, IsReady, IsStopped, IsTakenBack, IsWalk, Keeps, PassesOn, ResolvedAt, Stepped, StuckAt, done_at, known, leaves, visits, with_fault};
@@ -14,7 +14,7 @@ use crate::resolving::merge::merge;
 use std::alloc::{AllocError, Global};
 use ti_caps::{Bytes, Entry};
 
-/// How far an entry is.
+/// How far the walk has come with an entry.
 #[derive(Clone, Copy)]
 pub(crate) enum Mark {
     /// Not entered.
@@ -23,20 +23,21 @@ pub(crate) enum Mark {
     Open,
     /// Resolved; its fields are kept at this position.
     Done(usize),
-    /// Followed to this fault.
+    /// Followed, with this fault.
     Faulty(SourceFault),
 }
 
-/// What is left to do.
+/// A task of the walk.
 #[derive(Clone, Copy)]
 pub(crate) enum Task {
-    /// The entry at an index, or none of that name.
+    /// Visit the entry at an index; `None` if no entry has the name.
     Visit(Option<usize>),
-    /// An entry whose uses are done.
+    /// Leave an entry whose uses are done.
     Leave(usize),
 }
 
-/// How far each entry is, the fields kept of the resolved ones, and what is left to do, the next last.
+/// How far each entry is, the kept fields of those that are resolved, and the tasks that are left,
+/// the next one last.
 #[derive(Drop)]
 pub(crate) struct Walk<'a> {
     marks: Vec<Mark>,
@@ -56,8 +57,8 @@ impl<'a> Walk<'a> {
         })
     }
 
-    /// The resolved entry at an index; UnknownName where there is none. The entries that it uses are kept, and it is not. What was followed is
-    /// kept past a fault.
+    /// The resolved entry at an index; `UnknownName` if there is none. The entries that it uses are
+    /// kept, but it is not. What was followed stays kept after a fault.
     pub(crate) fn resolved(
         &mut self,
         alloc: Global,
@@ -82,7 +83,7 @@ impl<'a> Walk<'a> {
         self.entry(alloc, entries, index)
     }
 
-    /// The index, where the entry there is all that is left: its uses are done.
+    /// The index, if leaving the entry there is all that is left to do.
     fn last_left(&self, index: Option<usize>, task: Task) -> Option<usize>
         ensures { IfSome result (λ i. (task ≡ Task.Leave i) × (index ≡ Some i) × (self.now.tasks.items ≡ [])) }
     {
@@ -93,7 +94,8 @@ impl<'a> Walk<'a> {
         }
     }
 
-    /// The resolved entry at an index that is all that is left. It is as one that was not entered.
+    /// The resolved entry at an index, if that is all that is left to do. Afterwards the entry
+    /// counts as not entered.
     fn finished(
         &mut self,
         alloc: Global,
@@ -111,7 +113,7 @@ impl<'a> Walk<'a> {
         made
     }
 
-    /// The resolved entry at an index that is done and kept.
+    /// The resolved entry at an index, which is done and kept.
     fn entry(
         &self,
         alloc: Global,
@@ -129,7 +131,7 @@ impl<'a> Walk<'a> {
         merge(alloc, entry.names(), &self.kept[position])
     }
 
-    /// Enters an entry: its uses are next, and it is left after them.
+    /// Enters an entry: its uses are visited next, then it is left.
     fn enter(&mut self, entries: &'a Entries, i: usize) -> Result<(), SourceFault>
         requires walk { IsWalk entries.now self.old.marks.items self.old.kept.items (Task.Visit (Some i) ∷ reverse self.old.tasks.items) }
         requires new { slice_get self.old.marks.items i ≡ Some Mark.New }
@@ -194,7 +196,8 @@ impl<'a> Walk<'a> {
         }
     }
 
-    /// Does nothing more of what is left after a fault. The entries on the chain of uses have it too, unless memory ran out.
+    /// Drops all tasks after a fault. The entries on the chain of uses get the same fault, unless
+    /// memory ran out.
     fn stop(&mut self, fault: SourceFault)
         ensures kept { self.new.kept.items ≡ self.old.kept.items }
         ensures tasks { self.new.tasks.items ≡ [] }
@@ -239,7 +242,7 @@ fn put_mark(marks: &mut [Mark], index: usize, mark: Mark)
     }
 }
 
-/// Puts a visit of each of these names, so that the first is next.
+/// Adds a visit of each of these names, the first to be done next.
 fn put_visits(tasks: &mut Vec<Task>, entries: &Entries, uses: &[Bytes]) -> Result<(), AllocError>
     ensures { OnOk result (reverse tasks.new.items ≡ visits entries.now uses.now ++ reverse tasks.old.items) }
 {
@@ -253,7 +256,8 @@ fn put_visits(tasks: &mut Vec<Task>, entries: &Entries, uses: &[Bytes]) -> Resul
     Ok(())
 }
 
-/// Where the fields of an entry that has none of its own and uses one other are kept: those of the other, which is done.
+/// Where the fields of an entry are kept that has none of its own and exactly one use: with the
+/// used entry, which is done.
 fn passed_on(entries: &Entries, marks: &[Mark], entry: &StoredEntry) -> Option<usize>
     ensures { IfSome result (λ k. PassesOn entries.now marks.now entry.now k) }
 {
@@ -280,7 +284,7 @@ fn made(
     merge(alloc, entry.names(), &effective_fields(alloc, &fields)?)
 }
 
-/// The fields of an entry, and behind them those of the resolved entries that it uses, in their order.
+/// The fields of an entry, followed by those of the resolved entries that it uses, in order.
 fn gathered<'a>(
     alloc: Global,
     entries: &Entries,
@@ -302,7 +306,7 @@ fn gathered<'a>(
     Ok(fields)
 }
 
-/// Marks the entries that are left later as ones that are followed to a fault, and does nothing else of what is left.
+/// Marks the entries that are still to be left as followed to a fault, and drops all tasks.
 fn put_fault(marks: &mut [Mark], tasks: &mut Vec<Task>, fault: SourceFault)
     ensures marks { marks.new ≡ with_fault fault (leaves (reverse tasks.old.items)) marks.old }
     ensures tasks { tasks.new.items ≡ [] }
@@ -314,7 +318,7 @@ fn put_fault(marks: &mut [Mark], tasks: &mut Vec<Task>, fault: SourceFault)
     }
 }
 
-/// Takes the chain of uses back: its entries are not entered.
+/// Marks the entries on the chain of uses as not entered.
 fn take_back(marks: &mut [Mark])
     ensures { IsTakenBack marks.old marks.new }
 {
