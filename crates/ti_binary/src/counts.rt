@@ -1,11 +1,12 @@
-//! How many flags, numbers and texts of an entry a file holds: up to the last that is present.
+//! Counting the flags, numbers and texts of an entry that a file holds: up to the last that is
+//! present.
 ghost use Rattle.std.specs.Prelude.{◌≡◌, ◌≤◌, ◌+◌, length, take, is_some, min};
 ghost use Rattle.ti_caps.specs.Description.{IsDescription};
 ghost use Rattle.ti_binary.specs.Canonical.{kept_flags, kept_numbers, kept_texts, table_of};
 
 use ti_caps::{Entry, MOST_FLAGS, MOST_NUMBERS, MOST_TEXTS, Slot};
 
-/// How many flags there are up to the last that is present.
+/// The number of flags up to the last that is present.
 pub(crate) fn flag_count(entry: &Entry) -> u16
     requires described { IsDescription entry.now }
     ensures kept { take result entry.now.flags ≡ kept_flags entry.now }
@@ -20,7 +21,7 @@ pub(crate) fn flag_count(entry: &Entry) -> u16
     count
 }
 
-/// How many numbers there are up to the last that is present.
+/// The number of numbers up to the last that is present.
 pub(crate) fn number_count(entry: &Entry) -> u16
     requires described { IsDescription entry.now }
     ensures kept { take result entry.now.numbers ≡ kept_numbers entry.now }
@@ -35,7 +36,7 @@ pub(crate) fn number_count(entry: &Entry) -> u16
     count
 }
 
-/// How many texts there are up to the last that is present.
+/// The number of texts up to the last that is present.
 pub(crate) fn text_count(entry: &Entry) -> u16
     requires described { IsDescription entry.now }
     ensures kept { take result entry.now.texts ≡ kept_texts entry.now }
@@ -51,7 +52,7 @@ pub(crate) fn text_count(entry: &Entry) -> u16
     0
 }
 
-/// How many bytes the string table of the first texts has, or `most` where it has more.
+/// The number of bytes of the string table of the first `count` texts, at most `most`.
 pub(crate) fn table_size(entry: &Entry, count: u16, most: u16) -> u16
     requires described { IsDescription entry.now }
     requires few { count ≤ 512 }

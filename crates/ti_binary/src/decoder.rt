@@ -1,4 +1,4 @@
-//! Reading a compiled file, refusal by refusal. The definition is in `specs/Files.antt`.
+//! Reading a compiled file, refusal by refusal. `specs/Files.antt` defines it.
 ghost use Rattle.std.specs.Prelude.{◌≡◌, ◌≤◌, ◌*◌, ◌⊎◌, false, true, length, IfOk, IfErr, OnOk, None, Some, IsErrOf, IsOkUnless};
 ghost use Rattle.std.specs.List.{before_first, list_any};
 ghost use Rattle.ti_caps.specs.Names.{are_names};
@@ -11,11 +11,11 @@ use crate::texts::{before_nul, has_nul, rest_from};
 use std::alloc::Global;
 use ti_caps::{Entry, MOST_NUMBER, are_names};
 
-/// The entry of a compiled file, and how many bytes follow its string table (term(5), 'Legacy Storage
-/// Format'). Positions without a name are kept.
+/// Reads a compiled file: its entry, and how many bytes follow its string table (term(5), 'Legacy
+/// Storage Format'). Capabilities without a name are kept.
 ///
-/// Refused with the first fault of `BinFault` in its order; `NoMemory` where memory runs out and
-/// nothing else is wrong.
+/// Refused with the first fault that applies, in the order of `BinFault`; with `NoMemory` if memory
+/// runs out and nothing else is wrong.
 pub fn decode(alloc: Global, bytes: &[u8]) -> Result<(Entry, usize), BinFault>
     ensures refused { IfErr result (λ fault. (fault ≡ BinFault.NoMemory) ⊎ (refusal bytes.now ≡ Some fault)) }
     ensures memory { IsErrOf result BinFault.NoMemory → refusal bytes.now ≡ None }
@@ -42,7 +42,7 @@ pub fn decode(alloc: Global, bytes: &[u8]) -> Result<(Entry, usize), BinFault>
     Ok((entry, parts.rest))
 }
 
-// The names that a section has.
+// The names in their section.
 fn names_in(section: &[u8]) -> Result<&[u8], BinFault>
     ensures refused { IfErr result (λ fault. (fault ≡ BinFault.BadNames) × (has_bad_names section.now ≡ true)) }
     ensures good { OnOk result (has_bad_names section.now ≡ false) }
@@ -58,21 +58,21 @@ fn names_in(section: &[u8]) -> Result<&[u8], BinFault>
     }
 }
 
-// Whether an offset that is not negative is past the end of the table.
+// Whether a text's offset is past the end of the table. A negative offset is not.
 fn is_outside(table: &[u8], offset: u16) -> bool
     ensures { result ≡ is_outside table.now offset }
 {
     offset <= MOST_NUMBER && usize::from(offset) >= table.len()
 }
 
-// Whether the text at an offset that is not negative has no NUL in the table.
+// Whether the text at an offset has no NUL in the table. A negative offset has no text.
 fn is_unended(table: &[u8], offset: u16) -> bool
     ensures { result ≡ is_unended table.now offset }
 {
     offset <= MOST_NUMBER && !has_nul(rest_from(table, usize::from(offset)))
 }
 
-// Whether one of the first offsets is past the end of the table.
+// Whether any of the first `count` offsets is past the end of the table.
 fn any_outside(table: &[u8], offsets: &[u8], count: u16) -> bool
     requires { 2 * count ≤ length offsets.now }
     ensures { result ≡ list_any (is_outside table.now) (words_in offsets.now count) }
@@ -84,7 +84,7 @@ fn any_outside(table: &[u8], offsets: &[u8], count: u16) -> bool
     found
 }
 
-// Whether the text at one of the first offsets has no NUL in the table.
+// Whether the text at any of the first `count` offsets has no NUL in the table.
 fn any_unended(table: &[u8], offsets: &[u8], count: u16) -> bool
     requires { 2 * count ≤ length offsets.now }
     ensures { result ≡ list_any (is_unended table.now) (words_in offsets.now count) }

@@ -1,4 +1,4 @@
-//! Writing an entry in its one form. The definition is in `specs/Canonical.antt`.
+//! Writing an entry as a compiled file, in its one form. `specs/Canonical.antt` defines it.
 ghost use Rattle.std.specs.Prelude.{◌≡◌, ◌≤◌, ◌<◌, ◌+◌, ◌↔◌, ◌∷◌, ◌++◌, length, map, nat_lt, IfOk, OnOk, IsErrOf, IsOkUnless, true};
 ghost use Rattle.ti_caps.specs.Description.{IsDescription};
 ghost use Rattle.ti_caps.specs.Names.{are_names};
@@ -11,7 +11,7 @@ use std::alloc::{AllocError, AllocFailed, Global};
 use thiserror::Error;
 use ti_caps::{Bytes, Entry};
 
-/// Why an entry is not written.
+/// Why an entry is not written as a compiled file.
 #[derive(Clone, Copy, Debug, PartialEq, Eq, Error)]
 pub enum EncFault {
     /// The names have more than 127 bytes.
@@ -50,16 +50,16 @@ impl<T: Drop> From<AllocFailed<T>> for EncFault {
 /// The magic number of a file in the legacy format, octal 0432.
 const MAGIC: u16 = 0o432;
 
-/// How many bytes the names and their NUL have at most.
+/// The most bytes that the names and their NUL have.
 const MOST_NAME_BYTES: usize = 128;
 
-/// How many bytes a file has at most.
+/// The most bytes that a file has.
 const MOST_BYTES: u16 = 4_096;
 
-/// The compiled file of an entry, in its one form (term(5), 'Legacy Storage Format').
+/// Writes an entry as a compiled file, in its one form (term(5), 'Legacy Storage Format').
 ///
-/// `NamesTooLong` where the names and their NUL have more than 128 bytes, `TooLarge` where the file
-/// would have more than 4,096, then `NoMemory`.
+/// Refused with `NamesTooLong` if the names and their NUL have more than 128 bytes, with `TooLarge`
+/// if the file would have more than 4,096, then with `NoMemory`.
 pub fn encode(alloc: Global, entry: &Entry) -> Result<Bytes, EncFault>
     ensures long { IsErrOf result EncFault.NamesTooLong ↔ (128 < length entry.now.names + 1) }
     ensures large { IsErrOf result EncFault.TooLarge ↔ ((length entry.now.names + 1 ≤ 128) × (4096 < length (canonical entry.now))) }
@@ -69,8 +69,8 @@ pub fn encode(alloc: Global, entry: &Entry) -> Result<Bytes, EncFault>
     encode_named(alloc, entry, entry.names())
 }
 
-/// The compiled file of an entry with other names in the place of its own, which are good for an entry: what `encode` gives of that entry, and the
-/// same refusals.
+/// Writes an entry under other names, which have to be valid for an entry. This is what `encode`
+/// gives for the entry with those names, with the same refusals.
 pub fn encode_named(alloc: Global, entry: &Entry, names: &[u8]) -> Result<Bytes, EncFault>
     requires { are_names names.now ≡ true }
     ensures long { IsErrOf result EncFault.NamesTooLong ↔ (128 < length names.now + 1) }
@@ -90,7 +90,7 @@ pub fn encode_named(alloc: Global, entry: &Entry, names: &[u8]) -> Result<Bytes,
     Ok(Bytes(out))
 }
 
-// Whether a file of these sizes is longer than a file may be.
+// Whether a file with these sizes is larger than a file may be.
 fn is_too_large(entry: &Entry, names: &[u8], shape: &Shape) -> bool
     requires described { IsDescription entry.now }
     requires named { are_names names.now ≡ true }
@@ -100,7 +100,7 @@ fn is_too_large(entry: &Entry, names: &[u8], shape: &Shape) -> bool
     shape.file_size() > MOST_BYTES
 }
 
-// The sections of a file, one after another.
+// The file, section by section.
 fn file(alloc: Global, entry: &Entry, names: &[u8], shape: &Shape) -> Result<Vec<u8>, AllocError>
     requires described { IsDescription entry.now }
     requires shape { IsShape (renamed entry.now names.now) shape.now }
@@ -114,7 +114,7 @@ fn file(alloc: Global, entry: &Entry, names: &[u8], shape: &Shape) -> Result<Vec
     Ok(out)
 }
 
-// What stands before the numbers: header, names and NUL, flags, and the odd byte.
+// What precedes the numbers: header, names and NUL, flags, and the odd byte.
 fn front(alloc: Global, entry: &Entry, names: &[u8], shape: &Shape) -> Result<Vec<u8>, AllocError>
     requires described { IsDescription entry.now }
     requires shape { IsShape (renamed entry.now names.now) shape.now }
@@ -163,7 +163,7 @@ fn put_words(numbers: &[u16], out: &mut Vec<u8>) -> Result<(), AllocError>
     Ok(())
 }
 
-// Appends a byte where names and flags have an odd length together.
+// Appends a byte if names and flags together have an odd length.
 fn put_odd_byte(shape: &Shape, out: &mut Vec<u8>) -> Result<(), AllocError>
     requires names { shape.now.names ≤ 128 }
     requires flags { shape.now.flags ≤ 64 }

@@ -1,8 +1,8 @@
-//! Why bytes are no compiled file, in the order of refusals.
+//! Why bytes are not a compiled file.
 use std::alloc::AllocError;
 use thiserror::Error;
 
-/// Why bytes are not read as a compiled file, in the order in which refusals come.
+/// Why bytes are not read as a compiled file, in the order of the checks.
 #[derive(Clone, Copy, Debug, PartialEq, Eq, Error)]
 pub enum BinFault {
     /// There are more than 32,768 bytes.
@@ -14,13 +14,13 @@ pub enum BinFault {
     /// The magic number is that of the format with 32-bit numbers, octal 01036.
     #[error("32-bit numbers")]
     WideNumbers,
-    /// The magic number is another.
+    /// The magic number is any other.
     #[error("bad magic")]
     BadMagic,
-    /// A size or a count of the header is negative or past its limit, or the names have no bytes.
+    /// A size or a count in the header is negative or too great, or the names have no bytes.
     #[error("bad count")]
     BadCount,
-    /// The names have no NUL, or are not such as an entry has.
+    /// The names have no NUL, or are not valid for an entry.
     #[error("bad names")]
     BadNames,
     /// A text begins past the end of the string table.

@@ -1,4 +1,4 @@
-//! Setting in an entry what the sections of a file say.
+//! Filling an entry with what the sections of a file say.
 ghost use Rattle.std.specs.Prelude.{◌≡◌, ◌≤◌, ◌*◌, false, length, map, option_map, replicate, IfErr, IfSome, OnOk, None};
 ghost use Rattle.ti_caps.specs.Description.{text_has_nul};
 ghost use Rattle.ti_binary.specs.Files.{flag_said, number_said, padded, text_said, words_in};
@@ -8,7 +8,7 @@ use crate::parts::word;
 use crate::texts::{before_nul, rest_from};
 use ti_caps::{CapFault, Entry, MOST_NUMBER, Slot};
 
-/// Sets the flags that a section says of an entry that has none.
+/// Sets the flags that a section says are present, in an entry without flags.
 pub(crate) fn set_flags(entry: &mut Entry, flags: &[u8])
     requires few { length flags.now ≤ 64 }
     requires bare { entry.old.flags ≡ replicate 64 false }
@@ -19,7 +19,7 @@ pub(crate) fn set_flags(entry: &mut Entry, flags: &[u8])
     }
 }
 
-/// Sets the numbers that a section says of an entry that has none.
+/// Sets the numbers that a section gives, in an entry without numbers.
 pub(crate) fn set_numbers(entry: &mut Entry, numbers: &[u8], count: u16)
     requires few { count ≤ 64 }
     requires room { 2 * count ≤ length numbers.now }
@@ -32,7 +32,7 @@ pub(crate) fn set_numbers(entry: &mut Entry, numbers: &[u8], count: u16)
     }
 }
 
-/// Sets the texts that offsets say of an entry that has none. Fails only when memory runs out.
+/// Sets the texts at these offsets, in an entry without texts. Fails only when memory runs out.
 pub(crate) fn set_texts(
     entry: &mut Entry,
     table: &[u8],
@@ -54,7 +54,7 @@ pub(crate) fn set_texts(
     Ok(())
 }
 
-/// The fault of an entry, where it can only be that memory ran out.
+/// The fault of an entry where only memory can run out.
 pub(crate) fn want_of_memory(fault: CapFault) -> BinFault
     requires { fault ≡ CapFault.NoMemory }
     ensures { result ≡ BinFault.NoMemory }
@@ -65,7 +65,7 @@ pub(crate) fn want_of_memory(fault: CapFault) -> BinFault
     }
 }
 
-// What a 16-bit number says: a negative one that something is absent.
+// The number that 16 bits mean; `None` (absent) if they are negative.
 fn number_said(word: u16) -> Option<u16>
     ensures value { result ≡ number_said word }
     ensures small { IfSome result (λ n. n ≤ 32767) }
@@ -77,7 +77,7 @@ fn number_said(word: u16) -> Option<u16>
     }
 }
 
-// The text that an offset says: up to a NUL of the table.
+// The text at an offset, up to a NUL of the table.
 fn text_said(table: &[u8], offset: u16) -> Option<&[u8]>
     ensures value { option_map (λ t. t.now) result ≡ text_said table.now offset }
     ensures whole { text_has_nul (option_map (λ t. t.now) result) ≡ false }

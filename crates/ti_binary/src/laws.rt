@@ -1,19 +1,20 @@
-//! Laws of compiled files, each the contract of a function that does nothing. They are stated in `specs/FileLaws.antt`.
+//! Laws of compiled files, as contracts of functions that do nothing. `specs/FileLaws.antt` states
+//! them.
 ghost use Rattle.ti_binary.specs.FileLaws.{CanonicalReadsBack, FilesAreNotRefused, FilesHaveOneEntry};
 
-/// Bytes that are a file of some entry have no reason to be refused, so that `decode` reads them where
-/// memory is left.
+/// No refusal applies to bytes that are a file of some entry, so `decode` reads them if there is
+/// memory.
 pub fn files_are_not_refused()
     ensures { FilesAreNotRefused }
 {}
 
-/// Bytes are a file of at most one entry, with one rest.
+/// Bytes are a file of at most one entry, with one number of bytes that follow.
 pub fn files_have_one_entry()
     ensures { FilesHaveOneEntry }
 {}
 
-/// The canonical form of an entry, where it is within the limits of `encode`, is a file of that entry and of
-/// no other, and nothing follows it.
+/// The canonical form of an entry, if it is within the limits of `encode`, is a file of that entry
+/// and of no other, and nothing follows it.
 pub fn canonical_reads_back()
     ensures { CanonicalReadsBack }
 {}

@@ -1,4 +1,4 @@
-//! Compiled files of terminfo entries (term(5), 'Legacy Storage Format').
+//! Reading and writing compiled files of terminfo entries (term(5), 'Legacy Storage Format').
 #![tactic(auto)]
 
 mod counts;

@@ -1,4 +1,4 @@
-//! The header of a compiled file, and where its sections begin and end.
+//! The header of a compiled file, and the places of its sections.
 ghost use Rattle.std.specs.Prelude.{◌≡◌, ◌≤◌, ◌+◌, ◌*◌, length, drop, IfErr, IsErrOf, OnOk, None, Some};
 ghost use Rattle.ti_binary.specs.Files.{end_place, flags_of, flags_place, header_refusal, names_of, numbers_of, numbers_place, offsets_of, offsets_place, part, room_refusal, table_of, table_place, word_at};
 ghost use Rattle.ti_binary.specs.Shapes.{HasRoom};
@@ -7,7 +7,7 @@ use crate::faults::BinFault;
 use byteorder::{ByteOrder, LittleEndian};
 use ti_caps::{MOST_FLAGS, MOST_NUMBER, MOST_NUMBERS, MOST_TEXTS};
 
-/// How many bytes are looked at at most.
+/// The most bytes that are read as a file.
 const MOST_BYTES: usize = 32_768;
 
 /// The magic number of the legacy format, octal 0432.
@@ -24,7 +24,7 @@ pub(crate) fn word(bytes: &[u8], offset: usize) -> u16
     LittleEndian::read_u16(&bytes[offset..])
 }
 
-/// Refuses what is too large, has another magic number, or ends inside the header.
+/// Refuses bytes that are too many, have another magic number, or end inside the header.
 pub(crate) fn check_header(bytes: &[u8]) -> Result<(), BinFault>
     ensures refused { IfErr result (λ fault. header_refusal bytes.now ≡ Some fault) }
     ensures plain { IsErrOf result BinFault.NoMemory → ⊥ }
@@ -50,27 +50,27 @@ pub(crate) fn check_header(bytes: &[u8]) -> Result<(), BinFault>
     Ok(())
 }
 
-/// The sections of a file behind its header.
+/// The sections of a file, after its header.
 #[derive(Clone, Copy)]
 pub(crate) struct Parts<'a> {
     /// The names, and what follows their NUL in the section.
     pub(crate) names: &'a [u8],
-    /// A byte for each flag.
+    /// One byte for each flag.
     pub(crate) flags: &'a [u8],
-    /// How many numbers there are, and two bytes for each.
+    /// The number of numbers, and two bytes for each.
     pub(crate) number_count: u16,
     pub(crate) numbers: &'a [u8],
-    /// How many offsets of texts there are, and two bytes for each.
+    /// The number of offsets of texts, and two bytes for each.
     pub(crate) offset_count: u16,
     pub(crate) offsets: &'a [u8],
     /// The string table.
     pub(crate) table: &'a [u8],
-    /// How many bytes follow.
+    /// The number of bytes that follow the string table.
     pub(crate) rest: usize,
 }
 
-/// Refuses a header with a number that is negative or past its limit (`BadCount`), and bytes that end before
-/// the sections do (`Truncated`).
+/// Refuses a header with a number that is negative or too great (`BadCount`), and bytes that end
+/// before the sections do (`Truncated`).
 pub(crate) fn check_room(bytes: &[u8]) -> Result<(), BinFault>
     requires room { 12 ≤ length bytes.now }
     requires short { length bytes.now ≤ 32768 }
@@ -95,7 +95,7 @@ pub(crate) fn check_room(bytes: &[u8]) -> Result<(), BinFault>
     Ok(())
 }
 
-/// The sections by the numbers of the header.
+/// Divides a file into sections, by the numbers of its header.
 pub(crate) fn cut(bytes: &[u8]) -> Parts<'_>
     requires room { 12 ≤ length bytes.now }
     requires short { length bytes.now ≤ 32768 }

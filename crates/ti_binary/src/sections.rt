@@ -7,7 +7,7 @@ use byteorder::{ByteOrder, LittleEndian};
 use std::alloc::AllocError;
 use ti_caps::{Entry, Slot};
 
-/// What stands for something absent in a list of numbers or offsets.
+/// The number or offset of something absent.
 const ABSENT: u16 = 0xFFFF;
 
 /// Appends a 16-bit number, the lower byte first.
@@ -21,7 +21,7 @@ pub(crate) fn put_word(n: u16, out: &mut Vec<u8>) -> Result<(), AllocError>
     Ok(())
 }
 
-/// Appends the first flags of an entry, a byte each.
+/// Appends the first `count` flags of an entry, one byte each.
 pub(crate) fn put_flags(entry: &Entry, count: u16, out: &mut Vec<u8>) -> Result<(), AllocError>
     requires described { IsDescription entry.now }
     requires few { count ≤ 64 }
@@ -33,7 +33,7 @@ pub(crate) fn put_flags(entry: &Entry, count: u16, out: &mut Vec<u8>) -> Result<
     Ok(())
 }
 
-/// Appends the first numbers of an entry.
+/// Appends the first `count` numbers of an entry.
 pub(crate) fn put_numbers(entry: &Entry, count: u16, out: &mut Vec<u8>) -> Result<(), AllocError>
     requires described { IsDescription entry.now }
     requires few { count ≤ 64 }
@@ -45,7 +45,8 @@ pub(crate) fn put_numbers(entry: &Entry, count: u16, out: &mut Vec<u8>) -> Resul
     Ok(())
 }
 
-/// Appends where each of the first texts of an entry begins in the string table, which is small.
+/// Appends the offsets in the string table of the first `count` texts of an entry; the table is
+/// small.
 pub(crate) fn put_offsets(entry: &Entry, count: u16, out: &mut Vec<u8>) -> Result<(), AllocError>
     requires described { IsDescription entry.now }
     requires few { count ≤ 512 }
@@ -61,7 +62,7 @@ pub(crate) fn put_offsets(entry: &Entry, count: u16, out: &mut Vec<u8>) -> Resul
     Ok(())
 }
 
-/// Appends the first texts of an entry, each with its NUL.
+/// Appends the first `count` texts of an entry, each with its NUL.
 pub(crate) fn put_texts(entry: &Entry, count: u16, out: &mut Vec<u8>) -> Result<(), AllocError>
     requires described { IsDescription entry.now }
     requires few { count ≤ 512 }
@@ -73,14 +74,14 @@ pub(crate) fn put_texts(entry: &Entry, count: u16, out: &mut Vec<u8>) -> Result<
     Ok(())
 }
 
-// Appends a number of an entry, or what stands for its absence.
+// Appends a number of an entry, or the mark of an absent one.
 fn put_number(entry: &Entry, slot: u16, out: &mut Vec<u8>) -> Result<(), AllocError>
     ensures { OnOk result (out.new.items ≡ out.old.items ++ word (number_word (number_at entry.now slot))) }
 {
     put_word(entry.number(Slot(slot)).unwrap_or(ABSENT), out)
 }
 
-// Appends a text of an entry with its NUL, or nothing where it is absent.
+// Appends a text of an entry with its NUL, or nothing if it is absent.
 fn put_text(entry: &Entry, slot: u16, out: &mut Vec<u8>) -> Result<(), AllocError>
     ensures { OnOk result (out.new.items ≡ out.old.items ++ ended (text_at entry.now slot)) }
 {
@@ -91,7 +92,7 @@ fn put_text(entry: &Entry, slot: u16, out: &mut Vec<u8>) -> Result<(), AllocErro
     Ok(())
 }
 
-// What stands in the offsets for a text, where the table holds so many bytes already.
+// The offset of a text, if the table has `size` bytes so far.
 fn offset(size: usize, text: Option<&[u8]>) -> u16
     requires { size ≤ 4096 }
     ensures { result ≡ offset_of size (option_map (λ t. t.now) text.entry) }
@@ -102,7 +103,7 @@ fn offset(size: usize, text: Option<&[u8]>) -> u16
     }
 }
 
-// How many bytes a text and its NUL take in the table.
+// The number of bytes that a text and its NUL take in the table.
 fn ended_length(text: Option<&[u8]>) -> usize
     requires { length (ended (option_map (λ t. t.now) text)) ≤ 4096 }
     ensures { result ≡ length (ended (option_map (λ t. t.now) text.entry)) }

@@ -1,4 +1,4 @@
-//! The sizes of a file's sections, as its header has them.
+//! The sizes of a file's sections, as in its header.
 ghost use Rattle.std.specs.Prelude.{◌≡◌, ◌≤◌, ◌+◌, ◌*◌, ◌%◌, ◌==◌, length};
 ghost use Rattle.ti_caps.specs.Description.{IsDescription};
 ghost use Rattle.ti_binary.specs.Canonical.{renamed};
@@ -10,23 +10,23 @@ use ti_caps::Entry;
 /// The sizes of a file's sections.
 #[derive(Drop)]
 pub(crate) struct Shape {
-    /// The bytes of the names and their NUL.
+    /// The number of bytes of the names and their NUL.
     pub(crate) names: u16,
-    /// How many flags there are.
+    /// The number of flags.
     pub(crate) flags: u16,
-    /// How many numbers there are.
+    /// The number of numbers.
     pub(crate) numbers: u16,
-    /// How many offsets of texts there are.
+    /// The number of offsets of texts.
     pub(crate) texts: u16,
-    /// The bytes of the string table, or one more than a file may have.
+    /// The number of bytes of the string table, or one more than a file may have.
     pub(crate) table: u16,
 }
 
 impl Shape {
-    /// The string tables of this size and above are not told apart.
+    /// String tables of this size and above are not distinguished.
     const MOST_TABLE: u16 = 4_097;
 
-    /// The sizes of the sections of the file of an entry with these names.
+    /// The sizes for an entry with these names.
     pub(crate) fn of(entry: &Entry, names: &[u8]) -> Shape
         requires described { IsDescription entry.now }
         requires names { length names.now ≤ 127 }
@@ -42,7 +42,8 @@ impl Shape {
         }
     }
 
-    /// Whether a byte stands between flags and numbers, so that numbers begin at an even offset.
+    /// Whether there is a byte between flags and numbers, so that the numbers begin at an even
+    /// offset.
     pub(crate) fn is_odd(&self) -> bool
         requires names { self.now.names ≤ 128 }
         requires flags { self.now.flags ≤ 64 }
@@ -51,7 +52,7 @@ impl Shape {
         (self.names + self.flags) % 2 == 1
     }
 
-    /// How many bytes the file has.
+    /// The number of bytes of the file.
     pub(crate) fn file_size(&self) -> u16
         requires names { self.now.names ≤ 128 }
         requires flags { self.now.flags ≤ 64 }

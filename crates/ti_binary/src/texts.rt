@@ -1,4 +1,4 @@
-//! Texts in bytes that a NUL ends.
+//! Texts within bytes, each ended by a NUL.
 ghost use Rattle.std.specs.Prelude.{◌≡◌, drop};
 ghost use Rattle.std.specs.List.{before_first, list_any};
 ghost use Rattle.ti_binary.specs.Files.{is_nul};
@@ -10,7 +10,7 @@ pub(crate) fn has_nul(bytes: &[u8]) -> bool
     bytes.iter().any(|byte| *byte == 0)
 }
 
-/// What stands before the first NUL, or all where there is none.
+/// The bytes before the first NUL; all if there is none.
 pub(crate) fn before_nul(bytes: &[u8]) -> &[u8]
     ensures { result.now ≡ before_first is_nul bytes.now }
 {
@@ -21,7 +21,7 @@ pub(crate) fn before_nul(bytes: &[u8]) -> &[u8]
     &bytes[..end]
 }
 
-/// What stands from an offset on: nothing past the end.
+/// The bytes from an offset on; none past the end.
 pub(crate) fn rest_from(table: &[u8], offset: usize) -> &[u8]
     ensures { result.now ≡ drop offset table.now }
 {
