@@ -1,4 +1,5 @@
-//! Entries that are alike but for their names: those that only pass on another, or one another.
+//! Reusing a result for entries that equal it but for their names. An entry that has no fields of
+//! its own and exactly one use passes on the entry that it uses.
 
 ghost use Rattle.std.specs.Prelude.{List, ◌≡◌, ◌⊎◌, ℕ, IfErr, IfOk, IfSome, IsTrue, None, true};
 ghost use Rattle.ti_caps.specs.Description.{Description};
@@ -17,7 +18,8 @@ use std::alloc::Global;
 use ti_caps::Entry;
 use ti_source::{Resolver, Source, entries_pass_on};
 
-/// A resolved entry, and two names that resolve to it but for its names: one that was used, and the last that was compiled.
+/// A resolved entry, and two names that resolve to it but for its names: one that was used, and the
+/// last that was compiled.
 #[derive(Drop)]
 pub(crate) struct Alike<'a> {
     used: &'a [u8],
@@ -26,7 +28,8 @@ pub(crate) struct Alike<'a> {
 }
 
 impl<'a> Alike<'a> {
-    /// The same for the entry of a name that passes on another, where either is known.
+    /// The same for a name whose entry passes on another, if that other is one of the two; else
+    /// `None`.
     fn moved(self, name: &'a [u8], other: &'a [u8]) -> Option<Alike<'a>>
         ensures last { IfSome result (λ a. a.last.now ≡ name.entry.now) }
         ensures alike { (entries : List Described) (own : List ℕ) → IsPassedOn entries name.entry.now own other.entry.now → AreAlike entries self.entry → IfSome result (AreAlike entries) }
@@ -62,7 +65,8 @@ impl<'a> Alike<'a> {
     }
 }
 
-/// What the entry of a name is compiled to. Where it passes on another that an entry before it did, nothing is resolved.
+/// Compiles the entry with a name. If it passes on another that an entry before it passed on too,
+/// nothing is resolved.
 pub(crate) fn compiled_of<'a>(
     alloc: Global,
     source: &'a Source,
@@ -84,7 +88,7 @@ pub(crate) fn compiled_of<'a>(
     }
 }
 
-// The same of an entry that passes on another.
+// The same for an entry that passes on another.
 fn passed_on<'a>(
     alloc: Global,
     resolver: &mut Resolver<'_>,
@@ -111,7 +115,8 @@ fn passed_on<'a>(
     compiled
 }
 
-// The entry to which a name resolves that passes on another: the one that is known, or else that of the other, where it resolves.
+// The entry to which a name resolves that passes on another: the known one, or else the resolved
+// other, if it resolves.
 fn found<'a>(
     alloc: Global,
     resolver: &mut Resolver<'_>,
@@ -139,7 +144,7 @@ fn found<'a>(
     }
 }
 
-// What the entry of a name is compiled to when it is resolved.
+// Resolves the entry with a name and compiles it.
 fn named(alloc: Global, resolver: &mut Resolver<'_>, name: &[u8]) -> Result<CompiledEntry, TicFault>
     ensures same { resolver.new ≡ resolver.old }
     ensures ok { IfOk result (λ c. (d : Description) × Resolved resolver.old name.now d × (refusal_of d ≡ None) × IsCompiledOf d c) }

@@ -1,4 +1,4 @@
-//! The compiled file of one entry (term(5)).
+//! Compiling one entry to its file (term(5)).
 
 ghost use Rattle.std.specs.Prelude.{◌≡◌, ◌⊎◌, ◌++◌, IfErr, IfOk, None, Some, map, length, true};
 ghost use Rattle.std.specs.List.{list_all};
@@ -28,18 +28,18 @@ impl Model for Paths {
     ghost view = { λ p. p.0.items };
 }
 
-/// What an entry is compiled to.
+/// A compiled entry.
 #[derive(Debug, Drop)]
 pub struct CompiledEntry {
     /// The entry's first reference name.
     pub name: Bytes,
-    /// The paths of its files below a folder, one for each of its reference names in their order.
+    /// The paths of its files below a folder, one for each of its reference names, in order.
     pub paths: Paths,
     /// The bytes of each of these files.
     pub bytes: Bytes,
 }
 
-/// What an entry with these names is compiled to, or why it has no files.
+/// Compiles an entry under these names; refused if it has no files.
 pub(crate) fn compiled_entry(
     alloc: Global,
     entry: &Entry,
@@ -56,7 +56,8 @@ pub(crate) fn compiled_entry(
     Ok(CompiledEntry { name, paths, bytes })
 }
 
-/// The bytes of the file of an entry with these names and the names under which it stands, or why it has no files.
+/// The bytes of the file of an entry under these names, and its reference names; refused if it has
+/// no files.
 pub(crate) fn file_of<'n>(
     alloc: Global,
     entry: &Entry,
@@ -77,7 +78,7 @@ pub(crate) fn file_of<'n>(
     Ok((bytes, references))
 }
 
-// The written form of an entry with these names.
+// The written form of an entry under these names.
 fn encoded(alloc: Global, entry: &Entry, names: &[u8]) -> Result<Bytes, TicFault>
     requires { are_names names.now ≡ true }
     ensures ok { IfOk result (λ bytes. (encoding_refusal (renamed entry.now names.now) ≡ None) × (bytes ≡ canonical (renamed entry.now names.now))) }
@@ -87,7 +88,7 @@ fn encoded(alloc: Global, entry: &Entry, names: &[u8]) -> Result<Bytes, TicFault
     Ok(encode_named(alloc, entry, names)?)
 }
 
-// The paths of these names, in their order.
+// The paths of these names, in order.
 fn paths_of(alloc: Global, names: &[&[u8]]) -> Result<Paths, AllocError>
     ensures { IfOk result (λ paths. paths ≡ map path_of (map (λ name. name.now) names.now)) }
 {

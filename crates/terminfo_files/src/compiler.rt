@@ -1,4 +1,4 @@
-//! Compiling a source (tic(1)).
+//! Compiling a whole source (tic(1)).
 
 ghost use Rattle.std.specs.Prelude.{◌≡◌, ◌⊎◌, IfErr, IfOk, IsOkUnless, OnOk, None};
 ghost use Rattle.ti_caps.specs.Description.{Description};
@@ -27,24 +27,26 @@ impl Model for Notes {
     ghost view = { λ n. n.0.items };
 }
 
-/// What a source is compiled to.
+/// A compiled source.
 #[derive(Debug, Drop)]
 pub struct Compiled {
-    /// The compiled files: entry by entry, one for each of its reference names in their order.
+    /// The compiled files, entry by entry, one for each of its reference names, in order.
     pub files: Files,
     /// The name and size of each entry.
     pub sizes: Sizes,
-    /// The notes on its fields.
+    /// The notes on the source's fields.
     pub notes: Notes,
 }
 
-/// Compiles a source (tic(1)): for each entry, in their order, the compiled file of its resolved entry
-/// under the path of each of its reference names (`t1` has `t/t1`, and a name that stands twice has two),
-/// and its first reference name with the file's size; and the notes on the source.
+/// Compiles a source (tic(1)): its files, sizes and notes.
 ///
-/// The fault is that of reading, else that of the first faulty entry: that it does not resolve, then
-/// that it is past the limits of a compiled file, then that one of its reference names holds `/` or is
-/// `.` or `..`. `NoMemory` comes where memory runs out.
+/// For each entry, in order, this gives the compiled file of the resolved entry under the path of
+/// each of its reference names (`t1` has `t/t1`, and a name that occurs twice has two files), and
+/// its first reference name with the size of the file.
+///
+/// The fault is that of reading, otherwise that of the first faulty entry. An entry is faulty if it
+/// does not resolve, then if it exceeds the limits of a compiled file, then if one of its reference
+/// names contains `/` or is `.` or `..`. `NoMemory`: memory ran out.
 pub fn compile(alloc: Global, source: &[u8]) -> Result<Compiled, TicFault>
     ensures ok { IfOk result (λ c. IsCompiled source.now c) }
     ensures err { IfErr result (λ f. (f ≡ TicFault.NoMemory) ⊎ IsFaulty source.now f) }
@@ -55,7 +57,7 @@ pub fn compile(alloc: Global, source: &[u8]) -> Result<Compiled, TicFault>
     compiled_by(alloc, source)
 }
 
-// Resolves the entry of a name and adds its files and its size.
+// Resolves the entry with a name, and adds its files and its size.
 fn put_named(
     alloc: Global,
     resolver: &mut Resolver<'_>,
@@ -71,7 +73,7 @@ fn put_named(
     written.put(alloc, &entry)
 }
 
-// The files and sizes of all entries, in their order.
+// The files and sizes of all entries, in order.
 fn written_by(alloc: Global, source: &Source) -> Result<Written, TicFault>
     ensures ok { IfOk result (λ w. (ds : _) × AreCompiled source.now.entries (names_of source.now.entries) ds × (w ≡ written_of ds)) }
     ensures err { IfErr result (λ f. (f ≡ TicFault.NoMemory) ⊎ IsFirstRefused source.now.entries (names_of source.now.entries) f) }
@@ -85,7 +87,7 @@ fn written_by(alloc: Global, source: &Source) -> Result<Written, TicFault>
     Ok(written)
 }
 
-// What a source is compiled to, or its fault.
+// Compiles a source; `compile` does the same.
 fn compiled_by(alloc: Global, source: &[u8]) -> Result<Compiled, TicFault>
     ensures ok { IfOk result (λ c. IsCompiled source.now c) }
     ensures err { IfErr result (λ f. (f ≡ TicFault.NoMemory) ⊎ IsFaulty source.now f) }

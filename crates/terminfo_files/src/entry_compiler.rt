@@ -1,4 +1,4 @@
-//! Compiling the entries of a source one after another (tic(1)).
+//! Compiling the entries of a source one by one (tic(1)).
 
 ghost use Rattle.std.specs.Prelude.{◌≡◌, ◌⊎◌, ◌+◌, IfErr, IfOk, IfNone, IfSome, OnErr};
 ghost use Rattle.terminfo_files.specs.Compiling.{IsFirstRefused, names_of};
@@ -12,14 +12,15 @@ use std::alloc::Global;
 use std::marker::Model;
 use ti_source::{Resolver, Source};
 
-/// Compiles the entries of a source one after another, and keeps no file: for each what `compile` gives it. Contracts see the source's
-/// entries and how many of them were compiled since the beginning.
+/// Compiles the entries of a source one by one, and keeps no file: for each it gives what `compile`
+/// gives. Contracts see the source's entries and how many of them have been compiled since the
+/// beginning.
 #[derive(Drop)]
 pub struct EntryCompiler<'a> {
     source: &'a Source,
     resolver: Resolver<'a>,
     next: usize,
-    /// None until an entry was compiled that passes on another.
+    /// `None` until an entry was compiled that passes on another.
     alike: Option<Alike<'a>>,
 }
 
@@ -36,7 +37,7 @@ impl<'a> Model for EntryCompiler<'a> {
 }
 
 impl<'a> EntryCompiler<'a> {
-    /// A compiler of a source's entries that stands before the first.
+    /// A compiler of a source's entries, before the first.
     pub fn new(source: &'a Source) -> EntryCompiler<'a>
         ensures { result ≡ record { entries = source.entry.now.entries; next = 0 } }
     {
@@ -48,11 +49,12 @@ impl<'a> EntryCompiler<'a> {
         }
     }
 
-    /// Compiles the next entry; None behind the last. The paths, each with the bytes, are the files that `compile` gives the entry, in their
-    /// order, and the name and the number of bytes its size.
+    /// Compiles the next entry; `None` after the last. Its paths, each with its bytes, are the
+    /// files that `compile` gives for the entry, in order; its name and the number of its bytes are
+    /// the entry's size.
     ///
-    /// The fault is that of the first faulty entry, as `compile` has it, and comes again where the next entry is asked for again. `NoMemory`
-    /// comes where memory runs out. Nothing is compiled then.
+    /// The fault is that of the first faulty entry, as in `compile`, and comes again if the next
+    /// entry is asked for again. `NoMemory`: memory ran out. Nothing is compiled then.
     pub fn next_entry(&mut self, alloc: Global) -> Result<Option<CompiledEntry>, TicFault>
         ensures more { IfOk result (λ r. IfSome r (λ c. IsCompiledNext self.old.entries self.old.next c × (self.new ≡ record self.old { next = self.old.next + 1 }))) }
         ensures end { IfOk result (λ r. IfNone r ((self.new ≡ self.old) × AllCompiled self.old.entries self.old.next)) }
@@ -75,7 +77,7 @@ impl<'a> EntryCompiler<'a> {
         Ok(Some(compiled))
     }
 
-    /// Goes back before the first entry. What was resolved is still known.
+    /// Goes back to the first entry. What has been resolved stays known.
     pub fn restart(&mut self)
         ensures { self.new ≡ record self.old { next = 0 } }
     {

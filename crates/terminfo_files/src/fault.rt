@@ -1,24 +1,24 @@
-//! Why a source is not compiled, or a compiled file not listed.
+//! Why a source is not compiled, or a compiled file is not listed.
 
 use std::alloc::{AllocError, AllocFailed};
 use thiserror::Error;
 use ti_binary::{BinFault, EncFault};
 use ti_source::SourceFault;
 
-/// Why a source or a file was refused. Want of memory is always `NoMemory`, and never stands in another
-/// fault.
+/// Why a source or a file was refused. If memory ran out, the fault is always `NoMemory`, never one
+/// inside another fault.
 #[derive(Clone, Copy, Debug, PartialEq, Eq, Error)]
 pub enum TicFault {
-    /// The source, or an entry of it that does not resolve.
+    /// The source is faulty, or an entry of it does not resolve.
     #[error(transparent)]
     Source(SourceFault),
-    /// An entry past the limits of a compiled file.
+    /// An entry exceeds the limits of a compiled file.
     #[error(transparent)]
     Encode(EncFault),
-    /// A reference name that no file can have: with `/` in it, or `.` or `..`.
+    /// A reference name cannot be a file name: it contains `/`, or is `.` or `..`.
     #[error("bad file name")]
     BadFileName,
-    /// A compiled file that is not read.
+    /// The bytes are not a compiled file.
     #[error(transparent)]
     Decode(BinFault),
     /// Memory ran out.
@@ -48,7 +48,7 @@ impl<T: Drop> From<AllocFailed<T>> for TicFault {
     }
 }
 
-// Want of memory is NoMemory, and any other fault is one of the source.
+// `NoMemory` stays `NoMemory`; any other fault is one of the source.
 impl From<SourceFault> for TicFault {
     ghost use Rattle.terminfo_files.specs.Faults.{of_source};
     ghost use Rattle.std.specs.Prelude.{◌≡◌};
@@ -63,7 +63,7 @@ impl From<SourceFault> for TicFault {
     }
 }
 
-// Want of memory is NoMemory, and any other fault is one of writing.
+// `NoMemory` stays `NoMemory`; any other fault is one of writing.
 impl From<EncFault> for TicFault {
     ghost use Rattle.terminfo_files.specs.Faults.{of_encoding};
     ghost use Rattle.std.specs.Prelude.{◌≡◌};
@@ -78,7 +78,7 @@ impl From<EncFault> for TicFault {
     }
 }
 
-// Want of memory is NoMemory, and any other fault is one of reading.
+// `NoMemory` stays `NoMemory`; any other fault is one of reading.
 impl From<BinFault> for TicFault {
     ghost use Rattle.terminfo_files.specs.Faults.{of_decoding};
     ghost use Rattle.std.specs.Prelude.{◌≡◌};

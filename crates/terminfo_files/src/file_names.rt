@@ -8,7 +8,7 @@ ghost use Rattle.terminfo_files.specs.FileNames.{is_dots, is_file_name, is_slash
 use std::alloc::{AllocError, Global};
 use ti_caps::{Bytes, cut_name, has_no_blank};
 
-/// The alternatives without a blank, in their order.
+/// The reference names: the alternatives without a blank, in order.
 pub(crate) fn reference_names(alloc: Global, names: &[u8]) -> Result<Vec<&[u8]>, AllocError>
     ensures { IfOk result (λ found. map (λ name. name.now) found.items ≡ reference_names names.now) }
 {
@@ -24,14 +24,14 @@ pub(crate) fn reference_names(alloc: Global, names: &[u8]) -> Result<Vec<&[u8]>,
     }
 }
 
-/// Whether a file can have this name: no `/` is in it, and it is neither `.` nor `..`.
+/// Whether this can be a file name: it contains no `/`, and is neither `.` nor `..`.
 pub(crate) fn is_file_name(name: &[u8]) -> bool
     ensures { result ≡ is_file_name name.now }
 {
     !has_slash(name) && !is_dots(name)
 }
 
-/// Whether files can have all these names.
+/// Whether all these can be file names.
 pub(crate) fn are_file_names(names: &[&[u8]]) -> bool
     ensures { result ≡ list_all is_file_name (map (λ name. name.now) names.now) }
 {
@@ -43,7 +43,7 @@ pub(crate) fn are_file_names(names: &[&[u8]]) -> bool
     true
 }
 
-/// The path of a name's file: `t1` has `t/t1`.
+/// The path of the file for a name: `t1` has `t/t1`.
 pub(crate) fn path_of(alloc: Global, name: &[u8]) -> Result<Bytes, AllocError>
     ensures { IfOk result (λ path. path ≡ path_of name.now) }
 {
@@ -53,7 +53,7 @@ pub(crate) fn path_of(alloc: Global, name: &[u8]) -> Result<Bytes, AllocError>
     Ok(Bytes(path))
 }
 
-// Appends a name of an entry, where it has no blank.
+// Appends a name of an entry, unless it has a blank.
 fn put_reference<'a>(found: &mut Vec<&'a [u8]>, name: &'a [u8]) -> Result<(), AllocError>
     ensures { OnOk result (map (λ name. name.now) found.new.items ≡ map (λ name. name.now) found.old.items ++ filter has_no_blank (name.entry.now ∷ [])) }
 {

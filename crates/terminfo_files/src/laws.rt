@@ -1,17 +1,17 @@
-//! What holds of compiling by its definition alone.
+//! Laws of compiling, as contracts of functions that do nothing.
 
 ghost use Rattle.terminfo_files.specs.Once.{CompileOnce, CompiledOrFaulty, FaultyOnce};
 
 use ti_source::{names_have_one_fault, names_resolve_once, resolved_names_have_no_fault};
 
-/// A source is compiled to one thing at most.
+/// A source is compiled to at most one result.
 pub fn sources_compile_once()
     ensures { CompileOnce }
 {
     names_resolve_once();
 }
 
-/// A source has one fault at most: that of reading, or of the first entry that is refused.
+/// A source has at most one fault: that of reading, or of the first entry that is refused.
 pub fn sources_have_one_fault()
     ensures { FaultyOnce }
 {

@@ -1,5 +1,5 @@
-//! What a terminfo compiler does between its input and its output (tic(1), infocmp(1)): sources to compiled files
-//! under their paths, and compiled files to source text.
+//! The work of a terminfo compiler between its input and output (tic(1), infocmp(1)). It compiles a
+//! source to files under their paths, and lists a compiled file as source.
 #![tactic(auto)]
 
 mod alike;

@@ -1,4 +1,4 @@
-//! Listing a compiled file (tic(1), infocmp(1)).
+//! Listing a compiled file as source (tic(1), infocmp(1)).
 
 ghost use Rattle.std.specs.Prelude.{◌≡◌, ◌⊎◌, IfErr, IfOk, IsErrOf, IsOkUnless, None, Some};
 ghost use Rattle.ti_binary.specs.declared.faults.BinFault.{BinFault};
@@ -14,23 +14,24 @@ use ti_binary::{decode, files_are_not_refused};
 use ti_caps::Bytes;
 use ti_source::print;
 
-/// A compiled file as source text, and what of it is not in the text.
+/// A compiled file as source text, and what the text leaves out.
 #[derive(Debug, Drop)]
 pub struct Listing {
     /// The source text of the file's entry.
     pub text: Bytes,
-    /// How many present capabilities have no name and are left out.
+    /// The number of present capabilities that have no name, and are left out.
     pub unnamed: usize,
-    /// How many bytes stand after the string table.
+    /// The number of bytes after the string table, which are left out too.
     pub skipped: usize,
 }
 
-/// Lists a compiled file: the source text of its entry, how many of its capabilities have no name and
-/// are left out, and how many bytes follow its string table (term(5), 'Legacy Storage Format'). The text
-/// is a source of one entry, which resolves to the file's without its unnamed capabilities.
+/// Lists a compiled file: the source text of its entry, how many of its capabilities are left out
+/// because they have no name, and how many bytes follow its string table (term(5), 'Legacy Storage
+/// Format'). The text is a source of one entry, which resolves to the file's entry without its
+/// unnamed capabilities.
 ///
-/// `Decode` with the first reason for which the bytes are no file; `NoMemory` where memory runs out and there
-/// is no such reason.
+/// Refused with `Decode` and the first reason why the bytes are not a file; with `NoMemory` if
+/// memory runs out and there is no such reason.
 pub fn list(alloc: Global, bytes: &[u8]) -> Result<Listing, TicFault>
     ensures ok { IfOk result (λ l. (d : Description) × Reads bytes.now d l.skipped × (l.text ≡ printed d) × (l.unnamed ≡ unnamed_count d) × ReadsBack d) }
     ensures err { IfErr result (λ f. (f ≡ TicFault.NoMemory) ⊎ ((b : BinFault) × (refusal bytes.now ≡ Some b) × (f ≡ TicFault.Decode b))) }

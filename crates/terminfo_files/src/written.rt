@@ -1,4 +1,4 @@
-//! The compiled files of entries (term(5)).
+//! The compiled files of several entries, and their sizes (term(5)).
 
 ghost use Rattle.std.specs.Prelude.{◌≡◌, ◌⊎◌, ◌∷◌, ◌++◌, [], IfErr, OnOk, None, Some, map};
 ghost use Rattle.ti_caps.specs.Names.{first_name};
@@ -25,7 +25,7 @@ impl Model for Files {
     ghost view = { λ f. f.0.items };
 }
 
-/// First reference names of entries, each with the size of its compiled file in bytes.
+/// The first reference names of entries, each with the size of its compiled file in bytes.
 #[derive(Debug, Drop)]
 pub struct Sizes(pub Vec<(Bytes, usize)>);
 
@@ -37,7 +37,7 @@ impl Model for Sizes {
     ghost view = { λ s. s.0.items };
 }
 
-/// The files and sizes of some entries.
+/// The files and sizes of the entries so far.
 #[derive(Drop)]
 pub(crate) struct Written {
     pub(crate) files: Files,
