@@ -1,7 +1,8 @@
-//! Compiling a source: the sizes of its entries' files, or the files.
+//! Compiling a source: printing the sizes of its entries' files, or writing the files.
 //!
-//! The entries are compiled one after another, and of each only the size of its file is kept. Files are written once all entries are known
-//! to be good. They are held until then where they are few; else they are compiled again.
+//! The entries are compiled one by one, and for each only the size of its file is kept. Files are
+//! written once all entries are known to be good. Until then they are held in memory if they are
+//! few; otherwise the entries are compiled again.
 
 use crate::failure::Failure;
 use crate::input::input_of;
@@ -13,13 +14,14 @@ use std::io::Write;
 use terminfo_files::{CompiledEntry, EntryCompiler, TicFault};
 use ti_source::{Note, Source, SourceFault, read};
 
-/// How long lines get before they are written.
+/// Lines are written once they have this many bytes.
 const PIECE: usize = 65_536;
 
-/// How many bytes compiled entries take together that are held until all entries are known to be good.
+/// Compiled entries are held until all are known to be good, if they take at most this many bytes
+/// together.
 const MOST_HELD: usize = 16_777_216;
 
-/// Prints the name of each entry of a source and the size of its file.
+/// Prints the name of each entry of a source, and the size of its file.
 pub(crate) fn print_sizes<'a>(
     rt: &HostRuntime,
     file: &'a str,
@@ -90,7 +92,7 @@ fn source_of<'a>(rt: &HostRuntime, text: &[u8], verbose: bool) -> Result<Source,
     }
 }
 
-// The sizes of the files of all entries.
+// The sizes of all entries' files.
 fn sizes_of<'a>(
     rt: &HostRuntime,
     text: &[u8],
@@ -107,7 +109,7 @@ fn sizes_of<'a>(
     Ok(sizes)
 }
 
-// What all entries are compiled to, unless that is too much to be held.
+// All entries, compiled; `None` if they are too large to hold.
 fn held_entries<'a>(
     rt: &HostRuntime,
     text: &[u8],
@@ -141,7 +143,7 @@ fn room_of(entry: &CompiledEntry) -> usize {
         .saturating_add(192)
 }
 
-// What the next entry, whose index is given, is compiled to.
+// Compiles the next entry, whose index is `index`.
 fn next_entry<'a>(
     rt: &HostRuntime,
     text: &[u8],
@@ -156,7 +158,7 @@ fn next_entry<'a>(
     }
 }
 
-// Says on the standard error which entry a fault is in, unless memory ran out.
+// Prints on standard error which entry a fault is in, unless memory ran out.
 fn told_at<'a>(
     rt: &HostRuntime,
     text: &[u8],
@@ -173,7 +175,7 @@ fn told_at<'a>(
     fault.into()
 }
 
-// Says on the standard error which fields are doubtful.
+// Prints the notes on doubtful fields on standard error.
 fn tell_notes<'a>(rt: &HostRuntime, notes: &[Note], verbose: bool) -> Result<(), Failure<'a>> {
     let alloc = rt.alloc();
     let mut lines = Vec::new(alloc);

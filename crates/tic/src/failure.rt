@@ -1,10 +1,10 @@
-//! Why the program ends with another status than 0.
+//! Why the program ends with a status other than 0.
 
 use std::alloc::{AllocError, AllocFailed};
 use terminfo_files::TicFault;
 use thiserror::Error;
 
-/// Why the program ends with another status than 0, in the words that it prints.
+/// Why the program ends with a status other than 0, with the texts that it prints.
 #[derive(Debug, Drop, Error)]
 pub(crate) enum Failure<'a> {
     #[error("{0}")]
@@ -24,7 +24,7 @@ pub(crate) enum Failure<'a> {
 }
 
 impl Failure<'_> {
-    /// 2 for a usage error, else 1.
+    /// 2 for a usage error, 1 for any other failure.
     pub(crate) fn status(&self) -> u8 {
         match self {
             Failure::Words(_) | Failure::Usage => 2,

@@ -1,10 +1,10 @@
-//! The input: a file, or the standard input.
+//! Reading the input: a file, or the standard input.
 
 use crate::failure::Failure;
 use program_input::{InputFault, read_input};
 use std::fs;
 
-/// The bytes of a file, or of the standard input where the file is `-`.
+/// The bytes of a file, or of the standard input if the file is `-`.
 pub(crate) fn input_of<'a>(rt: &HostRuntime, file: &'a str) -> Result<Vec<u8>, Failure<'a>> {
     let read = if file == "-" {
         read_input(rt.alloc(), &mut rt.stdin())

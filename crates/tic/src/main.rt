@@ -1,11 +1,13 @@
 //! `tic`: compiles terminfo source, and lists compiled files (tic(1), infocmp(1)).
 //!
-//! `tic -c FILE` compiles FILE and prints the first name of each entry and the size of its compiled file,
-//! one entry a line. `tic -o DIR FILE` writes the files below DIR, one for each name of an entry, and
-//! prints nothing. `tic -d COMPILED` prints a compiled file as source. FILE or COMPILED is the standard
-//! input where it is `-`. Doubtful fields, and what a listing leaves out, are told on standard error; with
-//! `-v` also the entry of a fault that has no line, and how often each unknown name stands. A fault is
-//! printed there as `tic: ` and its text. `--help` and `--version` are answered on standard output. The
+//! `tic -c FILE` compiles FILE and prints the first name of each entry and the size of its compiled
+//! file, one entry a line. `tic -o DIR FILE` writes the files below DIR, one for each name of an
+//! entry, and prints nothing. `tic -d COMPILED` prints a compiled file as source. If FILE or
+//! COMPILED is `-`, it is the standard input.
+//!
+//! Notes on doubtful fields, and what a listing leaves out, go to standard error; with `-v` also
+//! the entry of a fault that has no line, and how often each unknown name occurs. A fault is
+//! printed there as `tic: ` and its text. `--help` and `--version` answer on standard output. The
 //! status is 0, 1 for a fault and 2 for a usage error.
 #![tactic(auto)]
 
@@ -37,7 +39,7 @@ fn main(rt: HostRuntime) -> ExitCode {
     ExitCode::from(ended)
 }
 
-// Prints why the program ends, and gives its status.
+// Prints why the program ends, and returns its status.
 fn told(rt: &HostRuntime, failure: &Failure<'_>) -> u8 {
     let _ = eprintln!(rt; "{failure}");
     failure.status()
@@ -51,7 +53,7 @@ fn words_given<'a>(rt: &HostRuntime) -> Result<Vec<String>, Failure<'a>> {
     }
 }
 
-// Does what the words ask for, and gives the status.
+// Does what the command line asks for, and returns the status.
 fn perform(rt: &HostRuntime, words: &[String]) -> u8 {
     let ended = match words::matches(rt.alloc(), words) {
         Ok(matches) => match words::task_of(&matches) {
@@ -66,7 +68,8 @@ fn perform(rt: &HostRuntime, words: &[String]) -> u8 {
     }
 }
 
-// Prints the help or the version, where the words ask for it; any other words that are not parsed are a usage error.
+// Prints the help or the version, if asked for; any other command line that does not parse is a
+// usage error.
 fn answered<'a>(rt: &HostRuntime, error: clap::Error) -> Result<(), Failure<'a>> {
     if error.kind() == ErrorKind::OutOfMemory {
         return Err(Failure::NoMemory);
@@ -85,7 +88,7 @@ fn run<'a>(rt: &HostRuntime, task: Task<'a>, verbose: bool) -> Result<(), Failur
     }
 }
 
-// Prints a compiled file as source, and tells what is left out of it.
+// Prints a compiled file as source, and reports what is left out.
 fn print_listing<'a>(rt: &HostRuntime, bytes: &[u8]) -> Result<(), Failure<'a>> {
     let listing = list(rt.alloc(), bytes)?;
     let left_out = left_out_lines(rt.alloc(), listing.unnamed, listing.skipped)?;

@@ -1,4 +1,4 @@
-//! The standard output, and compiled files as they are written below a folder.
+//! Writing to the standard output, and writing compiled files below a folder.
 
 use crate::failure::Failure;
 use std::alloc::Global;
@@ -12,8 +12,8 @@ pub(crate) fn print<'a>(rt: &HostRuntime, text: &[u8]) -> Result<(), Failure<'a>
     rt.stdout().write_all(text).map_err(|_| Failure::Output)
 }
 
-/// Writes the files of an entry below a folder, which is made where it is not there, as are the folders in it.
-/// Files that are there are replaced.
+/// Writes the files of an entry below a folder. Creates the folder and folders in it if they are
+/// missing, and replaces existing files.
 pub(crate) fn write_files<'a>(
     rt: &HostRuntime,
     directory: &str,
@@ -30,13 +30,13 @@ pub(crate) fn write_files<'a>(
     Ok(())
 }
 
-// A path below a folder; a compiled file's path is ASCII.
+// A path below a folder; the path of a compiled file is ASCII.
 fn below<'a>(alloc: Global, directory: &str, path: &[u8]) -> Result<PathBuf, Failure<'a>> {
     let path = str::from_utf8(path).unwrap_or("");
     Ok(Path::new(directory).join(alloc, path)?)
 }
 
-// Writes a file; the folders on its path are made only where it cannot be written without them.
+// Writes a file. Folders on its path are created only if it cannot be written without them.
 fn write_file(rt: &HostRuntime, path: &PathBuf, bytes: &[u8]) -> io::Result<()> {
     match fs::write(rt, path.as_path(), bytes) {
         Err(error) if error.kind() == ErrorKind::NotFound => {}

@@ -1,17 +1,17 @@
-//! Where the entries of a source begin: what is said of a fault that has no line.
+//! Where the entries of a source begin, to report faults that have no line.
 
 use bstr::ByteSlice;
 use std::alloc::{AllocError, Global};
 use ti_source::{SourceFault, read};
 
-/// The line with which an entry begins, counted from 1, and the entry's first reference name.
+/// The line on which an entry begins, counted from 1, and the entry's first reference name.
 #[derive(Clone, Copy, Debug)]
 pub(crate) struct Place<'a> {
     pub(crate) name: &'a [u8],
     pub(crate) line: u32,
 }
 
-/// How many bytes an entry has at least that has more than 32 `use=`.
+/// The fewest bytes that an entry with more than 32 `use=` has.
 const LEAST_BYTES: usize = 165;
 
 /// Where the entry at an index of a source begins.
@@ -34,8 +34,8 @@ pub(crate) fn place_of(text: &[u8], index: usize) -> Option<Place<'_>> {
     None
 }
 
-/// The index of the first entry of a source that has more than 32 `use=`. The uses of an entry stand in its own lines, which are
-/// read by themselves.
+/// The index of the first entry of a source that has more than 32 `use=`. The uses of an entry are
+/// on its own lines, which are read by themselves.
 pub(crate) fn index_of_many_uses(alloc: Global, text: &[u8]) -> Result<Option<usize>, AllocError> {
     let mut entries = 0usize;
     let mut own = Vec::new(alloc);
@@ -59,7 +59,8 @@ fn has_many_uses(alloc: Global, entry: &[u8]) -> bool {
     entry.len() >= LEAST_BYTES && matches!(read(alloc, entry), Err(SourceFault::TooManyUses))
 }
 
-// Whether a line, which may have its end with it, begins an entry: it is no comment, it is not empty and does not begin with a blank.
+// Whether a line, with or without its line end, begins an entry: it is not a comment, not empty,
+// and does not begin with a blank.
 fn begins_entry(line: &[u8]) -> bool {
     match line {
         [] | [b'\n'] | [b'\r', b'\n'] => false,

@@ -1,17 +1,17 @@
-//! What `tic` prints.
+//! The lines that `tic` prints.
 
 use crate::places::Place;
 use std::alloc::{AllocError, Global};
 use ti_source::{Cause, Note};
 
-/// Adds the line of a note: its line number, its cause and the field's name.
+/// Adds the line for a note: its line number, its cause and the field's name.
 pub(crate) fn add_note(alloc: Global, note: &Note, lines: &mut Vec<u8>) -> Result<(), AllocError> {
     let (number, word) = (note.line, word_of(note.cause));
     let head = format!(in alloc; "line {number}: {word} ")?;
     add_line(head.as_bytes(), note.name.0.as_slice(), lines)
 }
 
-/// Adds the line of an entry: its first reference name and the size of its file.
+/// Adds the line for an entry: its first reference name and the size of its file.
 pub(crate) fn add_size(
     alloc: Global,
     name: &[u8],
@@ -22,7 +22,7 @@ pub(crate) fn add_size(
     add_line(name, digits.as_bytes(), lines)
 }
 
-/// The line of an entry that a fault is in.
+/// The line that names the entry that a fault is in.
 pub(crate) fn entry_line(alloc: Global, place: Place<'_>) -> Result<Vec<u8>, AllocError> {
     let mut line = Vec::from_slice(alloc, b"entry ")?;
     let number = place.line;
@@ -32,8 +32,9 @@ pub(crate) fn entry_line(alloc: Global, place: Place<'_>) -> Result<Vec<u8>, All
     Ok(line)
 }
 
-/// How many fields of how many names are unknown, and a line for each name with the number of its fields, the most frequent first, and
-/// those as frequent by their bytes; nothing where none is unknown.
+/// The lines about unknown names: first how many fields have how many unknown names, then each name
+/// with the number of its fields. The most frequent come first, and equally frequent ones are in
+/// the order of their bytes. Nothing if no name is unknown.
 pub(crate) fn unknown_lines(alloc: Global, notes: &[Note]) -> Result<Vec<u8>, AllocError> {
     let names = unknown_names(alloc, notes)?;
     let counted = counted_names(alloc, &names)?;
@@ -63,7 +64,8 @@ fn unknown_names<'a>(alloc: Global, notes: &'a [Note]) -> Result<Vec<&'a [u8]>, 
     Ok(names)
 }
 
-// How often each of these names stands among them, the most frequent first; neighbours are alike where any are.
+// How often each of these names occurs, the most frequent first. Equal names are neighbours in
+// `names`.
 fn counted_names<'a>(
     alloc: Global,
     names: &[&'a [u8]],
@@ -85,8 +87,8 @@ fn counted_names<'a>(
     Ok(counted)
 }
 
-/// What a listing leaves out: a line for capabilities without a name and one for bytes after the
-/// string table, each where there are some.
+/// What a listing leaves out: a line for the capabilities without a name and one for the bytes
+/// after the string table, each only if there are any.
 pub(crate) fn left_out_lines(
     alloc: Global,
     unnamed: usize,
@@ -103,7 +105,7 @@ pub(crate) fn left_out_lines(
     Ok(lines)
 }
 
-// A line for a count that is not 0.
+// A line for a count, unless it is 0.
 fn add_count(
     alloc: Global,
     count: usize,

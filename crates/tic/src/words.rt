@@ -3,18 +3,19 @@
 use clap::{Arg, ArgAction, ArgGroup, ArgMatches, Command, Error};
 use std::alloc::{AllocError, Global};
 
-/// What the words ask for.
+/// What the command line asks for.
 #[derive(Clone, Copy, Debug)]
 pub(crate) enum Task<'a> {
-    /// The sizes of a source's compiled files.
+    /// Print the sizes of a source's compiled files.
     Sizes(&'a str),
-    /// The compiled files themselves, below a folder.
+    /// Write the compiled files of a source below a folder.
     Files(&'a str, &'a str),
-    /// The source text of a compiled file.
+    /// Print a compiled file as source.
     Listing(&'a str),
 }
 
-/// The words after parsing: exactly one of `-c FILE`, `-o DIR FILE` and `-d COMPILED`, and perhaps `-v`.
+/// Parses the command line: exactly one of `-c FILE`, `-o DIR FILE` and `-d COMPILED`, and
+/// optionally `-v`.
 pub(crate) fn matches<'a>(alloc: Global, words: &'a [String]) -> Result<ArgMatches<'a>, Error> {
     command(alloc)?.try_get_matches_from(words)
 }
@@ -69,13 +70,13 @@ fn verbose<'a>(alloc: Global) -> Arg<'a> {
         .help("Says which entry a fault is in, and how often each unknown name stands")
 }
 
-// One of the three is given.
+// Exactly one of the three has to be given.
 fn forms<'a>(alloc: Global) -> Result<ArgGroup<'a>, AllocError> {
     let forms = ArgGroup::new(alloc, "forms").required(true);
     forms.arg("sizes")?.arg("files")?.arg("listing")
 }
 
-/// What parsed words ask for, if anything.
+/// What a parsed command line asks for, if anything.
 pub(crate) fn task_of<'a>(matches: &ArgMatches<'a>) -> Option<Task<'a>> {
     if let Some(file) = matches.get_str("sizes") {
         return Some(Task::Sizes(file));
@@ -89,7 +90,7 @@ pub(crate) fn task_of<'a>(matches: &ArgMatches<'a>) -> Option<Task<'a>> {
     }
 }
 
-/// Whether more is to be said on the standard error.
+/// Whether to print more on standard error.
 pub(crate) fn is_verbose(matches: &ArgMatches<'_>) -> bool {
     matches.get_flag("verbose")
 }
