@@ -1,11 +1,11 @@
-//! Blanks in a row of cells: where there are many, and whether so many are worth an erasure.
+//! Finding blanks in a row of cells, and whether they are worth an erasure.
 ghost use Rattle.std.specs.Prelude.{◌<◌, ◌≤◌, length};
 
 use scr_cells::Cell;
 use scr_term::{Op, Profile};
 
-// The column of a blank, from a column on: of the first so many blanks in a row, or of some before these; the end, where there are none.
-// One column of so many is looked at.
+// The column of a blank from `from` on, or `end` if none is found. Only one column in `many` is
+// looked at: so the first `many` blanks in a row are found, or some blank before them.
 pub(crate) fn blank_of_many(cells: &[Cell], from: u32, end: u32, many: u32) -> u32
     requires wide { end ≤ length cells.now }
     requires from { from ≤ end }
@@ -23,7 +23,8 @@ pub(crate) fn blank_of_many(cells: &[Cell], from: u32, end: u32, many: u32) -> u
     end
 }
 
-// Where the blanks begin that a column is behind or one of, no further to the left than another.
+// The first column of the blanks right before `column`, not further left than `from`; `column`
+// itself if there are none.
 pub(crate) fn blanks_begin(cells: &[Cell], from: u32, column: u32) -> u32
     requires wide { column ≤ length cells.now }
     requires from { from ≤ column }
@@ -37,7 +38,7 @@ pub(crate) fn blanks_begin(cells: &[Cell], from: u32, column: u32) -> u32
     first
 }
 
-// Where the blanks end that begin in a column, if any do.
+// Where the blanks end that begin in a column; the column itself if it has none.
 #[inline(always)]
 pub(crate) fn blanks_end(cells: &[Cell], column: u32, end: u32) -> u32
     requires wide { end ≤ length cells.now }
@@ -53,7 +54,8 @@ pub(crate) fn blanks_end(cells: &[Cell], column: u32, end: u32) -> u32
     end
 }
 
-// How many blanks in a row are worth an erasure at least: fewer cost no more than it does.
+// The least number of blanks in a row that can be worth an erasure: fewer cost no more than it
+// does.
 pub(crate) fn least_worth_erasing(profile: &Profile) -> u32
     ensures { 0 < result }
 {
@@ -64,7 +66,8 @@ pub(crate) fn least_worth_erasing(profile: &Profile) -> u32
     few.min(prices.of(Op::EraseChars(100))).saturating_add(1)
 }
 
-// Whether so many blanks cost more than their erasure, with the motion behind them where the run goes on there.
+// Whether `count` blanks cost more than their erasure, plus a motion behind them if the run goes on
+// there.
 #[inline(always)]
 pub(crate) fn is_worth_erasing(profile: &Profile, count: u32, goes_on: bool) -> bool {
     if count <= 1 {

@@ -1,4 +1,5 @@
-//! The joined repaint of what differs from what is remembered, and of all that differs from blanks.
+//! The joined repaint of what differs from what is remembered, and of what differs from a blank
+//! screen.
 ghost use Rattle.std.specs.Prelude.{ℕ, ◌≡◌, ◌≢◌, ◌++◌, ◌<◌, not, None, OnOk, false, filter, true};
 ghost use Rattle.std.specs.List.{flat_map};
 ghost use Rattle.scr_plan.specs.Code.Joinings.{Continues, CountsAtMost, joined_at};
@@ -16,7 +17,7 @@ use scr_cells::{NoMemory, Picture};
 use scr_term::{Profile, run_laws};
 use scr_virtual::Virtual;
 
-// Whether some place differs from what is known of it.
+// Whether any place differs from what is known of it.
 pub(crate) fn differs(
     painter: Painter,
     profile: &Profile,
@@ -40,7 +41,7 @@ pub(crate) fn differs(
     false
 }
 
-// Whether some place of a row differs from what is known of it.
+// Whether any place of a row differs from what is known of it.
 fn differs_in(
     painter: Painter,
     profile: &Profile,
@@ -68,8 +69,9 @@ fn differs_in(
 }
 
 impl Joining {
-    // Adds what paints each place that differs from what is known of it, and then what places the cursor: row by row, until there are more
-    // bytes than a limit, if there is one.
+    // Adds what paints each place that differs from what is known of it, then what places the
+    // cursor. It goes row by row, and stops early once there are more bytes than the limit, if
+    // there is one.
     pub(crate) fn join_changes(
         &mut self,
         painter: Painter,
@@ -145,7 +147,7 @@ impl Joining {
         }
     }
 
-    // Adds what paints each place that differs from a blank, and then what places the cursor.
+    // Adds what paints each place that is not blank, then what places the cursor.
     pub(crate) fn join_all(
         &mut self,
         painter: Painter,
@@ -163,7 +165,7 @@ impl Joining {
         self.finish(painter, profile, picture)
     }
 
-    // Turns attributes off, and moves the cursor where the picture wishes it.
+    // Turns attributes off, and moves the cursor to where the picture wants it.
     fn finish(
         &mut self,
         painter: Painter,

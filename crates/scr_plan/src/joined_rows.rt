@@ -1,5 +1,5 @@
-//! The joined repaint of a row: the places that differ, each behind the one before it where both have one pen, and the rest of the line
-//! erased where that is worth it.
+//! The joined repaint of one row. A place that differs is its character alone if the place before
+//! it is painted with the same pen, and the rest of the line is erased if that is worth it.
 ghost use Rattle.std.specs.Prelude.{ℕ, ◌≡◌, ◌+◌, ◌++◌, ◌∷◌, [], ◌-◌, ◌<◌, ◌≤◌, ◌⊎◌, IfOk, IfSome, None, Some, OnOk, filter, false, true, length, option_map, if◌then◌else◌};
 ghost use Rattle.std.specs.List.{flat_map};
 ghost use Rattle.scr_cells.specs.CellViews.{IsCharacter};
@@ -22,8 +22,8 @@ use scr_cells::{Cell, Look, NoMemory, Pen, Picture};
 use scr_term::{Profile, profiles_have, run_laws};
 
 impl Joining {
-    // Adds what paints the places of a row that differ from what the row shows, these looks or blanks. None differs but from one column
-    // up to another.
+    // Adds what paints the places of a row that differ from what it shows: `before`, or blanks.
+    // Only columns `from..end` can differ.
     pub(crate) fn join_row(
         &mut self,
         painter: Painter,
@@ -61,8 +61,8 @@ impl Joining {
         }
     }
 
-    // Adds what paints the places of a part of a row that differ, and answers the pen of the last place, if that was painted. No place
-    // right before the part differs.
+    // Adds what paints the places of columns `from..end` that differ; the place right before them
+    // does not. Returns the pen of the last place if it was painted.
     fn join_part(
         &mut self,
         painter: Painter,
@@ -97,8 +97,8 @@ impl Joining {
         Ok(left)
     }
 
-    // Paints a place that differs, or passes one that does not and those behind it that do not. The answer is where to go on, and the
-    // pen of the place before that, if it was painted.
+    // Paints a place that differs, or passes one that does not and those after it that do not.
+    // Returns where to go on, and the pen of the place before that if it was painted.
     #[inline(always)]
     fn join_next(
         &mut self,
@@ -144,7 +144,8 @@ impl Joining {
         Ok((next, Some(pen)))
     }
 
-    // Counts what paints a place that differs and those behind it that do so with the same pen, and answers where to go on.
+    // Counts what paints a place that differs, and those after it that differ and have the same
+    // pen. Returns where to go on.
     fn count_unlike(
         &mut self,
         painter: Painter,
@@ -187,7 +188,7 @@ impl Joining {
         Ok(next)
     }
 
-    // Counts the characters of a row from the cursor's column up to another one.
+    // Counts the characters of a row from the cursor's column to `end`.
     fn count_each(&mut self, row: u32, column: u32, end: u32, columns: u32)
         requires column { column < end }
         requires end { end ≤ 500 }
@@ -197,7 +198,8 @@ impl Joining {
         self.spot = behind(row, end - 1, columns);
     }
 
-    // Adds a character in a place, and what leads there with its pen, unless the place before it was painted with that pen.
+    // Adds the character of a place, after what leads there with its pen, unless the place before
+    // it was painted with that pen.
     fn write(
         &mut self,
         painter: Painter,
@@ -223,7 +225,8 @@ impl Joining {
         self.put(profile, row, column, byte)
     }
 
-    // Adds what leads to a place with the pen that is seen there, unless the place before it was painted with that pen.
+    // Adds what leads to a place with the pen that is seen there, unless the place before it was
+    // painted with that pen.
     fn begin_unless(
         &mut self,
         painter: Painter,
@@ -250,8 +253,8 @@ impl Joining {
         self.begin(painter, profile, picture, row, column, pen)
     }
 
-    // Erases the rest of a row from a column on, which is seen blank there, and adds what leads there with a plain pen, unless the place
-    // before it was painted with that.
+    // Erases a row from a column on, where it is seen blank, after what leads there with a plain
+    // pen, unless the place before was painted with a plain pen.
     fn erase_from(
         &mut self,
         painter: Painter,

@@ -1,5 +1,5 @@
-//! The joined repaint, operation by operation: they are counted as they are made, and kept where that is asked for. The definition is in
-//! `specs/Repaints.antt`.
+//! The joined repaint, operation by operation: each is counted, and kept if that is asked for.
+//! `specs/Repaints.antt` defines it.
 ghost use Rattle.std.specs.Prelude.{◌≡◌, ◌+◌, ◌≤◌, ◌++◌, ◌∷◌, [], ◌⊎◌, All, IfOk, IfSome, OnOk, length, true};
 ghost use Rattle.scr_cells.specs.CellViews.{IsCharacter};
 ghost use Rattle.scr_cells.specs.PenViews.{is_plain_pen, plain_pen};
@@ -19,7 +19,8 @@ use crate::painting::Painter;
 use scr_cells::{NoMemory, Pen, Picture};
 use scr_term::{Op, Profile, Spot, blank_laws, profiles_have, run_laws};
 
-// The joined repaint as far as it is made: where it leads, how many bytes it has, and its operations, if they are kept.
+// A joined repaint that is being made: where it leads so far, how many bytes it has, and its
+// operations if they are kept.
 #[derive(Drop)]
 pub(crate) struct Joining {
     pub(crate) ops: Vec<Op>,
@@ -30,7 +31,7 @@ pub(crate) struct Joining {
 }
 
 impl Joining {
-    // None yet, on a terminal that was cleared by operations that were made before.
+    // An empty repaint, for a terminal that the operations made before have cleared.
     pub(crate) fn on_blanks(profile: &Profile, ops: Vec<Op>, keeps: bool) -> Joining
         ensures { IsJoining profile.now keeps ops.items (blank_state profile.now.rows profile.now.columns) [] result }
     {
@@ -45,7 +46,8 @@ impl Joining {
         }
     }
 
-    // What begins a repaint of a terminal of which this is remembered: no attribute is on any more, in default colours.
+    // The beginning of a repaint of a terminal in the remembered state: attributes are turned off,
+    // in default colours.
     pub(crate) fn behind(
         painter: Painter,
         profile: &Profile,
@@ -76,7 +78,8 @@ impl Joining {
         })
     }
 
-    // Counts the operations from one on, which lead to this spot and this pen, and lets them go where none are kept.
+    // Counts the operations from index `begun` on, which lead to this spot and pen, and drops them
+    // unless they are kept.
     fn count(&mut self, profile: &Profile, begun: usize, spot: Spot, pen: Pen)
         requires { begun ≤ length self.old.ops.items }
         ensures { IsCounted profile.now self.old self.new begun spot pen }
@@ -90,7 +93,7 @@ impl Joining {
         self.pen = pen;
     }
 
-    // Turns attributes off, and makes colours the default ones.
+    // Turns attributes off and makes colours default.
     pub(crate) fn reset(&mut self, painter: Painter, profile: &Profile) -> Result<(), NoMemory>
         requires painter { painter ≡ painter_of profile.now }
         ensures all { OnOk result (Continues profile.now self.old self.new (resets profile.now)) }
@@ -105,7 +108,7 @@ impl Joining {
         Ok(())
     }
 
-    // Leads to a place and to the pen with which the picture is seen there.
+    // Leads to a place, and to the pen with which the picture is seen there.
     pub(crate) fn begin(
         &mut self,
         painter: Painter,
@@ -133,7 +136,7 @@ impl Joining {
         Ok(())
     }
 
-    // A character where the cursor is: it is counted as one byte, and kept where that is asked for.
+    // Adds a character at the cursor: counted as one byte, and kept if that is asked for.
     pub(crate) fn put(
         &mut self,
         profile: &Profile,
@@ -157,7 +160,7 @@ impl Joining {
         Ok(())
     }
 
-    // Keeps an operation, where that is asked for.
+    // Keeps an operation if that is asked for.
     #[inline(always)]
     fn keep(&mut self, op: Op) -> Result<(), NoMemory>
         ensures ops { OnOk result (self.old.keeps ≡ true → self.new.ops.items ≡ self.old.ops.items ++ op ∷ []) }
@@ -171,7 +174,7 @@ impl Joining {
         Ok(())
     }
 
-    // The rest of the line is erased.
+    // Erases the rest of the line.
     pub(crate) fn erase(&mut self, profile: &Profile, row: u32, column: u32) -> Result<(), NoMemory>
         requires here { self.old.spot ≡ At row column }
         requires plain { is_plain_pen self.old.pen ≡ true }
@@ -187,7 +190,7 @@ impl Joining {
         Ok(())
     }
 
-    // The cursor goes where it is wished, with no attribute and default colours.
+    // Moves the cursor to where it is wanted, with no attribute and default colours.
     pub(crate) fn place_cursor(
         &mut self,
         painter: Painter,
@@ -211,7 +214,7 @@ impl Joining {
     }
 }
 
-// Where the cursor is behind a character.
+// The cursor's spot after a character.
 pub(crate) fn behind(row: u32, column: u32, columns: u32) -> Spot
     requires { column ≤ 1000 }
     ensures { result ≡ spot_after columns row column }
@@ -223,7 +226,7 @@ pub(crate) fn behind(row: u32, column: u32, columns: u32) -> Spot
     }
 }
 
-// How many bytes operations have.
+// The number of bytes of operations.
 pub(crate) fn price_of(profile: &Profile, ops: &[Op]) -> usize
     ensures { All (λ op. has profile.now op ≡ true) ops.now → result ≡ counted_up (length (all_bytes profile.now ops.now)) }
 {
@@ -234,7 +237,7 @@ pub(crate) fn price_of(profile: &Profile, ops: &[Op]) -> usize
     bytes
 }
 
-// How many bytes an operation has.
+// The number of bytes of an operation.
 #[inline(always)]
 pub(crate) fn price_of_one(profile: &Profile, op: Op) -> usize
     ensures { has profile.now op ≡ true → result ≡ length (all_bytes profile.now (op ∷ [])) }

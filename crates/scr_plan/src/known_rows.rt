@@ -1,9 +1,9 @@
-//! Which rows are known, as a list of truth values.
+//! Which rows are known, as a list of booleans.
 ghost use Rattle.std.specs.Prelude.{ℕ, ◌≡◌, ◌+◌, ◌≤◌, ◌<◌, ◌&&◌, leb, ltb, true, length, replicate, slice_set};
 ghost use Rattle.std.specs.List.{list_all};
 ghost use Rattle.scr_plan.specs.Code.Remembering.{with_run};
 
-// Those of n rows from one on that there are: from which one on, and up to which.
+// Which of the `n` rows from `first` on exist, as the first of them and the end.
 pub(crate) fn rows_there(first: u32, n: u32, rows: u32) -> (u32, u32)
     ensures order { result.0 ≤ result.1 }
     ensures end { result.1 ≤ rows }
@@ -13,7 +13,7 @@ pub(crate) fn rows_there(first: u32, n: u32, rows: u32) -> (u32, u32)
     (from, from + n.min(rows - from))
 }
 
-// One value everywhere.
+// Sets every row to one value.
 pub(crate) fn set_all(rows: &mut [bool], known: bool)
     ensures { rows.new ≡ replicate (length rows.old) known }
 {
@@ -22,7 +22,7 @@ pub(crate) fn set_all(rows: &mut [bool], known: bool)
     }
 }
 
-// True in one place, if there is one.
+// Sets one row to true, if it exists.
 pub(crate) fn set_one(rows: &mut [bool], row: usize)
     ensures { rows.new ≡ slice_set rows.old row true }
 {
@@ -31,7 +31,7 @@ pub(crate) fn set_one(rows: &mut [bool], row: usize)
     }
 }
 
-// One value from one row up to another.
+// Sets rows `first..end` to one value.
 pub(crate) fn set_run(rows: &mut [bool], first: usize, end: usize, known: bool)
     requires order { first ≤ end }
     requires end { end ≤ length rows.old }
@@ -42,7 +42,7 @@ pub(crate) fn set_run(rows: &mut [bool], first: usize, end: usize, known: bool)
     }
 }
 
-// Whether all are true.
+// Whether all rows are true.
 pub(crate) fn are_all(rows: &[bool]) -> bool
     ensures { result ≡ list_all (λ known. known) rows.now }
 {

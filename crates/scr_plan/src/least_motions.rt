@@ -1,10 +1,13 @@
-//! The least that a motion can cost: by it most runs are seen not to be the nearest without pricing a way to them.
+//! Lower bounds on the price of a motion, by which most runs are ruled out without pricing a way to
+//! them.
 
 use scr_term::{Op, Prices, Spot};
 
-// The least prices of motions, whatever the rows and columns: to a neighbouring row, to one further away, to the right, to the left, to a
-// column up to `jump`, before which places may be written, to the first place of the screen, to any place at once, and from behind the last
-// column to the first row, and to others by how many digits their number has in a cursor address: to a row, or to any below it.
+// The least prices of motions, whatever the row and column: to a neighbouring row, to one further
+// away, to the right, to the left, to a column up to `jump` (the places before it may be written),
+// to the first place of the screen, to any place at once. From behind the last column: to the first
+// row, and by how many digits a row's number has in a cursor address, to such a row or any below
+// it.
 #[derive(Clone, Copy)]
 pub(crate) struct LeastMotions {
     neighbour: u32,
@@ -22,7 +25,7 @@ pub(crate) struct LeastMotions {
 }
 
 impl LeastMotions {
-    // Those of a terminal with these prices, where places may be written up to this column.
+    // The bounds for a terminal with these prices, if places up to column `jump` may be written.
     pub(crate) fn of(prices: &Prices, jump: u32) -> LeastMotions {
         let one = prices.of(Op::Up(1)).min(prices.of(Op::Down(1)));
         let line = lines(prices);
@@ -53,7 +56,8 @@ impl LeastMotions {
         }
     }
 
-    // No way to a place costs less than this, which is the price of no motion where only places are written on the way.
+    // No way to a place costs less than this. A way that only writes places has the price of no
+    // motion.
     #[inline(always)]
     pub(crate) fn to(self, spot: Spot, row: u32, column: u32) -> u32 {
         match spot {
@@ -63,7 +67,7 @@ impl LeastMotions {
         }
     }
 
-    // From a column of a row to another.
+    // Along a row, from one column to another.
     #[inline(always)]
     fn along_row(self, from: u32, to: u32) -> u32 {
         if from < to {
@@ -86,7 +90,8 @@ impl LeastMotions {
         }
     }
 
-    // From a place to one in another row: along rows and columns, from the first place of the screen, or at once.
+    // To a place in another row: along rows and columns, from the first place of the screen, or at
+    // once.
     #[inline(always)]
     fn between(self, from: (u32, u32), to: (u32, u32)) -> u32 {
         let along = sum(self.rows(from.0, to.0), self.columns(from.1, to.1));
@@ -99,7 +104,7 @@ impl LeastMotions {
         along.min(from_home).min(self.place)
     }
 
-    // Along the rows from one to another.
+    // From one row to another.
     #[inline(always)]
     fn rows(self, from: u32, to: u32) -> u32 {
         let apart = if from < to {
@@ -114,7 +119,7 @@ impl LeastMotions {
         }
     }
 
-    // Along the columns from one to another, in another row, of which the first columns may be written.
+    // From one column to another, in a row whose first columns may be written.
     #[inline(always)]
     fn columns(self, from: u32, to: u32) -> u32 {
         if from == to {
@@ -129,7 +134,7 @@ impl LeastMotions {
     }
 }
 
-// The price of one operation and another.
+// The price of two operations.
 #[inline(always)]
 fn sum(one: u32, other: u32) -> u32 {
     one.saturating_add(other)
@@ -175,7 +180,7 @@ fn lines(prices: &Prices) -> u32 {
     few.min(prices.of(Op::Line(99)))
 }
 
-// The least price of a motion to a place: what rows and columns add to it is added.
+// The least price of a motion to a place, made up of what its row and its column add.
 fn places(prices: &Prices) -> u32 {
     let first = prices.of(Op::Move(0, 0));
     let row = prices.of(Op::Move(9, 0)).min(prices.of(Op::Move(99, 0)));
@@ -183,7 +188,8 @@ fn places(prices: &Prices) -> u32 {
     sum(row.min(first), column.min(first)).saturating_sub(first)
 }
 
-// The price of a motion to a row from behind the last column: at once, or from the first place of the screen by a motion down.
+// The price of a motion from behind the last column to a row: at once, or from the first place of
+// the screen down.
 fn from_margin(prices: &Prices, row: u32, down: u32) -> u32 {
     prices
         .of(Op::Move(row, 0))

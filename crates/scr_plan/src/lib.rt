@@ -1,4 +1,4 @@
-//! Which operations bring a terminal to a picture.
+//! Plans: the operations that bring a terminal to a picture, and what is remembered of a terminal.
 #![tactic(auto)]
 
 mod blanks;

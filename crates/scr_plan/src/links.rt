@@ -1,5 +1,5 @@
-//! Runs that wait to be painted as links: a ring of all of them, and for each of the first pens a chain of its own. A run is found, and
-//! taken out, in one step.
+//! Links between the runs that wait to be painted: a ring of all of them, and chains of those with
+//! one pen. The first pens have a chain each. Finding a run and taking it out are one step.
 
 use crate::runs::Run;
 use crate::ways::{Stop, Way};
@@ -9,11 +9,12 @@ use std::alloc::Global;
 // No run.
 pub(crate) const NONE: u32 = u32::MAX;
 
-// How many pens have chains.
+// The greatest number of pens with chains.
 const MOST_CHAINS: usize = 16;
 
-// The neighbours of a run in the ring and in its chain, the number of that chain, the run that an order has in this place, the run that it
-// has before this one, and the way from there.
+// The links of a run: its neighbours in the ring and in its chain, and the number of the chain.
+// Also, for the order that is kept here: the run at this place of the order, the run before this
+// one in the order, and the way from there.
 #[derive(Clone, Copy)]
 struct Link {
     next: u32,
@@ -42,7 +43,8 @@ impl Link {
     }
 }
 
-// A pen, the first and the last run with it that wait, and whether an order has them already.
+// A pen, the first and the last waiting run with it, and whether the order has the chain's runs
+// already.
 #[derive(Clone, Copy)]
 pub(crate) struct Chain {
     pub(crate) pen: Pen,
@@ -52,7 +54,7 @@ pub(crate) struct Chain {
 }
 
 impl Chain {
-    // No run with a pen.
+    // A chain without runs.
     fn of(pen: Pen) -> Chain {
         Chain {
             pen,
@@ -71,7 +73,7 @@ pub(crate) struct Links {
 }
 
 impl Links {
-    // All runs wait. The ring is in the order of their numbers.
+    // All runs wait. The ring has them in the order of their numbers.
     pub(crate) fn new(alloc: Global, runs: &[Run]) -> Result<Links, NoMemory> {
         let mut made = Links {
             links: Vec::with_capacity(alloc, runs.len())?,
@@ -89,7 +91,8 @@ impl Links {
         Ok(made)
     }
 
-    // One run more, behind the one before it in the ring and in the chain of its pen; that with the next number is to come behind it.
+    // Adds a run, after the previous one in the ring and after the last in the chain of its pen.
+    // The run with the next number has to follow.
     fn add(&mut self, number: u32, before: u32, pen: Pen) -> Result<(), NoMemory> {
         let chain = self.chain_with(pen)?;
         let last = self.extend(chain, number);
@@ -103,7 +106,7 @@ impl Links {
         Ok(())
     }
 
-    // The number of a pen's chain, which is begun if there is room for it; `NONE` where there is not.
+    // The number of a pen's chain, which is begun if there is room for one; otherwise `NONE`.
     fn chain_with(&mut self, pen: Pen) -> Result<u32, NoMemory> {
         let number = self.chain_of(pen);
         if number != NONE || self.chains.len() >= MOST_CHAINS {
@@ -114,7 +117,7 @@ impl Links {
         Ok(number)
     }
 
-    // The number of a pen's chain; `NONE` where it has none.
+    // The number of a pen's chain; `NONE` if it has none.
     pub(crate) fn chain_of(&self, pen: Pen) -> u32 {
         let mut number = 0u32;
         for chain in &self.chains {
@@ -126,7 +129,7 @@ impl Links {
         NONE
     }
 
-    // How many chains there are.
+    // The number of chains.
     pub(crate) fn chains(&self) -> u32 {
         self.chains.len().min(MOST_CHAINS) as u32
     }
@@ -162,7 +165,7 @@ impl Links {
         last
     }
 
-    // An order has the runs of a chain.
+    // Notes that the order has the runs of a chain.
     pub(crate) fn set_chain_ordered(&mut self, chain: u32) {
         if let Some(chain) = self.chains.get_mut(chain as usize) {
             chain.is_ordered = true;
@@ -177,22 +180,22 @@ impl Links {
         }
     }
 
-    // The run behind one in the ring.
+    // The run after a run in the ring.
     pub(crate) fn next(&self, number: u32) -> u32 {
         self.at(number).next
     }
 
-    // The run before one in the ring.
+    // The run before a run in the ring.
     pub(crate) fn before(&self, number: u32) -> u32 {
         self.at(number).before
     }
 
-    // The run behind one in its chain.
+    // The run after a run in its chain.
     pub(crate) fn next_alike(&self, number: u32) -> u32 {
         self.at(number).next_alike
     }
 
-    // The run before one in its chain.
+    // The run before a run in its chain.
     pub(crate) fn before_alike(&self, number: u32) -> u32 {
         self.at(number).before_alike
     }
@@ -202,7 +205,7 @@ impl Links {
         self.at(number).chain == NONE
     }
 
-    // Takes a run out of the ring and out of its chain. Its own link stays as it is.
+    // Takes a run out of the ring and its chain. Its own link stays as it is.
     pub(crate) fn remove(&mut self, number: u32) {
         let link = self.at(number);
         self.set_next(link.before, link.next);
@@ -219,7 +222,7 @@ impl Links {
         }
     }
 
-    // The run that the order which is kept here has in a place, and the way to it.
+    // The run at a place of the order that is kept here, and the way to it.
     pub(crate) fn ordered(&self, place: u32) -> Stop {
         let number = self.at(place).ordered;
         Stop {
@@ -228,14 +231,15 @@ impl Links {
         }
     }
 
-    // Keeps the run that an order has in a place.
+    // Sets the run at a place of the order.
     pub(crate) fn set_ordered(&mut self, place: u32, number: u32) {
         if let Some(link) = self.links.get_mut(place as usize) {
             link.ordered = number;
         }
     }
 
-    // The way to a run, if an order is kept that has it behind this one; `NONE` where it is the first.
+    // The way to a run, if the order that is kept has the run right after `before` (`NONE` for its
+    // first run).
     pub(crate) fn way_behind(&self, number: u32, before: u32) -> Option<Way> {
         let link = self.at(number);
         if link.behind == before {
@@ -245,7 +249,7 @@ impl Links {
         }
     }
 
-    // Keeps the way to a run from the one that an order has before it.
+    // Sets the way to a run from the run before it in the order.
     pub(crate) fn set_way(&mut self, number: u32, before: u32, way: Way) {
         if let Some(link) = self.links.get_mut(number as usize) {
             link.behind = before;

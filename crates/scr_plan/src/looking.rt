@@ -1,4 +1,4 @@
-//! Looking for the places of a row that differ from what it shows, and for blanks at its end.
+//! Finding the places of a row that differ from what it shows, and the blanks at its end.
 ghost use Rattle.std.specs.Prelude.{ℕ, ◌≡◌, ◌≢◌, ◌+◌, ◌-◌, ◌<◌, ◌≤◌, ◌⊎◌, IfSome, List, Some, false, true, length, option_map, slice_index_or, if◌then◌else◌};
 ghost use Rattle.scr_cells.specs.CellViews.{blank_cell};
 ghost use Rattle.scr_cells.specs.Grids.{grid_row};
@@ -17,7 +17,7 @@ use scr_cells::{Cell, Look, Pen, Picture, alike_before, shown_before, unshown_be
 use scr_term::{Op, Profile};
 
 impl Painter {
-    // What is seen of a row's cell: its byte, and what that is written with.
+    // What is seen of a row's cell: its byte, and the pen that it is written with.
     #[inline(always)]
     pub(crate) fn seen_in(self, picture: &Picture, cells: &[Cell], column: u32) -> (u8, Pen)
         requires { column < length cells.now }
@@ -28,7 +28,8 @@ impl Painter {
         (cell.byte(), self.pen_of(picture, cell))
     }
 
-    // The column from which on the joined repaint erases the rest of a row, if any. No place differs but from one column up to another.
+    // The column from which the joined repaint erases the rest of a row, if it does. Only columns
+    // `from..end` can differ.
     pub(crate) fn erased_column(
         self,
         profile: &Profile,
@@ -60,7 +61,7 @@ impl Painter {
         Some(column)
     }
 
-    // The blanks that a part of a row ends with: the first that differs, and how many do.
+    // The blanks at the end of a part of a row: the first that differs, and how many differ.
     pub(crate) fn blank_rest(
         self,
         picture: &Picture,
@@ -111,7 +112,7 @@ impl Painter {
         self.is_blank(picture, row, cells, from, size.columns)
     }
 
-    // Whether a row is seen blank from one column up to another.
+    // Whether a row is seen blank in columns `from..end`.
     pub(crate) fn is_blank(
         self,
         picture: &Picture,
@@ -135,7 +136,8 @@ impl Painter {
         true
     }
 
-    // The first column from one on in which the row does not show what is seen of its cell; the end, where there is none before it.
+    // The first column in `from..end` in which the row does not show what is seen of its cell;
+    // `end` if there is none.
     pub(crate) fn unlike_from(
         self,
         picture: &Picture,
@@ -164,8 +166,8 @@ impl Painter {
         end
     }
 
-    // The first column behind one in which the row shows what is seen of its cell, or whose cell has other attributes or another colour
-    // pair; the end, where there is none before it.
+    // The first column after `column` in which the row shows what is seen of its cell, or whose
+    // cell has other attributes or another colour pair; `end` if there is none before it.
     pub(crate) fn unlike_end(
         self,
         picture: &Picture,
@@ -200,7 +202,8 @@ impl Painter {
         end
     }
 
-    // Whether a place shows what is seen of its cell with a pen, or its cell has other attributes or another colour pair than one before it.
+    // Whether a place shows what is seen of its cell with a pen, or its cell has other attributes
+    // or another colour pair than `first`.
     #[inline(always)]
     fn ends(
         self,
@@ -220,7 +223,8 @@ impl Painter {
         !are_alike(first, cell) || is_shown_in(before, column, cell.byte(), pen)
     }
 
-    // The first column behind one whose cell has other attributes or another colour pair; the end, where there is none before it.
+    // The first column after `column` whose cell has other attributes or another colour pair; `end`
+    // if there is none before it.
     pub(crate) fn alike_end(self, picture: &Picture, cells: &[Cell], column: u32, end: u32) -> u32
         requires column { column < end }
         requires wide { end ≤ length cells.now }
@@ -243,8 +247,9 @@ impl Painter {
         end
     }
 
-    // A count of places from one column on that do not show what is seen of their cells, which have the attributes and the pair of the
-    // first, found eight at a time.
+    // How many places from a column on do not show what is seen of their cells, all with the
+    // attributes and pair of the first. They are looked at eight at a time, so the count may be too
+    // low.
     fn unlike_by_eight(self, cells: &[Cell], before: Option<&[Look]>, from: u32, end: u32) -> u32
         requires width { IfSome before (λ looks. length looks.now ≡ length cells.now) }
         requires from { from ≤ end }
@@ -263,7 +268,8 @@ impl Painter {
         }
     }
 
-    // A count of places from one column on that show what is seen of their cells, found eight at a time.
+    // How many places from a column on show what is seen of their cells. They are looked at eight
+    // at a time, so the count may be too low.
     fn shown_by_eight(self, cells: &[Cell], before: Option<&[Look]>, from: u32, end: u32) -> u32
         requires width { IfSome before (λ looks. length looks.now ≡ length cells.now) }
         requires from { from ≤ end }
@@ -282,8 +288,8 @@ impl Painter {
     }
 }
 
-// Blanks at the end of a part of a row: from which column on there are blanks alone, the first and the last of these that differ from what
-// the row shows, and how many do.
+// The blanks at the end of a part of a row: where they begin, the first and the last of them that
+// differ from what the row shows, and how many differ.
 #[derive(Clone, Copy)]
 pub(crate) struct Rest {
     pub(crate) begin: u32,
@@ -293,7 +299,7 @@ pub(crate) struct Rest {
 }
 
 impl Rest {
-    // One blank more, in front.
+    // With one more blank in front.
     fn with_blank(self, before: Option<&[Look]>, byte: u8, pen: Pen) -> Rest
         requires begin { 0 < self.begin }
         requires width { IfSome before (λ looks. self.begin ≤ length looks.now) }
@@ -320,7 +326,8 @@ impl Rest {
     }
 }
 
-// A count of places from one column on whose cells have the attributes and the pair of the first, found eight at a time.
+// How many cells from a column on have the attributes and pair of the first. They are looked at
+// eight at a time, so the count may be too low.
 fn alike_by_eight(cells: &[Cell], from: u32, end: u32) -> u32
     requires from { from ≤ end }
     requires end { end ≤ length cells.now }
@@ -330,7 +337,7 @@ fn alike_by_eight(cells: &[Cell], from: u32, end: u32) -> u32
     alike_before(&cells[from as usize..end as usize]) as u32
 }
 
-// The cell of a row in a column.
+// The cell in a column of a row.
 #[inline(always)]
 pub(crate) fn cell_in(cells: &[Cell], column: u32) -> Cell
     requires { column < length cells.now }

@@ -1,4 +1,5 @@
-//! What is remembered of a terminal between updates. What is true of it is in `specs/Memories.antt`.
+//! Memory: what is remembered of a terminal between updates. `specs/Memories.antt` says what is
+//! true of it.
 ghost use Rattle.std.specs.Prelude.{◌≡◌, ◌+◌, ◌≤◌, ◌<◌, ◌&&◌, false, true, Some, IfOk, IfSome, length, option_map, replicate, slice_set, take};
 ghost use Rattle.std.specs.Option.{is_some};
 ghost use Rattle.scr_term.specs.Operations.Profiles.{abilities};
@@ -15,10 +16,12 @@ use scr_term::{Op, Profile, Spot, Terminal};
 use std::alloc::Global;
 use std::marker::Model;
 
-/// What is remembered of a terminal between updates (curs_refresh(3X), 'physical screen'): a state that it may be in, and
-/// how much of it is known: which rows, the cursor's place, and the attributes and colours it writes with.
+/// What is remembered of a terminal between updates (curs_refresh(3X), 'physical screen'): a state
+/// that the terminal may be in, and how much of it is known. Each row can be known, and so can the
+/// cursor's place and the pen, which is the attributes and colours that it writes with.
 ///
-/// Only `unknown` takes memory. Where all is known, an operation is followed in the time that its cells take.
+/// Only `unknown` allocates. If all is known, following an operation takes time in proportion to
+/// the cells that it changes.
 #[derive(Drop)]
 pub struct Memory {
     terminal: Terminal,
@@ -42,7 +45,8 @@ impl Model for Memory {
 }
 
 impl Memory {
-    /// Nothing is known of a terminal of this size. Fails only when memory runs out.
+    /// Memory of a terminal of this size of which nothing is known. Fails only when memory runs
+    /// out.
     pub fn unknown(alloc: Global, size: Size) -> Result<Memory, NoMemory>
         ensures { IfOk result (λ memory. memory ≡ unknown size.rows size.columns) }
     {
@@ -59,7 +63,7 @@ impl Memory {
         })
     }
 
-    /// How many rows and columns the terminal has.
+    /// The number of rows and columns of the terminal.
     pub fn size(&self) -> Size
         ensures rows { result.rows ≡ self.now.rows }
         ensures columns { result.columns ≡ self.now.columns }
@@ -68,14 +72,14 @@ impl Memory {
         self.terminal.size()
     }
 
-    /// Whether all is known: every row, the cursor's place, and what is written with.
+    /// Whether all is known: every row, the cursor's place and the pen.
     pub fn known(&self) -> bool
         ensures { result ≡ is_known self.now }
     {
         self.all_rows && self.spot && self.pen
     }
 
-    /// What a row shows, counted from 0 at the top; `None` where that is not known.
+    /// The looks of a row, counted from 0 at the top; `None` if they are not known.
     pub fn row(&self, row: u32) -> Option<&[Look]>
         requires { row < self.now.rows }
         ensures looks { option_map (λ looks. looks.now) result ≡ row_looks self.now row }
@@ -96,7 +100,7 @@ impl Memory {
         self.rows[row as usize]
     }
 
-    // What the remembered state shows in a row, known or not.
+    // The looks of a row in the remembered state, known or not.
     pub(crate) fn looks(&self, row: u32) -> &[Look]
         requires { row < self.now.rows }
         ensures cells { result.now ≡ grid_row self.now.state.grid row }
@@ -105,7 +109,7 @@ impl Memory {
         self.terminal.row(row)
     }
 
-    // Whether the cursor is known to be where it is wished, or no place is wished.
+    // Whether the cursor is known to be where it is wanted, or is not wanted anywhere.
     pub(crate) fn is_placed(&self, wish: Option<(u32, u32)>) -> bool
         ensures { result ≡ is_placed self.now wish }
     {
@@ -115,7 +119,7 @@ impl Memory {
         }
     }
 
-    /// Where the cursor is; `None` where that is not known.
+    /// Where the cursor is; `None` if that is not known.
     pub fn spot(&self) -> Option<Spot>
         ensures value { result ≡ spot_if_known self.now }
         ensures inside { IfSome result (IsSpot self.now.rows self.now.columns) }
@@ -127,7 +131,7 @@ impl Memory {
         }
     }
 
-    /// What is written with: attributes and colours; `None` where that is not known.
+    /// The pen: attributes and colours; `None` if it is not known.
     pub fn pen(&self) -> Option<Pen>
         ensures { result ≡ pen_if_known self.now }
     {
@@ -138,21 +142,21 @@ impl Memory {
         }
     }
 
-    // Where the cursor is in the remembered state, known or not.
+    // The cursor's spot in the remembered state, known or not.
     pub(crate) fn remembered_spot(&self) -> Spot
         ensures { result ≡ self.now.state.spot }
     {
         self.terminal.spot()
     }
 
-    // What is written with in the remembered state, known or not.
+    // The pen of the remembered state, known or not.
     pub(crate) fn remembered_pen(&self) -> Pen
         ensures { result ≡ self.now.state.pen }
     {
         self.terminal.pen()
     }
 
-    /// Nothing is known any more, as after a write that failed.
+    /// Forgets everything, as after a failed write.
     pub fn forget(&mut self)
         ensures { self.new ≡ forgotten self.old }
     {
@@ -160,7 +164,8 @@ impl Memory {
         self.forget_spot_and_pen();
     }
 
-    /// Others wrote into n rows from one on, as many as there are: these, spot and pen are not known any more. X/Open Curses Issue 7, redrawwin().
+    /// Forgets `n` rows from `first` on (as many as there are), the cursor's spot and the pen,
+    /// because others wrote there. X/Open Curses Issue 7, redrawwin().
     pub fn disturb(&mut self, first: u32, n: u32)
         ensures { self.new ≡ disturbed first n self.old }
     {
@@ -171,8 +176,9 @@ impl Memory {
         self.forget_spot_and_pen();
     }
 
-    /// The terminal was sent an operation. Where it is defined from the remembered state, that state goes on, and what the
-    /// operation makes the same from every state is known; elsewhere nothing is known any more.
+    /// Follows an operation that was sent to the terminal. If it is defined from the remembered
+    /// state, that state takes its step, and what the operation makes the same from every state
+    /// becomes known. Otherwise everything is forgotten.
     ///
     /// The profile has the terminal's size.
     pub fn follow(&mut self, profile: &Profile, op: Op)
@@ -187,7 +193,8 @@ impl Memory {
         }
     }
 
-    /// The terminal was sent operations, one after another. The profile has the terminal's size.
+    /// Follows operations that were sent to the terminal, one after another. The profile has the
+    /// terminal's size.
     pub fn follow_all(&mut self, profile: &Profile, ops: &[Op])
         requires rows { profile.now.rows ≡ self.old.rows }
         requires columns { profile.now.columns ≡ self.old.columns }
@@ -199,7 +206,8 @@ impl Memory {
         }
     }
 
-    // Follows some operations from the first on, and says how many: the characters of one row that they begin with, or one operation.
+    // Follows the leading characters of `ops` that fit in one row, or one operation, and returns
+    // how many were followed.
     fn follow_next(&mut self, profile: &Profile, ops: &[Op]) -> usize
         requires some { 0 < length ops.now }
         requires rows { profile.now.rows ≡ self.old.rows }
@@ -218,7 +226,8 @@ impl Memory {
         1
     }
 
-    // Follows the characters that operations begin with, as far as the cursor's row takes them, and says how many. They change nothing of what is known.
+    // Follows the leading characters of `ops` that fit in the cursor's row, and returns how many.
+    // What is known stays the same.
     fn follow_characters(&mut self, profile: &Profile, ops: &[Op]) -> usize
         requires rows { profile.now.rows ≡ self.old.rows }
         requires columns { profile.now.columns ≡ self.old.columns }
@@ -232,7 +241,8 @@ impl Memory {
         count
     }
 
-    // The remembered state goes on by an operation; where it is undefined there, this answers false and changes nothing.
+    // Steps the remembered state by an operation; if that is undefined, returns false and changes
+    // nothing.
     fn step(&mut self, profile: &Profile, op: Op) -> bool
         requires rows { profile.now.rows ≡ self.old.rows }
         requires columns { profile.now.columns ≡ self.old.columns }
@@ -244,7 +254,7 @@ impl Memory {
         is_defined
     }
 
-    // Where the cursor is, and what is written with, is not known.
+    // Forgets the cursor's spot and the pen.
     fn forget_spot_and_pen(&mut self)
         ensures { self.new ≡ record self.old { known_spot = false; known_pen = false } }
     {
@@ -252,7 +262,7 @@ impl Memory {
         self.pen = false;
     }
 
-    // What is known after an operation that was defined, and that led to the remembered state.
+    // Updates what is known, after an operation that was defined and led to the remembered state.
     fn learn(&mut self, profile: &Profile, op: Op)
         ensures { self.new ≡ stepped (abilities profile.now) op self.old (Some self.old.state) }
     {
@@ -261,7 +271,8 @@ impl Memory {
         self.pen = self.pen || sets_pen(op) || has_one_pen(profile);
     }
 
-    // Which rows are known after an operation that was defined, and that led to the remembered state.
+    // Updates which rows are known, after an operation that was defined and led to the remembered
+    // state.
     fn learn_rows(&mut self, op: Op)
         ensures { self.new ≡ record self.old { known_rows = rows_followed op self.old self.old.state } }
     {
@@ -274,7 +285,8 @@ impl Memory {
         }
     }
 
-    // Rows that were erased from the first column on are known: the cursor's, or that and all below it.
+    // Rows that were erased from the first column on become known: the cursor's, or it and all
+    // below it.
     fn learn_erased(&mut self, op: Op)
         ensures { self.new ≡ record self.old { known_rows = rows_erased op self.old.state.spot self.old.known_rows } }
     {
@@ -288,7 +300,7 @@ impl Memory {
         }
     }
 
-    // A row is known; where all were, nothing is done.
+    // A row becomes known; if all were, there is nothing to do.
     fn know_row(&mut self, row: u32)
         ensures { self.new ≡ record self.old { known_rows = slice_set self.old.known_rows row true } }
     {
@@ -299,7 +311,7 @@ impl Memory {
         self.all_rows = are_all(&self.rows);
     }
 
-    // The rows from one on are known; where all were, nothing is done.
+    // The rows from one on become known; if all were, there is nothing to do.
     fn know_rows_from(&mut self, row: u32)
         ensures { self.new ≡ record self.old { known_rows = known_from row self.old.known_rows } }
     {
@@ -312,7 +324,7 @@ impl Memory {
         self.all_rows = are_all(&self.rows);
     }
 
-    // Every row is known; where all were, nothing is done.
+    // Every row becomes known; if all were, there is nothing to do.
     fn know_rows(&mut self)
         ensures { self.new ≡ record self.old { known_rows = replicate (length self.old.known_rows) true } }
     {
@@ -321,7 +333,7 @@ impl Memory {
         }
     }
 
-    // Every row is known, or none is.
+    // Every row becomes known, or none is.
     fn set_rows(&mut self, known: bool)
         ensures { self.new ≡ record self.old { known_rows = replicate (length self.old.known_rows) known } }
     {
@@ -330,14 +342,14 @@ impl Memory {
     }
 }
 
-// Whether the cursor is in the same place after an operation wherever it was.
+// Whether an operation leaves the cursor in the same place wherever it was before.
 fn places_spot(op: Op) -> bool
     ensures { result ≡ places_spot op }
 {
     matches!(op, Op::Home | Op::Move(..) | Op::Clear)
 }
 
-// Whether attributes and colours are the same after an operation whatever they were.
+// Whether an operation leaves the same attributes and colours whatever they were before.
 fn sets_pen(op: Op) -> bool
     ensures { result ≡ sets_pen op }
 {

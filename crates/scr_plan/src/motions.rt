@@ -1,9 +1,9 @@
-//! The cheapest motion of the cursor to a place. Only prices are compared here: nothing depends on a choice but how many bytes an update
-//! has.
+//! The cheapest motion of the cursor to a place. This only compares prices: a choice affects
+//! nothing but the number of bytes of an update.
 
 use scr_term::{FAR, Op, Prices, Spot};
 
-// How the cursor goes to a place, and how many bytes that has. The operations are in its steps.
+// How the cursor goes to a place, and how many bytes that takes. `steps` gives the operations.
 #[derive(Clone, Copy)]
 pub(crate) struct Motion {
     start: Start,
@@ -15,15 +15,15 @@ pub(crate) struct Motion {
 // Where a motion begins.
 #[derive(Clone, Copy)]
 enum Start {
-    // Move leads to the place, and nothing else is sent.
+    // `Move` leads to the place, and is all that is sent.
     Direct,
-    // Along rows and columns from where the cursor is.
+    // Along rows and columns, from the cursor's place.
     Here,
-    // Along them from the first place of the screen.
+    // Along rows and columns, from the first place of the screen.
     Home,
 }
 
-// How a motion leads to another row.
+// How a motion changes the row.
 #[derive(Clone, Copy)]
 enum Rows {
     // Up or down by a count.
@@ -32,20 +32,20 @@ enum Rows {
     Line,
 }
 
-// How a motion leads to another column.
+// How a motion changes the column.
 #[derive(Clone, Copy)]
 enum Columns {
-    // To the left or to the right by a count.
+    // Left or right by a count.
     Count,
-    // To the left by single steps.
+    // Left in single steps.
     Singles,
-    // From the first column to the right.
+    // Right from the first column.
     FromFirst,
     // To the column at once.
     Column,
 }
 
-// The operations of a motion, one after another: that of the columns so many times.
+// The operations of a motion, in order; that of the columns is repeated.
 #[derive(Clone, Copy)]
 pub(crate) struct Steps {
     pub(crate) first: Option<Op>,
@@ -55,8 +55,8 @@ pub(crate) struct Steps {
     pub(crate) behind: Option<Op>,
 }
 
-// The cheapest motion to a place: to it at once, along rows and columns from where the cursor is, or along them from the first place of
-// the screen. From behind the last column no motion goes along.
+// The cheapest motion to a place: to it at once, along rows and columns from the cursor's place, or
+// along them from the first place of the screen. From behind the last column, no motion goes along.
 pub(crate) fn cheapest_motion(prices: &Prices, spot: Spot, row: u32, column: u32) -> Motion {
     if spot == Spot::At(row, column) {
         return Motion::none();
@@ -79,7 +79,7 @@ pub(crate) fn cheapest_motion(prices: &Prices, spot: Spot, row: u32, column: u32
 }
 
 impl Motion {
-    // The cursor is in the place.
+    // The cursor is in the place already.
     fn none() -> Motion {
         Motion {
             start: Start::Here,
@@ -99,17 +99,18 @@ impl Motion {
         }
     }
 
-    // Whether nothing is sent, since the cursor is in the place.
+    // Whether nothing is sent, because the cursor is in the place.
     pub(crate) fn is_none(self) -> bool {
         self.price == 0
     }
 
-    // Whether Move leads to the place.
+    // Whether `Move` leads to the place.
     pub(crate) fn is_direct(self) -> bool {
         matches!(self.start, Start::Direct)
     }
 
-    // The cheaper of this motion and that along rows and columns, this one where they cost the same.
+    // The cheaper of this motion and the one along rows and columns; this one if they cost the
+    // same.
     fn or_along(
         self,
         prices: &Prices,
@@ -136,7 +137,7 @@ impl Motion {
         }
     }
 
-    // The operations of this motion from a spot to a place.
+    // The operations of this motion, from a spot to a place.
     pub(crate) fn steps(self, spot: Spot, row: u32, column: u32) -> Steps {
         match self.start {
             Start::Direct => Steps::only(Op::Move(row, column)),
@@ -150,7 +151,7 @@ impl Motion {
         }
     }
 
-    // The operations along rows and columns, and what is sent before them.
+    // The operations along rows and columns, after `first`.
     fn steps_along(self, first: Option<Op>, from: (u32, u32), to: (u32, u32)) -> Steps {
         let rows = self.step_of_rows(from.0, to.0);
         if from.1 == to.1 {
@@ -177,7 +178,7 @@ impl Motion {
         }
     }
 
-    // The operation that leads to a row, if there is one.
+    // The operation that changes the row, if there is one.
     fn step_of_rows(self, from: u32, to: u32) -> Option<Op> {
         if from == to {
             return None;
@@ -188,7 +189,7 @@ impl Motion {
         }
     }
 
-    // The operation behind that of the columns, if there is one.
+    // The operation after that of the columns, if there is one.
     fn step_behind(self, to: u32) -> Option<Op> {
         match self.columns {
             Columns::FromFirst if to > 0 => Some(Op::Right(to)),
@@ -210,7 +211,7 @@ impl Steps {
     }
 }
 
-// From a row to another: by a count, or to it at once where that is cheaper.
+// From one row to another: by a count, or at once if that is cheaper.
 fn cheapest_rows(prices: &Prices, from: u32, to: u32) -> (Rows, u32) {
     if from == to {
         return (Rows::Count, 0);
@@ -224,8 +225,8 @@ fn cheapest_rows(prices: &Prices, from: u32, to: u32) -> (Rows, u32) {
     }
 }
 
-// From a column of a row to another: by a count, by single steps to the left, from the first column, or to the column at once; the first
-// of these that costs least.
+// From one column to another: by a count, left in single steps, from the first column, or at once;
+// the first of these that costs least.
 fn cheapest_columns(prices: &Prices, from: u32, to: u32) -> (Columns, u32) {
     if from == to {
         return (Columns::Count, 0);
@@ -256,7 +257,7 @@ fn price_of_rows(prices: &Prices, from: u32, to: u32) -> u32 {
     }
 }
 
-// The price of going to the left or to the right by a count.
+// The price of going left or right by a count.
 #[inline(always)]
 fn price_of_columns(prices: &Prices, from: u32, to: u32) -> u32 {
     if from < to {
@@ -266,7 +267,7 @@ fn price_of_columns(prices: &Prices, from: u32, to: u32) -> u32 {
     }
 }
 
-// The price of single steps to the left; too much to the right.
+// The price of going left in single steps; too high for a motion to the right.
 fn price_of_singles(prices: &Prices, from: u32, to: u32) -> u32 {
     if from < to {
         return FAR;
@@ -274,7 +275,7 @@ fn price_of_singles(prices: &Prices, from: u32, to: u32) -> u32 {
     prices.of(Op::Left(1)).saturating_mul(from - to)
 }
 
-// The price of going to the first column, and to the right from there.
+// The price of going to the first column, and right from there.
 fn price_from_first(prices: &Prices, to: u32) -> u32 {
     let first = prices.of(Op::Return);
     if to == 0 {
@@ -284,7 +285,7 @@ fn price_from_first(prices: &Prices, to: u32) -> u32 {
     }
 }
 
-// Up or down from a row to another.
+// Up or down, from one row to another.
 fn by_rows(from: u32, to: u32) -> Op {
     if from < to {
         Op::Down(to - from)
@@ -293,7 +294,7 @@ fn by_rows(from: u32, to: u32) -> Op {
     }
 }
 
-// To the left or to the right from a column to another.
+// Left or right, from one column to another.
 fn by_columns(from: u32, to: u32) -> Op {
     if from < to {
         Op::Right(to - from)

@@ -1,9 +1,9 @@
-//! The nearest of runs that wait, as far as they were looked at.
+//! The nearest waiting run among those looked at so far.
 
 use crate::links::NONE;
 use crate::ways::Way;
 
-// The nearest of the runs that were looked at, the way to it, and the price of that as it is compared.
+// The nearest run so far, the way to it, and the price that is compared.
 #[derive(Clone, Copy)]
 pub(crate) struct Nearest {
     pub(crate) number: u32,
@@ -12,7 +12,7 @@ pub(crate) struct Nearest {
 }
 
 impl Nearest {
-    // None was looked at.
+    // No run was looked at yet.
     pub(crate) fn none() -> Nearest {
         Nearest {
             number: NONE,

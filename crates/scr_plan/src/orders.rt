@@ -1,5 +1,5 @@
-//! In which order runs are painted: the nearest next, or pen by pen, whichever is cheaper. Only prices are compared here: nothing depends
-//! on a choice but how many bytes an update has.
+//! Choosing the order of runs: the nearest next, or pen by pen, whichever is cheaper. This only
+//! compares prices: a choice affects nothing but the number of bytes of an update.
 
 use crate::least_motions::LeastMotions;
 use crate::links::{Links, NONE};
@@ -10,15 +10,16 @@ use scr_cells::{NoMemory, Pen};
 use scr_term::Spot;
 use std::alloc::Global;
 
-// How many waiting runs are looked at from where the last one was on, and how many before that.
+// How many waiting runs are looked at from the last one's place on, and how many before that.
 const AHEAD: u32 = 4;
 
 const BACK: u32 = 2;
 
-// What a run costs more in the row where the cursor is wished at the end.
+// What a run costs more in the row where the cursor is wanted at the end, so that it is painted
+// late.
 const WISHED_LAST: u32 = 3;
 
-// The runs in the cheaper of the two orders, the nearest next where they cost the same.
+// The runs in the cheaper of the two orders; the nearest next if they cost the same.
 pub(crate) fn cheaper_order(
     alloc: Global,
     chooser: &Chooser<'_>,
@@ -52,7 +53,7 @@ pub(crate) fn cheaper_order(
     Ok(stops)
 }
 
-// The order that is kept in the links.
+// Copies the order that is kept in the links.
 fn copy_ordered(links: &Links, count: usize, stops: &mut Vec<Stop>) -> Result<(), NoMemory> {
     let mut place = 0u32;
     for _ in 0..count {
@@ -62,7 +63,7 @@ fn copy_ordered(links: &Links, count: usize, stops: &mut Vec<Stop>) -> Result<()
     Ok(())
 }
 
-// The run of a number, or an empty one.
+// The run with a number, or an empty one.
 pub(crate) fn run_at(runs: &[Run], number: u32) -> Run {
     match runs.get(number as usize) {
         Some(run) => *run,
@@ -76,7 +77,7 @@ pub(crate) fn run_at(runs: &[Run], number: u32) -> Run {
     }
 }
 
-// What an order is for: the runs, in rows, and where the cursor is wished behind them.
+// What an order is made for: the runs, by rows, and where the cursor is wanted after them.
 #[derive(Clone, Copy)]
 struct Task<'a> {
     chooser: &'a Chooser<'a>,
@@ -85,7 +86,8 @@ struct Task<'a> {
     least: LeastMotions,
 }
 
-// A walk over runs as it is priced: where the cursor is, which run was painted last, how many were, and how many bytes that takes.
+// A priced walk over runs: where the cursor is, which run was painted last, how many were, and how
+// many bytes all took.
 #[derive(Drop)]
 struct Walk {
     cursor: Cursor,
@@ -95,7 +97,7 @@ struct Walk {
 }
 
 impl Walk {
-    // None yet.
+    // No run was painted yet.
     fn from(cursor: &Cursor) -> Walk {
         Walk {
             cursor: *cursor,
@@ -105,7 +107,7 @@ impl Walk {
         }
     }
 
-    // One run more, that of a number, to which the way is priced.
+    // Paints the run with a number; the price of the way to it is known.
     fn paint_behind(&mut self, chooser: &Chooser<'_>, number: u32, run: &Run, price_of_way: u32) {
         self.cursor = chooser.behind(run);
         self.last = number;
@@ -116,7 +118,7 @@ impl Walk {
             .saturating_add(chooser.price_of_painting(run));
     }
 
-    // The run of a number, which the order has next.
+    // Paints the run with a number, as the next one of the order that is kept.
     fn paint(&mut self, task: &Task<'_>, links: &mut Links, number: u32) {
         links.set_ordered(self.count, number);
         let run = run_at(task.runs, number);
@@ -125,7 +127,7 @@ impl Walk {
         self.paint_behind(task.chooser, number, &run, way.price);
     }
 
-    // What it takes with the way to where the cursor is wished.
+    // The price of the walk, with the way to where the cursor is wanted.
     fn price_to_wish(&self, task: &Task<'_>) -> u32 {
         match task.wish {
             Some((row, column)) => {
@@ -137,9 +139,10 @@ impl Walk {
     }
 }
 
-// The nearest next.
+// The order by nearness.
 impl<'a> Task<'a> {
-    // The price of painting the nearest run next, and the runs so; any price above the limit where it is above that.
+    // The price of painting the nearest run next each time, and the runs in that order. If the
+    // price is above the limit, it may be any price above it.
     fn by_nearness(
         &self,
         cursor: &Cursor,
@@ -168,7 +171,7 @@ impl<'a> Task<'a> {
         Ok(walk.price_to_wish(self))
     }
 
-    // The first run in a row or below it; the first of all where there is none.
+    // The first run in a row or below it; the first of all if there is none.
     fn first_in_or_below(&self, row: u32) -> u32 {
         let mut number = 0u32;
         for run in self.runs {
@@ -180,8 +183,8 @@ impl<'a> Task<'a> {
         0
     }
 
-    // The nearest of the waiting runs that are looked at: a few around where the last one was, and of the pen that is on the next one
-    // and the first. Where few are left, all of them are looked at, and none twice around there.
+    // The nearest of a few waiting runs: some around the place of the last one, and, of those with
+    // the current pen, the next one and the first. If few runs wait, all of them are looked at.
     fn nearest(&self, walk: &Walk, links: &Links, from: u32, next_alike: u32) -> Nearest {
         let mut nearest = Nearest::none();
         self.look_at(walk, links, &mut nearest, from);
@@ -210,8 +213,8 @@ impl<'a> Task<'a> {
         nearest
     }
 
-    // Whether no other run can be nearer than the first that waits: the cursor is behind the last column, from where no row below that
-    // run's is reached by fewer bytes.
+    // Whether no other run can be nearer than the first that waits. This is so if the cursor is
+    // behind the last column, from where no row below that run's is reached with fewer bytes.
     #[inline(always)]
     fn is_surely_nearest(&self, walk: &Walk, links: &Links, nearest: &Nearest, first: u32) -> bool {
         let Spot::Margin(_) = walk.cursor.spot else {
@@ -221,7 +224,8 @@ impl<'a> Task<'a> {
             && nearest.compared <= self.least.from_margin(run_at(self.runs, first).row)
     }
 
-    // Looks at a run, if there is one: it is the nearest so far if it is nearer than that. Most are seen not to be without a price.
+    // Looks at a run, if it exists: it becomes the nearest so far if it is nearer. Most runs are
+    // ruled out without pricing a way.
     #[inline(always)]
     fn look_at(&self, walk: &Walk, links: &Links, nearest: &mut Nearest, number: u32) {
         if number == nearest.number {
@@ -238,7 +242,7 @@ impl<'a> Task<'a> {
         }
     }
 
-    // Prices the way to a run: it is the nearest so far if this is less, with what it costs more.
+    // Prices the way to a run, plus `more`: the run becomes the nearest so far if that is less.
     #[inline(never)]
     fn compare(
         &self,
@@ -260,13 +264,13 @@ impl<'a> Task<'a> {
         }
     }
 
-    // A price with that of the turn to a run's pen.
+    // A price plus that of the turn to a run's pen.
     #[inline(always)]
     fn with_turn(&self, price: u32, walk: &Walk, run: &Run) -> u32 {
         price.saturating_add(self.chooser.price_of_turn(walk.cursor.pen, run.pen))
     }
 
-    // The way to a run, which the other order may have found behind the same run.
+    // The way to a run, which the other order may have found from the same run already.
     fn way_to(&self, walk: &Walk, links: &Links, number: u32, run: &Run) -> Way {
         match links.way_behind(number, walk.last) {
             Some(way) => way,
@@ -274,7 +278,7 @@ impl<'a> Task<'a> {
         }
     }
 
-    // What a run costs more since it is in this row.
+    // What a run costs more because it is in this row.
     fn price_of_wish(&self, row: u32) -> u32 {
         match self.wish {
             Some((wished, _)) if wished == row => WISHED_LAST,
@@ -283,9 +287,10 @@ impl<'a> Task<'a> {
     }
 }
 
-// Pen by pen.
+// The order by pens.
 impl<'a> Task<'a> {
-    // The price of painting the runs of one pen after those of another; the order is kept in the links.
+    // The price of painting all runs of one pen, then those of another; the order is kept in the
+    // links.
     fn by_pens(&self, cursor: &Cursor, links: &mut Links) -> u32 {
         let mut walk = Walk::from(cursor);
         let chains = links.chains();
@@ -296,7 +301,8 @@ impl<'a> Task<'a> {
         walk.price_to_wish(self)
     }
 
-    // All runs of the chain with the cheapest turn, from the first, or row by row from the last where that is nearer.
+    // Paints all runs of the chain with the cheapest turn, from the first; or upwards from the last
+    // row if that is nearer.
     fn paint_cheapest_chain(&self, walk: &mut Walk, links: &mut Links) {
         let number = self.cheapest_chain(links, walk.cursor.pen);
         let chain = links.chain(number);
@@ -311,7 +317,7 @@ impl<'a> Task<'a> {
         }
     }
 
-    // The chain with the cheapest turn from a pen, of those that are not painted yet.
+    // The chain with the cheapest turn from a pen, among those not painted yet.
     fn cheapest_chain(&self, links: &Links, pen: Pen) -> u32 {
         let mut best = NONE;
         let mut price = u32::MAX;
@@ -330,7 +336,7 @@ impl<'a> Task<'a> {
         best
     }
 
-    // The runs of a chain up to one, row by row upwards, each row from the left.
+    // Paints the runs of a chain up to `last`, row by row upwards, each row from the left.
     fn paint_upwards(&self, walk: &mut Walk, links: &mut Links, last: u32) {
         let mut end = last;
         for _ in 0..self.runs.len() {
@@ -343,7 +349,7 @@ impl<'a> Task<'a> {
         }
     }
 
-    // The first run of a chain that is in the same row as one of them.
+    // The first run of a chain in the same row as `last`.
     fn first_in_row(&self, links: &Links, last: u32) -> u32 {
         let row = run_at(self.runs, last).row;
         let mut first = last;
@@ -357,7 +363,7 @@ impl<'a> Task<'a> {
         first
     }
 
-    // The runs of a chain from one up to another, both too.
+    // Paints the runs of a chain from `first` to `last`, both included.
     fn paint_part(&self, walk: &mut Walk, links: &mut Links, first: u32, last: u32) {
         let mut number = first;
         for _ in 0..self.runs.len() {
@@ -369,7 +375,7 @@ impl<'a> Task<'a> {
         }
     }
 
-    // The runs without a chain, in rows.
+    // Paints the runs without a chain, by rows.
     fn paint_others(&self, walk: &mut Walk, links: &mut Links) {
         let mut number = 0u32;
         for _ in 0..self.runs.len() {
@@ -381,7 +387,7 @@ impl<'a> Task<'a> {
     }
 }
 
-// How many rows are between two.
+// The distance between two rows.
 fn rows_between(a: u32, b: u32) -> u32 {
     if a < b { b - a } else { a - b }
 }

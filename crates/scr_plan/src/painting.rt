@@ -1,4 +1,4 @@
-//! The operations that paint a whole picture, row by row and place by place.
+//! Painting a whole picture from scratch, row by row and place by place.
 ghost use Rattle.std.specs.Prelude.{◌≡◌, ◌<◌, ◌++◌, ◌==◌, ◌&&◌, [], IfOk, OnOk, map, filter, bit_and, if◌then◌else◌};
 ghost use Rattle.std.specs.List.{flat_map};
 ghost use Rattle.scr_cells.specs.Attributes.{attributes_of};
@@ -11,11 +11,15 @@ use scr_cells::{Attrs, Cell, Look, NoMemory, Pen, Picture};
 use scr_term::{Op, Ops, Profile, Spot};
 use std::alloc::Global;
 
-/// The operations that paint a whole picture on a terminal that may show anything (curs_refresh(3X)):
-/// no attribute and default colours, a blank screen, then every place in rows, each with the cursor moved
-/// there, no attribute and default colours, each attribute and each colour that is seen of its cell, and its
-/// byte; at the end no attribute and default colours, and the cursor where it is wished. Where the terminal has no
-/// `msgr`, attributes and colours go before the cursor moves; where it has no `sgr0`, there are none.
+/// The operations that paint a whole picture on a terminal that may show anything
+/// (curs_refresh(3X)).
+///
+/// First all attributes are turned off, in default colours, and the screen is cleared. Then every
+/// place is painted, row by row: the cursor moves there, attributes are turned off, in default
+/// colours, each attribute and each colour that is seen of the cell is turned on, and the byte is
+/// written. At the end attributes are turned off, in default colours, and the cursor moves to where
+/// it is wanted. If the terminal has no `msgr`, attributes and colours are turned off before the
+/// cursor moves; if it has no `sgr0`, there are none.
 ///
 /// The picture has the profile's size. Fails only when memory runs out.
 pub fn scratch(alloc: Global, profile: &Profile, picture: &Picture) -> Result<Ops, NoMemory>
@@ -36,7 +40,7 @@ pub fn scratch(alloc: Global, profile: &Profile, picture: &Picture) -> Result<Op
     Ok(Ops(ops))
 }
 
-// What painting asks of a profile, fetched once.
+// What painting needs to know of a profile, fetched once.
 #[derive(Clone, Copy)]
 pub(crate) struct Painter {
     pub(crate) shown: Attrs,
@@ -46,7 +50,7 @@ pub(crate) struct Painter {
 }
 
 impl Painter {
-    // What the profile says.
+    // The painter for a profile.
     pub(crate) fn of(profile: &Profile) -> Painter
         ensures { result ≡ painter_of profile.now }
     {
@@ -103,7 +107,8 @@ impl Painter {
         set_colours(pen.foreground(), pen.background(), ops)
     }
 
-    // Adds what leads to a place with a pen from another spot and pen, without what changes nothing there.
+    // Adds what leads to a place with a pen from a known spot and pen, without what would change
+    // nothing.
     pub(crate) fn lead(
         self,
         spot: Spot,
@@ -143,7 +148,7 @@ impl Painter {
         Ok(())
     }
 
-    // Adds what turns attributes off and makes colours the default ones, unless that is so.
+    // Adds what turns attributes off and makes colours default, unless they are.
     pub(crate) fn reset_unless_plain(self, now: Pen, ops: &mut Vec<Op>) -> Result<(), NoMemory>
         ensures { OnOk result (ops.new.items ≡ ops.old.items ++ resets_unless_plain self now) }
     {
@@ -153,7 +158,8 @@ impl Painter {
         self.reset(ops)
     }
 
-    // Adds the operations for a cell of a picture in a place, unless what the place shows is known and is what is seen of the cell.
+    // Adds the operations for a cell of a picture in a place, unless the place is known to show
+    // what is seen of the cell.
     pub(crate) fn paint_unless_shown(
         self,
         picture: &Picture,
@@ -173,7 +179,8 @@ impl Painter {
         self.paint_cell(picture, row, column, cell, ops)
     }
 
-    // Whether a look is what is seen of a cell. Pens are compared whole, since most places that are looked at are as they are to be.
+    // Whether a look is what is seen of a cell. Pens are compared as a whole, since most places
+    // that are looked at need nothing.
     #[inline(always)]
     pub(crate) fn is_seen(self, picture: &Picture, look: Look, cell: Cell) -> bool
         ensures { result ≡ look_eq look (painter_sees self picture.now.pairs cell) }
@@ -181,7 +188,7 @@ impl Painter {
         look.byte() == cell.byte() && look.pen() == self.pen_of(picture, cell)
     }
 
-    // What a cell is seen with.
+    // The pen that a cell is seen with.
     #[inline(always)]
     pub(crate) fn pen_of(self, picture: &Picture, cell: Cell) -> Pen
         ensures { result ≡ (painter_sees self picture.now.pairs cell).pen }
@@ -198,7 +205,7 @@ impl Painter {
         }
     }
 
-    // Adds what moves the cursor to a place, with no attribute and default colours there.
+    // Adds what moves the cursor to a place, with no attribute and default colours.
     #[inline(always)]
     fn go(self, row: u32, column: u32, ops: &mut Vec<Op>) -> Result<(), NoMemory>
         ensures { OnOk result (ops.new.items ≡ ops.old.items ++ painter_goes self (row, column)) }
@@ -212,7 +219,8 @@ impl Painter {
         Ok(())
     }
 
-    // Adds what ends a repaint: no attribute and default colours, and the cursor where it is wished.
+    // Adds what ends a repaint: no attribute and default colours, and the cursor where it is
+    // wanted.
     pub(crate) fn finish(self, wish: Option<(u32, u32)>, ops: &mut Vec<Op>) -> Result<(), NoMemory>
         ensures { OnOk result (ops.new.items ≡ ops.old.items ++ painter_resets self ++ places_cursor wish) }
     {
@@ -223,7 +231,7 @@ impl Painter {
         Ok(())
     }
 
-    // Adds what turns attributes off and makes colours the default ones.
+    // Adds what turns attributes off and makes colours default.
     pub(crate) fn reset(self, ops: &mut Vec<Op>) -> Result<(), NoMemory>
         ensures { OnOk result (ops.new.items ≡ ops.old.items ++ painter_resets self) }
     {
@@ -244,7 +252,7 @@ fn enter_each(set: u8, ops: &mut Vec<Op>) -> Result<(), NoMemory>
     enter_each_of(set, &Attrs::EACH, ops)
 }
 
-// Adds an operation for each of these attributes that the set has.
+// Adds an operation for each of these attributes that is in the set.
 fn enter_each_of(set: u8, attributes: &[Attrs], ops: &mut Vec<Op>) -> Result<(), NoMemory>
     ensures { OnOk result (ops.new.items
         ≡ ops.old.items ++ map Enter (filter (λ a. bit_and set a.0 == a.0) attributes.now)) }
@@ -257,7 +265,7 @@ fn enter_each_of(set: u8, attributes: &[Attrs], ops: &mut Vec<Op>) -> Result<(),
     Ok(())
 }
 
-// Adds what sets these colours, where they are not the default ones.
+// Adds what sets these colours, unless they are the default ones.
 fn set_colours(
     foreground: Option<u8>,
     background: Option<u8>,

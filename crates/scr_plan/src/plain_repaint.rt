@@ -1,5 +1,5 @@
-//! Painting only what differs from what is remembered of the terminal, place by place: a bound that is easily said, and that the joined
-//! repaint keeps. The definitions are in `specs/Repaints.antt`.
+//! The plain repaint: painting each place that differs from what is remembered. It is a bound that
+//! is easy to state, and that the joined repaint keeps. `specs/Repaints.antt` defines it.
 ghost use Rattle.std.specs.Prelude.{◌≡◌, ◌++◌, ◌<◌, ◌&&◌, ◌==◌, [], IfOk, OnOk, filter, length, if◌then◌else◌};
 ghost use Rattle.std.specs.List.{flat_map};
 ghost use Rattle.scr_plan.specs.Code.Painters.{painter_differs, painter_paints_place, painter_resets};
@@ -12,9 +12,10 @@ use scr_cells::{NoMemory, Picture};
 use scr_term::{Op, Ops, Profile};
 use std::alloc::Global;
 
-/// The operations that bring a terminal of which this is remembered to a picture, by painting each place that differs, and
-/// every place of a row that is not known (curs_refresh(3X)): those of `scratch`, but without the blank screen and the other
-/// places. There are none where no place differs and the cursor is known to be where it is wished.
+/// The operations that bring a terminal to a picture by painting each place that differs from what
+/// is remembered, and every place of a row that is not known (curs_refresh(3X)). They are those of
+/// `scratch` without clearing the screen and without the other places. There are none if no place
+/// differs and the cursor is known to be where it is wanted.
 ///
 /// Picture and memory have the profile's size. Fails only when memory runs out.
 pub fn plain(
@@ -63,8 +64,8 @@ impl Painter {
         Ok(())
     }
 
-    // Ends a repaint of which so many operations were there before the first place: there is none at all where no place was painted
-    // and the cursor is as wished.
+    // Ends a repaint that had `begun` operations before its first place. If no place was painted
+    // and the cursor is where it is wanted, the repaint is empty.
     pub(crate) fn end(
         self,
         picture: &Picture,

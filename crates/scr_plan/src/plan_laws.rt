@@ -1,4 +1,4 @@
-//! Laws of painting what differs: functions that do nothing, whose contracts are the laws.
+//! Laws of painting what differs, as contracts of functions that do nothing.
 ghost use Rattle.scr_plan.specs.Memories.{MemoryLaws};
 ghost use Rattle.scr_plan.specs.Plans.{PlanIsCheap, PlansAreMade, UpToDateLaws};
 ghost use Rattle.scr_plan.specs.Repaints.{JoinedIsCheap, JoinedShows, PlainShows};
@@ -8,8 +8,9 @@ use crate::scratch_laws::{place_is_painted, scratch_is_bounded};
 use scr_cells::{Look, grid_laws};
 use scr_term::{blank_laws, profiles_have, run_laws, steps_keep_states};
 
-/// Where a state agrees with what is remembered of the terminal and an operation is defined from it, the state after it agrees with
-/// what is remembered then, and where all was known, all is; a mark makes what others wrote unknown.
+/// If a state agrees with what is remembered of the terminal and an operation is defined from it,
+/// the state after it agrees with what is remembered then; and if all was known, all is. A mark
+/// makes what others wrote unknown.
 pub fn memory_laws()
     ensures { MemoryLaws }
 {
@@ -17,8 +18,8 @@ pub fn memory_laws()
     grid_laws::<Look>();
 }
 
-/// From every state that agrees with what is remembered of the terminal, the plain repaint is defined and shows the picture
-/// (curs_refresh(3X)).
+/// From every state that agrees with what is remembered of the terminal, the plain repaint is
+/// defined and shows the picture (curs_refresh(3X)).
 pub fn plain_shows()
     ensures { PlainShows }
 {
@@ -28,8 +29,9 @@ pub fn plain_shows()
     grid_laws::<Look>();
 }
 
-/// Where all is known, the joined repaint is defined from each state that agrees with what is remembered, and shows the picture; what
-/// paints the screen anew does so from every state of the profile (curs_refresh(3X)).
+/// If all is known, the joined repaint is defined from each state that agrees with what is
+/// remembered, and shows the picture. What paints the screen anew is and does so from every state
+/// of the profile (curs_refresh(3X)).
 pub fn joined_shows()
     ensures { JoinedShows }
 {
@@ -41,24 +43,26 @@ pub fn joined_shows()
     grid_laws::<Look>();
 }
 
-/// The joined repaint has no more bytes than the plain one, and the plain one no more than scratch; what paints the screen anew has no
-/// more than scratch. The joined repaint is nothing where no place differs and the cursor is as wished.
+/// The joined repaint has no more bytes than the plain one, and the plain one no more than scratch.
+/// What paints the screen anew has no more than scratch. The joined repaint is empty if no place
+/// differs and the cursor is where it is wanted.
 pub fn joined_is_cheap()
     ensures { JoinedIsCheap }
 {
     run_laws();
 }
 
-/// Where all is known and the screen is not to be painted anew, a plan has no more bytes than the plain repaint, and none where no place
-/// differs and the cursor is as wished.
+/// If all is known and the screen is not to be painted anew, a plan has no more bytes than the
+/// plain repaint, and none if no place differs and the cursor is where it is wanted.
 pub fn plan_is_cheap()
     ensures { PlanIsCheap }
 {
     joined_is_cheap();
 }
 
-/// The sure repaint is all that an update wants of its operations: from every state that agrees with what is remembered it shows the
-/// picture, all is known after it, and it is short and cheap (curs_refresh(3X), doupdate()).
+/// The sure repaint is a plan, and a plan is all that an update needs: from every state that agrees
+/// with what is remembered it shows the picture, all is known after it, and it is short and cheap
+/// (curs_refresh(3X), doupdate()).
 pub fn plans_are_made()
     ensures { PlansAreMade }
 {
@@ -69,8 +73,8 @@ pub fn plans_are_made()
     memory_runs();
 }
 
-/// A known row shows the picture, but for the columns that may look otherwise: this stays true from call to call, and an update that
-/// ends well makes it true of every column.
+/// A known row shows the picture, except in the columns that may look different. This stays true
+/// from call to call, and after an update that ends well it is true in every column.
 pub fn up_to_date_laws()
     ensures { UpToDateLaws }
 {

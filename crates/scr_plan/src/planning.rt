@@ -1,4 +1,5 @@
-//! What an update sends. The definitions are in `specs/Plans.antt` and `specs/Repaints.antt`.
+//! Planning an update: which operations it sends. The definitions are in `specs/Plans.antt` and
+//! `specs/Repaints.antt`.
 ghost use Rattle.std.specs.Prelude.{◌≡◌, ◌<◌, ◌≤◌, ◌⊎◌, ◌==◌, ◌&&◌, ◌||◌, not, IfOk, IfSome, bit_and, false, length, true};
 ghost use Rattle.std.specs.Option.{is_none};
 ghost use Rattle.scr_cells.specs.PenViews.{is_plain_pen};
@@ -29,13 +30,17 @@ use scr_term::{Op, Ops, Profile, profiles_have, run_laws};
 use scr_virtual::Virtual;
 use std::alloc::Global;
 
-/// What an update sends: operations that bring a terminal of which this is remembered to the picture, in few bytes
-/// (curs_refresh(3X), doupdate()). From every state that agrees with what is remembered they show the picture, and all is known after
-/// them where the profile's terminal can be as remembered. They have no more bytes than `scratch`, and where all is known and the screen
-/// is not to be painted anew, no more than the joined repaint, and none where no place differs and the cursor is as wished.
+/// Plans an update: operations that bring a terminal from what is remembered of it to the picture,
+/// in few bytes (curs_refresh(3X), doupdate()).
 ///
-/// Picture and memory have the profile's size, and a known row shows the picture but in the columns that may have changed
-/// (`Virtual::changed`). Fails only when memory runs out.
+/// From every state that agrees with what is remembered, the operations show the picture. All is
+/// known after them, if the remembered state is one that the profile's terminal can be in. They
+/// have no more bytes than `scratch`. If all is known and the screen is not to be painted anew,
+/// they have no more than the joined repaint, and none if no place differs and the cursor is where
+/// it is wanted.
+///
+/// Picture and memory have the profile's size, and a known row shows the picture except in the
+/// columns that may have changed (`Virtual::changed`). Fails only when memory runs out.
 pub fn plan(
     alloc: Global,
     profile: &Profile,
@@ -50,8 +55,9 @@ pub fn plan(
     plan_by(alloc, profile, memory, wanted, Looked::Changed)
 }
 
-/// The same for a known row that shows the picture but in the columns that may look otherwise (`Virtual::altered`). Only these are
-/// looked at, so that an update costs in proportion to what looks otherwise.
+/// Plans an update like `plan`, but a known row shows the picture except in the columns that may
+/// look different (`Virtual::altered`). Only these are looked at, so the work of an update is in
+/// proportion to what looks different.
 pub fn plan_altered(
     alloc: Global,
     profile: &Profile,
@@ -66,17 +72,17 @@ pub fn plan_altered(
     plan_by(alloc, profile, memory, wanted, Looked::Altered)
 }
 
-// The columns of a row that are looked at where the row is known.
+// Which columns of a known row are looked at.
 #[derive(Clone, Copy)]
 pub(crate) enum Looked {
-    // Those that may have changed.
+    // The columns that may have changed.
     Changed,
-    // Those that may look otherwise.
+    // The columns that may look different.
     Altered,
 }
 
 impl Looked {
-    // The first and the last of them; `None` where there are none.
+    // The first and the last of these columns in a row; `None` if there are none.
     pub(crate) fn in_row(self, wanted: &Virtual, row: u32) -> Option<(u32, u32)>
         requires { row < wanted.now.picture.rows }
         ensures value { result ≡ range_by self wanted.now row }
@@ -88,7 +94,7 @@ impl Looked {
         }
     }
 
-    // The first row that has any, and the end of those that have.
+    // The first row that has any of these columns, and the end of the rows that do.
     pub(crate) fn rows(self, wanted: &Virtual) -> (u32, u32)
         ensures order { result.0 ≤ result.1 }
         ensures end { result.1 ≤ wanted.now.picture.rows }
@@ -101,7 +107,7 @@ impl Looked {
     }
 }
 
-// A plan, where a known row shows the picture but in these columns.
+// Plans an update; a known row shows the picture except in these columns.
 fn plan_by(
     alloc: Global,
     profile: &Profile,
@@ -127,7 +133,8 @@ fn plan_by(
     changes(alloc, profile, memory, wanted, by)
 }
 
-// Whether only what differs is to be painted: all is known, and the whole screen is not to be painted anew.
+// Whether only what differs is to be painted: all is known, and no repaint of the whole screen was
+// asked for.
 fn wants_changes_alone(memory: &Memory, wanted: &Virtual) -> bool
     ensures value { result ≡ is_known memory.now && not wanted.now.repaint }
     ensures known { result ≡ true → is_known memory.now ≡ true }
@@ -135,7 +142,8 @@ fn wants_changes_alone(memory: &Memory, wanted: &Virtual) -> bool
     memory.known() && !wanted.repaint()
 }
 
-// Whether a terminal of the profile can have the pen that is remembered: attributes that it shows, and colours if it shows them.
+// Whether a terminal of the profile can have the remembered pen: attributes that it shows, and
+// colours only if it shows them.
 fn may_be(profile: &Profile, memory: &Memory) -> bool
     ensures yes { result ≡ true → IsShownPen (abilities profile.now) memory.now.state.pen }
     ensures no { result ≡ false → IsShownPen (abilities profile.now) memory.now.state.pen → ⊥ }
@@ -159,7 +167,7 @@ fn shows_colours(profile: &Profile, pen: Pen) -> bool
     profile.colours() || (pen.foreground().is_none() && pen.background().is_none())
 }
 
-// Not all is known, or the whole screen is to be painted anew.
+// The plan if not all is known, or the whole screen is to be painted anew.
 fn anew_or_partly(
     alloc: Global,
     profile: &Profile,
@@ -180,8 +188,8 @@ fn anew_or_partly(
     partly_if_shorter(alloc, profile, memory, wanted, by, whole)
 }
 
-// What erases and paints the rows that are not known, and what differs of the others, where that is shorter than a plan that clears the
-// screen.
+// The plan that erases and paints the rows that are not known, and paints what differs in the
+// others, if it is shorter than `whole`, which clears the screen.
 fn partly_if_shorter(
     alloc: Global,
     profile: &Profile,
@@ -214,7 +222,8 @@ fn partly_if_shorter(
     Ok(whole)
 }
 
-// The whole screen painted anew: it is cleared, and what differs from blanks is painted, in the shorter of two ways.
+// Paints the whole screen anew: clears it, and paints what is not blank, in the shorter of two
+// ways.
 fn anew(
     alloc: Global,
     profile: &Profile,
@@ -243,7 +252,7 @@ fn anew(
     joined_anew(alloc, painter, profile, picture)
 }
 
-// How many bytes the joined repaint of a cleared screen has, behind what clears it.
+// The number of bytes of the joined repaint of a cleared screen, after what clears it.
 fn bytes_anew(
     alloc: Global,
     painter: Painter,
@@ -278,7 +287,7 @@ fn joined_anew(
     Ok(Ops(joining.ops))
 }
 
-// What differs is painted, in the shorter of two ways.
+// Paints what differs, in the shorter of two ways.
 fn changes(
     alloc: Global,
     profile: &Profile,
@@ -314,7 +323,7 @@ fn changes(
     joined(alloc, painter, profile, memory, wanted, by)
 }
 
-// Whether no place differs, and the cursor is as wished.
+// Whether no place differs, and the cursor is where it is wanted.
 fn is_nothing_left(
     painter: Painter,
     profile: &Profile,
@@ -333,10 +342,11 @@ fn is_nothing_left(
     memory.is_placed(wanted.picture().wish()) && !differs(painter, profile, memory, wanted, by)
 }
 
-// As many operations as mostly lead to a place: they are counted, and not kept.
+// Room for the operations that usually lead to a place: they are counted, and not kept.
 const FEW_OPERATIONS: usize = 16;
 
-// How many bytes the joined repaint has; where that is more than a limit, a number between the two.
+// The number of bytes of the joined repaint. If that is above the limit, it may be any number
+// between the two.
 fn bytes_of_joined(
     alloc: Global,
     painter: Painter,
@@ -385,8 +395,8 @@ fn joined(
     Ok(Ops(joining.ops))
 }
 
-// How many operations a line mostly takes: each of its characters, and what leads to them. Room for them spares the lists of most
-// updates from growing.
+// Room for the operations that a line usually takes: its characters, and what leads to them. With
+// it the lists of most updates do not grow.
 pub(crate) fn room_of(size: Size) -> usize {
     size.columns as usize + 12
 }

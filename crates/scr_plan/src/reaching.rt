@@ -1,4 +1,5 @@
-//! The short plan's ways to a place and a pen, as they were chosen: motions, turns of the pen, and places written in place of a motion.
+//! The short plan's ways to a place and a pen, as chosen: motions, turns, and places written in
+//! place of a motion.
 ghost use Rattle.std.specs.Prelude.{◌≡◌, ◌<◌, OnOk};
 ghost use Rattle.scr_plan.specs.Code.Drafts.{KeepsAll, KeepsEvery};
 ghost use Rattle.scr_plan.specs.Code.Painters.{painter_of};
@@ -23,7 +24,7 @@ impl Draft {
         }
     }
 
-    // Adds a motion so many times, if there is one and it is defined from here.
+    // Adds a motion `times` times, if there is one and it is defined from here.
     fn go_times(&mut self, profile: &Profile, op: Option<Op>, times: u32) -> Result<(), NoMemory>
         ensures { OnOk result (KeepsEvery profile.now self.old self.new) }
     {
@@ -34,7 +35,7 @@ impl Draft {
         Ok(())
     }
 
-    // Follows a motion to a place, with a plain pen where motions want that.
+    // Follows a motion to a place, with a plain pen if motions need one.
     fn move_by(
         &mut self,
         profile: &Profile,
@@ -54,7 +55,7 @@ impl Draft {
         self.take(profile, motion.steps(self.spot, row, column))
     }
 
-    // Turns attributes off and makes colours the default ones, where motions want that.
+    // Turns attributes off and makes colours default, if motions need that.
     fn get_plain_to_move(&mut self, profile: &Profile) -> Result<(), NoMemory>
         ensures { OnOk result (KeepsEvery profile.now self.old self.new) }
     {
@@ -64,7 +65,7 @@ impl Draft {
         self.turn_to(profile, Pen::plain())
     }
 
-    // The operations of a motion.
+    // Adds the operations of a motion.
     fn take(&mut self, profile: &Profile, steps: Steps) -> Result<(), NoMemory>
         ensures { OnOk result (KeepsEvery profile.now self.old self.new) }
     {
@@ -73,7 +74,7 @@ impl Draft {
         self.take_along_row(profile, steps)
     }
 
-    // Those of them that lead along the row.
+    // Adds those of them that lead along the row.
     fn take_along_row(&mut self, profile: &Profile, steps: Steps) -> Result<(), NoMemory>
         ensures { OnOk result (KeepsEvery profile.now self.old self.new) }
     {
@@ -103,7 +104,7 @@ impl Draft {
         self.enter_each(profile, set, &Attrs::EACH)
     }
 
-    // What a turn begins with.
+    // Adds what a turn begins with.
     fn begin_turn(&mut self, profile: &Profile, turn: Turn) -> Result<(), NoMemory>
         ensures { OnOk result (KeepsEvery profile.now self.old self.new) }
     {
@@ -113,7 +114,7 @@ impl Draft {
         }
     }
 
-    // Turns on those of these attributes that a set has and that are not on.
+    // Turns on those of these attributes that are in a set and not on.
     fn enter_each(
         &mut self,
         profile: &Profile,
@@ -128,7 +129,7 @@ impl Draft {
         Ok(())
     }
 
-    // Turns on an attribute, if a set has it and it is not on.
+    // Turns on an attribute if it is in a set and not on.
     fn enter(&mut self, profile: &Profile, set: Attrs, attribute: Attrs) -> Result<(), NoMemory>
         ensures { OnOk result (KeepsEvery profile.now self.old self.new) }
     {
@@ -138,7 +139,7 @@ impl Draft {
         self.turn(profile, Op::Enter(attribute))
     }
 
-    // Sets the colours of a pen that are not set.
+    // Sets the colours of a pen, unless they are set.
     fn set_colours(&mut self, profile: &Profile, pen: Pen) -> Result<(), NoMemory>
         ensures { OnOk result (KeepsEvery profile.now self.old self.new) }
     {
@@ -170,7 +171,7 @@ impl Draft {
         }
     }
 
-    // Goes to a place and turns to a pen, on the cheapest way.
+    // Goes to a place and turns to a pen, by the cheapest way.
     pub(crate) fn reach(
         &mut self,
         painter: Painter,

@@ -1,4 +1,5 @@
-//! Laws of what is remembered after operations and plans: functions that do nothing, whose contracts are the laws.
+//! Laws of what is remembered after operations and plans, as contracts of functions that do
+//! nothing.
 ghost use Rattle.scr_plan.specs.MemoryRuns.{KnownMemories, MemoryRuns, PlansAreRemembered};
 
 use crate::plan_laws::memory_laws;
@@ -6,9 +7,10 @@ use crate::scratch_laws::scratch_shows;
 use scr_cells::{Look, grid_laws};
 use scr_term::{blank_laws, profiles_have, run_laws};
 
-/// Where a state agrees with what is remembered of the terminal and operations are defined from it, the state after them agrees
-/// with what is remembered then, and where all was known, all is. Where they are defined from the remembered state, that
-/// state goes on as their run does. At first, when nothing is known, every state agrees.
+/// If a state agrees with what is remembered of the terminal and operations are defined from it,
+/// the state after them agrees with what is remembered then; and if all was known, all is. If they
+/// are defined from the remembered state, that state follows their run. At first, when nothing is
+/// known, every state agrees.
 pub fn memory_runs()
     ensures { MemoryRuns }
 {
@@ -16,8 +18,8 @@ pub fn memory_runs()
     memory_laws();
 }
 
-/// Where attributes were turned off and the screen was cleared, all is known after whatever is sent behind it, whatever was known
-/// before; so it is after scratch (curs_refresh(3X), doupdate()).
+/// If attributes are turned off and the screen is cleared, all is known after whatever is sent
+/// next, whatever was known before. So it is after scratch (curs_refresh(3X), doupdate()).
 pub fn plans_are_remembered()
     ensures { PlansAreRemembered }
 {
@@ -27,8 +29,8 @@ pub fn plans_are_remembered()
     scratch_shows();
 }
 
-/// Where all is known, a state that agrees with what is remembered is the remembered one; so the joined repaint is determined by the
-/// terminal's state.
+/// If all is known, a state that agrees with what is remembered is the remembered one. So the
+/// terminal's state determines the joined repaint.
 pub fn known_memories()
     ensures { KnownMemories }
 {

@@ -1,4 +1,5 @@
-//! The runs of a row: places that one visit paints with one pen. Each place that differs is in a run.
+//! The runs of a row: places that one visit paints with one pen. Each place that differs is in a
+//! run.
 ghost use Rattle.std.specs.Prelude.{◌≡◌, ◌<◌, ◌≤◌, IfOk, IfSome, OnOk, length, option_map};
 ghost use Rattle.scr_cells.specs.Grids.{grid_row};
 ghost use Rattle.scr_plan.specs.Code.Drafts.{HasDiffering, HasMarks, HasPart, KeepsRuns};
@@ -14,15 +15,15 @@ use scr_term::{Op, Profile};
 // How the places of a run are painted.
 #[derive(Clone, Copy)]
 pub(crate) enum How {
-    // Each is written.
+    // Each place is written.
     Write,
     // The rest of the line is erased.
     EraseLine,
-    // So many characters are erased.
+    // The places are erased as characters.
     EraseChars,
 }
 
-// Places of a row, from one column up to another, that are painted with one pen.
+// Columns of a row, `start..end`, that are painted with one pen.
 #[derive(Clone, Copy)]
 pub(crate) struct Run {
     pub(crate) row: u32,
@@ -33,7 +34,8 @@ pub(crate) struct Run {
 }
 
 impl Painter {
-    // Adds the runs of a row's places that differ from what the row shows, these looks or blanks, between two columns.
+    // Adds the runs of the places in columns `from..end` that differ from what the row shows:
+    // `before`, or blanks.
     pub(crate) fn add_row(
         self,
         profile: &Profile,
@@ -62,7 +64,7 @@ impl Painter {
         }
     }
 
-    // Adds the runs of all places of the rows from one on that are not seen blank.
+    // Adds the runs of all places in the rows from `first` on that are not seen blank.
     pub(crate) fn add_rows(
         self,
         profile: &Profile,
@@ -80,7 +82,7 @@ impl Painter {
         Ok(())
     }
 
-    // The column from which on the rest of a row is to be erased, if that costs less than to write it.
+    // The column from which the rest of a row is to be erased, if that costs less than writing it.
     fn erased_rest(
         self,
         profile: &Profile,
@@ -138,7 +140,7 @@ impl Painter {
         Ok(())
     }
 
-    // Adds the runs of the first stretch from a column on, and answers where to go on.
+    // Adds the runs of the first stretch from a column on, and returns where to go on.
     fn add_next(
         self,
         profile: &Profile,
@@ -169,8 +171,9 @@ impl Painter {
         Ok(behind)
     }
 
-    // Where a stretch ends that begins in a place that differs: behind its last one that does. It goes on as long as the pen is the same,
-    // over so many places that do not differ as an easy motion has bytes.
+    // Where a stretch that begins in a place that differs ends: after its last place that differs.
+    // It goes on while the pen is the same, over at most as many places that do not differ as an
+    // easy motion has bytes.
     fn stretch_end(
         self,
         profile: &Profile,
@@ -203,7 +206,8 @@ impl Painter {
         behind
     }
 
-    // The first column from one on that differs, if all before it are seen with a pen and it is too; else the end.
+    // The first column from `from` on that differs, if it and all before it are seen with a pen;
+    // else `end`.
     fn next_unlike(
         self,
         picture: &Picture,
@@ -231,7 +235,7 @@ impl Painter {
         end
     }
 
-    // Adds the runs of a stretch: one, or several where it has long blanks.
+    // Adds the runs of a stretch: one, or several if it has long blanks.
     fn add_stretch(
         self,
         profile: &Profile,
@@ -256,7 +260,8 @@ impl Painter {
     }
 }
 
-// Adds the runs of places with a plain pen: long blanks are erased, what is before and behind them is written.
+// Adds the runs of places with a plain pen: long blanks are erased, what is between them is
+// written.
 fn add_pieces(
     profile: &Profile,
     row: u32,
@@ -286,7 +291,8 @@ fn add_pieces(
     add_written(runs, row, begun, end)
 }
 
-// Adds a run of blanks that is worth an erasure, and one of what is before it from a column on. The answer is up to where there are runs.
+// Adds a run of blanks if they are worth an erasure, and before it one of what precedes them.
+// Returns the end of the runs so far.
 fn add_piece(
     profile: &Profile,
     row: u32,
@@ -331,7 +337,7 @@ fn add(runs: &mut Vec<Run>, run: Run) -> Result<(), NoMemory>
     Ok(())
 }
 
-// Room for the operations of runs: their characters, and what mostly leads to each.
+// Room for the operations of runs: their characters, and what usually leads to each.
 pub(crate) fn room_for(runs: &[Run]) -> usize {
     let mut room = 4usize;
     for run in runs {
@@ -370,7 +376,7 @@ fn erased(row: u32, start: u32, end: u32) -> Run
     }
 }
 
-// The rest of a row, erased.
+// A run of the rest of a row, erased.
 fn rest_from(row: u32, start: u32, end: u32) -> Run
     ensures row { result.row ≡ row }
     ensures start { result.start ≡ start }

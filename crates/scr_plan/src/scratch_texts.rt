@@ -1,4 +1,4 @@
-//! The bytes that paint a whole picture.
+//! The bytes that paint a whole picture from scratch.
 ghost use Rattle.std.specs.Prelude.{◌≡◌, true, All, IfOk};
 ghost use Rattle.scr_term.specs.Operations.Texts.{all_bytes, has};
 ghost use Rattle.scr_plan.specs.Scratch.{Fits, scratch_of};
@@ -9,8 +9,8 @@ use scr_cells::{NoMemory, Picture};
 use scr_term::{Op, Profile, blank_laws, run_laws};
 use std::alloc::Global;
 
-/// The bytes that paint a whole picture on a terminal that may show anything: those of the operations of
-/// `scratch`, one after another (curs_refresh(3X)).
+/// The bytes that paint a whole picture on a terminal that may show anything: those of the
+/// operations of `scratch`, one after another (curs_refresh(3X)).
 ///
 /// The picture has the profile's size. Fails only when memory runs out.
 pub fn scratch_bytes(

@@ -1,4 +1,5 @@
-//! The short plan: what differs is found as runs, many lines are erased at once where that is worth it, and the runs are painted.
+//! The short plan: what differs is found as runs, many lines may be erased at once, and the runs
+//! are painted.
 ghost use Rattle.std.specs.Prelude.{◌≡◌, ◌<◌, ◌≤◌, ◌+◌, ◌*◌, ◌^◌, ◌-◌, ◌++◌, ◌∷◌, [], IfOk, OnOk, length, true};
 ghost use Rattle.scr_term.specs.declared.operations.operation.Op.TheVariants.{Clear};
 ghost use Rattle.scr_term.specs.Operations.Profiles.{abilities};
@@ -20,7 +21,7 @@ use scr_term::{Op, Profile, Spot, blank_laws};
 use scr_virtual::Virtual;
 use std::alloc::Global;
 
-// As many runs as most updates have: room for them spares the list from growing.
+// Room for the runs that most updates have, so that the list does not grow.
 const FEW_RUNS: usize = 16;
 
 // The short plan of what differs from what is remembered.
@@ -57,7 +58,7 @@ pub(crate) fn short_changes(
     Ok(draft)
 }
 
-// The short plan of a cleared screen, behind what clears it.
+// The short plan of a cleared screen, after what clears it.
 pub(crate) fn short_anew(
     alloc: Global,
     painter: Painter,
@@ -137,8 +138,8 @@ pub(crate) fn find_in_row(
 }
 
 impl Draft {
-    // Whether a short plan is to be sent: it has no more bytes than the joined repaint, which are known exactly, and not too many
-    // operations.
+    // Whether the short plan is to be sent: it has no more bytes than the joined repaint, whose
+    // number is known exactly, and not too many operations.
     pub(crate) fn is_worth(&self, bytes: usize, size: Size) -> bool
         ensures less { result ≡ true → self.now.bytes ≤ bytes }
         ensures exact { result ≡ true → bytes < 2 ^ 64 - 1 }

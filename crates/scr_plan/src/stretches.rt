@@ -1,11 +1,12 @@
-//! What a row costs on a blank screen: its stretches, as they are priced.
+//! The price of a row on a blank screen: its stretches and what they cost.
 ghost use Rattle.std.specs.Prelude.{◌<◌, ◌≤◌, length};
 
 use crate::looking::{are_alike, is_that_pen};
 use crate::ways::Chooser;
 use scr_cells::{Cell, Pen};
 
-// The stretches of a blank row as they are priced: the pen of the last one, and how many blanks are behind it; so many may be inside.
+// The stretches of a row so far: the pen of the last one, the blanks behind it, and the price of
+// all. A stretch goes on over up to `jump` blanks.
 #[derive(Clone, Copy)]
 pub(crate) struct Stretches {
     jump: u32,
@@ -15,7 +16,7 @@ pub(crate) struct Stretches {
 }
 
 impl Stretches {
-    // None yet.
+    // No stretch yet.
     pub(crate) fn none(jump: u32) -> Stretches {
         Stretches {
             jump,
@@ -25,7 +26,7 @@ impl Stretches {
         }
     }
 
-    // So many blanks more in default colours.
+    // With `count` blanks more, in default colours.
     pub(crate) fn with_blanks(self, count: usize) -> Stretches {
         let mut stretches = self;
         stretches.blanks = self
@@ -37,7 +38,8 @@ impl Stretches {
         stretches
     }
 
-    // So many places more with a pen, all of them blanks in default colours or none.
+    // With `count` places more, all with one pen; `are_blank` if they are blanks in default
+    // colours.
     pub(crate) fn with(self, pen: Pen, are_blank: bool, count: usize) -> Stretches {
         if are_blank {
             return self.with_blanks(count);
@@ -56,7 +58,8 @@ impl Stretches {
     }
 }
 
-// What the cells of a row cost at least on a blank row: each character, and an easy motion if there is one.
+// The least that the cells of a row cost on a blank row: each character, plus an easy motion if
+// there are any.
 pub(crate) fn least_on_blanks(chooser: &Chooser<'_>, cells: &[Cell]) -> u32 {
     let mut characters = 0u32;
     for cell in cells {
@@ -68,7 +71,7 @@ pub(crate) fn least_on_blanks(chooser: &Chooser<'_>, cells: &[Cell]) -> u32 {
     characters.saturating_add(chooser.jump)
 }
 
-// What the cells of a row cost on a blank row: its stretches, and an easy motion for each.
+// What the cells of a row cost on a blank row: its stretches, plus an easy motion for each.
 pub(crate) fn price_on_blanks(chooser: &Chooser<'_>, cells: &[Cell]) -> u32 {
     let mut stretches = Stretches::none(chooser.jump);
     let mut column = 0;
@@ -88,7 +91,7 @@ pub(crate) fn price_on_blanks(chooser: &Chooser<'_>, cells: &[Cell]) -> u32 {
     stretches.price
 }
 
-// Where the blanks in default colours end that begin in a column, if any do.
+// Where the blanks in default colours end that begin in a column; the column itself if it has none.
 fn blanks_behind(cells: &[Cell], column: usize) -> usize
     requires { column ≤ length cells.now }
     ensures from { column ≤ result }
@@ -102,7 +105,8 @@ fn blanks_behind(cells: &[Cell], column: usize) -> usize
     cells.len()
 }
 
-// Where the characters end that begin in a column, or the blanks, whose cells are like that one's.
+// Where the characters, or the blanks, end that begin in a column and have cells like the one
+// there.
 fn alike_behind(cells: &[Cell], column: usize) -> usize
     requires { column < length cells.now }
     ensures from { column < result }

@@ -1,4 +1,5 @@
-//! The short plan, stroke by stroke: each looks before it acts, so that what was chosen before can make a plan longer, but never false.
+//! The short plan, stroke by stroke. Each stroke looks before it acts, so that earlier choices can
+//! make a plan longer but never wrong.
 ghost use Rattle.std.specs.Prelude.{ℕ, ◌≡◌, ◌<◌, ◌≤◌, ◌∷◌, [], IfOk, OnOk, length, true};
 ghost use Rattle.scr_cells.specs.Grids.{grid_row};
 ghost use Rattle.scr_term.specs.declared.operations.operation.Spot.TheVariants.{At};
@@ -14,7 +15,7 @@ use crate::ways::Cursor;
 use scr_cells::{Cell, Look, NoMemory, Pen, Picture, grid_laws};
 use scr_term::{Op, Profile, Spot, profiles_have, run_laws};
 
-// A plan as far as it is made: its operations, how many bytes they have, and where they lead.
+// A plan in the making: its operations, how many bytes they have, and where they lead.
 #[derive(Drop)]
 pub(crate) struct Draft {
     pub(crate) ops: Vec<Op>,
@@ -24,7 +25,7 @@ pub(crate) struct Draft {
 }
 
 impl Draft {
-    // Adds an operation, behind which the cursor is here and this pen is on.
+    // Adds an operation that leads to this spot and pen.
     pub(crate) fn add(
         &mut self,
         profile: &Profile,
@@ -37,7 +38,7 @@ impl Draft {
         self.add_priced(profile, op, price_of_one(profile, op), spot, pen)
     }
 
-    // Adds an operation of so many bytes, behind which the cursor is here and this pen is on.
+    // Adds an operation of `price` bytes that leads to this spot and pen.
     fn add_priced(
         &mut self,
         profile: &Profile,
@@ -84,7 +85,7 @@ impl Draft {
         }
     }
 
-    // Paints the places of a row from one column up to another.
+    // Paints columns `from..end` of a row.
     pub(crate) fn write(
         &mut self,
         painter: Painter,
@@ -112,8 +113,9 @@ impl Draft {
         Ok(())
     }
 
-    // Paints a place and those behind it up to another column whose cells are like its cell, and answers where to go on: their characters,
-    // behind what leads there with their pen, unless the cursor is there and the pen is on.
+    // Paints a place and those after it, up to `end`, whose cells are like its cell: what leads
+    // there with their pen, unless the cursor is there and the pen is on, then their characters.
+    // Returns where to go on.
     fn write_alike(
         &mut self,
         painter: Painter,
@@ -142,7 +144,8 @@ impl Draft {
         Ok(next)
     }
 
-    // Adds the characters of a row from the cursor's column up to another one, all of which are seen with the pen that is on.
+    // Adds the characters of a row from the cursor's column to `end`, all of which are seen with
+    // the current pen.
     fn put_each(
         &mut self,
         painter: Painter,
@@ -178,7 +181,8 @@ impl Draft {
         Ok(())
     }
 
-    // Adds what leads to a place with the pen that is seen there, unless the cursor is there and the pen is on.
+    // Adds what leads to a place with the pen that is seen there, unless the cursor is there and
+    // the pen is on.
     #[inline(always)]
     fn begin_unless_there(
         &mut self,
@@ -204,7 +208,7 @@ impl Draft {
         self.begin(painter, profile, picture, row, column, pen)
     }
 
-    // Adds what leads to a place with the pen that is seen there, from wherever the cursor is.
+    // Adds what leads to a place with the pen that is seen there, wherever the cursor is.
     #[inline(never)]
     fn begin(
         &mut self,
@@ -248,7 +252,7 @@ impl Draft {
         Ok(())
     }
 
-    // Counts the operations from one on, which lead to this spot and this pen.
+    // Counts the operations from index `begun` on, which lead to this spot and pen.
     fn count(&mut self, profile: &Profile, begun: usize, spot: Spot, pen: Pen)
         requires { begun ≤ length self.old.ops.items }
         ensures { IsPaid profile.now self.old self.new begun spot pen }
@@ -259,7 +263,7 @@ impl Draft {
         self.pen = pen;
     }
 
-    // Where the cursor is, and what it writes with.
+    // Where the cursor is, and its pen.
     pub(crate) fn cursor(&self) -> Cursor {
         Cursor {
             spot: self.spot,

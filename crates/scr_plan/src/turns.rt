@@ -1,10 +1,11 @@
-//! The cheapest turn from one pen to another. Only prices are compared here: nothing depends on a choice but how many bytes an update has.
+//! The cheapest turn from one pen to another. This only compares prices: a choice affects nothing
+//! but the number of bytes of an update.
 
 use scr_cells::{Attrs, Pen};
 use scr_term::{Op, Prices};
 
-// How a pen becomes another: what is sent first, if anything; behind it each attribute that is still missing is turned on, and each colour
-// set that differs.
+// How a pen becomes another: what is sent first, if anything. After that, each attribute that is
+// missing is turned on, and each colour that differs is set.
 #[derive(Clone, Copy)]
 pub(crate) struct Turn {
     pub(crate) first: Option<Op>,
@@ -12,7 +13,7 @@ pub(crate) struct Turn {
 }
 
 impl Turn {
-    // The cheaper of two, this one where they cost the same.
+    // The cheaper of two turns; this one if they cost the same.
     fn or(self, other: Turn) -> Turn {
         if other.price < self.price {
             other
@@ -22,7 +23,8 @@ impl Turn {
     }
 }
 
-// The cheapest turn from a pen to another: by adding to it, or by a reset where it cannot be, or by a whole set of attributes at once.
+// The cheapest turn from one pen to another: by adding to it, by a reset if adding is not enough,
+// or by setting all attributes at once.
 pub(crate) fn cheapest_turn(prices: &Prices, from: Pen, to: Pen) -> Turn {
     if from == to {
         return Turn {
@@ -42,7 +44,7 @@ pub(crate) fn cheapest_turn(prices: &Prices, from: Pen, to: Pen) -> Turn {
     }
 }
 
-// Nothing is turned off: it costs no more than to turn everything off first.
+// Nothing is turned off: this never costs more than turning everything off first.
 fn adding(prices: &Prices, from: Pen, to: Pen) -> Turn {
     Turn {
         first: None,
@@ -59,7 +61,7 @@ fn resetting(prices: &Prices, to: Pen) -> Turn {
     }
 }
 
-// All attributes are set at once; the colours are the default ones then.
+// All attributes are set at once, which makes the colours default.
 fn setting(prices: &Prices, to: Pen) -> Turn {
     let first = Op::Set(to.attrs());
     let colours = price_of_colours(prices, Pen::plain(), to);
@@ -69,14 +71,14 @@ fn setting(prices: &Prices, to: Pen) -> Turn {
     }
 }
 
-// Whether a pen has all attributes of another, and a colour where that has one.
+// Whether a pen has all attributes of another, and a colour wherever the other has one.
 fn keeps(from: Pen, to: Pen) -> bool {
     from.attrs().0 & to.attrs().0 == from.attrs().0
         && (from.foreground().is_none() || to.foreground().is_some())
         && (from.background().is_none() || to.background().is_some())
 }
 
-// What it costs to turn on the attributes that a pen lacks, and to set the colours that differ.
+// The price of turning on the attributes that a pen lacks, and setting the colours that differ.
 fn price_of_adding(prices: &Prices, from: Pen, to: Pen) -> u32 {
     let lacking = Attrs(to.attrs().0 ^ (to.attrs().0 & from.attrs().0));
     prices
@@ -84,7 +86,7 @@ fn price_of_adding(prices: &Prices, from: Pen, to: Pen) -> u32 {
         .saturating_add(price_of_colours(prices, from, to))
 }
 
-// What it costs to set the colours that differ.
+// The price of setting the colours that differ.
 fn price_of_colours(prices: &Prices, from: Pen, to: Pen) -> u32 {
     let foreground = match to.foreground() {
         Some(colour) if from.foreground() != Some(colour) => prices.of(Op::Fore(colour)),

@@ -1,6 +1,6 @@
-//! The short plan where not all is known, since others wrote on the screen: attributes are turned off, each row that is not known is erased
-//! and is a blank one from then on, the last rows of the screen at once where that is cheaper, and rows that are known are looked at in
-//! their columns as ever.
+//! The short plan if not all is known, because others wrote on the screen. Attributes are turned
+//! off, and each row that is not known is erased and counts as blank from then on; the last rows
+//! are erased at once if that is cheaper. In known rows the usual columns are looked at.
 ghost use Rattle.std.specs.Prelude.{◌≡◌, ◌+◌, ◌<◌, ◌≤◌, IfOk, IfSome, OnOk, true};
 ghost use Rattle.scr_plan.specs.Code.Drafts.{AreUnknown, HasUnsettled, HasUnsettledIn, IsPartly, KeepsRuns, Keeps, Knows, LearnsBelow, LearnsRow, RightFrom, WipesRow, or_below, unsettled};
 ghost use Rattle.scr_plan.specs.Code.Painters.{painter_of};
@@ -23,7 +23,7 @@ use scr_term::{Op, Profile, Spot, profiles_have, run_laws};
 use scr_virtual::Virtual;
 use std::alloc::Global;
 
-// The short plan where not all is known; `None` where the terminal cannot erase a line.
+// The short plan if not all is known; `None` if the terminal cannot erase a line.
 pub(crate) fn short_partly(
     alloc: Global,
     painter: Painter,
@@ -53,7 +53,8 @@ pub(crate) fn short_partly(
     Ok(Some(draft))
 }
 
-// Attributes off, in default colours, and the cursor at the beginning of the first row that is not known.
+// A draft with attributes off, in default colours, and the cursor at the beginning of the first row
+// that is not known.
 fn begun(
     alloc: Global,
     painter: Painter,
@@ -84,7 +85,7 @@ fn begun(
     Ok(draft)
 }
 
-// The first row that is not known, or the first of all where there is none.
+// The first row that is not known; the first of all if there is none.
 fn first_unknown(memory: &Memory) -> u32
     ensures { result < memory.now.rows }
 {
@@ -97,8 +98,8 @@ fn first_unknown(memory: &Memory) -> u32
     0
 }
 
-// From which row on the last rows are erased at once: none of them is known, and one by one they would cost more. The number of all rows
-// where there are none.
+// From which row on the last rows are erased at once: none of them is known, and one by one they
+// would cost more. The number of rows if there are no such rows.
 fn top_of_rest(profile: &Profile, memory: &Memory) -> u32
     ensures inside { result ≤ memory.now.rows }
     ensures unknown { AreUnknown memory.now result }
@@ -112,7 +113,7 @@ fn top_of_rest(profile: &Profile, memory: &Memory) -> u32
     }
 }
 
-// The first of the last rows, none of which is known; the number of all rows where the last one is known.
+// The first of the last rows that are not known; the number of rows if the last row is known.
 fn first_of_last_unknown(memory: &Memory) -> u32
     ensures inside { result ≤ memory.now.rows }
     ensures unknown { AreUnknown memory.now result }
@@ -124,7 +125,7 @@ fn first_of_last_unknown(memory: &Memory) -> u32
     first
 }
 
-// Whether so many rows cost less erased at once than one by one.
+// Whether erasing `count` rows at once costs less than one by one.
 fn is_cheaper_at_once(profile: &Profile, count: u32) -> bool {
     let prices = profile.prices();
     let lines = prices.of(Op::EraseLine).saturating_mul(count);
@@ -135,7 +136,8 @@ fn is_cheaper_at_once(profile: &Profile, count: u32) -> bool {
 }
 
 impl Draft {
-    // Erases each row that is not known, the last ones at once where that is cheaper. The answer is whether that was possible.
+    // Erases each row that is not known, the last ones at once if that is cheaper. Returns whether
+    // that was possible.
     fn wipe_unknown(
         &mut self,
         painter: Painter,
@@ -159,7 +161,8 @@ impl Draft {
         self.wipe_rest(painter, profile, memory, picture, top)
     }
 
-    // Erases the rows from one on at once, if there are any; none of them is known. The answer is whether they are known now.
+    // Erases the rows from `top` on at once, if there are any; none of them is known. Returns
+    // whether they are known now.
     fn wipe_rest(
         &mut self,
         painter: Painter,
@@ -186,7 +189,7 @@ impl Draft {
         self.erase_below(profile, picture, top)
     }
 
-    // Erases a row if it is not known. The answer is whether it is known now.
+    // Erases a row if it is not known. Returns whether it is known now.
     fn wipe_if_unknown(
         &mut self,
         painter: Painter,
@@ -210,7 +213,7 @@ impl Draft {
         self.wipe_row(painter, profile, picture, row)
     }
 
-    // Erases a row from its first column on. The answer is whether that was possible.
+    // Erases a row from its first column on. Returns whether that was possible.
     fn wipe_row(
         &mut self,
         painter: Painter,
@@ -238,7 +241,7 @@ impl Draft {
     }
 }
 
-// Finds the runs of all places that are not as they are to be when the rows that were not known are blank.
+// Finds the runs of all places that need painting once the unknown rows are blank.
 fn find_unsettled(
     painter: Painter,
     profile: &Profile,
@@ -259,7 +262,7 @@ fn find_unsettled(
     Ok(())
 }
 
-// Finds those of a row.
+// Finds those of one row.
 fn find_unsettled_in(
     painter: Painter,
     profile: &Profile,

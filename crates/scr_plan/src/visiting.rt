@@ -1,4 +1,5 @@
-//! Painting the runs that wait, each in its way: in an order that was chosen before, whatever that is, and then each that is left.
+//! Painting the waiting runs, each in its way: in a chosen order, whatever it is, then all that are
+//! left.
 ghost use Rattle.std.specs.Prelude.{◌≡◌, ◌<◌, ◌≤◌, [], IfSome, OnOk, length, slice_index_or, slice_set, true};
 ghost use Rattle.scr_cells.specs.PenViews.{is_plain_pen};
 ghost use Rattle.scr_term.specs.declared.operations.operation.Spot.TheVariants.{At};
@@ -18,7 +19,8 @@ use scr_term::{Op, Profile, Spot, profiles_have, run_laws};
 use std::alloc::Global;
 
 impl Draft {
-    // Paints all runs, in the cheaper of two orders, and leads the cursor to where the picture wishes it.
+    // Paints all runs in the cheaper of two orders, and leads the cursor to where the picture wants
+    // it.
     pub(crate) fn paint_all(
         &mut self,
         alloc: Global,
@@ -37,7 +39,7 @@ impl Draft {
         self.place(painter, profile, picture)
     }
 
-    // Visits these runs one after another, and then all that are left.
+    // Visits these runs one after another, then all that are left.
     fn visit_all(
         &mut self,
         painter: Painter,
@@ -74,7 +76,7 @@ impl Draft {
         Ok(())
     }
 
-    // Visits the run of a number, if there is one. It waits no more.
+    // Visits the run with a number, if there is one, after which it does not wait any more.
     fn visit_at(
         &mut self,
         painter: Painter,
@@ -117,7 +119,8 @@ impl Draft {
         Ok(())
     }
 
-    // Paints the places of a run, to which a way was chosen before or is now. One that was visited has none left.
+    // Paints the places of a run, to which the way was chosen before or is now. A run that was
+    // visited has none left.
     #[inline(always)]
     pub(crate) fn visit(
         &mut self,
@@ -142,7 +145,7 @@ impl Draft {
         self.visit_part(painter, profile, picture, run, end, way)
     }
 
-    // Paints the places of a run up to a column, to which a way was chosen before or is now.
+    // Paints the places of a run up to `end`, to which the way was chosen before or is now.
     #[inline(never)]
     fn visit_part(
         &mut self,
@@ -166,7 +169,7 @@ impl Draft {
         self.paint_run(painter, profile, picture, run, end)
     }
 
-    // The path of a way that was chosen, or the cheapest one to a run.
+    // The path of the chosen way, or the cheapest one to a run.
     fn path_by(
         &self,
         painter: Painter,
@@ -181,7 +184,7 @@ impl Draft {
         }
     }
 
-    // Paints the places of a run up to a column, in its way.
+    // Paints the places of a run up to `end`, in the run's way.
     fn paint_run(
         &mut self,
         painter: Painter,
@@ -204,8 +207,8 @@ impl Draft {
         }
     }
 
-    // Erases the rest of a row from a column on, if the cursor is there with a plain pen and all of it is seen blank; else writes its places
-    // up to a column.
+    // Erases the rest of a row from a column on, if the cursor is there with a plain pen and all of
+    // it is seen blank; else writes columns `from..end`.
     fn erase_line(
         &mut self,
         painter: Painter,
@@ -234,8 +237,8 @@ impl Draft {
         }
     }
 
-    // Erases the places of a row from one column up to another, if the cursor is there with a plain pen and all of them are seen blank; else
-    // writes them.
+    // Erases columns `from..end` of a row, if the cursor is there with a plain pen and all of them
+    // are seen blank; else writes them.
     fn erase_chars(
         &mut self,
         painter: Painter,
@@ -274,7 +277,7 @@ impl Draft {
         self.spot == Spot::At(row, column) && self.pen.is_plain() && profile.has(op)
     }
 
-    // Leads the cursor to where the picture wishes it, with the pen that is on.
+    // Leads the cursor to where the picture wants it, with the current pen.
     fn place(
         &mut self,
         painter: Painter,
@@ -293,7 +296,7 @@ impl Draft {
         }
     }
 
-    // Leads the cursor to a place, with the pen that is on if that is the way.
+    // Leads the cursor to a place, with the current pen if that works.
     fn place_at(
         &mut self,
         painter: Painter,
@@ -355,7 +358,7 @@ fn chosen_order(
     cheaper_order(alloc, &chooser, &cursor, runs, picture.wish())
 }
 
-// The run of a number.
+// The run with a number.
 fn run_at(runs: &[Run], number: usize) -> Run
     requires { number < length runs.now }
     ensures { (other : Run) → slice_index_or runs.now number other ≡ result }
@@ -363,7 +366,7 @@ fn run_at(runs: &[Run], number: usize) -> Run
     runs[number]
 }
 
-// The run of a number becomes empty.
+// Makes the run with a number empty.
 fn empty(runs: &mut [Run], number: usize)
     requires { number < length runs.old }
     ensures { runs.new ≡ slice_set runs.old number no_run }

@@ -1,5 +1,6 @@
-//! The cheapest way to a place with a pen: by a motion and a turn, or by writing places with what they are to show. Only prices are
-//! compared here: nothing depends on a choice but how many bytes an update has.
+//! The cheapest way to a place with a pen: by a motion and a turn, or by writing places with what
+//! they are to show. This only compares prices: a choice affects nothing but the number of bytes of
+//! an update.
 
 use crate::motions::{Motion, cheapest_motion};
 use crate::painting::Painter;
@@ -8,7 +9,7 @@ use crate::turns::cheapest_turn;
 use scr_cells::{Cell, Pen, Picture};
 use scr_term::{Op, Prices, Profile, Spot};
 
-// Where the cursor is, and what it writes with.
+// Where the cursor is, and its pen.
 #[derive(Clone, Copy)]
 pub(crate) struct Cursor {
     pub(crate) spot: Spot,
@@ -24,14 +25,16 @@ impl Cursor {
     }
 }
 
-// How a place is reached with a pen. Where motions want no attribute and default colours, a turn to these comes before each of them.
+// How a place is reached with a pen. If motions need no attribute and default colours, a turn to
+// these comes before each of them.
 #[derive(Clone, Copy)]
 pub(crate) enum Path {
-    // A motion to the place, then a turn to the pen.
+    // Move to the place, then turn to the pen.
     Moving(Motion),
-    // The places of the row from this column on are written with the pen that is on, then comes a turn to the pen.
+    // Write the places of the row from this column on with the current pen, then turn to the pen.
     Writing(u32),
-    // A motion to the first column of the row, then a turn to the pen, with which the places up to the place are written.
+    // Move to the first column of the row, turn to the pen, and write the places before the place
+    // with it.
     MovingToWrite(Motion),
 }
 
@@ -42,7 +45,7 @@ pub(crate) struct Way {
     pub(crate) price: u32,
 }
 
-// A run by its number, and the way to it that was chosen with its order, if one was.
+// The number of a run, and the way to it, if one was chosen together with the order.
 #[derive(Clone, Copy)]
 pub(crate) struct Stop {
     pub(crate) number: u32,
@@ -50,7 +53,7 @@ pub(crate) struct Stop {
 }
 
 impl Way {
-    // The cheaper of two, this one where they cost the same.
+    // The cheaper of two ways; this one if they cost the same.
     fn or(self, other: Option<Way>) -> Way {
         match other {
             Some(other) if other.price < self.price => other,
@@ -59,7 +62,7 @@ impl Way {
     }
 }
 
-// What choosing asks of a profile and a picture, fetched once.
+// What choices need to know of a profile and a picture, fetched once.
 #[derive(Clone, Copy)]
 pub(crate) struct Chooser<'a> {
     pub(crate) painter: Painter,
@@ -71,7 +74,7 @@ pub(crate) struct Chooser<'a> {
 }
 
 impl<'a> Chooser<'a> {
-    // What the profile and the picture say.
+    // The chooser for a profile and a picture.
     pub(crate) fn new(painter: Painter, profile: &'a Profile, picture: &'a Picture) -> Chooser<'a> {
         let prices = profile.prices();
         Chooser {
@@ -103,7 +106,7 @@ impl<'a> Chooser<'a> {
         }
     }
 
-    // What a motion and a turn cost, with the turn that may have to come before the motion.
+    // The price of a motion and a turn, with the turn that may be needed before the motion.
     fn price_of_moving(&self, now: Pen, motion: Motion, pen: Pen) -> u32 {
         if self.moves_in_any_rendition || now.is_plain() || motion.is_none() {
             return motion.price.saturating_add(self.price_of_turn(now, pen));
@@ -113,7 +116,7 @@ impl<'a> Chooser<'a> {
             .saturating_add(self.price_of_turn(Pen::plain(), pen))
     }
 
-    // What the cheapest turn from a pen to another costs.
+    // The price of the cheapest turn from one pen to another.
     #[inline(always)]
     pub(crate) fn price_of_turn(&self, from: Pen, to: Pen) -> u32 {
         if from == to {
@@ -122,7 +125,7 @@ impl<'a> Chooser<'a> {
         cheapest_turn(self.prices, from, to).price
     }
 
-    // By writing the places of the row that are between, where this costs less than the limit.
+    // By writing the places of the row in between, if this costs less than the limit.
     fn writing(&self, cursor: &Cursor, row: u32, column: u32, pen: Pen, limit: u32) -> Option<Way> {
         let Spot::At(_, from) = cursor.spot else {
             return None;
@@ -140,7 +143,7 @@ impl<'a> Chooser<'a> {
         })
     }
 
-    // By writing the places before it in its row, where this costs less than the limit.
+    // By writing the places before it in its row, if this costs less than the limit.
     fn moving_to_write(
         &self,
         cursor: &Cursor,
@@ -165,7 +168,7 @@ impl<'a> Chooser<'a> {
         })
     }
 
-    // The cells of a row; none where there is no such row.
+    // The cells of a row; none if there is no such row.
     pub(crate) fn cells(&self, row: u32) -> &'a [Cell] {
         if row < self.picture.size().rows {
             self.picture.row(row)
@@ -174,7 +177,7 @@ impl<'a> Chooser<'a> {
         }
     }
 
-    // Whether the places of a row from one column up to another are all seen with a pen.
+    // Whether columns `from..end` of a row are all seen with a pen.
     fn are_seen_with(&self, pen: Pen, row: u32, from: u32, end: u32) -> bool {
         let cells = self.cells(row);
         if from > end || end as usize > cells.len() {
@@ -193,7 +196,7 @@ impl<'a> Chooser<'a> {
         true
     }
 
-    // What a run costs once the cursor is at its first place with its pen.
+    // The price of a run once the cursor is at its first place with its pen.
     pub(crate) fn price_of_painting(&self, run: &Run) -> u32 {
         let count = run.end.saturating_sub(run.start);
         match run.how {
@@ -203,7 +206,7 @@ impl<'a> Chooser<'a> {
         }
     }
 
-    // Where the cursor is behind a run.
+    // The cursor after a run.
     pub(crate) fn behind(&self, run: &Run) -> Cursor {
         let spot = match run.how {
             How::Write if run.end < self.columns => Spot::At(run.row, run.end),

@@ -1,5 +1,5 @@
-//! Many lines erased at once, before anything is painted, where that is worth it. From which row on is chosen by prices alone; nothing
-//! depends on that choice but how many bytes an update has.
+//! Erasing many lines at once, before anything is painted, if that is worth it. Prices alone decide
+//! from which row on, and the choice affects nothing but the number of bytes of an update.
 ghost use Rattle.std.specs.Prelude.{◌≡◌, ◌<◌, IfOk, OnOk, false, length, slice_index_or, true};
 ghost use Rattle.scr_plan.specs.Code.Drafts.{KeepsAbove, KeepsAll, LearnsFrom, Leaves, Wipes};
 ghost use Rattle.scr_plan.specs.Code.Painters.{painter_of};
@@ -16,17 +16,17 @@ use crate::ways::{Chooser, Cursor};
 use scr_cells::{Cell, Look, NoMemory, Pen, Picture, grid_laws};
 use scr_term::{Op, Profile, Spot, profiles_have, run_laws};
 
-// How much more than the erasure has to be spared for it to be worth it.
+// How many bytes an erasure has to save beyond its own price to be worth it.
 const WORTH: i64 = 8;
 
-// The first row that is erased, and by which operation.
+// The first row that is erased, and the operation that does it.
 #[derive(Clone, Copy)]
 pub(crate) struct Wiping {
     pub(crate) top: u32,
     pub(crate) by: Op,
 }
 
-// From which row on the screen is to be erased first; `None` where it is not. The runs are in rows.
+// From which row on the screen is to be erased first, if at all. The runs are by rows.
 pub(crate) fn cheapest_wiping(
     chooser: &Chooser<'_>,
     cursor: &Cursor,
@@ -52,15 +52,15 @@ pub(crate) fn cheapest_wiping(
     walk.best
 }
 
-// Whether some erasure may gain more than it has to: whether runs cost enough as they stand, and from some row on enough more than on
-// blank rows.
+// Whether some erasure can gain more than it has to: the runs cost enough as they stand, and from
+// some row on enough more than on blank rows.
 fn may_gain(chooser: &Chooser<'_>, runs: &[Run]) -> bool {
     let lost = least_lost(chooser);
     let price = price_as_they_stand(chooser, runs);
     price > lost && may_spare(chooser, runs, price, lost)
 }
 
-// What runs cost as they stand, and an easy motion for each.
+// The price of the runs as they stand, plus an easy motion for each.
 fn price_as_they_stand(chooser: &Chooser<'_>, runs: &[Run]) -> i64 {
     let mut sum = 0i64;
     for run in runs {
@@ -69,8 +69,8 @@ fn price_as_they_stand(chooser: &Chooser<'_>, runs: &[Run]) -> i64 {
     sum
 }
 
-// Whether an erasure may spare more than is lost: what the runs cost as they stand from some row on, less what each row with runs costs
-// at least on a blank row. All runs have this price.
+// Whether an erasure can save more than `lost`: the price of the runs as they stand from some row
+// on, less the least that each row with runs costs on a blank row. `price` is that of all runs.
 fn may_spare(chooser: &Chooser<'_>, runs: &[Run], price: i64, lost: i64) -> bool {
     let mut left = price;
     let mut spared = 0i64;
@@ -95,18 +95,18 @@ fn may_spare(chooser: &Chooser<'_>, runs: &[Run], price: i64, lost: i64) -> bool
     false
 }
 
-// What a run costs as it stands, and an easy motion.
+// The price of a run as it stands, plus an easy motion.
 fn price_as_it_stands(chooser: &Chooser<'_>, run: &Run) -> u32 {
     chooser.price_of_painting(run).saturating_add(chooser.jump)
 }
 
-// What every erasure costs, and has to be worth.
+// The least that an erasure costs, plus what it has to gain.
 fn least_lost(chooser: &Chooser<'_>) -> i64 {
     let below = chooser.prices.of(Op::EraseBelow);
     i64::from(below.min(chooser.prices.of(Op::Clear))).saturating_add(WORTH)
 }
 
-// How many rows have runs. The runs are in rows.
+// How many rows have runs. The runs are by rows.
 fn rows_with_runs(runs: &[Run]) -> u32 {
     let mut rows = 0u32;
     let mut last = None;
@@ -119,8 +119,8 @@ fn rows_with_runs(runs: &[Run]) -> u32 {
     rows
 }
 
-// A walk over rows upwards: how many runs are left, how many rows without runs were met, what an erasure of the rows that were met
-// spares, and the best row so far with what its erasure gains.
+// A walk upwards over rows: how many runs are left, how many rows without runs it met, what erasing
+// the rows it met saves, and the best row so far with what its erasure gains.
 #[derive(Clone, Copy)]
 struct Upwards {
     left: u32,
@@ -142,8 +142,8 @@ impl Upwards {
         }
     }
 
-    // One row more; `None` where the walk ends: at a row that shows something and does not differ, and where more rows that do not
-    // differ were met than differ at all.
+    // Meets one more row. `None` if the walk ends: at a row that shows something and does not
+    // differ, or once it met more rows that do not differ than differ at all.
     fn with_row(
         self,
         chooser: &Chooser<'_>,
@@ -166,7 +166,7 @@ impl Upwards {
         Some(walk)
     }
 
-    // The runs of a row are met, the last ones that are left.
+    // Meets the runs of a row, the last ones that are left.
     fn with_runs(self, chooser: &Chooser<'_>, runs: &[Run], row: u32) -> Upwards {
         let mut walk = self;
         for _ in 0..runs.len() {
@@ -185,7 +185,7 @@ impl Upwards {
         walk
     }
 
-    // The row that was met last is the best one so far, if its erasure gains more than all before.
+    // Makes the row that was met last the best one, if its erasure gains more than all before.
     fn with_candidate(self, chooser: &Chooser<'_>, cursor: &Cursor, row: u32) -> Upwards {
         if self.spared <= self.gain {
             return self;
@@ -202,7 +202,7 @@ impl Upwards {
     }
 }
 
-// The cheapest erasure of a row and all below it, and its price with what leads to it.
+// The cheapest erasure of a row and all below it, and its price together with what leads to it.
 fn erasure(chooser: &Chooser<'_>, cursor: &Cursor, row: u32) -> (Op, u32) {
     let way = chooser.way(cursor, row, 0, Pen::plain());
     let price = way.price.saturating_add(chooser.prices.of(Op::EraseBelow));
@@ -235,7 +235,8 @@ fn is_blank_cell(chooser: &Chooser<'_>, cell: Cell) -> bool {
 }
 
 impl Draft {
-    // Erases many lines at once, where that is worth it: the runs there are then those of a blank screen.
+    // Erases many lines at once if that is worth it; the runs there are then those of a blank
+    // screen.
     pub(crate) fn wipe_if_worth(
         &mut self,
         painter: Painter,
@@ -254,7 +255,7 @@ impl Draft {
         }
     }
 
-    // Erases all rows from one on, and finds the runs there again.
+    // Erases all rows from `top` on, and finds the runs there again.
     fn wipe(
         &mut self,
         painter: Painter,
@@ -280,7 +281,7 @@ impl Draft {
         painter.add_rows(profile, picture, top, runs)
     }
 
-    // Goes to where rows are erased from, with a plain pen. Clear erases from everywhere.
+    // Goes with a plain pen to where rows are erased from. Clear erases from anywhere.
     fn reach_to_wipe(
         &mut self,
         painter: Painter,
@@ -302,7 +303,7 @@ impl Draft {
         }
     }
 
-    // Erases the rows from one on, by Clear or EraseBelow. The answer is whether that was possible.
+    // Erases the rows from `top` on, by Clear or EraseBelow. Returns whether that was possible.
     fn erase_from(
         &mut self,
         profile: &Profile,
@@ -340,7 +341,7 @@ impl Draft {
         Ok(true)
     }
 
-    // Erases the rows from one on, if the cursor is in its first column with a plain pen.
+    // Erases the rows from `top` on, if the cursor is in its first column with a plain pen.
     pub(crate) fn erase_below(
         &mut self,
         profile: &Profile,
@@ -366,7 +367,7 @@ impl Draft {
     }
 }
 
-// From which row on the screen is to be erased first.
+// From which row on the screen is to be erased first, if at all.
 fn chosen_wiping(
     painter: Painter,
     profile: &Profile,
@@ -379,7 +380,7 @@ fn chosen_wiping(
     cheapest_wiping(&chooser, &cursor, runs)
 }
 
-// Drops the runs of the rows from one on. The runs are in rows.
+// Drops the runs of the rows from `top` on. The runs are by rows.
 fn drop_from(runs: &mut Vec<Run>, top: u32)
     ensures { KeepsAbove top runs.old.items runs.new.items }
 {
