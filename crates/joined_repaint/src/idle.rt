@@ -1,4 +1,4 @@
-//! Operations that change nothing where they stand.
+//! Leaving out idle operations: those that change nothing.
 ghost use Rattle.std.specs.Prelude.{◌≡◌, ◌++◌, ◌∷◌, List, OnOk, IfOk};
 ghost use Rattle.scr_term.specs.declared.operations.operation.Op.{Op};
 ghost use Rattle.scr_plan.specs.Repaints.{is_idle, without_idle};
@@ -7,9 +7,9 @@ ghost use Rattle.joined_repaint.specs.Walking.{left_of};
 use scr_cells::NoMemory;
 use scr_term::{Op, Profile, Spot, Terminal};
 
-// Adds operations but for those that change nothing where they stand: attributes turned off where none is on and the colours are the
-// default ones, and a motion to where the cursor is. The terminal does them one after another, up to one that is not defined; that one
-// and all behind it are added.
+// Adds operations, except those that change nothing: turning attributes off if none is on and the
+// colours are default, and moving to where the cursor is. The terminal executes them one after
+// another, up to the first that is undefined; that one and all after it are added.
 pub(crate) fn add_without_idle(
     profile: &Profile,
     terminal: &mut Terminal,
@@ -27,7 +27,8 @@ pub(crate) fn add_without_idle(
     Ok(())
 }
 
-// Adds an operation, unless it changes nothing, and tells whether all were defined up to it.
+// Adds an operation unless it changes nothing, and returns whether all operations so far were
+// defined.
 fn add_unless_idle(
     profile: &Profile,
     terminal: &mut Terminal,

@@ -1,4 +1,4 @@
-//! The joined repaint.
+//! The joined repaint of a whole screen, by its definition.
 ghost use Rattle.std.specs.Prelude.{◌≡◌, ◌<◌, ◌++◌, ◌&&◌, IfOk, OnOk, filter, true, if◌then◌else◌, []};
 ghost use Rattle.std.specs.List.{flat_map};
 ghost use Rattle.scr_cells.specs.PictureViews.{IsPlace};
@@ -14,12 +14,17 @@ use scr_cells::{NoMemory, Picture};
 use scr_term::{Op, Ops, Profile, Spot, Terminal};
 use std::alloc::Global;
 
-/// The joined repaint that brings a terminal to a picture: what paints each place that differs, where a place keeps its byte alone if its
-/// left neighbour differs too and is seen with the same pen, where the rest of a line is erased if that takes no more bytes than places
-/// differ there, and without the operations that change nothing where they stand. There is none where no place differs and the
-/// cursor is as wished.
+/// The joined repaint, which brings a terminal to a picture: what paints each place that differs,
+/// row by row.
 ///
-/// The terminal does them. It has the profile's size, as the picture has. Fails only when memory runs out.
+/// - If the left neighbour of a place differs too and is seen with the same pen, the place is its
+///   byte alone.
+/// - The rest of a line is erased if that takes no more bytes than places differ there.
+/// - Operations that change nothing are left out.
+/// - There are no operations if no place differs and the cursor is where it is wanted.
+///
+/// The terminal executes the operations. Picture and terminal have the profile's size. Fails only
+/// when memory runs out.
 pub fn joined(
     alloc: Global,
     profile: &Profile,
@@ -35,13 +40,13 @@ pub fn joined(
     }
     let mut ops = Vec::new(alloc);
     add_all(profile, terminal, picture, &mut ops)?;
-    // Room for all, so that memory runs out before the terminal does anything.
+    // Room for all, so that memory runs out before the terminal executes anything.
     let mut kept = Vec::with_capacity(alloc, ops.len())?;
     add_without_idle(profile, terminal, &ops, &mut kept)?;
     Ok(Ops(kept))
 }
 
-// Whether no place differs and the cursor is as wished.
+// Whether no place differs and the cursor is where it is wanted.
 fn is_shown(profile: &Profile, terminal: &Terminal, picture: &Picture) -> bool
     requires size { IsOf picture.now terminal.now }
     ensures { result ≡ (is_none_left (differing profile.now picture.now (known_of terminal.now)) && is_placed (known_of terminal.now) picture.now.wish) }
@@ -86,7 +91,7 @@ fn is_none_left_in(profile: &Profile, terminal: &Terminal, picture: &Picture, ro
     none
 }
 
-// Adds what brings the terminal to the picture, where something is to be done.
+// Adds what brings the terminal to the picture, if anything has to be done.
 fn add_all(
     profile: &Profile,
     terminal: &Terminal,

@@ -1,4 +1,5 @@
-//! The joined repaint by its definition, place by place and slowly: what the bytes of a plan may be compared with.
+//! The joined repaint by its definition, place by place and slowly, to compare the bytes of plans
+//! with.
 #![tactic(auto)]
 
 mod idle;

@@ -1,4 +1,5 @@
-//! What is seen of a picture in a place, what a terminal shows there, and what is said of the rest of a row.
+//! What is seen of a picture in a place, what a terminal shows there, and whether to erase the rest
+//! of a row.
 ghost use Rattle.std.specs.Prelude.{◌≡◌, ◌<◌, ◌&&◌, ◌||◌, not, leb};
 ghost use Rattle.std.specs.List.{range_with_len};
 ghost use Rattle.scr_cells.specs.CellViews.{blank_cell};
@@ -21,7 +22,7 @@ fn cell_at(picture: &Picture, row: u32, column: u32) -> Cell
     picture.row(row)[column as usize]
 }
 
-// What is seen of the picture in a place: a byte, and what it is written with.
+// What is seen of the picture in a place: a byte, and the pen that it is written with.
 pub(crate) fn seen_at(profile: &Profile, picture: &Picture, row: u32, column: u32) -> (u8, Pen)
     requires place { IsPlace picture.now.rows picture.now.columns (row, column) }
     ensures byte { result.0 ≡ (look_at profile.now picture.now (row, column)).byte }
@@ -40,7 +41,7 @@ pub(crate) fn seen_at(profile: &Profile, picture: &Picture, row: u32, column: u3
     }
 }
 
-// Whether the terminal shows something else in a place.
+// Whether the terminal does not show what is seen of the picture in a place.
 pub(crate) fn differs(
     profile: &Profile,
     terminal: &Terminal,
@@ -57,7 +58,7 @@ pub(crate) fn differs(
     !(look.byte() == byte && look.pen() == pen)
 }
 
-// Whether a blank is seen in a place.
+// Whether a place is seen blank.
 fn is_blank(profile: &Profile, picture: &Picture, row: u32, column: u32) -> bool
     requires place { IsPlace picture.now.rows picture.now.columns (row, column) }
     ensures { result ≡ look_eq (look_at profile.now picture.now (row, column)) blank }
@@ -66,7 +67,7 @@ fn is_blank(profile: &Profile, picture: &Picture, row: u32, column: u32) -> bool
     byte == b' ' && pen == Pen::plain()
 }
 
-// Whether all that is seen of a row from a column on is blank.
+// Whether a row is seen blank from a column on.
 fn is_blank_from(profile: &Profile, picture: &Picture, row: u32, from: u32) -> bool
     requires row { row < picture.now.rows }
     ensures { result ≡ is_blank_from profile.now picture.now row from }
@@ -80,7 +81,8 @@ fn is_blank_from(profile: &Profile, picture: &Picture, row: u32, from: u32) -> b
     all
 }
 
-// Whether a place before a column, or a blank one, has only such places behind it.
+// One step of `is_blank_from`, from the right: whether a place is before `from` or seen blank, and
+// so are all after it (`all`).
 fn is_blank_too(
     profile: &Profile,
     picture: &Picture,
@@ -95,7 +97,7 @@ fn is_blank_too(
     (column < from || is_blank(profile, picture, row, column)) && all
 }
 
-// How many places of a row differ from a column on.
+// How many places of a row differ, from a column on.
 fn differing_from(
     profile: &Profile,
     terminal: &Terminal,
@@ -118,7 +120,7 @@ fn differing_from(
     count
 }
 
-// Whether a place that differs is not before a column.
+// Whether a place differs and is not before `from`.
 fn is_counted(
     profile: &Profile,
     terminal: &Terminal,
@@ -134,7 +136,7 @@ fn is_counted(
     from <= column && differs(profile, terminal, picture, row, column)
 }
 
-// The first column of a row from which on it is seen blank, and where it differs.
+// The first column of a row that differs and from which on the row is seen blank.
 fn blank_column(profile: &Profile, terminal: &Terminal, picture: &Picture, row: u32) -> Option<u32>
     requires size { IsOf picture.now terminal.now }
     requires row { row < picture.now.rows }
@@ -151,7 +153,7 @@ fn blank_column(profile: &Profile, terminal: &Terminal, picture: &Picture, row: 
     first
 }
 
-// Whether a place differs and all from there on is seen blank.
+// Whether a place differs and the row is seen blank from there on.
 fn is_erasable(
     profile: &Profile,
     terminal: &Terminal,
@@ -166,7 +168,7 @@ fn is_erasable(
     differs(profile, terminal, picture, row, column) && is_blank_from(profile, picture, row, column)
 }
 
-// The column from which on the rest of a row is erased, if anywhere.
+// The column from which on the rest of a row is erased, if it is.
 pub(crate) fn erased_column(
     profile: &Profile,
     terminal: &Terminal,
@@ -204,7 +206,7 @@ pub(crate) fn joins_left(
     is_alike(profile, terminal, picture, row, column - 1, column)
 }
 
-// Whether a place differs and is seen with the pen of another in its row.
+// Whether a place (`left`) differs and is seen with the pen of another place in its row.
 fn is_alike(
     profile: &Profile,
     terminal: &Terminal,

@@ -1,4 +1,4 @@
-//! The operations of one place.
+//! The operations of the joined repaint for one place.
 ghost use Rattle.std.specs.Prelude.{◌≡◌, ◌++◌, ◌==◌, ◌∷◌, [], OnOk, Option, Some, map, filter, bit_and, if◌then◌else◌};
 ghost use Rattle.scr_cells.specs.Attributes.{attributes_of};
 ghost use Rattle.scr_cells.specs.PictureViews.{IsPlace};
@@ -11,7 +11,8 @@ use crate::looking::{joins_left, seen_at};
 use scr_cells::{Attrs, NoMemory, Pen, Picture};
 use scr_term::{Op, Profile, Terminal};
 
-// Adds the operations of a place that differs, in a row that is erased from some column on or nowhere.
+// Adds the operations for a place that differs; the row is erased from column `erased` on, if that
+// is given.
 pub(crate) fn paint(
     profile: &Profile,
     terminal: &Terminal,
@@ -38,7 +39,7 @@ pub(crate) fn paint(
     Ok(())
 }
 
-// Adds what leads to a place and to its pen; nothing behind a neighbour.
+// Adds what leads to a place and to its pen; nothing if the place joins its left neighbour.
 fn begin(
     profile: &Profile,
     terminal: &Terminal,
@@ -75,7 +76,7 @@ fn go(profile: &Profile, row: u32, column: u32, ops: &mut Vec<Op>) -> Result<(),
     Ok(())
 }
 
-// Adds what sets a pen where none is.
+// Adds what turns the plain pen into this one.
 fn render(pen: Pen, ops: &mut Vec<Op>) -> Result<(), NoMemory>
     ensures { OnOk result (ops.new.items
         ≡ ops.old.items ++ (map enter (attributes_of pen.attrs) ++ sets_foreground pen.foreground ++ sets_background pen.background)) }
@@ -85,7 +86,7 @@ fn render(pen: Pen, ops: &mut Vec<Op>) -> Result<(), NoMemory>
     add_background(pen.background(), ops)
 }
 
-// Adds what turns attributes off and makes colours the default ones.
+// Adds what turns attributes off and makes colours default.
 pub(crate) fn reset(profile: &Profile, ops: &mut Vec<Op>) -> Result<(), NoMemory>
     ensures { OnOk result (ops.new.items ≡ ops.old.items ++ resets profile.now) }
 {
@@ -95,7 +96,7 @@ pub(crate) fn reset(profile: &Profile, ops: &mut Vec<Op>) -> Result<(), NoMemory
     Ok(())
 }
 
-// Adds what turns on each of these attributes that are in a set.
+// Adds what turns on each of these attributes that is in a set.
 fn enter_all(set: Attrs, attributes: &[Attrs], ops: &mut Vec<Op>) -> Result<(), NoMemory>
     ensures { OnOk result (ops.new.items
         ≡ ops.old.items ++ map Enter (filter (λ a. bit_and set.0 a.0 == a.0) attributes.now)) }
@@ -108,7 +109,7 @@ fn enter_all(set: Attrs, attributes: &[Attrs], ops: &mut Vec<Op>) -> Result<(), 
     Ok(())
 }
 
-// Adds what sets a foreground that is not the default one.
+// Adds what sets a foreground, unless it is the default.
 fn add_foreground(colour: Option<u8>, ops: &mut Vec<Op>) -> Result<(), NoMemory>
     ensures { OnOk result (ops.new.items ≡ ops.old.items ++ sets_foreground colour) }
 {
@@ -118,7 +119,7 @@ fn add_foreground(colour: Option<u8>, ops: &mut Vec<Op>) -> Result<(), NoMemory>
     }
 }
 
-// Adds what sets a background that is not the default one.
+// Adds what sets a background, unless it is the default.
 fn add_background(colour: Option<u8>, ops: &mut Vec<Op>) -> Result<(), NoMemory>
     ensures { OnOk result (ops.new.items ≡ ops.old.items ++ sets_background colour) }
 {
