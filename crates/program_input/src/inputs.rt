@@ -16,20 +16,20 @@ pub enum InputFault {
     NoMemory,
 }
 
-/// How many reads are made at most.
+/// The most reads that are made.
 pub const MOST_READS: u32 = 1_000_000;
 
-/// How many bytes an input has at most.
+/// The most bytes that an input has.
 pub const MOST_BYTES: usize = 16_777_216;
 
-/// How many bytes one read asks for.
+/// How many bytes each read asks for.
 const PIECE: usize = 4_096;
 
-/// All bytes that a reader has left, at most 16,777,216, in at most 1,000,000 reads.
+/// Reads all bytes that a reader has left, at most 16,777,216, in at most 1,000,000 reads.
 ///
-/// `Failed` where a read fails or either bound is passed, `NoMemory` where memory runs out; what was
-/// read until then is gone. A read that was interrupted counts as one, and is tried again (POSIX,
-/// read(), EINTR).
+/// Refused with `Failed` if a read fails or either bound is exceeded, with `NoMemory` if memory
+/// runs out; what was read until then is lost. An interrupted read counts as one, and is tried
+/// again (POSIX, read(), EINTR).
 pub fn read_input<R: Read>(alloc: Global, reader: &mut R) -> Result<Vec<u8>, InputFault>
     ensures whole { IfOk result (λ bytes. IfSome (R.remaining reader.old) (λ all. all ≡ bytes.items)) }
     ensures few { IfOk result (λ bytes. length bytes.items ≤ 16777216) }

@@ -1,4 +1,4 @@
-//! How a program reads its input: whole, and within bounds.
+//! Reading a program's input whole, within bounds.
 #![tactic(auto)]
 
 mod inputs;
