@@ -1,4 +1,4 @@
-//! What a line of a script says.
+//! Commands: reading a line of a script.
 ghost use Rattle.std.specs.Prelude.{◌≡◌, Some, None, IfOk, IsErrOf};
 ghost use Rattle.std.specs.Option.{option_copied};
 ghost use Rattle.screen_commands.specs.Commands.{command_of, addition, text_call, background_call, setting_call, scroll_call, key_bytes};
@@ -13,29 +13,31 @@ use scr_windows::Win;
 use std::alloc::Global;
 use ti_caps::Bytes;
 
-/// What a line of a script says.
+/// A command: what a line of a script says.
 #[derive(Drop)]
 pub enum Command {
-    /// `size R C`: the size of the screen, in rows and columns, which may be no size of a screen.
+    /// `size R C`: the rows and columns of the screen, which may not be a valid size.
     Size(u32, u32),
-    /// `add R C TEXT`: a text at a row and a column of window 0.
+    /// `add R C TEXT`: adds a text at a row and a column of window 0.
     Add(u32, u32, Bytes),
-    /// `show`: window 0 is taken, and the screen is updated.
+    /// `show`: takes window 0 onto the virtual screen, and updates the terminal.
     Show,
-    /// A call on the screen.
+    /// A call of the screen.
     Make(Call),
-    /// `key HH ..`: bytes came from the keyboard.
+    /// `key HH ..`: bytes from the keyboard.
     Key(Bytes),
-    /// `idle`: none came for a while.
+    /// `idle`: no byte came from the keyboard for a while.
     Idle,
 }
 
-/// Reads a line of a script: a word, and behind a blank what goes with it.
+/// Reads a line of a script: a word, followed by a blank and its arguments if it has any.
 ///
-/// One blank stands between fields. A text is all that follows the blank before it, and may be empty. Numbers are decimal digits
-/// of a number below 2^32; leading zeros are allowed. Windows, places and pairs that are not there are for the calls to refuse.
+/// Fields are separated by one blank. A text is everything after the blank before it, and may be
+/// empty. A number is written in decimal digits and below 2^32; leading zeros are allowed. Windows,
+/// places and pairs that do not exist are left for the calls to refuse.
 ///
-/// Refused with [`LineFault::Bad`] where the line is no command, and with [`LineFault::NoMemory`] where memory runs out.
+/// Refused with [`LineFault::Bad`] if the line is not a command, with [`LineFault::NoMemory`] if
+/// memory runs out.
 #[tactic(auto, unfolding(crate::specs::Commands::command_of, crate::specs::Commands::with_text))]
 pub fn read_command(alloc: Global, line: &[u8]) -> Result<Command, LineFault>
     ensures ok { IfOk result (λ command. command_of line.now ≡ Some command) }

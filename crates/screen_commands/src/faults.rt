@@ -1,13 +1,13 @@
-//! Why a line says nothing.
+//! Why a line is not read as a command.
 ghost use Rattle.std.specs.Prelude.{◌≡◌};
 
 use scr_cells::NoMemory;
 use thiserror::Error;
 
-/// Why a line gave no command.
+/// Why a line is not read as a command.
 #[derive(Clone, Copy, Debug, PartialEq, Eq, Error)]
 pub enum LineFault {
-    /// It is no command.
+    /// The line is not a command.
     #[error("bad command")]
     Bad,
     /// Memory ran out.

@@ -1,4 +1,4 @@
-//! The fields of a line, and what they spell.
+//! Parsing the fields of a line.
 ghost use Rattle.std.specs.Prelude.{◌≡◌, ◌^◌, Some, None, [], ◌∷◌, ◌++◌, IfSome, IfOk, OnOk, IsErrOf, List, ℕ, min, true, option_and_then};
 ghost use Rattle.std.specs.Char.{is_ascii_digit};
 ghost use Rattle.std.specs.List.{list_all};
@@ -14,13 +14,13 @@ use scr_cells::{Attrs, Cell, NoMemory};
 use std::alloc::Global;
 use ti_caps::Bytes;
 
-/// How many numbers follow a word at most.
+/// The most numbers that follow a word.
 const MOST: usize = 8;
 
 /// The numbers that follow a word.
 pub(crate) type Numbers = ArrayVec<u32, MOST>;
 
-/// The first field of a text, and the text behind the blank that follows it, where one does.
+/// The first field of a text, and the text after the blank that follows it, if one does.
 #[tactic(auto, unfolding(crate::specs::Fields::cut))]
 pub(crate) fn cut_field(text: &[u8]) -> (&[u8], Option<&[u8]>)
     ensures { cut text.now ≡ (result.0.now, option_copied result.1) }
@@ -28,7 +28,7 @@ pub(crate) fn cut_field(text: &[u8]) -> (&[u8], Option<&[u8]>)
     cut_at(b' ', text)
 }
 
-/// A number in decimal digits, where it is below 2^32.
+/// A number in decimal digits, if it is below 2^32.
 #[tactic(auto, unfolding(crate::specs::Fields::number))]
 pub(crate) fn number(digits: &[u8]) -> Option<u32>
     ensures { result ≡ number_of digits.now }
@@ -39,8 +39,8 @@ pub(crate) fn number(digits: &[u8]) -> Option<u32>
     u32::try_from(value_up_to_limit(digits)).ok()
 }
 
-/// The numbers of a text that has a field for each, none where there is no text. `None` where a field is no number, and where
-/// there are more than any word goes with.
+/// The numbers of a text, one in each field; an empty list if there is no text. `None` if a field
+/// is not a number, or if there are more numbers than any word takes.
 #[tactic(auto, unfolding(crate::specs::Fields::numbers))]
 pub(crate) fn numbers(text: Option<&[u8]>) -> Option<Numbers>
     ensures some { IfSome result (λ list. numbers_of (option_copied text.entry) ≡ Some list.items) }
@@ -52,7 +52,7 @@ pub(crate) fn numbers(text: Option<&[u8]>) -> Option<Numbers>
     }
 }
 
-/// The number that a text begins with, and the text behind the blank that follows it.
+/// The number at the beginning of a text, and the text after the blank that follows it.
 #[tactic(auto, unfolding(crate::specs::Fields::number_and_text))]
 pub(crate) fn number_and_text(text: Option<&[u8]>) -> Option<(u32, &[u8])>
     ensures { option_map (λ parts. (parts.0, parts.1.now)) result ≡ number_and_text_of (option_copied text.entry) }
@@ -61,7 +61,7 @@ pub(crate) fn number_and_text(text: Option<&[u8]>) -> Option<(u32, &[u8])>
     Some((number(field)?, rest?))
 }
 
-/// A number of 32 bits, with `-` before it where it is negative.
+/// A 32-bit number, with `-` before it if it is negative.
 #[tactic(auto, unfolding(crate::specs::Fields::integer))]
 pub(crate) fn integer(text: &[u8]) -> Option<i32>
     ensures { result ≡ integer_of text.now }
@@ -73,7 +73,7 @@ pub(crate) fn integer(text: &[u8]) -> Option<i32>
     }
 }
 
-/// A setting: `1` is on, `0` is off.
+/// A setting: `1` for on, `0` for off.
 #[tactic(auto, unfolding(crate::specs::Fields::setting))]
 pub(crate) fn setting(text: &[u8]) -> Option<bool>
     ensures { result ≡ setting_of text.now }
@@ -87,7 +87,7 @@ pub(crate) fn setting(text: &[u8]) -> Option<bool>
     }
 }
 
-/// A background: a character of code 33 to 126, and the number of an attribute set.
+/// A background: a character with a code from 33 to 126, and the number of an attribute set.
 #[tactic(auto, unfolding(crate::specs::Fields::background))]
 pub(crate) fn background(text: &[u8]) -> Option<Cell>
     ensures { result ≡ background_of text.now }
@@ -103,8 +103,8 @@ pub(crate) fn background(text: &[u8]) -> Option<Cell>
     Cell::new(byte, Attrs(number as u8))
 }
 
-/// The bytes of a text that has two hexadecimal digits for each. Refused where a field is other than that, and where memory runs
-/// out.
+/// The bytes of a text that has a field of two hexadecimal digits for each. Refused if a field is
+/// anything else, or if memory runs out.
 #[tactic(auto, unfolding(crate::specs::Fields::hexadecimal_bytes))]
 pub(crate) fn hexadecimal_bytes(alloc: Global, text: &[u8]) -> Result<Bytes, LineFault>
     ensures ok { IfOk result (λ bytes. hexadecimal_bytes_of text.now ≡ Some bytes) }
@@ -127,7 +127,7 @@ pub(crate) fn copied(alloc: Global, text: &[u8]) -> Result<Bytes, NoMemory>
     Ok(Bytes(Vec::from_slice(alloc, text)?))
 }
 
-// The numbers of a text, which has a field for each.
+// The numbers of a text, one in each field.
 fn each_number(text: &[u8]) -> Option<Numbers>
     ensures some { IfSome result (λ list. each number_of (fields_of text.now) ≡ Some list.items) }
     ensures none { result ≡ None → (word : List ℕ) → option_and_then (numbered word) (each number_of (fields_of text.now)) ≡ None }
@@ -150,7 +150,7 @@ fn push(bytes: &mut Vec<u8>, byte: u8) -> Result<(), NoMemory>
     Ok(())
 }
 
-// The byte of two hexadecimal digits.
+// The byte spelled by two hexadecimal digits.
 #[tactic(auto, unfolding(crate::specs::Fields::hexadecimal_byte))]
 fn hexadecimal_byte(field: &[u8]) -> Option<u8>
     ensures { result ≡ hexadecimal_byte_of field.now }
@@ -169,7 +169,7 @@ fn are_digits(text: &[u8]) -> bool
     text.iter().all(|byte| byte.is_ascii_digit())
 }
 
-// The number that digits spell, or 2^32 where it is above that.
+// The number that digits spell, at most 2^32.
 fn value_up_to_limit(digits: &[u8]) -> u64
     requires { list_all is_ascii_digit digits.now ≡ true }
     ensures { result ≡ min (digits_value 10 digits.now) (2 ^ 32) }

@@ -1,4 +1,4 @@
-//! What the lines of a script say.
+//! Reading the lines of a script as commands.
 #![tactic(auto)]
 
 mod commands;

@@ -1,4 +1,4 @@
-//! Commands of a word and numbers.
+//! Commands that are a word and numbers.
 ghost use Rattle.std.specs.Prelude.{◌≡◌, option_and_then};
 ghost use Rattle.std.specs.Option.{option_copied, option_map};
 ghost use Rattle.screen_commands.specs.Fields.{numbers as numbers_of};
@@ -10,7 +10,7 @@ use curses::Call;
 use scr_cells::Attrs;
 use scr_windows::Win;
 
-/// What a word says with the numbers of the text that follows it, if any.
+/// The command of a word with the numbers of the text that follows it, if any.
 pub(crate) fn numbered_command(word: &[u8], text: Option<&[u8]>) -> Option<Command>
     ensures { result ≡ option_and_then (numbered_of word.now) (numbers_of (option_copied text.entry)) }
 {
@@ -18,7 +18,7 @@ pub(crate) fn numbered_command(word: &[u8], text: Option<&[u8]>) -> Option<Comma
     numbered(word, list.as_slice())
 }
 
-// What a word says with these numbers.
+// The command of a word with these numbers.
 #[tactic(auto, unfolding(crate::specs::Commands::numbered))]
 fn numbered(word: &[u8], list: &[u32]) -> Option<Command>
     ensures { result ≡ numbered_of word.now list.now }
@@ -194,7 +194,7 @@ fn with_eight(
     }
 }
 
-// An attribute set by its number.
+// The attribute set with a number.
 #[tactic(auto, unfolding(crate::specs::Commands::attributes))]
 fn attributes(number: u32) -> Option<Attrs>
     ensures { result ≡ attributes number }
