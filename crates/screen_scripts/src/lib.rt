@@ -1,4 +1,4 @@
-//! Scripts that draw on a screen: what each line does, and what is written of it.
+//! Running scripts that draw on a screen: what each line does, and what is printed for it.
 #![tactic(auto)]
 
 mod effects;

@@ -1,4 +1,4 @@
-//! Calls of a script on its screen.
+//! Making the calls of a script on its screen.
 ghost use Rattle.std.specs.Prelude.{◌≡◌, false, IfOk};
 ghost use Rattle.curses.specs.Sessions.{is_update as is_update_of};
 ghost use Rattle.screen_scripts.specs.Stories.{made, updated};
@@ -12,7 +12,7 @@ use scr_term::ecma48_laws;
 use scr_windows::WinFault;
 use std::alloc::Global;
 
-/// Makes a call: an update, or any other. Fails only when memory runs out.
+/// Makes any call, also an update. Fails only when memory runs out.
 pub fn make(alloc: Global, screen: &mut Screen, call: &Call) -> Result<Effects, NoMemory>
     requires { IsReady screen.old }
     ensures { IfOk result (λ effects. Obeys screen.old screen.new effects (made (stage_of screen.old) call.now)) }
@@ -24,7 +24,8 @@ pub fn make(alloc: Global, screen: &mut Screen, call: &Call) -> Result<Effects, 
     Effects::refused(alloc, fault)
 }
 
-/// Makes a call that is no update, and gives why it was refused, if it was. Fails only when memory runs out.
+/// Makes a call that is not an update, and returns the reason if it was refused. Fails only when
+/// memory runs out.
 pub fn make_quietly(
     alloc: Global,
     screen: &mut Screen,
@@ -39,7 +40,7 @@ pub fn make_quietly(
     refusal(answer)
 }
 
-/// Updates the terminal, and gives the bytes that are sent. Fails only when memory runs out.
+/// Updates the terminal, and returns the bytes that are sent. Fails only when memory runs out.
 pub fn update_bytes(alloc: Global, screen: &mut Screen) -> Result<Vec<u8>, NoMemory>
     requires { IsReady screen.old }
     ensures { IfOk result (λ bytes. Updates screen.old screen.new bytes.items) }
@@ -69,7 +70,8 @@ fn is_update(call: &Call) -> bool
     matches!(call, Call::Doupdate)
 }
 
-// Why a call was refused, if it was. Fails where the answer is want of memory, or that of an update.
+// The reason for which a call was refused, if it was. Fails if memory ran out, or if the answer is
+// that of an update.
 fn refusal(answer: Answer) -> Result<Option<WinFault>, NoMemory>
     ensures { IfOk result (λ fault. IsRefusalOf answer fault) }
 {

@@ -1,4 +1,4 @@
-//! What the commands of a script do to its screen.
+//! Executing the commands of a script on its screen.
 ghost use Rattle.std.specs.Prelude.{◌≡◌, None, Some, IfOk, IsErrOf};
 ghost use Rattle.screen_commands.specs.declared.commands.Command.{Command};
 ghost use Rattle.screen_scripts.specs.Stories.{added, continued, shown};
@@ -14,12 +14,12 @@ use screen_commands::{Command, LineFault};
 use std::alloc::Global;
 use ti_caps::Bytes;
 
-// The window that is there from the beginning.
+// The window that exists from the beginning.
 const FIRST: Win = Win(0);
 
-/// Does what a command says, on a screen that is open.
+/// Executes a command on an open screen.
 ///
-/// Refused: Bad for another size; NoMemory.
+/// Refused with `Bad` for another `size`, or with `NoMemory`.
 pub fn obey(alloc: Global, screen: &mut Screen, command: Command) -> Result<Effects, LineFault>
     requires { IsReady screen.old }
     ensures ok { IfOk result (λ effects. ObeysSome screen.old screen.new effects (continued (stage_of screen.old) command)) }
@@ -35,7 +35,7 @@ pub fn obey(alloc: Global, screen: &mut Screen, command: Command) -> Result<Effe
     }
 }
 
-// Moves the cursor of the first window, and adds a text there, where the place is not refused.
+// Moves the cursor of the first window, and adds a text there unless the place is refused.
 fn add(
     alloc: Global,
     screen: &mut Screen,

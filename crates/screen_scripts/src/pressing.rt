@@ -1,4 +1,4 @@
-//! Keys of a script.
+//! The keys of a script: giving bytes of the keyboard to a screen.
 ghost use Rattle.std.specs.Prelude.{◌≡◌, ◌++◌, [], IfOk, OnOk, map};
 ghost use Rattle.scr_keys.specs.Readers.{idle_read};
 ghost use Rattle.screen_scripts.specs.Stories.{Pressed, bytes_came, came, idled, key_refusal, pressed};
@@ -10,7 +10,8 @@ use scr_cells::NoMemory;
 use scr_keys::KeyFault;
 use std::alloc::Global;
 
-/// Gives bytes from the keyboard to a screen one after another, and takes all keys. Fails only when memory runs out.
+/// Gives bytes from the keyboard to a screen one by one, then takes all keys. Fails only when
+/// memory runs out.
 #[tactic(auto, using(crate::proofs::MakingLaws::keys_obey))]
 pub fn press(alloc: Global, screen: &mut Screen, bytes: &[u8]) -> Result<Effects, NoMemory>
     requires { IsReady screen.old }
@@ -22,7 +23,8 @@ pub fn press(alloc: Global, screen: &mut Screen, bytes: &[u8]) -> Result<Effects
     Ok(effects)
 }
 
-/// Tells a screen that no byte came for a while, and takes all keys. Fails only when memory runs out.
+/// Tells a screen that no byte came for a while, then takes all keys. Fails only when memory runs
+/// out.
 #[tactic(auto, using(crate::proofs::MakingLaws::keys_obey))]
 pub fn idle(alloc: Global, screen: &mut Screen) -> Result<Effects, NoMemory>
     requires { IsReady screen.old }
@@ -35,7 +37,7 @@ pub fn idle(alloc: Global, screen: &mut Screen) -> Result<Effects, NoMemory>
     Ok(effects)
 }
 
-// Gives bytes to a screen one after another, and notes what is refused.
+// Gives bytes to a screen one by one, and notes what is refused.
 fn read_bytes(screen: &mut Screen, bytes: &[u8], notes: &mut Vec<Note>) -> Result<(), NoMemory>
     ensures notes { OnOk result (events_in notes.new.items ≡ events_in notes.old.items ++ (bytes_came (stage_of screen.old) bytes.now).events) }
     ensures stage { OnOk result (stage_of screen.new ≡ (bytes_came (stage_of screen.old) bytes.now).stage) }
@@ -48,7 +50,7 @@ fn read_bytes(screen: &mut Screen, bytes: &[u8], notes: &mut Vec<Note>) -> Resul
     Ok(())
 }
 
-// Notes a refusal of the reader, if it is one.
+// Notes what the reader of keys refused, if anything.
 fn note_refusal(read: Result<(), KeyFault>, notes: &mut Vec<Note>) -> Result<(), NoMemory>
     ensures { OnOk result (events_in notes.new.items ≡ events_in notes.old.items ++ key_refusal read) }
 {

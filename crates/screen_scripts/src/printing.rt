@@ -1,4 +1,4 @@
-//! The lines that show a screen.
+//! Printing the lines that show a screen.
 ghost use Rattle.std.specs.Prelude.{◌≡◌, ◌==◌, ◌++◌, ◌<◌, IfSome, OnOk};
 ghost use Rattle.std.specs.Fmt.{decimal};
 ghost use Rattle.std.specs.List.{list_all};
@@ -12,8 +12,9 @@ use scr_keys::Key;
 use scr_term::{EcmaScreen, Spot};
 use ti_caps::{Kind, Slot, name_of};
 
-/// Adds the lines of a screen: each row with the lines of its attributes and its colours, if it has any, and the cursor. Fails
-/// only when memory runs out; what was added until then stays.
+/// Adds the lines of a screen: for each row its characters, its attributes if it has any and its
+/// colours if it has any; then the cursor. Fails only when memory runs out; what was added until
+/// then stays.
 pub fn print_screen(screen: &EcmaScreen, text: &mut Vec<u8>) -> Result<(), NoMemory>
     ensures { OnOk result (text.new.items ≡ text.old.items ++ screen_lines screen.now.state.grid screen.now.state.spot) }
 {
@@ -23,7 +24,7 @@ pub fn print_screen(screen: &EcmaScreen, text: &mut Vec<u8>) -> Result<(), NoMem
     print_cursor(screen.spot(), text)
 }
 
-/// Adds the line of a refusal.
+/// Adds the line for a refusal.
 pub fn print_refusal(name: &str, text: &mut Vec<u8>) -> Result<(), NoMemory>
     ensures { OnOk result (text.new.items ≡ text.old.items ++ refusal_line name.now) }
 {
@@ -33,7 +34,7 @@ pub fn print_refusal(name: &str, text: &mut Vec<u8>) -> Result<(), NoMemory>
     Ok(())
 }
 
-/// Adds the line of a key.
+/// Adds the line for a key.
 pub fn print_key(key: Key, text: &mut Vec<u8>) -> Result<(), NoMemory>
     ensures { OnOk result (text.new.items ≡ text.old.items ++ key_line key) }
 {
@@ -46,7 +47,7 @@ pub fn print_key(key: Key, text: &mut Vec<u8>) -> Result<(), NoMemory>
     Ok(())
 }
 
-// Adds the name of a text, where it has one.
+// Adds the name of the text capability at a position, if it has one.
 fn print_capability(slot: u16, text: &mut Vec<u8>) -> Result<(), NoMemory>
     ensures { OnOk result (text.new.items ≡ text.old.items ++ name_or_none (name_at KindView.Text slot)) }
 {
@@ -56,7 +57,7 @@ fn print_capability(slot: u16, text: &mut Vec<u8>) -> Result<(), NoMemory>
     Ok(())
 }
 
-// Adds a row's characters, its attributes where it has some, and its colours where one is not the default.
+// Adds a row's characters, its attributes if it has any, and its colours if one is not the default.
 fn print_row(looks: &[Look], text: &mut Vec<u8>) -> Result<(), NoMemory>
     ensures { OnOk result (text.new.items ≡ text.old.items ++ row_lines looks.now) }
 {
@@ -77,7 +78,7 @@ fn print_characters(looks: &[Look], text: &mut Vec<u8>) -> Result<(), NoMemory>
     Ok(())
 }
 
-// Adds the attributes of a row between two colons, or nothing where it has none.
+// Adds the attributes of a row between two colons, or nothing if it has none.
 fn print_attributes(looks: &[Look], text: &mut Vec<u8>) -> Result<(), NoMemory>
     ensures { OnOk result (text.new.items ≡ text.old.items ++ attribute_line looks.now) }
 {
@@ -101,7 +102,7 @@ fn are_plain(looks: &[Look]) -> bool
     looks.iter().all(|look| look.attrs().0 == 0)
 }
 
-// Adds the colours of a row between two signs `=`, or nothing where all are the default ones.
+// Adds the colours of a row between two `=`, or nothing if all are the default.
 fn print_colours(looks: &[Look], text: &mut Vec<u8>) -> Result<(), NoMemory>
     ensures { OnOk result (text.new.items ≡ text.old.items ++ colour_line looks.now) }
 {
@@ -117,7 +118,7 @@ fn print_colours(looks: &[Look], text: &mut Vec<u8>) -> Result<(), NoMemory>
     Ok(())
 }
 
-// Whether every place is in the default colours.
+// Whether every place has the default colours.
 fn have_default_colours(looks: &[Look]) -> bool
     ensures { result ≡ list_all has_default_colours looks.now }
 {

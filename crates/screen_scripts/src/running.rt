@@ -1,4 +1,4 @@
-//! A script from its text to what is written of it.
+//! Running a script from its text to its output.
 ghost use Rattle.std.specs.Prelude.{◌≡◌, ℕ, [], None, Some, false, not, IfOk, OnOk, IsErrOf};
 ghost use Rattle.std.specs.Option.{ForSome};
 ghost use Rattle.std.specs.Io.KnownBytes.{Appends, Keeps};
@@ -20,11 +20,11 @@ use thiserror::Error;
 /// Why a run ended before the script did.
 #[derive(Debug, Drop, PartialEq, Eq, Error)]
 pub enum DemoFault {
-    /// A line is no command, or not one that may stand there; lines count from 1, and the number stays
-    /// at 4,294,967,295 from there on.
+    /// A line is not a command, or not one that may be there. Lines count from 1, and 4,294,967,295
+    /// stands for every line from there on.
     #[error("line {0}: bad command")]
     BadCommand(u32),
-    /// The output failed.
+    /// Writing the output failed.
     #[error("write failed")]
     Write(ErrorKind),
     /// Memory ran out.
@@ -32,13 +32,14 @@ pub enum DemoFault {
     NoMemory,
 }
 
-/// Runs a script: writes the lines that a terminal shows at each update and the refusals, or raw, the
-/// bytes that are sent to the terminal.
+/// Runs a script. Writes the lines that a terminal shows at each update, and the refusals; or, if
+/// `raw`, the bytes that are sent to the terminal.
 ///
-/// Refused at the first bad line, where what came before it is written; where a write or a flush of
-/// `out` fails, or a write takes nothing; and where memory runs out. The output is flushed at the end of the
-/// script and before a bad line is answered; where that flush fails, the answer is its fault, at a bad line too.
-/// Whatever it answers, what was written is a beginning of the script's output.
+/// Refused at the first bad line, after writing the output of all lines before it; if a write or a
+/// flush of `out` fails, or a write accepts nothing; and if memory runs out. The output is flushed
+/// at the end of the script and before a bad line is reported; if that flush fails, its fault is
+/// returned instead, also at a bad line. Whatever is returned, what was written is a beginning of
+/// the script's output.
 pub fn run<W: Write>(alloc: Global, script: &[u8], raw: bool, out: &mut W) -> Result<(), DemoFault>
     ensures whole { OnOk result ((story_of script.now).bad_line ≡ None) }
     ensures written { OnOk result (Writes raw script.now (story_of script.now).events (W.contents out.old) (W.contents out.new)) }
@@ -51,8 +52,8 @@ pub fn run<W: Write>(alloc: Global, script: &[u8], raw: bool, out: &mut W) -> Re
     run_lines(alloc, script, raw, &mut stage, out)
 }
 
-/// The lines of a script's refusals, in order, up to the first bad line. Fails only when memory runs
-/// out.
+/// The lines of a script's refusals, in order, up to the first bad line. Fails only when memory
+/// runs out.
 pub fn refusals(alloc: Global, script: &[u8]) -> Result<Vec<u8>, NoMemory>
     ensures { IfOk result (λ text. text.items ≡ refusals_of (story_of script.now).events) }
 {
@@ -88,7 +89,7 @@ fn run_lines<W: Write>(
     flush(out)
 }
 
-// Does what a line says, and writes what comes of it; where it is bad, the output is flushed.
+// Executes a line, and writes its output; if the line is bad, flushes the output.
 fn write_line<W: Write>(
     alloc: Global,
     raw: bool,
@@ -145,7 +146,8 @@ fn add_lines_refusals(
     Ok(())
 }
 
-// Writes a text, whole; where a write fails or takes nothing, what was taken is a beginning of it.
+// Writes a whole text. If a write fails or accepts nothing, what was accepted is a beginning of the
+// text.
 fn write_text<W: Write>(text: &[u8], out: &mut W) -> Result<(), DemoFault>
     ensures written { OnOk result (Appends (W.contents out.old) (W.contents out.new) text.now) }
     ensures beginning { GrewByBeginning (W.contents out.old) (W.contents out.new) text.now }
@@ -162,7 +164,7 @@ fn write_text<W: Write>(text: &[u8], out: &mut W) -> Result<(), DemoFault>
     Ok(())
 }
 
-// Has what was written reach its end.
+// Flushes the output.
 fn flush<W: Write>(out: &mut W) -> Result<(), DemoFault>
     ensures kept { Keeps (W.contents out.old) (W.contents out.new) }
     ensures fault { (n : ℕ) → IsErrOf result (DemoFault.BadCommand n) → ⊥ }
@@ -173,7 +175,7 @@ fn flush<W: Write>(out: &mut W) -> Result<(), DemoFault>
     }
 }
 
-// Does what a line says, and gives what is written of it.
+// Executes a line, and returns its output.
 fn line_text(
     alloc: Global,
     raw: bool,
@@ -194,7 +196,7 @@ fn line_text(
     }
 }
 
-// Does what a command says on an open stage, and gives what is written of it.
+// Executes a command on an open stage, and returns its output.
 fn command_text(
     alloc: Global,
     raw: bool,
@@ -209,7 +211,7 @@ fn command_text(
     Ok(effects_text(alloc, raw, effects, stage)?)
 }
 
-// Does what a line says, and adds the lines of its refusals.
+// Executes a line, and adds the lines of its refusals.
 fn add_refusal(
     alloc: Global,
     line: &[u8],
@@ -227,7 +229,7 @@ fn add_refusal(
     }
 }
 
-// Opens the stage by a script's first command.
+// Opens the stage with a script's first command.
 fn open(alloc: Global, command: Command, stage: &mut Option<Stage>) -> Result<(), LineFault>
     ensures ok { OnOk result (OpensOn command stage.new) }
     ensures bad { IsErrOf result LineFault.Bad → opened command ≡ None }
@@ -236,7 +238,7 @@ fn open(alloc: Global, command: Command, stage: &mut Option<Stage>) -> Result<()
     Ok(())
 }
 
-// Does what a command says on an open screen, and adds the lines of its refusals.
+// Executes a command on an open screen, and adds the lines of its refusals.
 fn add_command_refusals(
     alloc: Global,
     command: Command,

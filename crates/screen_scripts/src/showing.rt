@@ -1,4 +1,4 @@
-//! What is written of a line's effects.
+//! The output of a line: what is written of its effects.
 ghost use Rattle.std.specs.Prelude.{◌≡◌, ◌++◌, not, true, Some, IfOk, OnOk};
 ghost use Rattle.scr_plan.specs.Memories.{MemoryView};
 ghost use Rattle.scr_term.specs.Operations.Painted.{ShowsNegative};
@@ -14,8 +14,8 @@ use scr_cells::NoMemory;
 use scr_term::{bytes_act_as_their_operations, ecma48_laws, run_laws, screens_follow_texts};
 use std::alloc::Global;
 
-/// What is written of the effects of a line that left this stage: its lines, or raw, the bytes of its update. Fails only
-/// when memory runs out.
+/// The output for the effects of a line that left this stage: its lines, or, if `raw`, the bytes of
+/// its update. Fails only when memory runs out.
 pub fn effects_text(
     alloc: Global,
     raw: bool,
@@ -41,7 +41,8 @@ pub fn effects_text(
     Ok(text)
 }
 
-/// Adds the lines of a line's notes. Fails only when memory runs out; what was added until then stays.
+/// Adds the lines for a line's notes. Fails only when memory runs out; what was added until then
+/// stays.
 pub fn print_notes(notes: &[Note], text: &mut Vec<u8>) -> Result<(), NoMemory>
     ensures { OnOk result (text.new.items ≡ text.old.items ++ notes_lines notes.now) }
 {
@@ -51,7 +52,7 @@ pub fn print_notes(notes: &[Note], text: &mut Vec<u8>) -> Result<(), NoMemory>
     Ok(())
 }
 
-// Adds the line of a note.
+// Adds the line for a note.
 fn print_note(note: Note, text: &mut Vec<u8>) -> Result<(), NoMemory>
     ensures { OnOk result (text.new.items ≡ text.old.items ++ note_line note) }
 {
@@ -62,7 +63,8 @@ fn print_note(note: Note, text: &mut Vec<u8>) -> Result<(), NoMemory>
     }
 }
 
-/// Adds the lines of the refusals among a line's notes. Fails only when memory runs out; what was added until then stays.
+/// Adds the lines for the refusals among a line's notes. Fails only when memory runs out; what was
+/// added until then stays.
 pub fn print_refusals(notes: &[Note], text: &mut Vec<u8>) -> Result<(), NoMemory>
     ensures { OnOk result (text.new.items ≡ text.old.items ++ refusals_of (events_in notes.now)) }
 {
@@ -74,7 +76,7 @@ pub fn print_refusals(notes: &[Note], text: &mut Vec<u8>) -> Result<(), NoMemory
     Ok(())
 }
 
-// Feeds a terminal the bytes of an update, and adds the lines that it shows then.
+// Feeds the terminal the bytes of an update, and adds the lines that it shows then.
 fn show(bytes: &[u8], stage: &mut Stage, text: &mut Vec<u8>) -> Result<(), NoMemory>
     requires { IsAhead true stage.old (Some bytes.now) }
     ensures text { OnOk result (AddsScreen stage.old.screen.virtual.picture text.old.items text.new.items) }
@@ -85,7 +87,7 @@ fn show(bytes: &[u8], stage: &mut Stage, text: &mut Vec<u8>) -> Result<(), NoMem
     print_screen(&stage.terminal, text)
 }
 
-// Feeds a terminal the bytes of an update.
+// Feeds the terminal the bytes of an update.
 fn feed(bytes: &[u8], stage: &mut Stage)
     requires { IsAhead true stage.old (Some bytes.now) }
     ensures shows { ShowsNegative (abilities_for stage.old.screen.virtual.picture) stage.new.terminal.state stage.old.screen.virtual.picture }
@@ -95,6 +97,6 @@ fn feed(bytes: &[u8], stage: &mut Stage)
     ecma48_laws();
     bytes_act_as_their_operations();
     screens_follow_texts();
-    // The bytes are all defined, by these laws.
+    // By these laws, all the bytes are defined.
     let _ = stage.terminal.feed(bytes);
 }

@@ -1,4 +1,4 @@
-//! The stage of a script: its screen, and a terminal.
+//! The stage of a script: its screen, and an emulated terminal.
 ghost use Rattle.std.specs.Prelude.{◌≡◌, None, true, IfOk, IsErrOf};
 ghost use Rattle.screen_scripts.specs.Stories.{opened};
 ghost use Rattle.screen_scripts.specs.Showing.{IsFirst, IsReadyStage, Opens};
@@ -12,7 +12,8 @@ use screen_commands::{Command, LineFault};
 use std::alloc::Global;
 use ti_caps::bundled;
 
-/// A screen on the terminal of the bundled entry, and a terminal that is fed what updates send.
+/// A screen on the terminal of the bundled entry, and an emulated terminal that is fed what updates
+/// send.
 #[derive(Drop)]
 pub struct Stage {
     /// The screen.
@@ -21,7 +22,8 @@ pub struct Stage {
     pub terminal: EcmaScreen,
 }
 
-/// The stage that a script's first command opens. Refused: Bad where it is no size of 1 to 500 rows and columns; NoMemory.
+/// The stage that a script's first command opens. Refused with `Bad` if the command is not a size
+/// of 1 to 500 rows and columns, or with `NoMemory`.
 pub fn open_stage(alloc: Global, command: Command) -> Result<Stage, LineFault>
     ensures ok { IfOk result (λ stage. Opens command stage) }
     ensures bad { IsErrOf result LineFault.Bad → opened command ≡ None }
