@@ -1,5 +1,5 @@
-//! Runs a script that draws on a screen, and prints what a terminal shows of it; with `-r` it sends the
-//! terminal's bytes instead. `--help` and `--version` are answered on the standard output.
+//! Runs a script that draws on a screen, and prints what a terminal shows of it. With `-r` it
+//! writes the terminal's bytes instead. `--help` and `--version` answer on standard output.
 #![tactic(auto)]
 
 use clap::error::ErrorKind;
@@ -13,7 +13,7 @@ use std::io::Write;
 use std::process::ExitCode;
 use thiserror::Error;
 
-// Why the program ends with another status than 0.
+// Why the program ends with a status other than 0.
 #[derive(Debug, Drop, Error)]
 enum Failure {
     #[error("{0}")]
@@ -29,7 +29,7 @@ enum Failure {
 }
 
 impl Failure {
-    // 2 for a usage error, else 1.
+    // 2 for a usage error, 1 for any other failure.
     fn status(&self) -> u8 {
         match self {
             Failure::Words(_) | Failure::NotText => 2,
@@ -49,7 +49,7 @@ fn command<'a>(alloc: Global) -> Result<Command<'a>, AllocError> {
         .arg(raw)
 }
 
-// Whether the words of the command line ask for the terminal's bytes.
+// Whether the command line asks for the terminal's bytes.
 fn is_raw(alloc: Global, words: &[String]) -> Result<bool, clap::Error> {
     let matches = command(alloc)?.try_get_matches_from(words)?;
     Ok(matches.get_flag("raw"))
@@ -63,7 +63,8 @@ fn words(rt: &(impl Env + AllocGlobal)) -> Result<Vec<String>, Failure> {
     }
 }
 
-// Whether the terminal's bytes are asked for; none where the help or the version is, which is printed.
+// Whether the terminal's bytes are asked for; `None` if the help or the version is, which is
+// printed.
 fn asked(rt: &HostRuntime) -> Result<Option<bool>, Failure> {
     let words = words(rt)?;
     match is_raw(rt.alloc(), words.as_slice()) {
@@ -104,7 +105,7 @@ fn draw(rt: &HostRuntime, raw: bool, script: &[u8]) -> Result<(), Failure> {
     ended
 }
 
-// Writes the lines of a script's refusals to the standard error.
+// Writes the lines of a script's refusals to standard error.
 fn tell_refusals(rt: &HostRuntime, script: &[u8]) -> Result<(), Failure> {
     let lines = refusals(rt.alloc(), script).map_err(|_| Failure::NoMemory)?;
     rt.stderr()
