@@ -1,7 +1,11 @@
-//! Reads a compiled terminfo entry on the standard input and says in one line whether this library can serve the terminal: the
-//! size of its screen, or that the entry has none (24 rows of 80 columns are tried then), the attributes that it shows, whether
-//! it shows colours, and how long the text of an operation can be; or why it cannot (status 1). It takes no words but `--help` and
-//! `--version`, which are answered on the standard output; others are a usage error (status 2).
+//! Reads a compiled terminfo entry on standard input, and says in one line whether this library can
+//! serve the terminal.
+//!
+//! The line has the size of the screen, or says that the entry has none (then 24 rows of 80 columns
+//! are tried), the attributes that the terminal shows, whether it shows colours, and how long the
+//! text of an operation can be; or it says why the terminal cannot be served (status 1). The only
+//! options are `--help` and `--version`, which answer on standard output; anything else is a usage
+//! error (status 2).
 #![tactic(auto)]
 
 use clap::Command;
@@ -28,10 +32,10 @@ enum Refusal {
     NoMemory,
 }
 
-// What is said of a terminal that can be served.
+// What is printed about a terminal that can be served.
 #[derive(Clone, Copy)]
 struct Report {
-    // None where the entry has no size.
+    // `None` if the entry has no size.
     size: Option<Size>,
     attributes: u8,
     colours: bool,
@@ -67,7 +71,7 @@ fn explain(alloc: Global, bytes: &[u8]) -> Result<Report, Refusal> {
     }
 }
 
-// The words of a set of attributes, with the names of their capabilities.
+// The names of the capabilities for a set of attributes, each as a word.
 fn attribute_words(set: u8) -> [&'static str; 7] {
     if set == 0 {
         return [" no attribute", "", "", "", "", "", ""];
@@ -83,12 +87,12 @@ fn attribute_words(set: u8) -> [&'static str; 7] {
     ]
 }
 
-// The word, where the bit is there.
+// The word if the bit is set, else nothing.
 fn word_of(bit: u8, word: &'static str) -> &'static str {
     if bit == 0 { "" } else { word }
 }
 
-// What the words of the command line are: none, or ones that are answered with a text.
+// What the command line asks for: nothing, or a text as an answer.
 enum Words {
     None,
     Answered(clap::Error),
@@ -120,7 +124,7 @@ fn words_of(alloc: Global, words: &[String]) -> Words {
     }
 }
 
-// Explains the entry on the standard input, and gives the status.
+// Explains the entry on standard input, and returns the status.
 fn explain_input(rt: &HostRuntime) -> u8 {
     let explained = match read_input(rt.alloc(), &mut rt.reader()) {
         Ok(bytes) => explain(rt.alloc(), &bytes),
@@ -141,7 +145,7 @@ fn refuse(rt: &HostRuntime, refusal: &Refusal) -> u8 {
     1
 }
 
-// Prints a usage error, or the help or the version, and gives the status.
+// Prints a usage error, or the help or the version, and returns the status.
 fn answer(rt: &HostRuntime, error: &clap::Error) -> u8 {
     match error.print(rt) {
         Err(_) => 1,
