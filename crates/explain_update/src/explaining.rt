@@ -10,15 +10,16 @@ use scr_term::{Op, Ops, Profile};
 use screen_commands::cut_line;
 use std::alloc::Global;
 
-// How many places the name of an operation fills, and how many the number of its bytes.
+// The widths of an operation's name and of the number of its bytes.
 const NAME_WIDTH: usize = 16;
 
 const COUNT_WIDTH: usize = 4;
 
-/// The lines that explain the last update of a script: a line for each operation, or for characters that follow one another, and
-/// last how many bytes they are in all. There is no line where there is no update.
+/// Explains the last update of a script: a line for each operation, with characters in a row on one
+/// line, and a last line with the number of all bytes. If the script has no update, there is no
+/// line.
 ///
-/// Refused: a line of the script is bad; NoMemory.
+/// Refused at a bad line of the script, or with `NoMemory`.
 pub fn explanation(alloc: Global, script: &[u8]) -> Result<Vec<u8>, Failure> {
     let mut page = Page::new(alloc);
     explain(alloc, script, &mut page)?;
@@ -39,7 +40,7 @@ fn explain(alloc: Global, script: &[u8], page: &mut Page) -> Result<(), Failure>
     Ok(())
 }
 
-// Explains the update of this number.
+// Explains the update with this number.
 fn explain_update(
     alloc: Global,
     size: Size,
@@ -51,7 +52,7 @@ fn explain_update(
     explain_on(alloc, lines, updates, &mut stage, page)
 }
 
-// The same on a blank stage.
+// The same, on a blank stage.
 fn explain_on(
     alloc: Global,
     lines: &[u8],
@@ -64,7 +65,7 @@ fn explain_on(
     add_sums(alloc, stage, page)
 }
 
-// Adds the line of each operation, and of characters that follow one another.
+// Adds a line for each operation, with characters in a row on one line.
 fn add_plan(alloc: Global, profile: &Profile, plan: &Ops, page: &mut Page) {
     let mut text = Vec::new(alloc);
     for op in &plan.0 {
@@ -73,7 +74,8 @@ fn add_plan(alloc: Global, profile: &Profile, plan: &Ops, page: &mut Page) {
     add_characters(&mut text, page);
 }
 
-// Adds the line of an operation, behind that of the characters before it; of a character, which waits for others, none.
+// Adds the line for an operation, after that for the characters before it. A character waits for
+// others, and adds no line.
 fn add_op(profile: &Profile, op: Op, characters: &mut Vec<u8>, page: &mut Page) {
     if let Op::Put(byte) = op {
         let pushed = characters.push(byte);
@@ -84,7 +86,7 @@ fn add_op(profile: &Profile, op: Op, characters: &mut Vec<u8>, page: &mut Page) 
     }
 }
 
-// Adds the line of the characters that wait, if there are any. None waits then.
+// Adds the line for the waiting characters, if there are any; none wait afterwards.
 fn add_characters(characters: &mut Vec<u8>, page: &mut Page) {
     let count = characters.len();
     if count > 0 {
@@ -103,7 +105,7 @@ fn add_characters(characters: &mut Vec<u8>, page: &mut Page) {
     characters.clear();
 }
 
-// Adds the line of an operation, with an empty vector for its text, which is empty again then.
+// Adds the line for an operation. `text` is an empty buffer, and is empty again afterwards.
 fn add_operation(profile: &Profile, op: Op, text: &mut Vec<u8>, page: &mut Page) {
     let before = page.len();
     page.add_value(&op);
@@ -117,14 +119,15 @@ fn add_operation(profile: &Profile, op: Op, text: &mut Vec<u8>, page: &mut Page)
     text.clear();
 }
 
-// Adds a number of bytes behind a name that begins behind so many bytes.
+// Adds a number of bytes, in its column after a name that begins after `before` bytes.
 fn add_count(before: usize, count: usize, page: &mut Page) {
     page.add_blanks(page.len(), before.saturating_add(NAME_WIDTH));
     page.add_number(count, COUNT_WIDTH);
     page.add(b"  ");
 }
 
-// Adds how many bytes the last update of a stage has, and those that it is compared with. The terminal does the joined repaint.
+// Adds the number of bytes of the last update of a stage, and of what it is compared with. The
+// terminal executes the joined repaint.
 fn add_sums(alloc: Global, stage: &mut Stage, page: &mut Page) -> Result<(), NoMemory> {
     let picture = stage.screen.picture();
     let scratch = scratch_price(alloc, &stage.profile, picture)?;
@@ -140,7 +143,7 @@ fn add_sums(alloc: Global, stage: &mut Stage, page: &mut Page) -> Result<(), NoM
     Ok(())
 }
 
-// Adds a sum behind a word.
+// Adds a word and a number.
 fn add_sum(word: &[u8], sum: Option<usize>, page: &mut Page) {
     page.add(word);
     match sum {

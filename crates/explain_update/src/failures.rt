@@ -1,18 +1,18 @@
-//! Why nothing is explained.
+//! Why an update is not explained.
 
 use scr_cells::NoMemory;
 use thiserror::Error;
 
-/// Why nothing is explained.
+/// Why an update is not explained.
 #[derive(Clone, Copy, Debug, Error)]
 pub enum Failure {
-    /// The standard input cannot be read, or is too long.
+    /// Standard input cannot be read, or is too long.
     #[error("read failed")]
     Read,
-    /// A line is no command, or not one that may stand there; lines count from 1.
+    /// A line is not a command, or not one that may be there; lines count from 1.
     #[error("line {0}: bad command")]
     BadCommand(u32),
-    /// The standard output cannot be written.
+    /// Standard output cannot be written.
     #[error("write failed")]
     Write,
     /// Memory ran out.

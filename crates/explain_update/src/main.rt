@@ -1,5 +1,6 @@
-//! Reads a script of the demonstration on the standard input and explains its last update: each operation that is sent, with the
-//! bytes of its text, and how many bytes they are, beside those of the joined repaint and of painting from scratch.
+//! Reads a script of the demonstration on standard input, and explains its last update. It prints
+//! each operation that is sent with the bytes of its text, and how many bytes these are, beside
+//! those of the joined repaint and of painting from scratch.
 #![tactic(auto)]
 
 mod explaining;
@@ -14,7 +15,7 @@ use program_input::{InputFault, read_input};
 use std::io::Write;
 use std::process::ExitCode;
 
-// Explains what the standard input says.
+// Explains the script on standard input.
 fn explain(rt: &HostRuntime) -> Result<(), Failure> {
     let script = match read_input(rt.alloc(), &mut rt.reader()) {
         Ok(script) => script,

@@ -1,12 +1,12 @@
-//! Text that is written piece by piece.
+//! Pages: text that is written piece by piece.
 
 use scr_cells::NoMemory;
 use std::alloc::Global;
 use std::fmt::Display;
 use std::io::Write;
 
-/// Text that is written piece by piece. Where memory runs out some is left out, which `done` tells, so that those who write need not
-/// ask each time.
+/// Text that is written piece by piece. If memory runs out a piece is left out, and `done` reports
+/// it, so that writers need not check every time.
 #[derive(Drop)]
 pub struct Page {
     bytes: Vec<u8>,
@@ -14,7 +14,7 @@ pub struct Page {
 }
 
 impl Page {
-    /// Nothing is written yet.
+    /// An empty page.
     pub fn new(alloc: Global) -> Page {
         Page {
             bytes: Vec::new(alloc),
@@ -22,18 +22,18 @@ impl Page {
         }
     }
 
-    /// What is written. Fails where some is left out.
+    /// The text. Fails if a piece was left out.
     pub fn done(self) -> Result<Vec<u8>, NoMemory> {
         let Page { bytes, is_short } = self;
         if is_short { Err(NoMemory) } else { Ok(bytes) }
     }
 
-    /// How many bytes are written.
+    /// The number of bytes written.
     pub fn len(&self) -> usize {
         self.bytes.len()
     }
 
-    /// Some is left out, unless this was written.
+    /// Notes that a piece was left out, unless `is_written`.
     pub fn check(&mut self, is_written: bool) {
         self.is_short = self.is_short || !is_written;
     }
@@ -44,13 +44,13 @@ impl Page {
         self.check(added.is_ok());
     }
 
-    /// Writes a value as its type's Display does.
+    /// Writes a value with its `Display`.
     pub fn add_value<T: Display>(&mut self, value: &T) {
         let written = write!(&mut self.bytes, "{value}");
         self.check(written.is_ok());
     }
 
-    /// Writes a number in decimal digits, behind blanks that fill a column of this width.
+    /// Writes a number in decimal digits, right-aligned in a column of this width.
     pub fn add_number(&mut self, number: usize, width: usize) {
         let mut digits = itoa::Buffer::new();
         let digits = digits.format(number).as_bytes();
@@ -58,21 +58,22 @@ impl Page {
         self.add(digits);
     }
 
-    /// Writes the blanks that are missing from so many places to others.
+    /// Writes `to - from` blanks; none if that is negative.
     pub fn add_blanks(&mut self, from: usize, to: usize) {
         for _ in from..to {
             self.add(b" ");
         }
     }
 
-    /// Writes bytes as `tic -d` prints a string: `\E` is ESC, `^M` a control character, `\s` a blank (terminfo(5)).
+    /// Writes bytes as `tic -d` prints a string: `\E` for ESC, `^M` for a control character, `\s`
+    /// for a blank (terminfo(5)).
     pub fn add_spelled(&mut self, bytes: &[u8]) {
         for byte in bytes {
             self.add_spelled_byte(*byte);
         }
     }
 
-    // Writes a byte so.
+    // Writes one byte like that.
     fn add_spelled_byte(&mut self, byte: u8) {
         match byte {
             27 => self.add(b"\\E"),

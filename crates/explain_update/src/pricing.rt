@@ -1,4 +1,4 @@
-//! How many bytes operations have: those of a plan, and those that it is compared with.
+//! Counting the bytes of operations: those of a plan, and those that it is compared with.
 
 use joined_repaint::joined;
 use scr_cells::{NoMemory, Picture};
@@ -6,7 +6,7 @@ use scr_plan::scratch;
 use scr_term::{Ops, Profile, Terminal};
 use std::alloc::Global;
 
-/// How many bytes the texts of these operations have.
+/// The number of bytes of the texts of these operations.
 pub fn price_of(profile: &Profile, ops: &Ops) -> usize {
     let mut bytes: usize = 0;
     for op in &ops.0 {
@@ -15,7 +15,7 @@ pub fn price_of(profile: &Profile, ops: &Ops) -> usize {
     bytes
 }
 
-/// How many bytes painting a picture from scratch has; none where the sizes differ.
+/// The number of bytes of painting a picture from scratch; `None` if the sizes differ.
 pub fn scratch_price(
     alloc: Global,
     profile: &Profile,
@@ -29,7 +29,8 @@ pub fn scratch_price(
     Ok(Some(price_of(profile, &ops)))
 }
 
-/// How many bytes the joined repaint has that brings a terminal to a picture; none where the sizes differ. The terminal does it.
+/// The number of bytes of the joined repaint that brings a terminal to a picture; `None` if the
+/// sizes differ. The terminal executes it.
 pub fn joined_price(
     alloc: Global,
     profile: &Profile,

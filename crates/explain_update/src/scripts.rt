@@ -1,4 +1,5 @@
-//! A script before it is run: its bad lines, the size of its screen, and how many updates it has.
+//! Checking a script before it is run: its bad lines, the size of its screen, and its number of
+//! updates.
 
 use crate::failures::Failure;
 use curses::Call;
@@ -6,14 +7,14 @@ use scr_cells::Size;
 use screen_commands::{Command, LineFault, cut_line, read_command};
 use std::alloc::Global;
 
-/// The size of the screen, which the first line gives.
+/// The size of the screen, from the script's first line.
 ///
-/// Refused: the line is bad; NoMemory.
+/// Refused if the line is bad, or with `NoMemory`.
 pub fn first_size(alloc: Global, line: &[u8]) -> Result<Size, Failure> {
     size_in(alloc, line).map_err(|fault| failure_at(1, fault))
 }
 
-// The size that a line gives. Bad where it is no size of a screen.
+// The size that a line gives; `Bad` if it is not a valid size.
 fn size_in(alloc: Global, line: &[u8]) -> Result<Size, LineFault> {
     let Command::Size(rows, columns) = read_command(alloc, line)? else {
         return Err(LineFault::Bad);
@@ -21,9 +22,9 @@ fn size_in(alloc: Global, line: &[u8]) -> Result<Size, LineFault> {
     Size::new(rows, columns).ok_or(LineFault::Bad)
 }
 
-/// How many lines update, of those behind the first.
+/// The number of updates in the lines after the first.
 ///
-/// Refused: a line is bad, by its number; NoMemory.
+/// Refused at a bad line, by its number, or with `NoMemory`.
 pub fn count_updates(alloc: Global, lines: &[u8]) -> Result<u32, Failure> {
     let mut rest = lines;
     let mut number: u32 = 2;
@@ -41,7 +42,8 @@ pub fn count_updates(alloc: Global, lines: &[u8]) -> Result<u32, Failure> {
     Ok(count)
 }
 
-// Whether a line behind the first updates. Bad where it is no command, or another size.
+// Whether a line after the first updates the terminal; `Bad` if it is not a command, or is another
+// `size`.
 fn is_update(alloc: Global, line: &[u8]) -> Result<bool, LineFault> {
     match read_command(alloc, line)? {
         Command::Size(_, _) => Err(LineFault::Bad),
@@ -50,7 +52,7 @@ fn is_update(alloc: Global, line: &[u8]) -> Result<bool, LineFault> {
     }
 }
 
-// What a fault of a line is to the whole.
+// The failure for the fault of a line.
 fn failure_at(number: u32, fault: LineFault) -> Failure {
     match fault {
         LineFault::Bad => Failure::BadCommand(number),

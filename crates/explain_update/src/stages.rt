@@ -1,4 +1,4 @@
-//! A script that is run up to its last update.
+//! Running a script up to its last update.
 
 use curses::{Answer, Call, Device, Screen};
 use scr_cells::{NoMemory, Size};
@@ -8,21 +8,22 @@ use screen_commands::{Command, cut_line, read_command};
 use std::alloc::Global;
 use ti_caps::{Bytes, bundled};
 
-// The window that is there from the beginning.
+// The window that exists from the beginning.
 const FIRST: Win = Win(0);
 
-/// A screen on the terminal of the bundled entry, what is known of that terminal, and what the last update sends.
+/// A screen on the terminal of the bundled entry, the terminal's profile, and what the last update
+/// sends.
 #[derive(Drop)]
 pub struct Stage {
     /// The screen.
     pub screen: Screen,
-    /// What is known of the terminal.
+    /// The terminal's profile.
     pub profile: Profile,
     /// The terminal as the last update finds it.
     pub terminal: Terminal,
     /// What the last update sends.
     pub plan: Ops,
-    /// Whether there is an update before the last, so that it is known what the terminal shows.
+    /// Whether there is an update before the last, so that what the terminal shows is known.
     pub is_known: bool,
 }
 
@@ -48,7 +49,8 @@ fn open_screen(alloc: Global, size: Size) -> Result<Screen, NoMemory> {
     Screen::open(alloc, &entry, Some(size)).map_err(|_| NoMemory)
 }
 
-/// Does what the lines say, up to the update of this number, from 1 on. Fails only when memory runs out.
+/// Executes lines up to the update with this number, counted from 1. Fails only when memory runs
+/// out.
 pub fn run_to_update(
     alloc: Global,
     lines: &[u8],
@@ -71,7 +73,8 @@ pub fn run_to_update(
     Ok(())
 }
 
-// Does what a line says, and tells whether that is an update. A bad line does nothing.
+// Executes a line, and returns whether it is an update. All lines have been checked before, so only
+// memory can run out.
 fn run_line(alloc: Global, line: &[u8], stage: &mut Stage) -> Result<bool, NoMemory> {
     match read_command(alloc, line) {
         Ok(command) => run_command(alloc, command, stage),
@@ -79,7 +82,7 @@ fn run_line(alloc: Global, line: &[u8], stage: &mut Stage) -> Result<bool, NoMem
     }
 }
 
-// Does what a command says, and tells whether that is an update. Keys change nothing that is shown.
+// Executes a command, and returns whether it is an update. Keys change nothing that is shown.
 fn run_command(alloc: Global, command: Command, stage: &mut Stage) -> Result<bool, NoMemory> {
     match command {
         Command::Add(row, column, text) => {
@@ -95,7 +98,7 @@ fn run_command(alloc: Global, command: Command, stage: &mut Stage) -> Result<boo
     }
 }
 
-// Makes a call, and tells whether it is an update.
+// Makes a call, and returns whether it is an update.
 fn make_or_update(alloc: Global, call: &Call, stage: &mut Stage) -> Result<bool, NoMemory> {
     if matches!(call, Call::Doupdate) {
         return update(alloc, stage);
@@ -104,7 +107,7 @@ fn make_or_update(alloc: Global, call: &Call, stage: &mut Stage) -> Result<bool,
     Ok(false)
 }
 
-// Moves the cursor of the first window, and adds a text there, where the place is not refused.
+// Moves the cursor of the first window, and adds a text there unless the place is refused.
 fn add(
     alloc: Global,
     row: u32,
@@ -118,7 +121,7 @@ fn add(
     Ok(())
 }
 
-// Makes a call that is no update, and tells whether it was not refused.
+// Makes a call that is not an update, and returns whether it was accepted.
 fn make(alloc: Global, call: &Call, screen: &mut Screen) -> Result<bool, NoMemory> {
     let mut device = Device::new(Vec::new(alloc));
     match screen.make(alloc, call, &mut device) {
@@ -128,14 +131,15 @@ fn make(alloc: Global, call: &Call, screen: &mut Screen) -> Result<bool, NoMemor
     }
 }
 
-// The terminal is sent what the update before sends, and another update is made. Tells that it is one.
+// Sends the terminal what the previous update sends, and makes another update. Returns true: it is
+// one.
 fn update(alloc: Global, stage: &mut Stage) -> Result<bool, NoMemory> {
     follow(&stage.profile, &stage.plan, &mut stage.terminal);
     stage.plan = planned(alloc, &mut stage.screen)?;
     Ok(true)
 }
 
-// What an update sends.
+// The operations that an update sends.
 fn planned(alloc: Global, screen: &mut Screen) -> Result<Ops, NoMemory> {
     let mut device = Device::new(Vec::new(alloc));
     match screen.doupdate(alloc, &mut device) {
@@ -144,14 +148,15 @@ fn planned(alloc: Global, screen: &mut Screen) -> Result<Ops, NoMemory> {
     }
 }
 
-// A terminal does operations.
+// Executes operations on a terminal.
 fn follow(profile: &Profile, ops: &Ops, terminal: &mut Terminal) {
     for op in &ops.0 {
         step(profile, *op, terminal);
     }
 }
 
-// A terminal of the profile's size does an operation. Each operation of an update is defined.
+// Executes an operation on a terminal, if it has the profile's size. Each operation of an update is
+// defined.
 fn step(profile: &Profile, op: Op, terminal: &mut Terminal) {
     let (size, other) = (profile.size(), terminal.size());
     if size.rows == other.rows && size.columns == other.columns {
