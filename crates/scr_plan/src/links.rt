@@ -134,7 +134,7 @@ impl Links {
         self.chains.len().min(MOST_CHAINS) as u32
     }
 
-    // The chain of a number, or an empty one.
+    // The chain with a number, or an empty one.
     pub(crate) fn chain(&self, number: u32) -> Chain {
         match self.chains.get(number as usize) {
             Some(chain) => *chain,
@@ -142,7 +142,7 @@ impl Links {
         }
     }
 
-    // The first run that waits of those with a pen; `NONE` where there is none, or the pen has no chain.
+    // The first waiting run with a pen; `NONE` if there is none, or the pen has no chain.
     pub(crate) fn first_with(&self, pen: Pen) -> u32 {
         for chain in &self.chains {
             if chain.pen == pen {
@@ -152,7 +152,7 @@ impl Links {
         NONE
     }
 
-    // A chain has this run at its end; the answer is which it had there before, or `NONE`.
+    // Appends a run to a chain, and returns the run that was its last before, or `NONE`.
     fn extend(&mut self, chain: u32, number: u32) -> u32 {
         let Some(chain) = self.chains.get_mut(chain as usize) else {
             return NONE;
