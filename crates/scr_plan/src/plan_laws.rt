@@ -30,8 +30,8 @@ pub fn plain_shows()
 }
 
 /// If all is known, the joined repaint is defined from each state that agrees with what is
-/// remembered, and shows the picture. What paints the screen anew is and does so from every state
-/// of the profile (curs_refresh(3X)).
+/// remembered, and shows the picture. What paints the screen anew is defined from every state of
+/// the profile, and shows the picture too (curs_refresh(3X)).
 pub fn joined_shows()
     ensures { JoinedShows }
 {
