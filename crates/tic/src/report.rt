@@ -32,9 +32,9 @@ pub(crate) fn entry_line(alloc: Global, place: Place<'_>) -> Result<Vec<u8>, All
     Ok(line)
 }
 
-/// The lines about unknown names: first how many fields have how many unknown names, then each name
-/// with the number of its fields. The most frequent come first, and equally frequent ones are in
-/// the order of their bytes. Nothing if no name is unknown.
+/// The lines about unknown names: first the number of fields with unknown names and the number of
+/// these names, then each name with the number of its fields. The most frequent come first, and
+/// equally frequent ones are in the order of their bytes. Nothing if no name is unknown.
 pub(crate) fn unknown_lines(alloc: Global, notes: &[Note]) -> Result<Vec<u8>, AllocError> {
     let names = unknown_names(alloc, notes)?;
     let counted = counted_names(alloc, &names)?;
