@@ -1,5 +1,4 @@
-//! Planning an update: which operations it sends. The definitions are in `specs/Plans.antt` and
-//! `specs/Repaints.antt`.
+//! Planning an update: which operations it sends. The definitions are in `specs/Plans.antt` and `specs/Repaints.antt`.
 ghost use Rattle.std.specs.Prelude.{◌≡◌, ◌<◌, ◌≤◌, ◌⊎◌, ◌==◌, ◌&&◌, ◌||◌, not, IfOk, IfSome, bit_and, false, length, true};
 ghost use Rattle.std.specs.Option.{is_none};
 ghost use Rattle.scr_cells.specs.PenViews.{is_plain_pen};
@@ -33,11 +32,10 @@ use std::alloc::Global;
 /// Plans an update: operations that bring a terminal from what is remembered of it to the picture,
 /// in few bytes (curs_refresh(3X), doupdate()).
 ///
-/// From every state that agrees with what is remembered, the operations show the picture. All is
-/// known after them, if the remembered state is one that the profile's terminal can be in. They
-/// have no more bytes than `scratch`. If all is known and the screen is not to be painted anew,
-/// they have no more than the joined repaint, and none if no place differs and the cursor is where
-/// it is wanted.
+/// From every state that agrees with what is remembered, the operations show the picture. All is known after them, if the
+/// remembered state is one that the profile's terminal can be in. They have no more bytes than `scratch`. If all is known
+/// and the screen is not to be painted anew, they have no more than the joined repaint, and none if no place differs and
+/// the cursor is where it is wanted.
 ///
 /// Picture and memory have the profile's size, and a known row shows the picture except in the
 /// columns that may have changed (`Virtual::changed`). Fails only when memory runs out.
