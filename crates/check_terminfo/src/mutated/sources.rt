@@ -32,12 +32,20 @@ pub fn read_back(alloc: Global, mut entry: Entry, text: &[u8]) -> Result<(), Che
 
 // The mark of the entry of a name, in a source that has no other entry.
 fn resolved_alone(alloc: Global, text: &[u8], name: &[u8]) -> Option<u64> {
-    let source = again::read_source(alloc, text).ok()?;
+    match again::read_source(alloc, text) {
+        Ok(source) => mark_alone(alloc, &source, name),
+        Err(_) => None,
+    }
+}
+
+fn mark_alone(alloc: Global, source: &Source, name: &[u8]) -> Option<u64> {
     if source.len() != 1 || !source.notes().is_empty() {
         return None;
     }
-    let entry = again::resolve(alloc, &source, name).ok()?;
-    Some(mark_of_entry(&entry))
+    match again::resolve(alloc, source, name) {
+        Ok(entry) => Some(mark_of_entry(&entry)),
+        Err(_) => None,
+    }
 }
 
 // Makes absent what has no name.
@@ -59,6 +67,13 @@ fn forget_unnamed(entry: &mut Entry) {
     }
 }
 
+// What was compiled so far: the mark of the files, and the first fault.
+#[derive(Clone, Copy)]
+struct Progress {
+    files: u64,
+    fault: Option<TicFault>,
+}
+
 // The files of all entries up to the first fault, compiled one after another, are those that the whole source is
 // compiled to.
 fn is_compiled(
@@ -66,25 +81,43 @@ fn is_compiled(
     source: &Source,
     compiled: &Result<Compiled, TicFault>,
 ) -> Result<bool, CheckFault> {
-    let mut resolver = Resolver::new(source);
-    let mut compiler = EntryCompiler::new(source);
-    let mut files = mark_of(b"");
-    let mut fault = None;
-    for i in 0..source.len() {
-        let wanted = file_of(alloc, source, &mut resolver, source.name(i))?;
-        if fault.is_none() {
-            fault = compile_next(alloc, &mut compiler, &wanted, &mut files)?;
-        }
-    }
+    let mut progress = Progress {
+        files: mark_of(b""),
+        fault: None,
+    };
+    compile_each(alloc, source, &mut progress)?;
     let agrees = match compiled {
-        Ok(whole) => fault.is_none() && mark_of_files(whole) == files,
-        Err(first) => fault == Some(*first),
+        Ok(whole) => progress.fault.is_none() && mark_of_files(whole) == progress.files,
+        Err(first) => progress.fault == Some(*first),
     };
     if agrees {
         Ok(true)
     } else {
         Err(CheckFault::Line("a source is compiled in two ways"))
     }
+}
+
+// Resolves all entries by one resolver, and compiles them by one compiler.
+fn compile_each(alloc: Global, source: &Source, progress: &mut Progress) -> Result<(), CheckFault> {
+    let mut resolver = Resolver::new(source);
+    let mut compiler = EntryCompiler::new(source);
+    compile_all(alloc, source, &mut resolver, &mut compiler, progress)
+}
+
+fn compile_all(
+    alloc: Global,
+    source: &Source,
+    resolver: &mut Resolver<'_>,
+    compiler: &mut EntryCompiler<'_>,
+    progress: &mut Progress,
+) -> Result<(), CheckFault> {
+    for i in 0..source.len() {
+        let wanted = file_of(alloc, source, resolver, source.name(i))?;
+        if progress.fault.is_none() {
+            progress.fault = compile_next(alloc, compiler, &wanted, &mut progress.files)?;
+        }
+    }
+    Ok(())
 }
 
 // The file of the resolved entry of a name, or why there is none.
