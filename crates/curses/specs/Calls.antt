@@ -1,4 +1,4 @@
--- Calls as values: what each changes of the windows, and what it answers. The calls are those of X/Open Curses Issue 7 that
+-- Calls as values: what each does to the windows, and its answer. These are the calls of X/Open Curses Issue 7 that
 -- `scr_windows` defines.
 use Rattle.std.specs.Prelude.{Bool, true, false, Result, Ok, Err, ◌≡◌, ◌⊎◌}
 use Rattle.scr_windows.specs.DeskViews.{DeskView}
@@ -24,19 +24,20 @@ use Rattle.curses.specs.declared.calls.values.Call.TheVariants.{NewWindow, NewPa
 use Rattle.curses.specs.ScreenStates.{ScreenState}
 use Rattle.curses.specs.Forwarding.{OnDesk}
 
--- the answer of a call that gives something, or why it was refused
+-- The answer of a call: the value that it gives, or why it was refused.
 abbrev pub answered : {A : Type 0} → (A → Answer) → Result A WinFault → Answer
 answered give (Ok x) = give x
 answered give (Err fault) = answers.Refused fault
 
--- the windows after a call, and its answer
+-- The windows after a call, and its answer.
 abbrev pub told : {A : Type 0} → (A → Answer) → DeskView × Result A WinFault → DeskView × Answer
 told give call = (call.0, answered give call.1)
 
+-- The same for a call that gives no value.
 abbrev pub done : DeskView × Result (Unit {0}) WinFault → DeskView × Answer
 done call = told (λ _. answers.Nothing) call
 
--- calls that read; the others change no window and answer nothing here
+-- Calls that only read. A call that neither this list nor one below names changes no window and answers nothing.
 abbrev pub reading : DeskView → Call → DeskView × Answer
 reading desk (CellAt win row column) = (desk, answered (λ cell. answers.Seen cell) (cell_at_answer desk win.0 row column))
 reading desk (Cursor win) = (desk, answered (λ pair. answers.Pair pair.0 pair.1) (cursor_answer desk win.0))
@@ -46,7 +47,7 @@ reading desk (LineTouched win row) = (desk, answered (λ touched. answers.Touche
 reading desk (WindowTouched win) = (desk, answered (λ touched. answers.Touched touched) (window_touched_answer desk win.0))
 reading desk call = (desk, answers.Nothing)
 
--- calls that set something and change no cell
+-- Calls that change settings of a window, but no cell.
 abbrev pub setting : DeskView → Call → DeskView × Answer
 setting desk (MoveCursor win row column) = done (move_cursor_call desk win.0 row column)
 setting desk (SetRegion win top bottom) = done (set_region_call desk win.0 top bottom)
@@ -60,7 +61,7 @@ setting desk (ColorSet win pair) = done (color_set_call desk win.0 pair)
 setting desk (SetBackground win cell) = done (set_background_call desk win.0 cell)
 setting desk call = reading desk call
 
--- calls that erase, move what is there, or exchange the background
+-- Calls that erase or move cells, or replace the background.
 abbrev pub erasing : DeskView → Call → DeskView × Answer
 erasing desk (ClearToEol win) = done (clear_to_eol_call desk win.0)
 erasing desk (ClearToBottom win) = done (clear_to_bottom_call desk win.0)
@@ -72,7 +73,7 @@ erasing desk (Scroll win n) = done (scroll_call desk win.0 n)
 erasing desk (ChangeBackground win cell) = done (change_background_call desk win.0 cell)
 erasing desk call = setting desk call
 
--- calls that write bytes
+-- Calls that write characters.
 abbrev pub writing : DeskView → Call → DeskView × Answer
 writing desk (AddByte win byte attrs) = told (λ all. answers.Added all) (add_byte_call desk win.0 byte attrs)
 writing desk (AddText win text) = told (λ all. answers.Added all) (add_text_call desk win.0 text)
@@ -82,7 +83,7 @@ writing desk (LineDown win byte n) = done (line_down_call desk win.0 byte n)
 writing desk (Border win bytes) = done (border_call desk win.0 bytes)
 writing desk call = erasing desk call
 
--- calls that delete or move a window, or touch lines
+-- Calls that delete or move a window, or that touch, untouch or synchronize lines.
 abbrev pub placing : DeskView → Call → DeskView × Answer
 placing desk (Delete win) = done (delete_call desk win.0)
 placing desk (MoveWindow win row column) = done (move_window_call desk win.0 row column)
@@ -94,7 +95,7 @@ placing desk (SyncUp win) = done (sync_up_call desk win.0)
 placing desk (SyncDown win) = done (sync_down_call desk win.0)
 placing desk call = writing desk call
 
--- calls on windows by their values. The first take memory: those that make a window, and those that copy cells
+-- All calls on windows. Those listed here allocate: they make a window or copy cells.
 abbrev pub window_call : DeskView → Call → DeskView × Answer
 window_call desk (NewWindow rows columns row column) = told (λ win. answers.Made win) (new_window_call desk rows columns row column)
 window_call desk (NewPad rows columns) = told (λ win. answers.Made win) (new_pad_call desk rows columns)
@@ -106,7 +107,7 @@ window_call desk (Overlay source target) = done (overlay_call desk source.0 targ
 window_call desk (Overwrite source target) = done (overlay_call desk source.0 target.0 false)
 window_call desk call = placing desk call
 
--- the calls that take memory
+-- The calls that allocate memory.
 abbrev pub takes_memory : Call → Bool
 takes_memory (NewWindow rows columns row column) = true
 takes_memory (NewPad rows columns) = true
@@ -118,12 +119,13 @@ takes_memory (Overlay source target) = true
 takes_memory (Overwrite source target) = true
 takes_memory call = false
 
+-- The answer is a refusal.
 abbrev pub is_refusal : Answer → Bool
 is_refusal (answers.Refused fault) = true
 is_refusal answer = false
 
--- the windows after and the answer are as a call's definition says and everything else of the screen stays, or memory ran
--- out in a call that takes some and that nothing else refuses, and the whole screen stays
+-- The call does to the windows what its definition says, gives that answer, and changes nothing else of the screen. Or
+-- the whole screen stays as it was because memory ran out, in a call that allocates and that nothing else refuses.
 abbrev pub OnDeskOrRefused : ScreenState → ScreenState → Answer → Call → Type 0
 OnDeskOrRefused old new answer call =
     OnDesk old new answer (window_call old.desk call) ⊎ ((new ≡ old) × (answer ≡ answers.Refused NoMemory) × (is_refusal (window_call old.desk call).1 ≡ false) × (takes_memory call ≡ true))

@@ -3,6 +3,6 @@ use Rattle.std.specs.Prelude.{◌≡◌}
 use Rattle.scr_keys.specs.Readers.{ReaderView}
 use Rattle.curses.specs.ScreenStates.{ScreenState}
 
--- the reader of keys after and the answer are as the call's definition says, and everything else of the screen stays
+-- The call does to the key reader what its definition says, gives that answer, and changes nothing else of the screen.
 abbrev pub OnKeys : {A : Type 0} → ScreenState → ScreenState → A → ReaderView × A → Type 0
 OnKeys old new answer call = (new ≡ record old { keys = call.0 }) × (answer ≡ call.1)

@@ -12,22 +12,22 @@ use Rattle.scr_term.specs.Operations.Steps.{runs}
 use Rattle.curses.specs.Updates.{IsSent}
 use Rattle.curses.specs.Writers.{WriterView, counted}
 
--- the windows and the virtual screen of a screen
+-- The windows and the virtual screen of a screen.
 abbrev pub drawn_of : ScreenState → Drawn
 drawn_of screen = record { desk = screen.desk; virtual = screen.virtual }
 
--- an update ended well: what it began is a plan for the picture, which stays, and nothing is owed
+-- A successful update: the operations begun are a plan for the picture, the picture stays, and nothing is owed.
 pub record EndsWell (old new : ScreenState) (answer : Answer) : Type 0 where
   pub picture : new.virtual.picture ≡ old.virtual.picture
   pub plan : IsPlan old.profile old.memory old.virtual (begun_of answer)
   pub nothing : new.owed ≡ []
 
--- nothing is owed, and what the terminal shows is known
+-- Nothing is owed, and the whole state of the terminal is known.
 pub record Knows (screen : ScreenState) : Type 0 where
   pub owed : screen.owed ≡ []
   pub memory : is_known screen.memory ≡ true
 
--- a call was made, and answered so
+-- The call was made on the screen `old` and gave this answer; `before` and `after` are the writer's reports.
 pub record IsMade (old new : ScreenState) (call : Call) (answer : Answer) (before after : WriterView) : Type 0 where
   pub profile : new.profile ≡ old.profile
   pub keys : new.keys ≡ old.keys
@@ -38,7 +38,8 @@ pub record IsMade (old new : ScreenState) (call : Call) (answer : Answer) (befor
   pub right : IsAnswer old.profile old.memory (drawn_of old) call answer
   pub sent : IsSent old.profile old.memory old.owed before after (begun_of answer) (count_of answer) new.owed
   pub quiet : is_update call ≡ false → begun_of answer ≡ []
-  -- a state that agreed with what was remembered, and in which the operations begun were made, agrees with what is remembered then
+  -- If the terminal's state agreed with what was known, then after the operations begun it agrees with what is known
+  -- now.
   pub agrees : (state next : TerminalState) → Agrees (abilities old.profile) old.memory state → runs old.profile state (begun_of answer) ≡ Some next
       → Agrees (abilities old.profile) new.memory next
   pub well : tells_sent answer ≡ true → EndsWell old new answer

@@ -16,9 +16,9 @@ use Rattle.curses.specs.declared.faults.OpenFault.TheVariants.{KeyTooLong, NoMem
 use Rattle.curses.specs.ScreenStates.{ScreenState}
 use Rattle.curses.specs.Texts.{texts_or_none}
 
--- a screen on the terminal that an entry describes: one window over the whole screen, blank, a blank virtual screen, nothing known of
--- what the terminal shows, nothing owed, the keys of the entry, none of which was pressed, and its opening and its closing text, either
--- of which is nothing where something is against it
+-- A screen just opened on the terminal of an entry: one blank window over the whole screen, a blank virtual screen,
+-- nothing known of the terminal, nothing owed, the entry's keys with none pressed, and the opening and closing text,
+-- each empty if it is refused.
 pub record IsOpened (entry : Description) (size : Option Size) (screen : ScreenState) : Type 0 where
   pub profile : IsAdmitted entry size screen.profile
   pub desk : screen.desk ≡ first_desk screen.profile.rows screen.profile.columns
@@ -31,16 +31,16 @@ pub record IsOpened (entry : Description) (size : Option Size) (screen : ScreenS
   pub opening : screen.opening ≡ texts_or_none entry SMCUP SMKX
   pub closing : screen.closing ≡ texts_or_none entry RMKX RMCUP
 
--- an entry and a size make no profile, for this first reason
+-- The entry gives no profile for a screen of this size; `fault` is the first reason.
 pub record IsUnsuited (entry : Description) (size : Option Size) (fault : ProfileFault) : Type 0 where
   pub refused : refusal entry size ≡ Some fault
   pub suits : fault ≢ profile_faults.NoMemory
 
--- they make one, and this is the lowest position of a key whose text is too long
+-- The entry gives a profile, but the text of a key is too long; `slot` is the lowest table position of such a key.
 abbrev pub HasLongKey : Description → Option Size → Slot → Type 0
 HasLongKey entry size slot = (refusal entry size ≡ None) × (too_long entry ≡ Some slot.0)
 
--- no screen is opened for such a reason, or because memory ran out
+-- Why no screen was opened: one of these reasons, or memory ran out.
 abbrev pub IsUnopened : Description → Option Size → OpenFault → Type 0
 IsUnopened entry size NoMemory = Unit {0}
 IsUnopened entry size (Profile fault) = IsUnsuited entry size fault

@@ -1,4 +1,5 @@
--- A screen of curses: its windows, what is to be shown, the terminal and its keys. X/Open Curses Issue 7, 'Screens, Windows and Terminals'.
+-- A screen of curses: its windows, what is to be shown, the terminal and its keys. X/Open Curses Issue 7, 'Screens,
+-- Windows and Terminals'.
 use Rattle.std.specs.Prelude.{ℕ, ◌≡◌, ◌≤◌, List, length, refl}
 use Rattle.std.specs.Coded.{Coded, code_by, coded×, coded_ℕ, coded_list}
 use Rattle.scr_virtual.specs.VirtualViews.{VirtualView}
@@ -11,9 +12,9 @@ use Rattle.scr_plan.specs.Repaints.{IsSizeOf, IsUpToDate}
 use Rattle.scr_plan.specs.Scratch.{Fits}
 use Rattle.scr_keys.specs.Readers.{ReaderView}
 
--- the windows, the virtual screen onto which they are taken, the terminal's profile and what is remembered of it, the bytes that were
--- begun to be sent and have still to be, what came from the keyboard, and the texts that are sent before the first update and behind
--- the last
+-- A screen: the windows; the virtual screen that they are copied to; the terminal's profile, and what is known of the
+-- terminal; the bytes owed, which are the unsent rest of a text; the keyboard input; and the texts sent before the
+-- first update and after the last.
 pub record ScreenState : Type 0 where
   pub desk : DeskView
   pub virtual : VirtualView
@@ -24,32 +25,32 @@ pub record ScreenState : Type 0 where
   pub opening : List ℕ
   pub closing : List ℕ
 
--- what is remembered of a terminal is of its size, one of its states, and up to date
+-- What is known of the terminal has its size, is a possible state of it, and is up to date with the picture.
 pub record IsRemembered (profile : ProfileView) (memory : MemoryView) (virtual : VirtualView) : Type 0 where
   pub fits : Fits profile virtual.picture
   pub size : IsSizeOf virtual.picture memory
   pub agrees : Agrees (abilities profile) memory memory.state
   pub same : IsUpToDate profile memory virtual
 
--- the windows, the virtual screen and the terminal have one size; what is remembered of the terminal is one of its states, which shows
--- the picture in each row that is known, but for the columns that may have changed since the last update that ended well
+-- Windows, virtual screen and terminal have one size. The remembered state is one that the terminal can be in; its
+-- known rows show the picture, except in columns that may have changed since the last successful update.
 pub record IsScreen (screen : ScreenState) : Type 0 where
   pub desk_rows : screen.desk.rows ≡ screen.profile.rows
   pub desk_columns : screen.desk.columns ≡ screen.profile.columns
   pub memory : IsRemembered screen.profile screen.memory screen.virtual
 
--- so many bytes are room for the text of each operation
+-- `room` bytes are enough for the text of any operation.
 abbrev pub HasRoom : ProfileView → ℕ → Type 0
 HasRoom profile room = (op : Op) → length (bytes_of profile op) ≤ room
 
--- and for each of the texts that are sent before the first update and behind the last, which are short
+-- They are also enough for the opening and the closing text, each of at most 2,048 bytes.
 pub record HasTextRoom (opening closing : List ℕ) (room : ℕ) : Type 0 where
   pub opening_room : length opening ≤ room
   pub closing_room : length closing ≤ room
   pub opening_short : length opening ≤ 2048
   pub closing_short : length closing ≤ 2048
 
--- a screen is stored as its fields, one beside another
+-- A screen is stored as its fields, side by side.
 abbrev pub screen_code : Coded DeskView → Coded VirtualView → Coded ProfileView → Coded MemoryView → Coded ReaderView → Coded ScreenState
 screen_code desk virtual profile memory keys =
     code_by (DeskView × (VirtualView × (ProfileView × (MemoryView × (List ℕ × (ReaderView × (List ℕ × List ℕ)))))))

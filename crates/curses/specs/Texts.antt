@@ -1,5 +1,5 @@
--- What a program sends to a terminal before its first update and behind its last. terminfo(5), 'Cursor Motions' (enter_ca_mode,
--- exit_ca_mode) and 'Keypad and Function Keys' (keypad_xmit, keypad_local).
+-- What a program sends to a terminal before its first update and after its last. terminfo(5), 'Cursor Motions'
+-- (enter_ca_mode, exit_ca_mode) and 'Keypad and Function Keys' (keypad_xmit, keypad_local).
 use Rattle.std.specs.Prelude.{◌≡◌, ◌&&◌, ℕ, List, [], ◌∷◌, ◌++◌, Option, Some, None, option_and_then, option_map, if◌then◌else◌}
 use Rattle.std.specs.Option.{is_none, is_some}
 use Rattle.ti_caps.specs.Description.{Description, text_at}
@@ -16,57 +16,61 @@ use Rattle.scr_term.specs.Operations.Texts.{nine, written}
 use Rattle.curses.specs.declared.faults.OpenFault.{OpenFault}
 use Rattle.curses.specs.declared.faults.OpenFault.TheVariants.{KeyTooLong, NoMemory, Profile}
 
--- the text of a capability without its padding, and the program that it is, if it is one
+-- The text of a capability without its padding; none if the entry lacks it.
 abbrev pub plain_text : Description → Slot → Option (List ℕ)
 plain_text entry slot = option_map stripped (text_at entry slot.0)
 
+-- That text as a parsed parameter string; none if it is absent or is not one.
 abbrev pub text_program : Description → Slot → Option Tree
 text_program entry slot = option_and_then parsed (plain_text entry slot)
 
--- what the program writes where all parameters and variables are 0; nothing where the text is absent
+-- What that text sends when all parameters and variables are 0; nothing if it is absent.
 abbrev pub bytes_at : Description → Slot → List ℕ
 bytes_at entry slot = written (text_program entry slot) (nine [])
 
--- why a text is not run: it is no parameter string, or too deep a one; or it could give too many bytes
+-- The text cannot be run: it is not a parameter string, or its runs may need more than 20 places of stack.
 abbrev pub bad_text : Description → Slot → Option ProfileFault
 bad_text entry slot =
     if is_some (plain_text entry slot) && is_unreadable (text_program entry slot) then Some (BadString (Text, slot)) else None
 
+-- The text could send more than 1,024 bytes.
 abbrev pub long_text : Description → Slot → Option ProfileFault
 long_text entry slot = if is_over_bound (text_program entry slot) then Some (LongString (Text, slot)) else None
 
--- why two texts are not made: the first of these reasons
+-- The first reason why two texts cannot be sent; none if both can.
 abbrev pub texts_refusal : Description → Slot → Slot → Option ProfileFault
 texts_refusal entry first second =
     first_some (bad_text entry first ∷ bad_text entry second ∷ long_text entry first ∷ long_text entry second ∷ [])
 
--- one text and then another, where nothing is against them
+-- The bytes are the first text followed by the second, and neither is refused.
 pub record AreTexts (entry : Description) (first second : Slot) (bytes : List ℕ) : Type 0 where
   pub good : texts_refusal entry first second ≡ None
   pub texts : bytes ≡ bytes_at entry first ++ bytes_at entry second
 
--- they are not made for the first thing against them, or because memory ran out
+-- Why the two texts were not made: the first reason, or memory ran out.
 abbrev pub AreRefused : Description → Slot → Slot → OpenFault → Type 0
 AreRefused entry first second NoMemory = Unit {0}
 AreRefused entry first second (Profile fault) = texts_refusal entry first second ≡ Some fault
 AreRefused entry first second (KeyTooLong slot) = ⊥
 
--- the text that begins a program's use of the screen: `smcup`, and then `smkx`
+-- The opening text, which begins a program's use of the screen: `smcup`, then `smkx`.
 abbrev pub IsOpeningText : Description → List ℕ → Type 0
 IsOpeningText entry bytes = AreTexts entry SMCUP SMKX bytes
 
+-- Why there is no opening text.
 abbrev pub IsNoOpeningText : Description → OpenFault → Type 0
 IsNoOpeningText entry fault = AreRefused entry SMCUP SMKX fault
 
--- the text that ends it: `rmkx`, and then `rmcup`
+-- The closing text, which ends it: `rmkx`, then `rmcup`.
 abbrev pub IsClosingText : Description → List ℕ → Type 0
 IsClosingText entry bytes = AreTexts entry RMKX RMCUP bytes
 
+-- Why there is no closing text.
 abbrev pub IsNoClosingText : Description → OpenFault → Type 0
 IsNoClosingText entry fault = AreRefused entry RMKX RMCUP fault
 
 -- ---- what a screen sends
 
--- one text and then another, where nothing is against them; else nothing
+-- The first text followed by the second, or nothing if either is refused.
 abbrev pub texts_or_none : Description → Slot → Slot → List ℕ
 texts_or_none entry first second = if is_none (texts_refusal entry first second) then bytes_at entry first ++ bytes_at entry second else []

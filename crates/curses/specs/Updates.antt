@@ -1,5 +1,5 @@
--- An update: what it sends, what the terminal shows after it, and what a fault leaves. curs_refresh(3X), doupdate(); X/Open Curses
--- Issue 7, the same.
+-- An update: what it sends, what the terminal shows after it, and what a fault leaves. curs_refresh(3X), doupdate();
+-- X/Open Curses Issue 7, doupdate().
 use Rattle.std.specs.Prelude.{ℕ, ◌≡◌, ◌≢◌, ◌≤◌, true, List, [], ◌∷◌, length, take, Some}
 use Rattle.scr_term.specs.declared.operations.operation.Op.{Op}
 use Rattle.scr_term.specs.Operations.Profiles.{ProfileView, abilities}
@@ -16,29 +16,29 @@ use Rattle.curses.specs.ScreenStates.{ScreenState}
 use Rattle.curses.specs.declared.faults.UpdateFault.{UpdateFault}
 use Rattle.curses.specs.declared.faults.UpdateFault.TheVariants.{NoMemory, Write, Flush}
 
--- operations are all defined from a state, and lead to a state of the profile
+-- From this state the operations are all defined, and they lead to a state of the profile.
 pub record IsDefined (profile : ProfileView) (old : TerminalState) (ops : List Op) : Type 0 where
   pub new : TerminalState
   pub run : runs profile old ops ≡ Some new
   pub state : IsState (abilities profile) new
 
--- What is owed, which is the end of what was to be sent, is no longer than one text: that of the last operation begun, or what was
--- owed before where none was.
+-- The rest still owed is no longer than one text: that of the last operation begun or, if none was begun, what was owed
+-- before.
 abbrev pub IsOfOneText : ProfileView → List ℕ → List Op → List ℕ → Type 0
 IsOfOneText profile owed [] rest = length rest ≤ length owed
 IsOfOneText profile owed (op ∷ []) rest = length rest ≤ length (bytes_of profile op)
 IsOfOneText profile owed (op ∷ next ∷ ops) rest = IsOfOneText profile owed (next ∷ ops) rest
 
--- What an update sent: what was owed, and then the texts of the operations that it began, as far as the writer took them. What
--- is owed then is the rest of one text. From every state of the terminal that agrees with what was remembered of it these operations
--- are all defined.
+-- What an update sent: what was owed, then the texts of the operations that it began, as far as the writer took them.
+-- At most one text is owed after it. The operations are defined from every state of the terminal that agrees with what
+-- was known of it.
 pub record IsSent (profile : ProfileView) (memory : MemoryView) (owed : List ℕ) (old new : WriterView) (begun : List Op) (count : ℕ) (rest : List ℕ) : Type 0 where
   pub cut : IsCut owed (all_bytes profile begun) old.taken new.taken count rest
   pub one : IsOfOneText profile owed begun rest
   pub defined : (state : TerminalState) → Agrees (abilities profile) memory state → IsDefined profile state begun
 
--- An update that ended well: nothing is owed, the writer did not fail, and the operations are a plan: from every state that agrees
--- with what was remembered they lead to one that shows the picture, and all of it is known then.
+-- A successful update: nothing is owed, no write or flush failed, and the operations are a plan, so they lead every
+-- state that agrees to one that shows the picture. The whole state of the terminal is known then.
 pub record IsUpdated (profile : ProfileView) (memory : MemoryView) (virtual : VirtualView) (owed : List ℕ) (old new : WriterView) (begun : List Op) (count : ℕ) (rest : List ℕ) : Type 0 where
   pub sent : IsSent profile memory owed old new begun count rest
   pub plan : IsPlan profile memory virtual begun
@@ -47,14 +47,14 @@ pub record IsUpdated (profile : ProfileView) (memory : MemoryView) (virtual : Vi
   pub puts : new.failed_puts ≡ old.failed_puts
   pub finishes : new.failed_finishes ≡ old.failed_finishes
 
--- the first operations of a plan
+-- These operations are the beginning of some plan.
 pub record BeginsPlan (profile : ProfileView) (memory : MemoryView) (virtual : VirtualView) (begun : List Op) : Type 0 where
   pub plan : List Op
   pub is : IsPlan profile memory virtual plan
   pub begins : begun ≡ take (length begun) plan
 
--- One whose write failed: the first operations of a plan were begun, and the write that failed was that of the last of them, or of what
--- was owed where there is none; the rest of that text is owed.
+-- An update whose write failed. It began the first operations of a plan; the write that failed was that of the last of
+-- them or, if none was begun, of what was owed before. The rest of that text is owed.
 pub record IsCutShort (profile : ProfileView) (memory : MemoryView) (virtual : VirtualView) (owed : List ℕ) (old new : WriterView) (begun : List Op) (count : ℕ) (rest : List ℕ) : Type 0 where
   pub sent : IsSent profile memory owed old new begun count rest
   pub begins : BeginsPlan profile memory virtual begun
@@ -62,7 +62,7 @@ pub record IsCutShort (profile : ProfileView) (memory : MemoryView) (virtual : V
   pub puts : new.failed_puts ≡ counted true old.failed_puts
   pub finishes : new.failed_finishes ≡ old.failed_finishes
 
--- one of which the texts of all operations of a plan were taken, and whose flush failed
+-- An update that sent a whole plan, but whose flush failed.
 pub record IsUnfinished (profile : ProfileView) (memory : MemoryView) (virtual : VirtualView) (owed : List ℕ) (old new : WriterView) (begun : List Op) (count : ℕ) (rest : List ℕ) : Type 0 where
   pub sent : IsSent profile memory owed old new begun count rest
   pub plan : IsPlan profile memory virtual begun
@@ -70,23 +70,23 @@ pub record IsUnfinished (profile : ProfileView) (memory : MemoryView) (virtual :
   pub puts : new.failed_puts ≡ old.failed_puts
   pub finishes : new.failed_finishes ≡ counted true old.failed_finishes
 
--- what a fault says of what was sent
+-- What each fault says about what was sent; if memory ran out, nothing was.
 abbrev pub AfterFault : ProfileView → MemoryView → VirtualView → List ℕ → WriterView → WriterView → UpdateFault → List ℕ → Type 0
 AfterFault profile memory virtual owed old new NoMemory rest = (rest ≡ owed) × (new ≡ old)
 AfterFault profile memory virtual owed old new (Write begun sent kind) rest = IsCutShort profile memory virtual owed old new begun sent rest
 AfterFault profile memory virtual owed old new (Flush begun sent kind) rest = IsUnfinished profile memory virtual owed old new begun sent rest
 
--- the operations that were begun before a fault
+-- The operations begun before the fault.
 abbrev pub begun_before : UpdateFault → List Op
 begun_before NoMemory = []
 begun_before (Write begun sent kind) = begun
 begun_before (Flush begun sent kind) = begun
 
--- where the screen was to be painted anew, the operations that were begun are all defined from every state of the profile
+-- If a repaint of the whole screen was requested, the operations begun are defined from every state of the profile.
 abbrev pub IsDefinedAnew : ProfileView → VirtualView → List Op → Type 0
 IsDefinedAnew profile virtual begun = virtual.repaint ≡ true → (state : TerminalState) → IsState (abilities profile) state → IsDefined profile state begun
 
--- what is remembered after a fault: nothing, unless nothing was sent
+-- What is known of the terminal after a fault: nothing, unless memory ran out, which leaves it as it was.
 abbrev pub memory_after : UpdateFault → MemoryView → MemoryView
 memory_after NoMemory memory = memory
 memory_after (Write begun sent kind) memory = forgotten memory
@@ -94,13 +94,14 @@ memory_after (Flush begun sent kind) memory = forgotten memory
 
 -- ---- of a screen
 
--- An update of a screen that ended well: the windows and the picture stay, the screen is no longer to be painted anew, and what is
--- remembered has followed the operations.
+-- A successful update of a screen: windows and picture stay, nothing is marked for repainting any more, and what is
+-- known of the terminal has followed the operations.
 pub record IsShown (old new : ScreenState) (before after : WriterView) (sent : Sent) : Type 0 where
   pub updated : IsUpdated old.profile old.memory old.virtual old.owed before after sent.begun sent.bytes new.owed
   pub screen : new ≡ record old { virtual = settled old.virtual; memory = all_followed old.profile sent.begun old.memory; owed = [] }
 
--- one that ended early: windows, virtual screen and wishes stay
+-- A failed update: windows and virtual screen stay as they were. Only what is known of the terminal and what is owed
+-- may change.
 pub record IsFailed (old new : ScreenState) (before after : WriterView) (fault : UpdateFault) : Type 0 where
   pub fault_told : AfterFault old.profile old.memory old.virtual old.owed before after fault new.owed
   pub screen : new ≡ record old { memory = memory_after fault old.memory; owed = new.owed }
