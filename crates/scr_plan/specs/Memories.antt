@@ -1,4 +1,4 @@
--- What is remembered of a terminal between updates. curs_refresh(3X), 'physical screen'; X/Open Curses Issue 7, clearok(),
+-- What is known of a terminal between updates. curs_refresh(3X), 'physical screen'; X/Open Curses Issue 7, clearok(),
 -- redrawwin().
 use Rattle.std.specs.Prelude.{ℕ, zero, ◌≡◌, ◌+◌, ◌<◌, ◌==◌, ◌&&◌, ◌||◌, not, leb, ltb, Bool, true, false, List, [], ◌∷◌, length, map, replicate, slice_index_or, slice_set, Option, Some, None, if◌then◌else◌}
 use Rattle.std.specs.List.{list_all, range_with_len}
@@ -15,7 +15,8 @@ use Rattle.scr_term.specs.Operations.Profiles.{ProfileView, IsProfile, abilities
 use Rattle.scr_term.specs.Operations.States.{TerminalState, IsState, blank_state}
 use Rattle.scr_term.specs.Operations.Steps.{step}
 
--- A state that the terminal may be in, and how much of it is known to be so: which rows, the cursor's spot, and the pen.
+-- A memory: a state that the terminal may be in, and how much of it is known to be so: which rows, the cursor's
+-- position, the pen.
 pub record MemoryView : Type 0 where
   pub rows : ℕ
   pub columns : ℕ
@@ -24,13 +25,14 @@ pub record MemoryView : Type 0 where
   pub known_spot : Bool
   pub known_pen : Bool
 
--- of a size that a screen may have, with a state of a terminal of that size, and for each row whether it is known
+-- A memory of a valid size: its state is one of a terminal of that size, and for each row it says whether the row is
+-- known.
 pub record IsMemory (memory : MemoryView) : Type 0 where
   pub size : IsSize memory.rows memory.columns
   pub state : IsState (full_abilities memory.rows memory.columns) memory.state
   pub whole : length memory.known_rows ≡ memory.rows
 
--- nothing is known
+-- The memory in which nothing is known.
 abbrev pub unknown : ℕ → ℕ → MemoryView
 unknown rows columns = record {
   rows = rows;
@@ -41,26 +43,27 @@ unknown rows columns = record {
   known_pen = false;
 }
 
+-- Row r is known.
 abbrev pub is_known_row : MemoryView → ℕ → Bool
 is_known_row memory r = slice_index_or memory.known_rows r false
 
--- the looks of a row, where they are known
+-- What row r shows, if it is known.
 abbrev pub row_looks : MemoryView → ℕ → Option (List LookView)
 row_looks memory r = if is_known_row memory r then Some (grid_row memory.state.grid r) else None
 
--- where the cursor is, where that is known
+-- The cursor's position, if it is known.
 abbrev pub spot_if_known : MemoryView → Option Spot
 spot_if_known memory = if memory.known_spot then Some memory.state.spot else None
 
--- what is written with, where that is known
+-- The pen, if it is known.
 abbrev pub pen_if_known : MemoryView → Option PenView
 pen_if_known memory = if memory.known_pen then Some memory.state.pen else None
 
--- every row, the spot and the pen are known
+-- Everything is known: every row, the cursor's position and the pen.
 abbrev pub is_known : MemoryView → Bool
 is_known memory = list_all (λ known. known) memory.known_rows && memory.known_spot && memory.known_pen
 
--- a state of a terminal is as it is remembered, in all that is known
+-- The terminal's state `now` agrees with the memory: it is the same in everything that is known.
 pub record Agrees (abilities : Abilities) (memory : MemoryView) (now : TerminalState) : Type 0 where
   pub is_state : IsState abilities now
   pub may_be : IsState abilities memory.state
@@ -71,11 +74,12 @@ pub record Agrees (abilities : Abilities) (memory : MemoryView) (now : TerminalS
 
 -- ---- what makes it unknown
 
--- all of it
+-- Nothing is known any more.
 abbrev pub forgotten : MemoryView → MemoryView
 forgotten memory = record memory { known_rows = replicate (length memory.known_rows) false; known_spot = false; known_pen = false }
 
--- n rows from one on, as many of them as there are, the spot and the pen: others wrote there
+-- The n rows from `first` on, as far as there are any, are no longer known, nor are the cursor's position and the pen:
+-- others wrote there.
 abbrev pub disturbed : ℕ → ℕ → MemoryView → MemoryView
 disturbed first n memory = record memory {
   known_rows = map (λ r. if leb first r && ltb r (first + n) then false else is_known_row memory r) (range_with_len 0 (length memory.known_rows));
@@ -83,12 +87,12 @@ disturbed first n memory = record memory {
   known_pen = false;
 }
 
--- Others wrote on the terminal: its state is any, but that every row other than these is the same.
+-- Others wrote on the terminal: every row other than these is as before; cursor, pen and these rows may be anything.
 pub record IsDisturbance (abilities : Abilities) (rows : ℕ → Bool) (old new : TerminalState) : Type 0 where
   pub state : IsState abilities new
   pub same : (r : ℕ) → rows r ≡ false → grid_row new.grid r ≡ grid_row old.grid r
 
--- what is remembered without these rows, the spot and the pen, and maybe without further rows
+-- The memory after these rows, the cursor's position and the pen were forgotten, and perhaps further rows.
 pub record IsWithout (lost : ℕ → Bool) (memory less : MemoryView) : Type 0 where
   pub state : less.state ≡ memory.state
   pub high : length less.known_rows ≡ length memory.known_rows
@@ -98,20 +102,20 @@ pub record IsWithout (lost : ℕ → Bool) (memory less : MemoryView) : Type 0 w
 
 -- ---- following an operation
 
--- the cursor is then in the same place wherever it was
+-- The operation takes the cursor to a place that does not depend on where it was.
 abbrev pub places_spot : Op → Bool
 places_spot Home = true
 places_spot (Move row column) = true
 places_spot Clear = true
 places_spot op = false
 
--- the pen is then the same whatever it was
+-- The operation makes the pen one that does not depend on what it was.
 abbrev pub sets_pen : Op → Bool
 sets_pen Reset = true
 sets_pen (Set attrs) = true
 sets_pen op = false
 
--- cells are changed where the cursor is
+-- The operation changes cells at the cursor.
 abbrev pub changes_cells : Op → Bool
 changes_cells EraseLine = true
 changes_cells EraseBelow = true
@@ -119,32 +123,33 @@ changes_cells (EraseChars n) = true
 changes_cells (Put byte) = true
 changes_cells op = false
 
+-- The operation clears the screen.
 abbrev pub clears : Op → Bool
 clears Clear = true
 clears op = false
 
--- a terminal that shows no attribute and no colour has one pen
+-- The terminal shows neither attributes nor colours, so there is only one pen.
 abbrev pub has_one_pen : Abilities → Bool
 has_one_pen abilities = abilities.shown == 0 && not abilities.colours
 
--- the rows from one on are known
+-- All rows from `first` on become known.
 abbrev pub known_from : ℕ → List Bool → List Bool
 known_from first rows = map (λ r. if leb first r then true else slice_index_or rows r false) (range_with_len 0 (length rows))
 
--- a row that is erased from its first column on is known then, and so are all below it that are erased with it
+-- A row that is erased from its first column becomes known, and so do all rows below it that are erased with it.
 abbrev pub rows_erased : Op → Spot → List Bool → List Bool
 rows_erased EraseLine (At r zero) rows = slice_set rows r true
 rows_erased EraseBelow (At r zero) rows = known_from r rows
 rows_erased op spot rows = rows
 
--- The rows that are known after an operation that led to a state: all of a screen that was cleared; none where it is not known where or how
--- cells were changed; else those that were, and those that were erased whole.
+-- The rows known after an operation that led to the state `next`: all after clearing the screen; none if cells were
+-- changed while the cursor's position or the pen was unknown; otherwise those known before, and those erased whole.
 abbrev pub rows_followed : Op → MemoryView → TerminalState → List Bool
 rows_followed op memory next =
     if clears op then replicate (length memory.known_rows) true
     else (if changes_cells op && not (memory.known_spot && memory.known_pen) then replicate (length memory.known_rows) false else rows_erased op next.spot memory.known_rows)
 
--- a state that the terminal may be in, and what is known of it, after an operation that it made
+-- The memory after an operation, given the state that it leads to; nothing is known if it is undefined.
 abbrev pub stepped : Abilities → Op → MemoryView → Option TerminalState → MemoryView
 stepped abilities op memory None = forgotten memory
 stepped abilities op memory (Some next) = record memory {
@@ -154,15 +159,16 @@ stepped abilities op memory (Some next) = record memory {
   known_pen = memory.known_pen || sets_pen op || has_one_pen abilities;
 }
 
+-- The memory after an operation that the terminal carried out.
 abbrev pub followed : ProfileView → Op → MemoryView → MemoryView
 followed profile op memory = stepped (abilities profile) op memory (step profile memory.state op)
 
--- after operations one after another
+-- The same after several operations.
 abbrev pub all_followed : ProfileView → List Op → MemoryView → MemoryView
 all_followed profile [] memory = memory
 all_followed profile (op ∷ ops) memory = all_followed profile ops (followed profile op memory)
 
--- all of a state is known
+-- The memory in which all of this state is known.
 abbrev pub remembered : ℕ → ℕ → TerminalState → MemoryView
 remembered rows columns state = record {
   rows = rows;
@@ -175,10 +181,10 @@ remembered rows columns state = record {
 
 -- ---- the laws
 
--- Where a state agrees with what is remembered and an operation is defined from it, the state after it agrees with what is
--- remembered then, and where all was known, all is. What is forgotten agrees with every state. Where others wrote in some rows, the
--- state agrees with what is remembered without these rows, the spot and the pen; a mark leaves its rows out, and several marks
--- leave out the rows of each.
+-- If a state agrees with the memory and an operation is defined there, the state after it agrees with the memory after
+-- it; if all was known, all stays known. After forgetting, every state agrees. After others wrote in some rows, the
+-- state agrees with the memory without these rows, cursor and pen. A mark forgets its rows, and several marks forget
+-- the rows of each.
 pub record MemoryLaws : Type 0 where
   pub follows : (profile : ProfileView) → IsProfile profile → (memory : MemoryView) (old new : TerminalState) (op : Op)
       → Agrees (abilities profile) memory old → step profile old op ≡ Some new → Agrees (abilities profile) (followed profile op memory) new

@@ -1,4 +1,4 @@
--- What is remembered after operations one after another, and behind a cleared screen. curs_refresh(3X), doupdate().
+-- What is known after several operations, and after clearing the screen. curs_refresh(3X), doupdate().
 use Rattle.std.specs.Prelude.{◌≡◌, ◌∷◌, ◌++◌, [], true, List, length, Some}
 use Rattle.scr_cells.specs.PictureViews.{PictureView, IsPicture}
 use Rattle.scr_term.specs.declared.operations.operation.Op.{Op}
@@ -11,10 +11,10 @@ use Rattle.scr_plan.specs.Memories.{Agrees, MemoryView, all_followed, is_known, 
 use Rattle.scr_plan.specs.Repaints.{joined_of}
 use Rattle.scr_plan.specs.Scratch.{Fits, resets, scratch_of}
 
--- Where a state agrees with what is remembered and operations are defined from it, the state after them agrees with what is
--- remembered then, and where all was known, all is. Where they are defined from the remembered state, the state after them is
--- remembered. To follow operations and then others is to follow them all, and the size stays. Where nothing is known, every
--- state agrees.
+-- If a state agrees with the memory and operations are defined there, the state after them agrees with the memory after
+-- them; if all was known, all stays known. If they are defined from the remembered state, the state after them is
+-- remembered. Following operations one list after another is following them all, and sizes stay. The memory that knows
+-- nothing agrees with every state.
 pub record MemoryRuns : Type 0 where
   pub follows : (profile : ProfileView) → IsProfile profile → (memory : MemoryView) (old new : TerminalState) (ops : List Op)
       → Agrees (abilities profile) memory old → runs profile old ops ≡ Some new → Agrees (abilities profile) (all_followed profile ops memory) new
@@ -27,13 +27,13 @@ pub record MemoryRuns : Type 0 where
   pub columns : (profile : ProfileView) (memory : MemoryView) (ops : List Op) → (all_followed profile ops memory).columns ≡ memory.columns
   pub at_first : (profile : ProfileView) → IsProfile profile → (now : TerminalState) → IsState (abilities profile) now → Agrees (abilities profile) (unknown profile.rows profile.columns) now
 
--- what is remembered may be so on a terminal that can show this
+-- The remembered state is possible on a terminal with these abilities.
 pub record MayBe (abilities : Abilities) (memory : MemoryView) : Type 0 where
   pub state : IsState abilities memory.state
   pub high : length memory.known_rows ≡ abilities.rows
 
--- Where attributes were turned off and the screen was cleared, all is known after whatever is sent behind it, whatever was known before;
--- so it is after scratch. From whatever state they are defined, the state after them agrees with what is remembered then.
+-- After attributes off and a clear, all is known, whatever was known before and whatever follows; so it is after
+-- scratch. From every state in which they are defined, the state after them agrees with the memory.
 pub record PlansAreRemembered : Type 0 where
   pub cleared : (profile : ProfileView) → IsProfile profile → (memory : MemoryView) → MayBe (abilities profile) memory → (new : TerminalState) (ops : List Op)
       → runs profile memory.state (resets profile ++ Clear ∷ [] ++ ops) ≡ Some new → is_known (all_followed profile (resets profile ++ Clear ∷ [] ++ ops) memory) ≡ true
@@ -42,7 +42,7 @@ pub record PlansAreRemembered : Type 0 where
   pub scratch : (profile : ProfileView) → IsProfile profile → (picture : PictureView) → IsPicture picture → Fits profile picture
       → (memory : MemoryView) → MayBe (abilities profile) memory → is_known (all_followed profile (scratch_of profile picture) memory) ≡ true
 
--- Where all is known, a state that agrees is the remembered one, and the joined repaint is that from this state.
+-- If all is known, the only state that agrees is the remembered one, and the joined repaint is the one from that state.
 pub record KnownMemories : Type 0 where
   pub state : (abilities : Abilities) (memory : MemoryView) (now : TerminalState) → Agrees abilities memory now → is_known memory ≡ true → memory.state ≡ now
   pub all : (abilities : Abilities) (memory : MemoryView) (now : TerminalState) → Agrees abilities memory now → is_known memory ≡ true

@@ -1,4 +1,5 @@
--- What the operations of an update have to be, however they are planned. curs_refresh(3X), doupdate(); X/Open Curses Issue 7, the same.
+-- What the operations of an update must do, however they are chosen. curs_refresh(3X), doupdate(); X/Open Curses Issue
+-- 7, doupdate().
 use Rattle.std.specs.Prelude.{ℕ, ◌≡◌, ◌≤◌, ◌+◌, ◌*◌, true, false, List, [], length, Some}
 use Rattle.scr_cells.specs.PictureViews.{IsPicture}
 use Rattle.scr_virtual.specs.Laws.{HoldsChanges}
@@ -13,11 +14,11 @@ use Rattle.scr_plan.specs.MemoryRuns.{MayBe}
 use Rattle.scr_plan.specs.Repaints.{IsUpToDate, differing, is_none_left, is_placed, joined_of, plain_of, sure_of}
 use Rattle.scr_plan.specs.Scratch.{Fits, RunsToShow, scratch_of}
 
--- From every state that agrees with what is remembered, and from every state of the profile where the screen is to be painted anew, the
--- operations are defined and show the picture. Where what was remembered is a state of the profile, all is known after them, and the state after
--- them agrees with what is remembered then, cursor and pen too, from whatever state the screen was painted anew. They are at most so many for
--- a place; their bytes are no more than those of scratch, and where all was known and the screen is not to be painted anew, no more than those of
--- the joined repaint.
+-- A plan: operations that are defined and show the picture, from every state that agrees with the memory and, if a
+-- repaint was requested, from every state of the profile. If the remembered state is one of the profile, everything is
+-- known after them; after a repaint the memory then agrees with the terminal, whatever its state was. They are at most
+-- 12 for each place, and 4 more. Their bytes are at most those of scratch and, if all was known and no repaint was
+-- requested, at most those of the joined repaint.
 pub record IsPlan (profile : ProfileView) (memory : MemoryView) (virtual : VirtualView) (ops : List Op) : Type 0 where
   pub shows : (old : TerminalState) → Agrees (abilities profile) memory old → RunsToShow profile old ops virtual.picture
   pub anew : virtual.repaint ≡ true → (old : TerminalState) → IsState (abilities profile) old → RunsToShow profile old ops virtual.picture
@@ -34,16 +35,16 @@ PlansAreMade =
     (profile : ProfileView) → IsProfile profile → (virtual : VirtualView) → IsPicture virtual.picture → Fits profile virtual.picture
     → (memory : MemoryView) → IsPlan profile memory virtual (sure_of profile memory virtual)
 
--- Where all is known and the screen is not to be painted anew, a plan has no more bytes than the plain repaint, and none where no place
--- differs and the cursor is as wished.
+-- If all is known and no repaint was requested, a plan has no more bytes than the plain repaint, and none if no place
+-- differs and the cursor is where it should be.
 pub record PlanIsCheap : Type 0 where
   pub plain : (profile : ProfileView) (memory : MemoryView) (virtual : VirtualView) (ops : List Op) → IsPlan profile memory virtual ops → is_known memory ≡ true → virtual.repaint ≡ false
       → length (all_bytes profile ops) ≤ length (all_bytes profile (plain_of profile memory virtual.picture))
   pub none : (profile : ProfileView) (memory : MemoryView) (virtual : VirtualView) (ops : List Op) → IsPlan profile memory virtual ops → is_known memory ≡ true → virtual.repaint ≡ false
       → is_none_left (differing profile virtual.picture memory) ≡ true → is_placed memory virtual.picture.wish ≡ true → all_bytes profile ops ≡ []
 
--- What keeps a known row as the picture is, but for the columns that may look otherwise: all that happens to the virtual screen and to
--- what is remembered between updates, and an update that ends well, which makes it so in every column.
+-- What keeps the memory up to date: everything that happens to virtual screen and memory between updates, and a
+-- successful update, after which known rows show the picture in every column.
 pub record UpToDateLaws : Type 0 where
   pub at_first : (profile : ProfileView) (rows columns : ℕ) (virtual : VirtualView) → IsUpToDate profile (unknown rows columns) virtual
   pub forgets : (profile : ProfileView) (memory : MemoryView) (virtual : VirtualView) → IsUpToDate profile (forgotten memory) virtual
