@@ -9,15 +9,15 @@ pub record DisplayView : Type 0 where
   pub columns : ℕ
   pub state : TerminalState
 
--- it shows every attribute, and colours
+-- The emulated terminal has a valid size and a state of that size; it shows every attribute, and colours.
 pub record IsDisplay (display : DisplayView) : Type 0 where
   pub size : IsSize display.rows display.columns
   pub state : IsState (full_abilities display.rows display.columns) display.state
 
--- blanks everywhere, the cursor at the first place, no attribute on, default colours
+-- Blanks everywhere, the cursor in the first place, no attribute on, default colours.
 abbrev pub blank_display : ℕ → ℕ → DisplayView
 blank_display rows columns = record { rows = rows; columns = columns; state = blank_state rows columns }
 
--- a display that went on to a state, or stayed where there is none
+-- The emulated terminal in its next state, or unchanged if there is none.
 abbrev pub gone_on : DisplayView → Option TerminalState → DisplayView
 gone_on display next = record display { state = unwrap_or next display.state }

@@ -1,4 +1,4 @@
--- The texts that a terminal is sent: their units, what a unit means, and a screen that is fed a text in pieces.
+-- The text sent to a terminal: its units, what each unit means, and a screen that receives the text in pieces.
 pub mod Units
 pub mod Meanings
 pub mod Screens

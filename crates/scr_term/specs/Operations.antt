@@ -1,4 +1,5 @@
--- The operations of a terminal: what is known of it, its states, what an operation does and which bytes are sent for it.
+-- The operations of a terminal: what is known of the terminal, its states, what an operation does and which bytes it
+-- sends.
 pub mod Abilities
 pub mod Capabilities
 pub mod Profiles

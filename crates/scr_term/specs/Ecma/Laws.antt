@@ -1,11 +1,11 @@
--- The laws of ECMA-48 texts and of the screens that are fed them.
+-- The laws of ECMA-48 texts and of the screens that receive them.
 use Rattle.std.specs.Prelude.{ℕ, ◌≡◌, ◌++◌, false, List, [], ◌⊎◌}
 use Rattle.scr_term.specs.Operations.States.{TerminalState}
 use Rattle.scr_term.specs.Ecma.Screens.{ScreenView, IsScreen, IsFed}
 use Rattle.scr_term.specs.Ecma.Units.{EcmaUnit, IsDivision, IsWaiting}
 use Rattle.scr_term.specs.Ecma.Meanings.{Leads}
 
--- A text has at most one division into units and a rest that is nothing or waits.
+-- A text can be divided in at most one way into units and a rest that is empty or the beginning of a unit.
 abbrev pub HasOneDivision : Type 0
 HasOneDivision =
     (text : List ℕ) (units others : List EcmaUnit) (rest other : List ℕ)
@@ -13,12 +13,13 @@ HasOneDivision =
     → IsDivision text others other → (other ≡ []) ⊎ IsWaiting other
     → (units ≡ others) × (rest ≡ other)
 
--- What a screen is after a piece is determined by the piece, and it does not matter how a text was cut into pieces.
+-- What a screen is after a piece is determined by the piece, and does not depend on how a text was cut into pieces.
 pub record PiecesDoNotMatter : Type 0 where
   pub one : (old new other : ScreenView) (piece : List ℕ) → IsScreen old → IsFed old piece new → IsFed old piece other → new ≡ other
   pub cut : (old between new : ScreenView) (piece next : List ℕ) → IsScreen old → IsFed old piece between → IsFed between next new → IsFed old (piece ++ next) new
 
--- A screen that is fed whole units, all defined, that lead from its state to another, is then in that state.
+-- If a text is whole units that lead from the screen's state to another, the screen is in that state after receiving
+-- it.
 abbrev pub ScreensFollowTexts : Type 0
 ScreensFollowTexts =
     (old new : ScreenView) (text : List ℕ) (state : TerminalState)

@@ -1,4 +1,4 @@
--- A screen that is fed an ECMA-48 text in pieces.
+-- A screen that receives an ECMA-48 text in pieces.
 use Rattle.std.specs.Prelude.{ℕ, ◌≡◌, ◌++◌, Bool, true, false, List, [], Some, None, ◌⊎◌}
 use Rattle.scr_cells.specs.PictureViews.{IsSize}
 use Rattle.scr_term.specs.Operations.States.{TerminalState, IsState, blank_state}
@@ -6,8 +6,8 @@ use Rattle.scr_term.specs.Operations.Abilities.{full_abilities}
 use Rattle.scr_term.specs.Ecma.Units.{EcmaUnit, IsUnit, IsDivision, IsWaiting, BeginsNoUnit, spelling}
 use Rattle.scr_term.specs.Ecma.Meanings.{meaning, meanings}
 
--- its size, its state after the last whole unit, the part of a unit that came after that, and whether
--- something undefined came
+-- A screen's size; its state after the last whole unit; the beginning of a unit received since; and whether it received
+-- something undefined.
 pub record ScreenView : Type 0 where
   pub rows : ℕ
   pub columns : ℕ
@@ -15,14 +15,15 @@ pub record ScreenView : Type 0 where
   pub waiting : List ℕ
   pub undefined : Bool
 
--- a screen as it may be: it shows every attribute and colours; an undefined one is not waiting
+-- What a screen may be: of a valid size, showing every attribute and colours. After something undefined it waits for
+-- nothing.
 pub record IsScreen (screen : ScreenView) : Type 0 where
   pub size : IsSize screen.rows screen.columns
   pub state : IsState (full_abilities screen.rows screen.columns) screen.state
   pub waiting : (screen.waiting ≡ []) ⊎ IsWaiting screen.waiting
   pub undefined : screen.undefined ≡ true → screen.waiting ≡ []
 
--- blanks everywhere, the cursor at the first place, no attribute on, default colours, and nothing came yet
+-- A new screen: blanks, the cursor in the first place, no attribute on, default colours, nothing received.
 abbrev pub blank_screen : ℕ → ℕ → ScreenView
 blank_screen rows columns = record {
   rows = rows;
@@ -32,7 +33,7 @@ blank_screen rows columns = record {
   undefined = false;
 }
 
--- The text is whole units that are all defined, and then nothing or a part of one.
+-- The text is whole units, all defined, followed by nothing or by the beginning of a unit.
 pub record GoesOn (old : ScreenView) (text : List ℕ) (new : ScreenView) : Type 0 where
   pub units : List EcmaUnit
   pub division : IsDivision text units new.waiting
@@ -40,14 +41,15 @@ pub record GoesOn (old : ScreenView) (text : List ℕ) (new : ScreenView) : Type
   pub waiting : (new.waiting ≡ []) ⊎ IsWaiting new.waiting
   pub defined : new.undefined ≡ false
 
--- What comes next is a unit that is undefined in this state, or begins no unit.
+-- What comes next is a unit that is undefined in this state, or no beginning of a unit.
 abbrev pub IsUndefinedAt : ScreenView → List ℕ → Type 0
 IsUndefinedAt screen rest =
     ((unit : EcmaUnit) × (more : List ℕ) × IsUnit unit × (rest ≡ spelling unit ++ more)
     × (meaning screen.rows screen.columns screen.state unit ≡ None))
     ⊎ BeginsNoUnit rest
 
--- The text is whole units that are all defined, and then something undefined: the screen stays as after the last good unit.
+-- The text is whole units, all defined, followed by something undefined. The screen stays as it was after the last good
+-- unit.
 pub record Stops (old : ScreenView) (text : List ℕ) (new : ScreenView) : Type 0 where
   pub units : List EcmaUnit
   pub rest : List ℕ
@@ -57,7 +59,8 @@ pub record Stops (old : ScreenView) (text : List ℕ) (new : ScreenView) : Type 
   pub waiting : new.waiting ≡ []
   pub undefined : new.undefined ≡ true
 
--- What a piece does: its text is the waiting part followed by the piece. An undefined screen stays as it is.
+-- What receiving a piece does: the text that counts is the waiting part followed by the piece. An undefined screen
+-- stays as it is.
 pub record IsFed (old : ScreenView) (piece : List ℕ) (new : ScreenView) : Type 0 where
   pub rows : new.rows ≡ old.rows
   pub columns : new.columns ≡ old.columns

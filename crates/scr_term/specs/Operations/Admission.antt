@@ -22,32 +22,34 @@ use Rattle.scr_term.specs.Operations.Profiles.{ProfileView}
 
 -- ---- the profile
 
--- a text with a byte in it
+-- The text, if it is not empty.
 abbrev pub some_text : List ℕ → Option (List ℕ)
 some_text [] = None
 some_text (byte ∷ bytes) = Some (byte ∷ bytes)
 
--- what an entry has a terminal sent for a capability: its text without padding; none where nothing is left of it
+-- What the entry sends for a capability: its text without padding; none if nothing is left of it.
 abbrev pub sent_text : Description → Capability → Option (List ℕ)
 sent_text entry capability = option_and_then (λ text. some_text (stripped text)) (text_at entry (slot_of capability).0)
 
--- its program, if it is one
+-- The program of that text, if it is one.
 abbrev pub planned_program : Description → Capability → Option Tree
 planned_program entry capability = option_and_then parsed (sent_text entry capability)
 
--- at least eight colours and 64 pairs, and no attribute that cannot be shown with a colour
+-- The number is present and at least this.
 abbrev pub is_at_least : ℕ → Option ℕ → Bool
 is_at_least least None = false
 is_at_least least (Some n) = nat_le least n
 
+-- The number is 0 or absent.
 abbrev pub is_zero_or_absent : Option ℕ → Bool
 is_zero_or_absent None = true
 is_zero_or_absent (Some n) = n == 0
 
+-- The entry promises eight colours and 64 pairs, and every attribute can be shown with a colour.
 abbrev pub has_palette : Description → Bool
 has_palette entry = is_at_least 8 (number_at entry COLORS.0) && is_at_least 64 (number_at entry PAIRS.0) && is_zero_or_absent (number_at entry NCV.0)
 
--- the profile that an entry makes on a screen of some size
+-- The profile that the entry makes on a screen of this size.
 unfoldable pub admitted : Description → ℕ → ℕ → ProfileView
 admitted entry rows columns = record {
   rows = rows;
@@ -59,115 +61,128 @@ admitted entry rows columns = record {
 
 -- ---- the refusals, in their order
 
--- the first element of which a test says yes, and the first option that is some
+-- The first element that passes the test.
 abbrev pub first_where : {A : Type 0} → (A → Bool) → List A → Option A
 first_where test [] = None
 first_where test (x ∷ xs) = if test x then Some x else first_where test xs
 
+-- The first option that has a value.
 abbrev pub first_some : {A : Type 0} → List (Option A) → Option A
 first_some [] = None
 first_some (x ∷ xs) = or_else x (first_some xs)
 
--- whether a flag or a number is present, which no suitable terminal has
+-- The flag, number or text is present.
 abbrev pub is_present : Description → Kind × Slot → Bool
 is_present entry (kind.Flag, slot) = flag_at entry slot.0
 is_present entry (kind.Number, slot) = is_some (number_at entry slot.0)
 is_present entry (kind.Text, slot) = is_some (text_at entry slot.0)
 
--- the capabilities of printing and overstriking terminals, and of others that do not show each cell for itself
+-- The capabilities of printing and overstriking terminals, and of others that do not show each cell by itself.
 abbrev pub unsuitable_capabilities : List (Kind × Slot)
 unsuitable_capabilities =
     (kind.Flag, HC) ∷ (kind.Flag, OS) ∷ (kind.Flag, GN) ∷ (kind.Flag, HZ) ∷ (kind.Flag, UL) ∷ (kind.Flag, XHP) ∷ (kind.Flag, XT)
     ∷ (kind.Flag, SAM) ∷ (kind.Number, XMC) ∷ []
 
--- a text is no parameter string, or its runs could find the stack full
+-- The text cannot be run: it is not a parameter string, or a run could overflow its stack of 20.
 abbrev pub is_unreadable : Option Tree → Bool
 is_unreadable None = true
 is_unreadable (Some program) = nat_lt 20 (depth program)
 
+-- The entry has a text for this capability that cannot be run.
 abbrev pub is_bad_string : Description → Capability → Bool
 is_bad_string entry capability = is_some (sent_text entry capability) && is_unreadable (planned_program entry capability)
 
--- a run could write more than 1,024 bytes
+-- A run of this program could send more than 1,024 bytes.
 abbrev pub is_over_bound : Option Tree → Bool
 is_over_bound None = false
 is_over_bound (Some program) = nat_lt 1024 (bound program)
 
+-- A run of this capability could send more than 1,024 bytes.
 abbrev pub is_long_string : Description → Capability → Bool
 is_long_string entry capability = is_over_bound (planned_program entry capability)
 
--- a capability as faults name it
+-- How faults name a capability.
 abbrev pub named_text : Capability → Kind × Slot
 named_text capability = (kind.Text, slot_of capability)
 
--- how many rows and columns there are: those that are given, else the entry's
+-- Both numbers, if both are there.
 abbrev pub number_pair : Option ℕ → Option ℕ → Option (ℕ × ℕ)
 number_pair (Some rows) (Some columns) = Some (rows, columns)
 number_pair _ _ = None
 
+-- The size of the screen: the one given, else the entry's.
 abbrev pub screen_size : Description → Option Size → Option (ℕ × ℕ)
 screen_size entry (Some size) = Some (size.rows, size.columns)
 screen_size entry None = number_pair (number_at entry LINES.0) (number_at entry COLS.0)
 
+-- A number of rows or columns that a screen may have.
 abbrev pub is_screen_length : ℕ → Bool
 is_screen_length n = nat_le 1 n && nat_le n 500
 
+-- There is no size, or it is not from 1 to 500 rows and columns.
 abbrev pub size_fault : Option (ℕ × ℕ) → Option ProfileFault
 size_fault None = Some NoSize
 size_fault (Some size) = if is_screen_length size.0 && is_screen_length size.1 then None else Some BadSize
 
--- what is against an entry, one by one
+-- The first unsuitable capability that the entry has.
 abbrev pub unsuitable_fault : Description → Option ProfileFault
 unsuitable_fault entry = option_map Unsuitable (first_where (is_present entry) unsuitable_capabilities)
 
+-- The entry has `am` without `xenl`, so the cursor leaves a row as soon as its last column is written.
 abbrev pub margin_fault : Description → Option ProfileFault
 margin_fault entry = if flag_at entry AM.0 && not (flag_at entry XENL.0) then Some AutoMargin else None
 
+-- The entry sends nothing for this capability.
 abbrev pub is_missing : Description → Capability → Bool
 is_missing entry capability = is_none (sent_text entry capability)
 
+-- `cup` or `clear` is missing.
 abbrev pub missing_fault : Description → Option ProfileFault
 missing_fault entry = option_map (λ c. Missing (named_text c)) (first_where (is_missing entry) (Cup ∷ Clear ∷ []))
 
+-- The first capability whose text cannot be run.
 abbrev pub bad_fault : Description → Option ProfileFault
 bad_fault entry = option_map (λ c. BadString (named_text c)) (first_where (is_bad_string entry) each_capability)
 
+-- The first capability whose run could send too many bytes.
 abbrev pub long_fault : Description → Option ProfileFault
 long_fault entry = option_map (λ c. LongString (named_text c)) (first_where (is_long_string entry) each_capability)
 
--- Why an entry and a size make no profile, in order: the first that there is counts.
+-- Why an entry and a size make no profile, in order; the first that applies counts.
 abbrev pub refusals : Description → Option Size → List (Option ProfileFault)
 refusals entry size =
     unsuitable_fault entry ∷ margin_fault entry ∷ missing_fault entry ∷ size_fault (screen_size entry size) ∷ bad_fault entry ∷ long_fault entry ∷ []
 
+-- The reason that counts, if there is one.
 unfoldable pub refusal : Description → Option Size → Option ProfileFault
 refusal entry size = first_some (refusals entry size)
 
--- The entry makes this profile, and nothing is against it.
+-- The entry makes this profile on a screen of this size.
 abbrev pub admitted_on : Description → Option (ℕ × ℕ) → ProfileView → Type 0
 admitted_on entry None profile = ⊥
 admitted_on entry (Some size) profile = profile ≡ admitted entry size.0 size.1
 
+-- Nothing is against the entry, and this is its profile.
 pub record IsAdmitted (entry : Description) (size : Option Size) (profile : ProfileView) : Type 0 where
   pub suits : refusal entry size ≡ None
   pub made : admitted_on entry (screen_size entry size) profile
 
--- A refusal is the first that there is, or memory ran out.
+-- The refusal is the first reason that applies, or memory ran out.
 abbrev pub IsRefused : Description → Option Size → ProfileFault → Type 0
 IsRefused entry size fault = (fault ≡ NoMemory) ⊎ (refusal entry size ≡ Some fault)
 
--- Memory ran out: nothing was against the entry that is looked at before its texts are.
+-- Memory ran out: nothing was against the flags and numbers of the entry, which are looked at before its texts.
 pub record RanOut (entry : Description) : Type 0 where
   pub suitable : unsuitable_fault entry ≡ None
   pub margin : margin_fault entry ≡ None
 
--- the profile of the bundled entry on a screen of some size
+-- The profile of the bundled entry on a screen of some valid size.
 pub record IsEcma48 (profile : ProfileView) : Type 0 where
   pub size : IsSize profile.rows profile.columns
   pub entry : Description
   pub bundled : IsBundled entry
   pub made : profile ≡ admitted entry profile.rows profile.columns
 
--- the bundled entry makes this profile on a screen of this size, and nothing is against it
+-- The bundled entry makes this profile on a screen of this size, and nothing is against it.
 abbrev pub IsBundledAdmitted : Size → ProfileView → Type 0
 IsBundledAdmitted size profile = (entry : Description) × (IsBundled entry × IsAdmitted entry (Some size) profile)

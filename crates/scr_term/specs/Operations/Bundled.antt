@@ -1,4 +1,4 @@
--- The bundled entry's profile is the one whose bytes are spoken of.
+-- The bundled entry's profile is the one that the laws on bytes are about.
 use Rattle.std.specs.Prelude.{Option}
 use Rattle.scr_cells.specs.declared.sizes.Size.{Size}
 use Rattle.ti_caps.specs.Bundled.{IsBundled}
@@ -6,6 +6,6 @@ use Rattle.ti_caps.specs.Description.{Description}
 use Rattle.scr_term.specs.Operations.Admission.{IsAdmitted, IsEcma48}
 use Rattle.scr_term.specs.Operations.Profiles.{ProfileView}
 
--- on a screen of any size, and of its own
+-- On a screen of any size, and of its own size, the bundled entry's profile meets `IsEcma48`.
 abbrev pub BundledIsEcma48 : Type 0
 BundledIsEcma48 = (entry : Description) (size : Option Size) (profile : ProfileView) → IsBundled entry → IsAdmitted entry size profile → IsEcma48 profile

@@ -5,7 +5,7 @@ use Rattle.ti_caps.specs.declared.slots.TheConstants.{CR, CLEAR, EL, ED, HPA, CU
 use Rattle.scr_term.specs.declared.operations.capability.Capability.{Capability}
 use Rattle.scr_term.specs.declared.operations.capability.Capability.TheVariants.{Cr, Clear, El, Ed, Hpa, Cup, Cud1, Home, Cub1, Cuf1, Cuu1, Blink, Bold, Dim, Invis, Rev, Smso, Smul, Ech, Sgr0, Cud, Cub, Cuf, Cuu, Vpa, Sgr, Op, Setaf, Setab}
 
--- its position among the texts of an entry
+-- The position of a capability among the texts of an entry.
 abbrev pub slot_of : Capability → Slot
 slot_of Cr = CR
 slot_of Clear = CLEAR
@@ -37,13 +37,13 @@ slot_of Op = OP
 slot_of Setaf = SETAF
 slot_of Setab = SETAB
 
--- all of them, in the order of their positions
+-- All of these capabilities, in the order of their positions.
 abbrev pub each_capability : List Capability
 each_capability =
     Cr ∷ Clear ∷ El ∷ Ed ∷ Hpa ∷ Cup ∷ Cud1 ∷ Home ∷ Cub1 ∷ Cuf1 ∷ Cuu1 ∷ Blink ∷ Bold ∷ Dim ∷ Invis ∷ Rev ∷ Smso ∷ Smul ∷ Ech
     ∷ Sgr0 ∷ Cud ∷ Cub ∷ Cuf ∷ Cuu ∷ Vpa ∷ Sgr ∷ Op ∷ Setaf ∷ Setab ∷ []
 
--- its number among them, from 0
+-- The number of a capability in this list, from 0.
 abbrev pub ordinal : Capability → ℕ
 ordinal Cr = 0
 ordinal Clear = 1

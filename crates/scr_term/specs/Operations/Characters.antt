@@ -1,4 +1,4 @@
--- The characters that operations begin with, as far as a row takes them. terminfo(5), 'Basic Capabilities'.
+-- The characters at the front of a list of operations, as far as the row has room. terminfo(5), 'Basic Capabilities'.
 use Rattle.std.specs.Prelude.{ℕ, suc, ◌-◌, Bool, false, List, [], ◌∷◌, take, if◌then◌else◌}
 use Rattle.scr_cells.specs.CellViews.{is_character}
 use Rattle.scr_term.specs.declared.operations.operation.Op.{Op}
@@ -6,21 +6,21 @@ use Rattle.scr_term.specs.declared.operations.operation.Op.TheVariants.{Put}
 use Rattle.scr_term.specs.declared.operations.operation.Spot.{Spot}
 use Rattle.scr_term.specs.declared.operations.operation.Spot.TheVariants.{At, Margin}
 
--- an operation writes a character
+-- The operation writes a character.
 abbrev pub is_character_op : Op → Bool
 is_character_op (Put byte) = is_character byte
 is_character_op op = false
 
--- how many characters operations begin with
+-- The number of characters that operations begin with.
 abbrev pub characters_first : List Op → ℕ
 characters_first [] = 0
 characters_first (op ∷ ops) = if is_character_op op then suc (characters_first ops) else 0
 
--- how many places there are from the cursor to the end of its row; none at the margin
+-- The number of places from the cursor to the end of its row; none at the margin.
 abbrev pub places_ahead : ℕ → Spot → ℕ
 places_ahead columns (At r c) = columns - c
 places_ahead columns (Margin r) = 0
 
--- how many of these characters the cursor's row takes
+-- The number of these characters that fit into the cursor's row.
 abbrev pub characters_ahead : ℕ → Spot → List Op → ℕ
 characters_ahead columns spot ops = characters_first (take (places_ahead columns spot) ops)

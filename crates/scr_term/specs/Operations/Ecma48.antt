@@ -1,4 +1,4 @@
--- The profile of the bundled entry, and what can be relied on of it. ECMA-48, 8.3; terminfo(5), 'Predefined Capabilities'.
+-- The profile of the bundled entry, and what can be relied on. ECMA-48, 8.3; terminfo(5), 'Predefined Capabilities'.
 use Rattle.std.specs.Prelude.{ℕ, ◌≡◌, true, map, Option, option_and_then}
 use Rattle.ti_caps.specs.Bundled.{bundled_texts, listed}
 use Rattle.ti_param.specs.Parsed.{parsed}
@@ -10,12 +10,12 @@ use Rattle.scr_term.specs.Operations.Admission.{IsEcma48, some_text}
 use Rattle.scr_term.specs.Operations.Capabilities.{each_capability, slot_of}
 use Rattle.scr_term.specs.Operations.Profiles.{ProfileView, IsProfile, abilities}
 
--- the program of a capability in the bundled entry
+-- The program of a capability in the bundled entry.
 abbrev pub bundled_program : Capability → Option Tree
 bundled_program capability =
     option_and_then parsed (option_and_then (λ text. some_text (stripped text)) (listed bundled_texts (slot_of capability).0))
 
--- its profile on a screen of some size
+-- The profile of the bundled entry on a screen of this size.
 unfoldable pub ecma48_profile : ℕ → ℕ → ProfileView
 ecma48_profile rows columns = record {
   rows = rows;
@@ -25,7 +25,7 @@ ecma48_profile rows columns = record {
   palette = true;
 }
 
--- The bundled entry makes this profile, which is one, and its terminal shows every attribute and colours.
+-- The bundled entry makes this profile; the profile is valid, and its terminal shows every attribute and colours.
 pub record Ecma48Laws : Type 0 where
   pub made : (profile : ProfileView) → IsEcma48 profile → profile ≡ ecma48_profile profile.rows profile.columns
   pub is_profile : (profile : ProfileView) → IsEcma48 profile → IsProfile profile

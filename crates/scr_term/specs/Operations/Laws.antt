@@ -12,7 +12,7 @@ use Rattle.scr_term.specs.Ecma.Meanings.{Leads}
 use Rattle.scr_term.specs.declared.operations.operation.Op.{Op}
 use Rattle.scr_term.specs.declared.operations.operation.Op.TheVariants.{Move, Clear, Reset, Enter, Fore, Back, Put}
 
--- The bytes of an operation do to the negative of a state what its step does.
+-- On the bundled entry, the bytes of an operation do to the negative of a state what the operation does to the state.
 abbrev pub BytesActAsTheirOperation : Type 0
 BytesActAsTheirOperation =
     (profile : ProfileView) → IsEcma48 profile
@@ -20,7 +20,7 @@ BytesActAsTheirOperation =
     → (op : Op) → step profile old op ≡ Some new
     → Leads profile.rows profile.columns (negative_state old) (bytes_of profile op) (negative_state new)
 
--- The bytes of operations do to the negative of a state what their run does.
+-- The same for the bytes of several operations, one after another.
 abbrev pub BytesActAsTheirOperations : Type 0
 BytesActAsTheirOperations =
     (profile : ProfileView) → IsEcma48 profile
@@ -28,7 +28,7 @@ BytesActAsTheirOperations =
     → (ops : List Op) → runs profile old ops ≡ Some new
     → Leads profile.rows profile.columns (negative_state old) (all_bytes profile ops) (negative_state new)
 
--- A step leads from a state of the profile to a state of the profile.
+-- An operation leads from a state of the profile to a state of the profile.
 abbrev pub StepsKeepStates : Type 0
 StepsKeepStates =
     (profile : ProfileView) → IsProfile profile
@@ -36,7 +36,8 @@ StepsKeepStates =
     → (op : Op) → step profile old op ≡ Some new
     → IsState (abilities profile) new
 
--- Runs join, also where the first is undefined, and so do their bytes; a run leads from a state of the profile to one, and has only operations that the profile has.
+-- A run of two lists is the second run after the first, also where the first is undefined; their bytes are joined
+-- likewise. A run leads from a state of the profile to one, and only has operations that the profile has.
 pub record RunLaws : Type 0 where
   pub after : (profile : ProfileView) (old : TerminalState) (ops more : List Op) → runs profile old (ops ++ more) ≡ option_and_then (λ next. runs profile next more) (runs profile old ops)
   pub joined : (profile : ProfileView) (old next : TerminalState) (ops more : List Op) → runs profile old ops ≡ Some next → runs profile old (ops ++ more) ≡ runs profile next more
@@ -50,8 +51,8 @@ pub record BlankLaws : Type 0 where
   pub state : (profile : ProfileView) → IsProfile profile → IsState (abilities profile) (blank_state profile.rows profile.columns)
   pub negative : (rows columns : ℕ) → negative_state (blank_state rows columns) ≡ blank_state rows columns
 
--- What can be relied on: each profile moves the cursor everywhere, clears the screen and writes each character; it can reset
--- what it can turn on, and turn on each attribute and set each colour that it shows; without `sgr0` it shows none.
+-- What can be relied on: a profile can move the cursor everywhere, clear the screen and write each character. It can
+-- turn on each attribute and set each colour that it shows, and reset them; without `sgr0` it shows none.
 pub record HasLaws (profile : ProfileView) : Type 0 where
   pub can_show : AreAbilities (abilities profile)
   pub move : (r c : ℕ) → r < profile.rows → c < profile.columns → has profile (Move r c) ≡ true
@@ -64,6 +65,6 @@ pub record HasLaws (profile : ProfileView) : Type 0 where
   pub plain_set : is_there profile Sgr0 ≡ false → shown_set profile ≡ 0
   pub plain_colours : is_there profile Sgr0 ≡ false → has_colours profile ≡ false
 
--- The same of every profile.
+-- The same for every profile.
 abbrev pub ProfilesHave : Type 0
 ProfilesHave = (profile : ProfileView) → IsProfile profile → HasLaws profile

@@ -1,5 +1,5 @@
--- Where an operation that changes no cell leads: another spot, or another pen, whatever the screen shows. terminfo(5),
--- 'Cursor Motions', 'Highlighting' and 'Color Handling'.
+-- Where an operation that changes no cell leads: to another position or another pen, whatever the screen shows.
+-- terminfo(5), 'Cursor Motions', 'Highlighting' and 'Color Handling'.
 use Rattle.std.specs.Prelude.{◌≡◌, Some}
 use Rattle.scr_cells.specs.PenViews.{PenView}
 use Rattle.scr_term.specs.Operations.Profiles.{ProfileView}
@@ -8,12 +8,12 @@ use Rattle.scr_term.specs.Operations.Steps.{step}
 use Rattle.scr_term.specs.declared.operations.operation.Op.{Op}
 use Rattle.scr_term.specs.declared.operations.operation.Spot.{Spot}
 
--- from every state with this spot and this pen the operation is defined, and leads to the same state with another spot
+-- From every state with this position and pen, the operation is defined and changes only the position, to `next`.
 abbrev pub GoesTo : ProfileView → Spot → PenView → Op → Spot → Type 0
 GoesTo profile spot pen op next =
     (state : TerminalState) → state.spot ≡ spot → state.pen ≡ pen → step profile state op ≡ Some (record state { spot = next })
 
--- from every state with this spot and this pen the operation is defined, and leads to the same state with another pen
+-- From every state with this position and pen, the operation is defined and changes only the pen, to `next`.
 abbrev pub TurnsTo : ProfileView → Spot → PenView → Op → PenView → Type 0
 TurnsTo profile spot pen op next =
     (state : TerminalState) → state.spot ≡ spot → state.pen ≡ pen → step profile state op ≡ Some (record state { pen = next })

@@ -1,4 +1,4 @@
--- What a terminal shows when a picture is painted on it. curs_refresh(3X), 'doupdate'.
+-- What a terminal shows when a picture is painted on it. curs_refresh(3X), doupdate().
 use Rattle.std.specs.Prelude.{ℕ, ◌≡◌, List, map, IfSome}
 use Rattle.scr_cells.specs.CellViews.{CellView}
 use Rattle.scr_cells.specs.LookViews.{LookView, seen, negative_grid}
@@ -7,20 +7,21 @@ use Rattle.scr_term.specs.Operations.Abilities.{Abilities}
 use Rattle.scr_term.specs.Operations.States.{TerminalState}
 use Rattle.scr_term.specs.declared.operations.operation.Spot.TheVariants.{At}
 
--- what is seen of a cell on a terminal that can show this, where the pairs have these colours
+-- What is seen of a cell on a terminal with these abilities, if the pairs have these colours.
 abbrev pub seen_on : Abilities → List (ℕ × ℕ) → CellView → LookView
 seen_on abilities pairs = seen abilities.shown abilities.colours pairs
 
--- at every place, what is seen of the picture's cell
+-- What is seen of the picture's cell, at every place.
 abbrev pub painted : Abilities → PictureView → List (List LookView)
 painted abilities picture = map (map (seen_on abilities picture.pairs)) picture.lines
 
--- the terminal shows the painted picture, and its cursor is where the picture wishes it, if anywhere
+-- The terminal shows the picture: what is seen of it at every place, and the cursor where the picture asks for it, if
+-- it does.
 pub record Shows (abilities : Abilities) (state : TerminalState) (picture : PictureView) : Type 0 where
   pub grid : state.grid ≡ painted abilities picture
   pub spot : IfSome picture.wish (λ wish. state.spot ≡ At wish.0 wish.1)
 
--- a screen shows the negative of the painted picture, and its cursor is where the picture wishes it, if anywhere
+-- The same for a screen that shows the negative.
 pub record ShowsNegative (abilities : Abilities) (state : TerminalState) (picture : PictureView) : Type 0 where
   pub grid : state.grid ≡ negative_grid (painted abilities picture)
   pub spot : IfSome picture.wish (λ wish. state.spot ≡ At wish.0 wish.1)

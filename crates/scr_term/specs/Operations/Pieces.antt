@@ -2,7 +2,7 @@
 use Rattle.std.specs.Prelude.{ℕ, ℤ, List}
 use Rattle.scr_term.specs.declared.operations.capability.Capability.{Capability}
 
--- a character, or the text of a capability with its nine parameters
+-- A character, or the text of a capability with its nine parameters.
 pub data Piece : Type 0 where
   Character : (byte : ℕ) → Piece
   Text : (capability : Capability) (parameters : List ℤ) → Piece

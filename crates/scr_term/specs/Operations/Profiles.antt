@@ -9,8 +9,9 @@ use Rattle.scr_term.specs.declared.operations.capability.Capability.TheVariants.
 use Rattle.scr_term.specs.Operations.Abilities.{Abilities}
 use Rattle.scr_term.specs.Operations.Capabilities.{ordinal}
 
--- The size of its screen; for each capability that operations send the program of its text, or none; whether the cursor can be
--- moved while an attribute or a colour is on (`msgr`); and whether the entry promises eight colours and 64 pairs.
+-- A profile: the size of the screen; for each capability that operations send, the program of its text, or none;
+-- whether the cursor may be moved while an attribute or a colour is on (`msgr`); and whether the entry promises eight
+-- colours and 64 pairs.
 pub record ProfileView : Type 0 where
   pub rows : ℕ
   pub columns : ℕ
@@ -18,14 +19,15 @@ pub record ProfileView : Type 0 where
   pub msgr : Bool
   pub palette : Bool
 
--- the program of a capability, and whether there is one
+-- The program of a capability, if there is one.
 abbrev pub program_of : ProfileView → Capability → Option Tree
 program_of profile capability = slice_index_or profile.programs (ordinal capability) None
 
+-- The capability is there.
 abbrev pub is_there : ProfileView → Capability → Bool
 is_there profile capability = is_some (program_of profile capability)
 
--- the capability that turns on an attribute
+-- The capability that turns on an attribute.
 abbrev pub entering : ℕ → Capability
 entering attribute = if attribute == standout then Smso else
     (if attribute == underline then Smul else
@@ -34,33 +36,34 @@ entering attribute = if attribute == standout then Smso else
     (if attribute == dim then Dim else
     (if attribute == bold then Bold else Invis)))))
 
--- an attribute is shown where it can be turned on, and all can be turned off
+-- The attribute is shown: it can be turned on, and all attributes can be turned off.
 abbrev pub is_shown : ProfileView → ℕ → Bool
 is_shown profile attribute = is_there profile Sgr0 && is_there profile (entering attribute)
 
--- the set of attributes
+-- The set with these attributes.
 abbrev pub set_of : List ℕ → ℕ
 set_of [] = 0
 set_of (attribute ∷ attributes) = bit_or attribute (set_of attributes)
 
--- the attributes that are shown
+-- All attributes that are shown.
 unfoldable pub shown_set : ProfileView → ℕ
 shown_set profile = set_of (filter (is_shown profile) all_attributes)
 
--- colours are shown where both can be set and both be made default again
+-- Colours are shown: the entry promises them, and foreground and background can be set and made default again.
 unfoldable pub has_colours : ProfileView → Bool
 has_colours profile = profile.palette && is_there profile Sgr0 && is_there profile Op && is_there profile Setaf && is_there profile Setab
 
--- what its screen can show
+-- What the profile's screen can show.
 abbrev pub abilities : ProfileView → Abilities
 abilities profile = record { rows = profile.rows; columns = profile.columns; shown = shown_set profile; colours = has_colours profile }
 
--- no run finds its stack full, and none writes more than 1,024 bytes
+-- No run needs a stack of more than 20, and none sends more than 1,024 bytes.
 pub record IsPlanned (program : Tree) : Type 0 where
   pub depth : depth program ≤ 20
   pub bound : bound program ≤ 1024
 
--- of a size that a screen may have, with a place for each capability, and at least `cup` and `clear`
+-- A valid profile: a valid size, a place for each capability, programs with bounded runs, and at least `cup` and
+-- `clear`.
 pub record IsProfile (profile : ProfileView) : Type 0 where
   pub size : IsSize profile.rows profile.columns
   pub whole : length profile.programs ≡ 29

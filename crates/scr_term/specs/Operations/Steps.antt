@@ -1,5 +1,5 @@
--- What each operation does to the state of a terminal. terminfo(5), 'Basic Capabilities', 'Cursor Motions', 'Area Clears',
--- 'Highlighting' and 'Color Handling'.
+-- What each operation does to the state of a terminal. terminfo(5), 'Basic Capabilities', 'Cursor Motions', 'Area
+-- Clears', 'Highlighting' and 'Color Handling'.
 use Rattle.std.specs.Prelude.{ℕ, ◌==◌, ◌||◌, List, [], ◌∷◌, Option, Some, None, option_and_then, if◌then◌else◌}
 use Rattle.scr_cells.specs.LookViews.{blank_grid}
 use Rattle.scr_cells.specs.PenViews.{PenView, is_plain_pen, plain_pen, with_attribute}
@@ -10,24 +10,24 @@ use Rattle.scr_term.specs.declared.operations.operation.Op.{Op}
 use Rattle.scr_term.specs.declared.operations.operation.Op.TheVariants.{Home, Move, Column, Line, Up, Down, Left, Right, Return, Clear, EraseLine, EraseBelow, EraseChars, Reset, Enter, Set, Fore, Back, Put}
 use Rattle.scr_term.specs.declared.operations.operation.Spot.TheVariants.{At}
 
--- a motion; with an attribute or a colour on it is defined where the terminal has `msgr` alone
+-- A motion; with an attribute or a colour on, it is defined only if the terminal has `msgr`.
 abbrev pub motion_made : ProfileView → TerminalState → Option TerminalState → Option TerminalState
 motion_made profile state next = if profile.msgr || is_plain_pen state.pen then next else None
 
--- an erasure; with an attribute or a colour on it is undefined
+-- An erasure; undefined with an attribute or a colour on.
 abbrev pub erasure_made : TerminalState → Option TerminalState → Option TerminalState
 erasure_made state next = if is_plain_pen state.pen then next else None
 
--- the line of the cursor and those below it are erased; undefined but from the first column
+-- The line of the cursor and all lines below it are erased; defined only in the first column.
 abbrev pub lines_below_erased : ℕ → ℕ → TerminalState → Option TerminalState
 lines_below_erased rows columns state =
     from_place state.spot (λ r c. if c == 0 then Some (erased rows columns (is_from_place r c) state) else None)
 
--- another pen, with which a character can be written; undefined at the margin
+-- The pen is changed so that characters can be written with it; undefined at the margin.
 abbrev pub coloured : TerminalState → PenView → Option TerminalState
 coloured state pen = from_place state.spot (λ _ _. Some (record state { pen = pen }))
 
--- what an operation that the terminal has does
+-- What an operation that the terminal has does.
 abbrev pub act : ProfileView → TerminalState → Op → Option TerminalState
 act profile state Home = motion_made profile state (moved_to profile.rows profile.columns state 0 0)
 act profile state (Move r c) = motion_made profile state (moved_to profile.rows profile.columns state r c)
@@ -49,11 +49,11 @@ act profile state (Fore n) = coloured state (record state.pen { foreground = Som
 act profile state (Back n) = coloured state (record state.pen { background = Some n })
 act profile state (Put byte) = character_written profile.columns state byte
 
--- the state after an operation, or none where it is undefined
+-- The state after an operation; none if it is undefined.
 abbrev pub step : ProfileView → TerminalState → Op → Option TerminalState
 step profile state op = if has profile op then act profile state op else None
 
--- the state after operations one after another, or none where one of them is undefined
+-- The state after several operations; none if one of them is undefined.
 abbrev pub runs : ProfileView → TerminalState → List Op → Option TerminalState
 runs profile state [] = Some state
 runs profile state (op ∷ ops) = option_and_then (λ next. runs profile next ops) (step profile state op)

@@ -13,33 +13,35 @@ use Rattle.scr_term.specs.declared.operations.operation.Op.TheVariants.{Home, Mo
 use Rattle.scr_term.specs.Operations.Pieces.{Piece, Character, Text}
 use Rattle.scr_term.specs.Operations.Profiles.{ProfileView, entering, has_colours, is_shown, is_there, program_of, shown_set}
 
--- the nine parameters of a text, of which these are the first and the others are 0
+-- The nine parameters of a text: these first, and zeros after them.
 abbrev pub nine : List ℤ → List ℤ
 nine first = take 9 (first ++ replicate 9 (pos 0))
 
--- the text of a capability without parameters, with a number, and with two
+-- The text of a capability without parameters.
 abbrev pub text : Capability → Piece
 text capability = Text capability (nine [])
 
+-- The text of a capability with one number.
 abbrev pub text_of_one : Capability → ℕ → Piece
 text_of_one capability n = Text capability (nine (pos n ∷ []))
 
+-- The text of a capability with two numbers.
 abbrev pub text_of_two : Capability → ℕ → ℕ → Piece
 text_of_two capability n m = Text capability (nine (pos n ∷ pos m ∷ []))
 
--- a motion by one place where the terminal has a text for it, else by a number of places
+-- A motion by one place, if the terminal has a text for that; otherwise by a number of places.
 abbrev pub motion : ProfileView → Capability → Capability → ℕ → Piece
 motion profile one many n = if n == 1 && is_there profile one then text one else text_of_one many n
 
--- 1 for an attribute of a set
+-- 1 for an attribute in the set, 0 for another.
 abbrev pub one_if_in : ℕ → ℕ → ℤ
 one_if_in set attribute = if bit_and set attribute == attribute then pos 1 else pos 0
 
--- the parameters of `sgr`: one for each attribute in its order, and none for protected and alternate characters
+-- The parameters of `sgr`: one for each attribute in its order; protected and alternate characters are never asked for.
 abbrev pub renditions_of : ℕ → List ℤ
 renditions_of set = nine (map (one_if_in set) (standout ∷ underline ∷ reverse ∷ blink ∷ dim ∷ bold ∷ invis ∷ []))
 
--- what an operation sends, or sends first
+-- What an operation sends, or sends first.
 abbrev pub first_piece : ProfileView → Op → Piece
 first_piece profile Home = text capability.Home
 first_piece profile (Move r c) = text_of_two capability.Cup r c
@@ -61,34 +63,35 @@ first_piece profile (Fore n) = text_of_one capability.Setaf n
 first_piece profile (Back n) = text_of_one capability.Setab n
 first_piece profile (Put byte) = Character byte
 
--- the operations behind which the colours are the default ones
+-- After these operations the colours are the default ones.
 abbrev pub resets_colours : Op → Bool
 resets_colours Reset = true
 resets_colours (Set a) = true
 resets_colours _ = false
 
--- all that an operation sends: where there are colours, `op` makes them the default ones
+-- Everything that an operation sends. Where there are colours, `op` follows an operation that resets them.
 abbrev pub pieces : ProfileView → Op → List Piece
 pieces profile op =
     first_piece profile op ∷ (if resets_colours op && has_colours profile then text capability.Op ∷ [] else [])
 
--- a terminal can be sent each character, and the texts that it has
+-- The terminal can be sent this piece: any character, and the texts that it has.
 abbrev pub is_sendable : ProfileView → Piece → Bool
 is_sendable profile (Character byte) = true
 is_sendable profile (Text capability parameters) = is_there profile capability
 
--- how many places a motion or an erasure is by
+-- The numbers by which the cursor can be moved or characters erased: 1 to 500.
 abbrev pub is_count : ℕ → Bool
 is_count n = nat_le 1 n && nat_le n 500
 
--- the set has one attribute alone
+-- The set has exactly one attribute.
 abbrev pub is_attribute : ℕ → Bool
 is_attribute set = list_any (λ a. a == set) all_attributes
 
+-- The colour is one of the eight, and the terminal shows colours.
 abbrev pub is_shown_colour : ProfileView → ℕ → Bool
 is_shown_colour profile n = nat_lt n 8 && has_colours profile
 
--- the numbers of an operation are on the screen, its attributes and colours are shown, its byte is a character
+-- The operation's numbers are within the screen, its attributes and colours are shown, and its byte is a character.
 abbrev pub is_within : ProfileView → Op → Bool
 is_within profile (Move r c) = nat_lt r profile.rows && nat_lt c profile.columns
 is_within profile (Column c) = nat_lt c profile.columns
@@ -110,28 +113,29 @@ is_within profile EraseLine = true
 is_within profile EraseBelow = true
 is_within profile Reset = true
 
--- whether the terminal has the operation
+-- The profile has the operation: it is within these limits, and the terminal has the text.
 unfoldable pub has : ProfileView → Op → Bool
 has profile op = is_within profile op && is_sendable profile (first_piece profile op)
 
--- the bytes of an outcome
+-- The bytes of an outcome.
 abbrev pub bytes_in : Outcome → List ℕ
 bytes_in None = []
 bytes_in (Some r) = r.0
 
--- what a program writes for parameters, where all static variables are 0
+-- What a program sends for these parameters when all static variables are 0.
 abbrev pub written : Option Tree → List ℤ → List ℕ
 written None parameters = []
 written (Some program) parameters = bytes_in (value program (start parameters (replicate 26 (pos 0))))
 
+-- The bytes of a piece.
 abbrev pub piece_bytes : ProfileView → Piece → List ℕ
 piece_bytes profile (Character byte) = byte ∷ []
 piece_bytes profile (Text capability parameters) = written (program_of profile capability) parameters
 
--- the bytes that are sent for an operation
+-- The bytes that are sent for an operation.
 unfoldable pub bytes_of : ProfileView → Op → List ℕ
 bytes_of profile op = flat_map (piece_bytes profile) (pieces profile op)
 
--- the bytes of operations one after another
+-- The bytes of several operations, one after another.
 abbrev pub all_bytes : ProfileView → List Op → List ℕ
 all_bytes profile ops = flat_map (bytes_of profile) ops
