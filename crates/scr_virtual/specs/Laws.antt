@@ -1,4 +1,4 @@
--- Laws of virtual screens: what a reader may hold against the definitions of the calls.
+-- Laws of virtual screens: what follows from the definitions of the calls, as a check on them.
 use Rattle.std.specs.Prelude.{ℕ, Bool, true, false, ◌≡◌, ◌+◌, ◌-◌, ◌<◌, ◌≤◌, ◌⊎◌, Some, None, Option, Ok, slice_index_or}
 use Rattle.scr_cells.specs.CellViews.{CellView, blank_cell}
 use Rattle.scr_cells.specs.Grids.{grid_at}
@@ -10,38 +10,39 @@ use Rattle.scr_virtual.specs.VirtualViews.{IsVirtual, VirtualView, altered_at, m
 use Rattle.scr_virtual.specs.Pairs.{set_pair_call}
 use Rattle.scr_virtual.specs.Taking.{take_pad_call, take_window_call}
 
--- the cell of the picture in a row and a column, and what is seen of it on a terminal that shows these attributes, and colours or
--- none
+-- The picture's cell in row r and column c.
 abbrev pub cell_at : VirtualView → ℕ → ℕ → CellView
 cell_at virtual r c = grid_at blank_cell virtual.picture.lines r c
 
+-- What is seen of that cell on a terminal that shows these attributes, and colours or none.
 abbrev pub seen_at : ℕ → Bool → VirtualView → ℕ → ℕ → LookView
 seen_at shown colours virtual r c = seen shown colours virtual.picture.pairs (cell_at virtual r c)
 
--- no range of a row loses a column, and a place outside the new ranges has its cell and looks as before
+-- No range loses a column, and a place outside the new ranges has its cell and look as before.
 pub record HoldsIn (ranges : VirtualView → ℕ → Option (ℕ × ℕ)) (old new : VirtualView) : Type 0 where
   pub grows : (r c : ℕ) → in_range (ranges old r) c ≡ true → in_range (ranges new r) c ≡ true
   pub cells : (r c : ℕ) → r < old.picture.rows → c < old.picture.columns → in_range (ranges new r) c ≡ false → cell_at new r c ≡ cell_at old r c
   pub holds : (shown : ℕ) (colours : Bool) (r c : ℕ) → r < old.picture.rows → c < old.picture.columns → in_range (ranges new r) c ≡ false → seen_at shown colours new r c ≡ seen_at shown colours old r c
 
--- the columns that may have changed, and those that may look otherwise
+-- This holds of both kinds of range: columns that may have changed, and columns that may look different.
 pub record HoldsChanges (old new : VirtualView) : Type 0 where
   pub changed : HoldsIn range_at old new
   pub altered : HoldsIn altered_at old new
 
+-- The ranges hold everything that changed, after each call.
 pub record RangesHoldChanges : Type 0 where
   pub window : (virtual : VirtualView) (desk : DeskView) (win : ℕ) → IsVirtual virtual → HoldsChanges virtual (take_window_call virtual desk win).0.0
   pub pad : (virtual : VirtualView) (desk : DeskView) (win row column top left bottom right : ℕ) → IsVirtual virtual → HoldsChanges virtual (take_pad_call virtual desk win row column top left bottom right).0.0
   pub pair : (virtual : VirtualView) (pair foreground background : ℕ) → IsVirtual virtual → HoldsChanges virtual (set_pair_call virtual pair foreground background).0
   pub mark : (virtual : VirtualView) (row n : ℕ) → IsVirtual virtual → HoldsChanges virtual (marked_rows row n virtual)
-  -- a screen that is settled has no range
+  -- A settled screen has no ranges.
   pub settle : (virtual : VirtualView) (r : ℕ) → (range_at (settled virtual) r ≡ None) × (altered_at (settled virtual) r ≡ None)
 
--- a place is not in an area of so many rows and columns
+-- The place is outside the area with this corner and size.
 abbrev pub IsOutside : ℕ → ℕ → ℕ → ℕ → ℕ → ℕ → Type 0
 IsOutside top left rows columns r c = ((r < top) ⊎ (top + rows ≤ r)) ⊎ ((c < left) ⊎ (left + columns ≤ c))
 
--- a place of the picture that is none of the window's, or not in the pad's rectangle, keeps its cell
+-- A place of the picture outside the window, or outside the pad's rectangle, keeps its cell.
 pub record OutsideStays : Type 0 where
   pub window : (virtual : VirtualView) (desk : DeskView) (win i : ℕ) (place : ℕ × ℕ) (r c : ℕ) → index_of desk win ≡ Ok i → (window_at desk i).frame.origin ≡ Some place
       → r < virtual.picture.rows → c < virtual.picture.columns → IsOutside place.0 place.1 (window_at desk i).frame.area.rows (window_at desk i).frame.area.columns r c
@@ -49,19 +50,20 @@ pub record OutsideStays : Type 0 where
   pub pad : (virtual : VirtualView) (desk : DeskView) (win row column top left bottom right r c : ℕ) → r < virtual.picture.rows → c < virtual.picture.columns
       → IsOutside top left (bottom + 1 - top) (right + 1 - left) r c → cell_at (take_pad_call virtual desk win row column top left bottom right).0.0 r c ≡ cell_at virtual r c
 
--- where no line of the window is touched, no cell of the picture changes
+-- If no line of the window is touched, copying it changes no cell of the picture.
 abbrev pub UntouchedChangesNothing : Type 0
 UntouchedChangesNothing =
     (virtual : VirtualView) (desk : DeskView) (win i : ℕ) → IsVirtual virtual → index_of desk win ≡ Ok i → ((line : ℕ) → slice_index_or (window_at desk i).touched line false ≡ false)
     → (take_window_call virtual desk win).0.0.picture.lines ≡ virtual.picture.lines
 
--- the sizes of the picture and of the desk
+-- The sizes of picture and desk are the same.
 pub record SameSizes (old new : VirtualView × DeskView) : Type 0 where
   pub rows : new.0.picture.rows ≡ old.0.picture.rows
   pub columns : new.0.picture.columns ≡ old.0.picture.columns
   pub desk_rows : new.1.rows ≡ old.1.rows
   pub desk_columns : new.1.columns ≡ old.1.columns
 
+-- No call changes these sizes.
 pub record SizesStay : Type 0 where
   pub window : (virtual : VirtualView) (desk : DeskView) (win : ℕ) → SameSizes (virtual, desk) (take_window_call virtual desk win).0
   pub pad : (virtual : VirtualView) (desk : DeskView) (win row column top left bottom right : ℕ) → SameSizes (virtual, desk) (take_pad_call virtual desk win row column top left bottom right).0

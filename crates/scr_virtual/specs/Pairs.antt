@@ -1,15 +1,15 @@
--- What init_pair() does to a virtual screen. X/Open Curses Issue 7, 'Color'.
+-- What init_pair() does to the virtual screen. X/Open Curses Issue 7, 'Color'.
 use Rattle.std.specs.Prelude.{ℕ, ◌-◌, ◌==◌, ◌||◌, ltb, if◌then◌else◌, Result, Ok, Err, slice_set}
 use Rattle.scr_windows.specs.declared.faults.WinFault.{WinFault}
 use Rattle.scr_windows.specs.declared.faults.WinFault.TheVariants.{BadColour, BadPair}
 use Rattle.scr_virtual.specs.VirtualViews.{VirtualView, marked_rows}
 
--- the picture in which a pair has another foreground and background; all of it may have changed
+-- The picture with new colours for a pair; every place may look different.
 abbrev pub with_pair : VirtualView → ℕ → ℕ → ℕ → VirtualView
 with_pair virtual pair foreground background =
     marked_rows 0 virtual.picture.rows (record virtual { picture = record virtual.picture { pairs = slice_set virtual.picture.pairs (pair - 1) (foreground, background) } })
 
--- init_pair(): a pair is 1 to 63, and a colour 0 to 7
+-- init_pair(): a pair is 1 to 63, a colour 0 to 7.
 unfoldable pub set_pair_call : VirtualView → ℕ → ℕ → ℕ → VirtualView × Result (Unit {0}) WinFault
 set_pair_call virtual pair foreground background =
     if pair == 0 || ltb 63 pair then (virtual, Err BadPair)

@@ -1,19 +1,19 @@
--- The virtual screen: what windows are taken onto before the terminal is written. curs_refresh(3X), 'virtual screen'; X/Open
--- Curses Issue 7, doupdate().
+-- The virtual screen, onto which windows are copied before the terminal is written. curs_refresh(3X), 'virtual screen';
+-- X/Open Curses Issue 7, doupdate().
 use Rattle.std.specs.Prelude.{ℕ, Bool, false, ◌≡◌, ◌+◌, ◌-◌, ◌&&◌, leb, ltb, List, length, replicate, slice_index_or, Option, None, Some}
 use Rattle.scr_cells.specs.PictureViews.{IsPicture, PictureView, blank_picture}
 use Rattle.scr_virtual.specs.Ranges.{AreRanges, ranges_with}
 
--- the picture that the screen is to show; whether the whole screen is to be painted anew; and for each row, since the ranges were
--- emptied, the first and the last column that may have changed, and the first and the last that may look otherwise: a line that is
--- copied where it stands already changes its columns, and alters none
+-- The picture to show; whether the whole screen is to be repainted; and two ranges for each row since the ranges were
+-- last emptied: columns that may have changed, and those that may look different (a line copied where it already stands
+-- alters none).
 pub record VirtualView : Type 0 where
   pub picture : PictureView
   pub repaint : Bool
   pub changed : List (Option (ℕ × ℕ))
   pub altered : List (Option (ℕ × ℕ))
 
--- ranges or none for each row
+-- A valid virtual screen: a valid picture, and for each row two ranges, each in its columns or empty.
 pub record IsVirtual (virtual : VirtualView) : Type 0 where
   pub picture : IsPicture virtual.picture
   pub rows : length virtual.changed ≡ virtual.picture.rows
@@ -21,22 +21,23 @@ pub record IsVirtual (virtual : VirtualView) : Type 0 where
   pub altered_rows : length virtual.altered ≡ virtual.picture.rows
   pub altered_ranges : AreRanges virtual.picture.columns virtual.altered
 
--- a blank picture, and nothing has changed
+-- A blank picture of which nothing has changed.
 abbrev pub blank_virtual : ℕ → ℕ → VirtualView
 blank_virtual rows columns = record { picture = blank_picture rows columns; repaint = false; changed = replicate rows None; altered = replicate rows None }
 
--- the columns of a row that may have changed, and those that may look otherwise
+-- The columns of row r that may have changed.
 abbrev pub range_at : VirtualView → ℕ → Option (ℕ × ℕ)
 range_at virtual r = slice_index_or virtual.changed r None
 
+-- The columns of row r that may look different.
 abbrev pub altered_at : VirtualView → ℕ → Option (ℕ × ℕ)
 altered_at virtual r = slice_index_or virtual.altered r None
 
--- the screen is not to be painted anew, and nothing has changed
+-- Nothing is to be repainted, and all ranges are empty.
 abbrev pub settled : VirtualView → VirtualView
 settled virtual = record virtual { repaint = false; changed = replicate (length virtual.changed) None; altered = replicate (length virtual.altered) None }
 
--- n rows from one on, as many of them as there are, may have changed in their whole width: wredrawln()
+-- wredrawln(): n rows from `first` on, as far as there are any, may have changed in their whole width.
 unfoldable pub marked_rows : ℕ → ℕ → VirtualView → VirtualView
 marked_rows first n virtual =
     let whole : List (Option (ℕ × ℕ)) → List (Option (ℕ × ℕ)) = ranges_with (λ r. leb first r && ltb r (first + n)) (λ _ _. Some (0, virtual.picture.columns - 1)) in
