@@ -1,4 +1,4 @@
--- The definitions of the calls, by kinds.
+-- The definitions of the calls, by kind.
 pub mod Adding
 pub mod Borders
 pub mod Copying

@@ -1,4 +1,4 @@
--- Words of private functions.
+-- Definitions that only private functions use.
 pub mod Families
 pub mod NewFrames
 pub mod Pens

@@ -11,14 +11,14 @@ use Rattle.scr_windows.specs.declared.sheets.Sheet.{Sheet}
 use Rattle.scr_surfaces.specs.SurfaceViews.{SurfaceView, IsSurface, IsPart, blank_surface}
 use Rattle.scr_windows.specs.Sheets.{AreSheets, HasSheet, surface_on, size_on}
 
--- a frame, which no drawing changes; what the calls set; and a mark for each line
+-- A window: its frame, which no drawing changes; what the calls set; and for each line whether it is touched.
 pub record WindowView : Type 0 where
   pub frame : Frame
   pub state : WindowState
   pub touched : List Bool
 
--- the screen's size, the surfaces and the windows that are there, both by ascending numbers, and how many windows were made
--- after the first
+-- The screen's size; the surfaces and windows that exist, each in ascending order of their numbers; and how many
+-- windows were made after the first.
 pub record DeskView : Type 0 where
   pub rows : ℕ
   pub columns : ℕ
@@ -26,7 +26,7 @@ pub record DeskView : Type 0 where
   pub windows : List WindowView
   pub made : ℕ
 
--- a window before anything was done with it
+-- A new window: cursor in the first place, the whole window as region, every setting off, all lines touched.
 abbrev pub fresh_window : Frame → Attrs → ℕ → CellView → WindowView
 fresh_window frame attrs pair background =
     record {
@@ -35,29 +35,31 @@ fresh_window frame attrs pair background =
       touched = replicate frame.area.rows true;
     }
 
--- windows by ascending numbers
+-- The windows are in ascending order of their numbers.
 abbrev pub AreAscending : List WindowView → Type 0
 AreAscending windows = AllPairs (λ (v : WindowView) (w : WindowView). v.frame.number < w.frame.number) windows
 
--- no attributes
+-- No attributes.
 abbrev pub no_attributes : Attrs
 no_attributes = record { 0 = 0 }
 
--- what stands for a window where there is none
+-- A stand-in for a frame where there is none.
 abbrev pub no_frame : Frame
 no_frame = record { number = 0; surface = 0; area = record { top = 0; left = 0; rows = 0; columns = 0 }; parent = None; origin = None }
 
+-- A stand-in for a window where there is none.
 abbrev pub no_window : WindowView
 no_window = fresh_window no_frame no_attributes 0 blank_cell
 
--- the window at an index among the desk's, and the surface that bears a number
+-- The window at index i.
 abbrev pub window_at : DeskView → ℕ → WindowView
 window_at desk i = slice_index_or desk.windows i no_window
 
+-- The surface with this number.
 abbrev pub surface_at : DeskView → ℕ → SurfaceView
 surface_at desk number = surface_on desk.surfaces number
 
--- the cursor and the region are inside, and the pair is the number of a colour pair
+-- A valid window state: cursor and region inside the window, and the number of a colour pair.
 pub record IsState (frame : Frame) (state : WindowState) : Type 0 where
   pub cursor_row : state.cursor.0 < frame.area.rows
   pub cursor_column : state.cursor.1 < frame.area.columns
@@ -65,12 +67,12 @@ pub record IsState (frame : Frame) (state : WindowState) : Type 0 where
   pub region_end : state.region.1 < frame.area.rows
   pub pair : IsPair state.pair
 
--- and there is a mark for each line
+-- A valid window: a valid state, and a mark for each line.
 pub record IsWindow (window : WindowView) : Type 0 where
   pub state : IsState window.frame window.state
   pub touched : length window.touched ≡ window.frame.area.rows
 
--- the window lies wholly on its surface, and wholly on the screen where it has a place there
+-- The window has a place, lies wholly on its surface and, if it has a place on the screen, wholly on the screen.
 pub record IsPlaced (rows columns : ℕ) (sizes : ℕ → ℕ × ℕ) (frame : Frame) : Type 0 where
   pub some_rows : 1 ≤ frame.area.rows
   pub some_columns : 1 ≤ frame.area.columns
@@ -78,7 +80,7 @@ pub record IsPlaced (rows columns : ℕ) (sizes : ℕ → ℕ × ℕ) (frame : F
   pub right : frame.area.left + frame.area.columns ≤ (sizes frame.surface).1
   pub origin : MatchOption frame.origin (Unit {0}) (λ place. (place.0 + frame.area.rows ≤ rows) × (place.1 + frame.area.columns ≤ columns))
 
--- a window's place on the screen lies wholly inside another's; or neither has one
+-- One window's place on the screen is wholly inside another's, or neither is on the screen.
 abbrev pub IsInsideOnScreen : Option (ℕ × ℕ) → Area → Option (ℕ × ℕ) → Area → Type 0
 IsInsideOnScreen None area None within = Unit {0}
 IsInsideOnScreen None area (Some above) within = ⊥
@@ -86,7 +88,8 @@ IsInsideOnScreen (Some place) area None within = ⊥
 IsInsideOnScreen (Some place) area (Some above) within =
     (above.0 ≤ place.0) × (place.0 + area.rows ≤ above.0 + within.rows) × (above.1 ≤ place.1) × (place.1 + area.columns ≤ above.1 + within.columns)
 
--- a frame lies wholly inside another on the same surface and on the screen, and was made later
+-- The frame is that of a child: it lies wholly inside its parent's, on the same surface and on the screen, and was made
+-- later.
 pub record IsChild (frame parent : Frame) : Type 0 where
   pub later : parent.number < frame.number
   pub surface : frame.surface ≡ parent.surface
@@ -96,11 +99,12 @@ pub record IsChild (frame parent : Frame) : Type 0 where
   pub right : frame.area.left + frame.area.columns ≤ parent.area.left + parent.area.columns
   pub on_screen : IsInsideOnScreen frame.origin frame.area parent.origin parent.area
 
--- a window that is no subwindow is on the surface that was made with it
+-- A window that is no subwindow has the surface that was made with it.
 abbrev pub HasOwn : Frame → Type 0
 HasOwn frame = MatchOption frame.parent (frame.surface ≡ frame.number) (λ _. Unit {0})
 
--- windows by ascending numbers, each number one that was given; a subwindow's parent is there
+-- Valid frames: at most 1,000, in ascending order of their numbers, none above the last one given; each subwindow's
+-- parent exists, and it lies inside it.
 pub record AreFrames (rows columns : ℕ) (sizes : ℕ → ℕ × ℕ) (made : ℕ) (frames : List Frame) : Type 0 where
   pub few : length frames ≤ 1000
   pub placed : All (IsPlaced rows columns sizes) frames
@@ -109,6 +113,7 @@ pub record AreFrames (rows columns : ℕ) (sizes : ℕ → ℕ × ℕ) (made : �
   pub roots : All HasOwn frames
   pub parents : All (λ frame. MatchOption frame.parent (Unit {0}) (λ number. (k : ℕ) × (k < length frames) × ((slice_index_or frames k no_frame).number ≡ number) × IsChild frame (slice_index_or frames k no_frame))) frames
 
+-- A valid desk: a valid size, and valid surfaces, windows and frames.
 pub record IsDesk (desk : DeskView) : Type 0 where
   pub size : IsSize desk.rows desk.columns
   pub made : desk.made < 2 ^ 32
@@ -118,11 +123,12 @@ pub record IsDesk (desk : DeskView) : Type 0 where
   pub windows : All IsWindow desk.windows
   pub frames : AreFrames desk.rows desk.columns (size_on desk.surfaces) desk.made (map (λ (w : WindowView). w.frame) desk.windows)
 
--- a desk with one window over the whole screen, blank
+-- The frame of the first window, over the whole screen.
 abbrev pub first_frame : ℕ → ℕ → Frame
 first_frame rows columns = record { number = 0; surface = 0; area = record { top = 0; left = 0; rows = rows; columns = columns }; parent = None; origin = Some (0, 0) }
 
--- a window that is there, and what is known of it
+-- A window that exists, and what is known of it: it is valid, and lies on its surface and, if it has a place there, on
+-- the screen.
 pub record IsThere (desk : DeskView) (i : ℕ) : Type 0 where
   pub here : i < length desk.windows
   pub window : IsWindow (window_at desk i)
@@ -132,6 +138,7 @@ pub record IsThere (desk : DeskView) (i : ℕ) : Type 0 where
   pub screen : IsSize desk.rows desk.columns
   pub origin : MatchOption (window_at desk i).frame.origin (Unit {0}) (λ place. (place.0 + (window_at desk i).frame.area.rows ≤ desk.rows) × (place.1 + (window_at desk i).frame.area.columns ≤ desk.columns))
 
+-- A desk with one blank window over the whole screen.
 abbrev pub first_desk : ℕ → ℕ → DeskView
 first_desk rows columns =
     record {

@@ -16,12 +16,12 @@ use Rattle.scr_windows.specs.Calls.Subwindows.{derive_call, sub_call, sub_pad_ca
 use Rattle.scr_windows.specs.Calls.Syncing.{sync_up_call, sync_down_call}
 use Rattle.scr_windows.specs.Calls.Touching.{touch_all_call, touch_lines_call}
 
--- a desk on a screen of the same size
+-- The desk is on a screen of the same size.
 pub record HasSameSize (old new : DeskView) : Type 0 where
   pub rows : new.rows ≡ old.rows
   pub columns : new.columns ≡ old.columns
 
--- each call keeps the size, whatever it is given
+-- Each call keeps the size, whatever it is given.
 pub record CallsKeepSize : Type 0 where
   pub add_byte : (desk : DeskView) (win byte : ℕ) (attrs : Attrs) → HasSameSize desk (add_byte_call desk win byte attrs).0
   pub add_text : (desk : DeskView) (win : ℕ) (bytes : List ℕ) → HasSameSize desk (add_text_call desk win bytes).0

@@ -11,12 +11,12 @@ use Rattle.scr_windows.specs.DeskViews.{WindowView, DeskView, window_at, no_attr
 use Rattle.scr_windows.specs.Changes.{index_of, on_window, write}
 use Rattle.scr_windows.specs.Calls.Adding.{written_form}
 
--- the written form, without attributes of its own, of a byte among those of a border
+-- The cell that is written for byte k of a border, without attributes of its own.
 abbrev pub edge_cell : List ℕ → WindowState → ℕ → CellView
 edge_cell bytes state k = written_form (slice_index_or bytes k 0) no_attributes state
 
--- the bytes are those of the left, right, top and bottom edge, and of the top left, top right, bottom left and bottom right
--- corner
+-- The bytes in order: left, right, top and bottom edge, then the corners top left, top right, bottom left and bottom
+-- right.
 abbrev pub border_of : List ℕ → WindowState → Border
 border_of bytes state =
     record {
@@ -30,7 +30,7 @@ border_of bytes state =
       bottom_right = edge_cell bytes state 7;
     }
 
--- border(): all lines are touched, since each has a place of the left and the right edge
+-- border(): all lines are touched, since the left and right edges have a place in each.
 unfoldable pub border_call : DeskView → ℕ → List ℕ → DeskView × Result (Unit {0}) WinFault
 border_call desk win bytes = on_window desk (index_of desk win) (λ i.
     let w : WindowView = window_at desk i in

@@ -8,15 +8,16 @@ use Rattle.scr_windows.specs.DeskViews.{DeskView, window_at}
 use Rattle.scr_windows.specs.Changes.{index_of, on_window, write}
 use Rattle.scr_windows.specs.Calls.Reading.{at}
 
--- the cells of one window before, from a row and a column on, laid over a part of another, whose lines there are touched
+-- The cells of window i, from (row, column) on, are laid over a part of window j, and its lines there are touched. The
+-- cells are those before the call.
 abbrev pub copied : DeskView → ℕ → ℕ → ℕ → ℕ → Area → Bool → DeskView
 copied desk i j row column part overlay = write desk j part.top (part.top + part.rows) (part_laid overlay part (λ r c. at desk i (row + r) (column + c)))
 
--- the places from a row and a column of a window on, as many as the part has, are in the window
+-- The places from (row, column) on, as many as the part has, lie in the area.
 abbrev pub has_part : Area → ℕ → ℕ → Area → Bool
 has_part area row column part = leb (row + part.rows) area.rows && leb (column + part.columns) area.columns
 
--- copywin(): the target's part is given by its first and its last row and column
+-- copywin(): the target part is given by its first and last row and column.
 unfoldable pub copy_call : DeskView → ℕ → ℕ → ℕ → ℕ → ℕ → ℕ → ℕ → ℕ → Bool → DeskView × Result (Unit {0}) WinFault
 copy_call desk source target row column top left bottom right overlay =
     on_window desk (index_of desk source) (λ i. on_window desk (index_of desk target) (λ j.
@@ -25,8 +26,7 @@ copy_call desk source target row column top left bottom right overlay =
     (copied desk i j row column part overlay, Ok tt)
     else (desk, Err OutOfWindow)))
 
--- the part of the screen that two windows both cover, from the later of their first rows and columns up to the earlier of their
--- ends, is copied from one to the other; nothing where there is none
+-- The part of the screen that both windows cover is copied from one to the other; nothing if they do not overlap.
 abbrev pub laid_over : DeskView → ℕ → ℕ → ℕ × ℕ → ℕ × ℕ → Bool → DeskView
 laid_over desk i j source target overlay =
     let a : Area = (window_at desk i).frame.area in
@@ -38,12 +38,13 @@ laid_over desk i j source target overlay =
     if rows == 0 || columns == 0 then desk
     else copied desk i j (top - source.0) (left - source.1) (record { top = top - target.0; left = left - target.1; rows = rows; columns = columns }) overlay
 
+-- The same, refused if either window is a pad.
 abbrev pub over_screen : DeskView → ℕ → ℕ → Option (ℕ × ℕ) → Option (ℕ × ℕ) → Bool → DeskView × Result (Unit {0}) WinFault
 over_screen desk i j None target overlay = (desk, Err IsPad)
 over_screen desk i j (Some source) None overlay = (desk, Err IsPad)
 over_screen desk i j (Some source) (Some target) overlay = (laid_over desk i j source target overlay, Ok tt)
 
--- overlay(), and overwrite() without overlay
+-- overlay(), and overwrite() where `overlay` is false.
 unfoldable pub overlay_call : DeskView → ℕ → ℕ → Bool → DeskView × Result (Unit {0}) WinFault
 overlay_call desk source target overlay =
     on_window desk (index_of desk source) (λ i. on_window desk (index_of desk target) (λ j.

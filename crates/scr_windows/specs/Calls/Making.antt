@@ -9,8 +9,8 @@ use Rattle.scr_windows.specs.DeskViews.{DeskView, fresh_window, no_attributes}
 use Rattle.scr_cells.specs.CellViews.{blank_cell}
 use Rattle.scr_surfaces.specs.SurfaceViews.{blank_surface}
 
--- so many rows and columns of an area from a row and a column of it on, as a part of the surface; 0 rows or columns are
--- those to the end; none where they are none, or not wholly inside
+-- This many rows and columns of an area, from (row, column) on; 0 means all to the end. None if this is empty or not
+-- wholly inside. Places are counted on the surface.
 unfoldable pub part_of : Area → ℕ → ℕ → ℕ → ℕ → Option Area
 part_of area rows columns row column =
     let r : ℕ = (if rows == 0 then area.rows - row else rows) in
@@ -19,16 +19,16 @@ part_of area rows columns row column =
     Some (record { top = area.top + row; left = area.left + column; rows = r; columns = c })
     else None
 
--- 1,000 windows are there, or 4,294,967,295 were made after the first
+-- There are 1,000 windows, or 4,294,967,295 were made after the first.
 abbrev pub is_full : DeskView → Bool
 is_full desk = leb 1000 (length desk.windows) || leb 4294967295 desk.made
 
--- the frame of the next window that has a surface of its own
+-- The frame of a new window on a surface of its own.
 abbrev pub root_frame : DeskView → ℕ → ℕ → Option (ℕ × ℕ) → Frame
 root_frame desk rows columns origin =
     record { number = desk.made + 1; surface = desk.made + 1; area = record { top = 0; left = 0; rows = rows; columns = columns }; parent = None; origin = origin }
 
--- the desk with a blank window on a surface of its own
+-- The desk with a new blank window on a surface of its own.
 abbrev pub with_root : DeskView → ℕ → ℕ → Option (ℕ × ℕ) → DeskView
 with_root desk rows columns origin =
     record desk {
@@ -37,21 +37,24 @@ with_root desk rows columns origin =
       made = desk.made + 1;
     }
 
+-- The same, refused if there are too many windows.
 abbrev pub root_made : DeskView → ℕ → ℕ → Option (ℕ × ℕ) → DeskView × Result Win WinFault
 root_made desk rows columns origin = if is_full desk then (desk, Err TooMany) else (with_root desk rows columns origin, Ok (record { 0 = desk.made + 1 }))
 
--- newwin(): a part of the screen
+-- The whole screen.
 abbrev pub screen_area : DeskView → Area
 screen_area desk = record { top = 0; left = 0; rows = desk.rows; columns = desk.columns }
 
+-- A new window on this area of the screen, refused if there is none.
 abbrev pub window_in : DeskView → Option Area → ℕ → ℕ → DeskView × Result Win WinFault
 window_in desk None row column = (desk, Err OffScreen)
 window_in desk (Some area) row column = root_made desk area.rows area.columns (Some (row, column))
 
+-- newwin(): the window covers a part of the screen.
 unfoldable pub new_window_call : DeskView → ℕ → ℕ → ℕ → ℕ → DeskView × Result Win WinFault
 new_window_call desk rows columns row column = window_in desk (part_of (screen_area desk) rows columns row column) row column
 
--- newpad()
+-- newpad(): at most 1,000,000 places.
 unfoldable pub new_pad_call : DeskView → ℕ → ℕ → DeskView × Result Win WinFault
 new_pad_call desk rows columns =
     if rows == 0 || columns == 0 then (desk, Err OutOfWindow)

@@ -9,14 +9,15 @@ use Rattle.scr_windows.specs.DeskViews.{WindowView, DeskView, window_at}
 use Rattle.scr_windows.specs.Changes.{index_of, on_window, with_window, write}
 use Rattle.scr_surfaces.specs.Formulas.{all_exchanged}
 
--- the desk with something set in one window
+-- The desk with a new state in one window.
 abbrev pub with_state : DeskView → ℕ → WindowState → DeskView
 with_state desk i state = with_window desk i (record (window_at desk i) { state = state })
 
--- a call that sets something in a window and refuses nothing else
+-- A call that sets something in a window; it is refused only if there is no such window.
 abbrev pub setting : DeskView → ℕ → (WindowState → WindowState) → DeskView × Result (Unit {0}) WinFault
 setting desk win f = on_window desk (index_of desk win) (λ i. (with_state desk i (f (window_at desk i).state), Ok tt))
 
+-- The window's state with the cursor elsewhere.
 abbrev pub cursor_at : ℕ × ℕ → WindowState → WindowState
 cursor_at cursor state = record state { cursor = cursor }
 
@@ -34,27 +35,31 @@ set_region_call desk win top bottom = on_window desk (index_of desk win) (λ i.
     if leb top bottom && ltb bottom w.frame.area.rows then (with_state desk i (record w.state { region = (top, bottom) }), Ok tt)
     else (desk, Err BadRegion))
 
--- scrollok(), clearok(), leaveok()
+-- scrollok()
 unfoldable pub scroll_ok_call : DeskView → ℕ → Bool → DeskView × Result (Unit {0}) WinFault
 scroll_ok_call desk win on = setting desk win (λ s. record s { scroll_ok = on })
 
+-- clearok()
 unfoldable pub clear_ok_call : DeskView → ℕ → Bool → DeskView × Result (Unit {0}) WinFault
 clear_ok_call desk win on = setting desk win (λ s. record s { clear_ok = on })
 
+-- leaveok()
 unfoldable pub leave_ok_call : DeskView → ℕ → Bool → DeskView × Result (Unit {0}) WinFault
 leave_ok_call desk win on = setting desk win (λ s. record s { leave_ok = on })
 
--- attron(), attroff(), attrset(): the attributes united with others, without others, and others in their place
+-- attron(): these attributes are added.
 unfoldable pub attr_on_call : DeskView → ℕ → Attrs → DeskView × Result (Unit {0}) WinFault
 attr_on_call desk win attrs = setting desk win (λ s. record s { attrs = record { 0 = bit_or s.attrs.0 attrs.0 } })
 
+-- attroff(): these attributes are removed.
 unfoldable pub attr_off_call : DeskView → ℕ → Attrs → DeskView × Result (Unit {0}) WinFault
 attr_off_call desk win attrs = setting desk win (λ s. record s { attrs = record { 0 = bit_and s.attrs.0 (255 - attrs.0) } })
 
+-- attrset(): these attributes and no others.
 unfoldable pub attr_set_call : DeskView → ℕ → Attrs → DeskView × Result (Unit {0}) WinFault
 attr_set_call desk win attrs = setting desk win (λ s. record s { attrs = attrs })
 
--- color_set(): the number of a colour pair, 0 to 63
+-- color_set(): the number of a colour pair, 0 to 63.
 unfoldable pub color_set_call : DeskView → ℕ → ℕ → DeskView × Result (Unit {0}) WinFault
 color_set_call desk win pair = on_window desk (index_of desk win) (λ i.
     if ltb pair 64 then (with_state desk i (record (window_at desk i).state { pair = pair }), Ok tt) else (desk, Err BadPair))
@@ -63,7 +68,7 @@ color_set_call desk win pair = on_window desk (index_of desk win) (λ i.
 unfoldable pub set_background_call : DeskView → ℕ → CellView → DeskView × Result (Unit {0}) WinFault
 set_background_call desk win cell = setting desk win (λ s. record s { background = cell })
 
--- bkgd(): the background is exchanged in every place, and set
+-- bkgd(): the background is set, and exchanged in every place of the window.
 unfoldable pub change_background_call : DeskView → ℕ → CellView → DeskView × Result (Unit {0}) WinFault
 change_background_call desk win cell = on_window desk (index_of desk win) (λ i.
     let w : WindowView = window_at desk i in

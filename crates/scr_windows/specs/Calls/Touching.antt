@@ -6,16 +6,17 @@ use Rattle.scr_windows.specs.DeskViews.{WindowView, DeskView, window_at}
 use Rattle.scr_windows.specs.Changes.{index_of, on_window, with_window, marked}
 use Rattle.scr_windows.specs.Calls.Settings.{with_state}
 
--- touchwin(), untouchwin(): all lines
+-- touchwin(), untouchwin(): all lines.
 unfoldable pub touch_all_call : DeskView → ℕ → Bool → DeskView × Result (Unit {0}) WinFault
 touch_all_call desk win changed = on_window desk (index_of desk win) (λ i. (with_window desk i (marked 0 (window_at desk i).frame.area.rows changed (window_at desk i)), Ok tt))
 
--- wtouchln(): n lines from one on
+-- wtouchln(): n lines from `first` on are touched, or untouched.
 unfoldable pub touch_lines_call : DeskView → ℕ → ℕ → ℕ → Bool → DeskView × Result (Unit {0}) WinFault
 touch_lines_call desk win first n changed = on_window desk (index_of desk win) (λ i.
     if leb (first + n) (window_at desk i).frame.area.rows then (with_window desk i (marked first (first + n) changed (window_at desk i)), Ok tt) else (desk, Err OutOfWindow))
 
--- what an update takes: n lines from one on are untouched, and the wish for a repaint is answered and taken back
+-- What an update does with a window: n lines from `first` on are untouched; it answers whether a repaint was requested,
+-- and ends that request.
 unfoldable pub take_lines_call : DeskView → ℕ → ℕ → ℕ → DeskView × Result Bool WinFault
 take_lines_call desk win first n = on_window desk (index_of desk win) (λ i.
     let w : WindowView = window_at desk i in
