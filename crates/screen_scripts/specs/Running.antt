@@ -1,4 +1,4 @@
--- What one line of a run leaves in a writer and on the stage: words of private functions.
+-- What one line of a run leaves on the stage and in a writer. Definitions that only private functions use.
 use Rattle.std.specs.Prelude.{ℕ, ◌≡◌, ◌++◌, ◌⊎◌, Bool, List, Option, Some}
 use Rattle.std.specs.Io.KnownBytes.{Appends, Keeps}
 use Rattle.scr_cells.specs.declared.sizes.Size.{Size}
@@ -12,29 +12,29 @@ use Rattle.screen_scripts.specs.Stories.{Outcome, continued}
 use Rattle.screen_scripts.specs.Printing.{GrewByBeginning, refusals_of}
 use Rattle.screen_scripts.specs.Showing.{IsReady, LineWrites, Opens, stage_of}
 
--- what a line did, and a writer that holds what is written of it besides
+-- What a line did; the writer's text grew by all that is written for it.
 pub record LineWritten (raw : Bool) (old : Option Playing) (line : List ℕ) (held holds : Option (List ℕ)) (new : Option Playing) : Type 0 where
   pub text : List ℕ
   pub is : LineWrites raw old line text new
   pub written : Appends held holds text
 
--- what a line did, and a writer that grew by a beginning of what is written of it
+-- What a line did; the writer's text grew by a beginning of what is written for it.
 pub record LineBegun (raw : Bool) (old : Option Playing) (line : List ℕ) (held holds : Option (List ℕ)) (new : Option Playing) : Type 0 where
   pub text : List ℕ
   pub is : LineWrites raw old line text new
   pub grew : GrewByBeginning held holds text
 
--- a writer that holds what it held, or a beginning of what is written of a line besides
+-- The writer's text stayed, or grew by a beginning of what is written for a line.
 abbrev pub BeginsLine : Bool → Option Playing → List ℕ → Option (List ℕ) → Option (List ℕ) → Option Playing → Type 0
 BeginsLine raw old line held holds new = Keeps held holds ⊎ LineBegun raw old line held holds new
 
--- a command opened the stage that is there now
+-- A command opened this stage.
 pub record OpensOn (command : Command) (new : Option Playing) : Type 0 where
   pub stage : Playing
   pub left : new ≡ Some stage
   pub is : Opens command stage
 
--- what a command did on a screen, and what it adds to the refusals
+-- What a command did on a screen, and the refusals that it adds.
 pub record CommandRefuses (old : ScreenState) (command : Command) (before after : List ℕ) (new : ScreenState) : Type 0 where
   pub outcome : Outcome
   pub is : continued (stage_of old) command ≡ Some outcome
@@ -42,7 +42,7 @@ pub record CommandRefuses (old : ScreenState) (command : Command) (before after 
   pub ready : IsReady new
   pub added : after ≡ before ++ refusals_of outcome.events
 
--- a screen of this size that was opened on the bundled entry
+-- A screen of this size, opened on the bundled entry.
 pub record IsOpenedOn (size : Size) (screen : ScreenState) : Type 0 where
   pub entry : Description
   pub bundled : IsBundled entry

@@ -1,4 +1,4 @@
--- What the run keeps true between two lines, and what a line does: words of private functions.
+-- What a run keeps true between lines, and what each line does. Definitions that only private functions use.
 use Rattle.std.specs.Prelude.{ℕ, ◌≡◌, ◌≢◌, ◌++◌, not, Bool, true, false, List, [], ◌∷◌, map, option_map, Option, Some, None}
 use Rattle.std.specs.List.{flat_map}
 use Rattle.scr_cells.specs.PictureViews.{PictureView}
@@ -33,17 +33,17 @@ use Rattle.screen_scripts.specs.Printing.{ArePlans, ArePrinted, IsScreenOf, key_
 
 -- ---- what the run keeps true
 
--- the stage that a screen is
+-- The stage that corresponds to a screen.
 abbrev pub stage_of : ScreenState → Stage
 stage_of screen = record { drawn = drawn_of screen; keys = screen.keys }
 
--- a screen on the terminal of the bundled entry, which owes nothing
+-- A screen on the terminal of the bundled entry that owes nothing.
 pub record IsReady (screen : ScreenState) : Type 0 where
   pub entry : IsEcma48 screen.profile
   pub nothing : screen.owed ≡ []
 
--- an emulated screen of the terminal's size that shows the negative of some state of the terminal that agrees with what is
--- remembered of it, with nothing waiting
+-- An emulated screen of the terminal's size that waits for nothing. It shows the negative of a terminal state that
+-- agrees with what is known of the terminal.
 pub record IsTerminalFor (profile : ProfileView) (memory : MemoryView) (screen : ScreenView) : Type 0 where
   pub rows : screen.rows ≡ profile.rows
   pub columns : screen.columns ≡ profile.columns
@@ -56,38 +56,37 @@ pub record IsTerminalFor (profile : ProfileView) (memory : MemoryView) (screen :
 
 -- ---- what is sent to a terminal of which something is remembered
 
--- From a state the operations of updates, one update for each picture, are all defined one after another, each update leads to a
--- state that shows its picture, and the state behind the last is as it has to be.
+-- There is one update for each picture. From this state their operations are all defined, in order, and each update
+-- leads to a state that shows its picture; the last state meets `After`.
 abbrev pub RunToEnd : ProfileView → (TerminalState → Type 0) → TerminalState → List (List Op) → List PictureView → Type 0
 RunToEnd profile After state [] [] = After state
 RunToEnd profile After state [] (picture ∷ pictures) = ⊥
 RunToEnd profile After state (ops ∷ updates) [] = ⊥
 RunToEnd profile After state (ops ∷ updates) (picture ∷ pictures) = (first : RunsToShow profile state ops picture) × RunToEnd profile After first.new updates pictures
 
--- The bytes of an update for each virtual screen that is shown: plans for what was remembered of the terminal, behind
--- which this is remembered now. They show the pictures from each of the states that the terminal may be in before, and lead
--- to one that it may be in after them.
+-- The bytes of one update for each virtual screen shown, each a plan for what was known of the terminal at that point;
+-- `new` is what is known at the end. They show the pictures from every state in which the terminal may have been, and
+-- lead to one in which it may be.
 pub record AreSentOn (profile : ProfileView) (Before After : TerminalState → Type 0) (old new : MemoryView) (events : List Event) (text : List ℕ) : Type 0 where
   pub updates : List (List Op)
   pub bytes : text ≡ flat_map (all_bytes profile) updates
   pub plans : ArePlans profile old events updates new
   pub show : (state : TerminalState) → Before state → RunToEnd profile After state updates (pictures_of events)
 
--- what is printed of events, or raw, what is sent
+-- The output for these events: printed or, in raw mode, the bytes sent.
 abbrev pub IsOutputOn : Bool → ProfileView → (TerminalState → Type 0) → (TerminalState → Type 0) → MemoryView → MemoryView → List Event → List ℕ → Type 0
 IsOutputOn true profile Before After old new events text = AreSentOn profile Before After old new events text
 IsOutputOn false profile Before After old new events text = ArePrinted events text
 
--- the same, where the terminal may be in each state that agrees with what is remembered
+-- The same, if the terminal may be in any state that agrees with what is known of it.
 abbrev pub IsOutputBetween : Bool → ProfileView → MemoryView → MemoryView → List Event → List ℕ → Type 0
 IsOutputBetween raw profile old new events text = IsOutputOn raw profile (Agrees (abilities profile) old) (Agrees (abilities profile) new) old new events text
 
--- nothing was sent: each state that agreed with what was remembered agrees with what is remembered now
+-- Nothing was sent; every state that agreed before agrees now.
 pub record StillAgrees (profile : ProfileView) (old new : MemoryView) : Type 0 where
   pub still : (state : TerminalState) → Agrees (abilities profile) old state → Agrees (abilities profile) new state
 
--- The bytes of a plan for a virtual screen and what was remembered, which was followed: the states to which the plan leads
--- agree with what is remembered then.
+-- The bytes of a plan, which was followed. The states that it leads to agree with what is known then.
 pub record IsUpdateOf (profile : ProfileView) (old new : MemoryView) (virtual : VirtualView) (bytes : List ℕ) : Type 0 where
   pub ops : List Op
   pub bytes_are : bytes ≡ all_bytes profile ops
@@ -95,46 +94,47 @@ pub record IsUpdateOf (profile : ProfileView) (old new : MemoryView) (virtual : 
   pub left : new ≡ all_followed profile ops old
   pub agrees : (state next : TerminalState) → Agrees (abilities profile) old state → runs profile state ops ≡ Some next → Agrees (abilities profile) new next
 
--- an update of these bytes was sent, or nothing
+-- An update with these bytes was sent; or nothing was.
 abbrev pub IsSentIf : ProfileView → MemoryView → MemoryView → VirtualView → Option (List ℕ) → Type 0
 IsSentIf profile old new virtual None = new ≡ old
 IsSentIf profile old new virtual (Some bytes) = IsUpdateOf profile old new virtual bytes
 
--- an update was sent of a virtual screen that has this picture, or nothing
+-- An update of a virtual screen with this picture was sent, or nothing.
 pub record IsSending (profile : ProfileView) (old new : MemoryView) (virtual : VirtualView) (picture : PictureView) (update : Option (List ℕ)) : Type 0 where
   pub shown : virtual.picture ≡ picture
   pub sent : IsSentIf profile old new virtual update
 
 -- ---- what a line does
 
--- the event of a note
+-- The event of a note.
 abbrev pub event_of : Note → Event
 event_of (notes.Refused fault) = Refused (fault_name fault)
 event_of (notes.NotTaken fault) = Refused (key_fault_name fault)
 event_of (notes.Pressed key) = Pressed key
 
+-- The events of several notes.
 abbrev pub events_in : List Note → List Event
 events_in all = map event_of all
 
--- where a call is refused, that is an event
+-- A refused call is an event.
 abbrev pub event_if : Option WinFault → List Event
 event_if None = []
 event_if (Some fault) = Refused (fault_name fault) ∷ []
 
--- the event of an update, where there was one
+-- An update, if there was one, is an event.
 abbrev pub shown_if : {A : Type 0} → Option A → VirtualView → List Event
 shown_if None virtual = []
 shown_if (Some update) virtual = Shown virtual ∷ []
 
--- the bytes of a line's update, where it had one
+-- The bytes of a line's update, if it had one.
 abbrev pub update_in : Effects → Option (List ℕ)
 update_in effects = option_map (λ bytes. bytes.items) effects.update
 
--- the events of a line: its notes, and its update of this virtual screen
+-- The events of a line: its notes, then its update of this virtual screen.
 abbrev pub events_of : Effects → VirtualView → List Event
 events_of effects virtual = events_in effects.notes.items ++ shown_if effects.update virtual
 
--- a call that is no update was made: it was refused so, if it was, and the rows that it marked are forgotten
+-- A call that is no update was made: its refusal, if any, is this one, and rows that it marked are forgotten.
 pub record IsQuiet (old new : ScreenState) (call : Call) (fault : Option WinFault) : Type 0 where
   pub stage : (made (stage_of old) call).stage ≡ stage_of new
   pub events : (made (stage_of old) call).events ≡ mark_of (marked_by old.desk call) ++ event_if fault
@@ -143,7 +143,7 @@ pub record IsQuiet (old new : ScreenState) (call : Call) (fault : Option WinFaul
   pub agrees : StillAgrees new.profile old.memory new.memory
   pub ready : IsReady new
 
--- an update was made, and sent these bytes
+-- An update was made and sent these bytes.
 pub record Updates (old new : ScreenState) (bytes : List ℕ) : Type 0 where
   pub stage : (updated (stage_of old)).stage ≡ stage_of new
   pub picture : new.virtual.picture ≡ old.virtual.picture
@@ -151,7 +151,7 @@ pub record Updates (old new : ScreenState) (bytes : List ℕ) : Type 0 where
   pub profile : new.profile ≡ old.profile
   pub ready : IsReady new
 
--- a command was obeyed: its outcome is the screen after it, the rows that it marked, if any, and these effects
+-- A command was obeyed; its outcome is the screen after it, the rows that it marked, if any, and these effects.
 pub record Obeys (old new : ScreenState) (effects : Effects) (outcome : Outcome) : Type 0 where
   pub rows : Option (ℕ × ℕ)
   pub virtual : VirtualView
@@ -161,11 +161,12 @@ pub record Obeys (old new : ScreenState) (effects : Effects) (outcome : Outcome)
   pub profile : new.profile ≡ old.profile
   pub ready : IsReady new
 
+-- The same, if the command has an outcome.
 abbrev pub ObeysSome : ScreenState → ScreenState → Effects → Option Outcome → Type 0
 ObeysSome old new effects None = ⊥
 ObeysSome old new effects (Some outcome) = Obeys old new effects outcome
 
--- an answer is the refusal of a call, or none; it is no want of memory, and no update began anything
+-- The answer is this refusal, or none; memory did not run out, and no update began anything.
 pub record IsRefusalOf (answer : Answer) (fault : Option WinFault) : Type 0 where
   pub events : refusal_of answer ≡ event_if fault
   pub memory : answer ≢ answers.Refused faults.NoMemory
@@ -173,12 +174,12 @@ pub record IsRefusalOf (answer : Answer) (fault : Option WinFault) : Type 0 wher
 
 -- ---- stages
 
--- a screen that is ready, and a terminal for it, where that is fed what updates send
+-- A screen that is ready, with a terminal for it if updates are sent to one.
 pub record IsReadyStage (fed : Bool) (stage : Playing) : Type 0 where
   pub screen : IsReady stage.screen
   pub terminal : fed ≡ true → IsTerminalFor stage.screen.profile stage.screen.memory stage.terminal
 
--- a screen that is ready and has sent an update, or nothing, which its terminal, where that is fed, is still to be fed
+-- A screen that is ready and has sent an update, or nothing, that its terminal has not received yet.
 pub record IsAhead (fed : Bool) (stage : Playing) (update : Option (List ℕ)) : Type 0 where
   pub before : MemoryView
   pub virtual : VirtualView
@@ -186,15 +187,14 @@ pub record IsAhead (fed : Bool) (stage : Playing) (update : Option (List ℕ)) :
   pub terminal : fed ≡ true → IsTerminalFor stage.screen.profile before stage.terminal
   pub sending : IsSending stage.screen.profile before stage.screen.memory virtual stage.screen.virtual.picture update
 
--- a stage of so many rows and columns, on which nothing was done yet and which remembers nothing of its terminal: every
--- state agrees with that
+-- A new stage of this size on which nothing was done; nothing is known of the terminal, so every state agrees.
 pub record IsFirst (rows columns : ℕ) (stage : Playing) : Type 0 where
   pub is : stage_of stage.screen ≡ first_stage rows columns
   pub profile : stage.screen.profile ≡ ecma48_profile rows columns
   pub memory : stage.screen.memory ≡ unknown stage.screen.profile.rows stage.screen.profile.columns
   pub agrees : (state : TerminalState) → IsState (abilities stage.screen.profile) state → Agrees (abilities stage.screen.profile) stage.screen.memory state
 
--- a command opened the stage, which remembers nothing of its terminal: every state agrees with that
+-- A command opened this stage; nothing is known of the terminal, so every state agrees.
 pub record Opens (command : Command) (stage : Playing) : Type 0 where
   pub is : opened command ≡ Some (record { stage = stage_of stage.screen; events = [] })
   pub profile : stage.screen.profile ≡ ecma48_profile (size_in (Some command)).0 (size_in (Some command)).1
@@ -202,44 +202,45 @@ pub record Opens (command : Command) (stage : Playing) : Type 0 where
   pub memory : stage.screen.memory ≡ unknown stage.screen.profile.rows stage.screen.profile.columns
   pub agrees : (state : TerminalState) → IsState (abilities stage.screen.profile) state → Agrees (abilities stage.screen.profile) stage.screen.memory state
 
--- the stage, where one is open
+-- The stage, if one is open.
 abbrev pub stages_of : Option Playing → Option Stage
 stages_of None = None
 stages_of (Some stage) = Some (stage_of stage.screen)
 
--- the states that the terminal may be in: any, and from the first line on those that agree with what is remembered
+-- The states that the terminal may be in: any at first, later those that agree with what is known.
 abbrev pub MayBeIn : ProfileView → Option Playing → TerminalState → Type 0
 MayBeIn profile None = IsState (abilities profile)
 MayBeIn profile (Some stage) = Agrees (abilities profile) stage.screen.memory
 
--- and what is remembered of it: nothing, before the first line
+-- What is known of the terminal; before the first line, nothing.
 abbrev pub memory_in : ProfileView → Option Playing → MemoryView
 memory_in profile None = unknown profile.rows profile.columns
 memory_in profile (Some stage) = stage.screen.memory
 
 -- ---- what is written
 
--- what is written of events between two lines
+-- What is written for the events between two lines.
 abbrev pub IsOutputOfLines : Bool → ProfileView → Option Playing → Option Playing → List Event → List ℕ → Type 0
 IsOutputOfLines raw profile old new events text =
     IsOutputOn raw profile (MayBeIn profile old) (MayBeIn profile new) (memory_in profile old) (memory_in profile new) events text
 
--- the line of a note
+-- The line of a note.
 abbrev pub note_line : Note → List ℕ
 note_line (notes.Refused fault) = refusal_line (fault_name fault)
 note_line (notes.NotTaken fault) = refusal_line (key_fault_name fault)
 note_line (notes.Pressed key) = key_line key
 
+-- The lines of several notes.
 abbrev pub notes_lines : List Note → List ℕ
 notes_lines all = flat_map note_line all
 
--- the lines of a picture's screen were added
+-- The lines of a picture's screen were appended.
 pub record AddsScreen (picture : PictureView) (before after : List ℕ) : Type 0 where
   pub lines : List ℕ
   pub is : IsScreenOf picture lines
   pub added : after ≡ before ++ lines
 
--- what a command did on an open stage, and what is written of it
+-- What a command did on an open stage, and what is written for it.
 pub record CommandWrites (raw : Bool) (old : Playing) (command : Command) (text : List ℕ) (new : Playing) : Type 0 where
   pub outcome : Outcome
   pub is : continued (stage_of old.screen) command ≡ Some outcome
@@ -248,12 +249,12 @@ pub record CommandWrites (raw : Bool) (old : Playing) (command : Command) (text 
   pub profile : new.screen.profile ≡ old.screen.profile
   pub written : IsOutputOfLines raw new.screen.profile (Some old) (Some new) outcome.events text
 
--- the profile behind a line: that of the size that it gives, if it opened the stage
+-- The profile after a line: the one of the size that the line gives, if it opened the stage.
 abbrev pub profile_behind : Option Playing → List ℕ → ProfileView
 profile_behind None line = ecma48_profile (size_in (command_of line)).0 (size_in (command_of line)).1
 profile_behind (Some stage) line = stage.screen.profile
 
--- what a line did, and what is written of it
+-- What a line did, and what is written for it.
 pub record LineWrites (raw : Bool) (old : Option Playing) (line text : List ℕ) (new : Option Playing) : Type 0 where
   pub outcome : Outcome
   pub is : line_outcome (stages_of old) line ≡ Some outcome
@@ -264,7 +265,7 @@ pub record LineWrites (raw : Bool) (old : Option Playing) (line text : List ℕ)
   pub profile : stage.screen.profile ≡ profile_behind old line
   pub written : IsOutputOfLines raw stage.screen.profile old new outcome.events text
 
--- what a line did, and what it adds to the refusals
+-- What a line did, and the refusals that it adds.
 pub record AddsRefusals (old : Option Playing) (line before after : List ℕ) (new : Option Playing) : Type 0 where
   pub outcome : Outcome
   pub is : line_outcome (stages_of old) line ≡ Some outcome

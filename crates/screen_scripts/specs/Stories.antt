@@ -1,4 +1,5 @@
--- What a script means: what is refused, what is shown and which keys are pressed, in order, up to the first bad line.
+-- What a script means: which calls are refused, what is shown and which keys are pressed, in order, up to the first bad
+-- line.
 use Rattle.std.specs.Prelude.{ℕ, ◌+◌, ◌-◌, ◌^◌, ◌==◌, ◌&&◌, nat_le, List, [], ◌∷◌, ◌++◌, length, map, Option, Some, None, option_and_then, Result, Ok, Err, min, codes, if◌then◌else◌}
 use Rattle.std.specs.List.{range_with_len}
 use Rattle.scr_keys.specs.Keys.{Keys}
@@ -25,24 +26,25 @@ use Rattle.screen_commands.specs.declared.commands.Command.TheVariants as comman
 
 -- ---- events
 
--- a refused call, by its fault's name; n rows from one on, marked since others wrote on them; an update that shows a
--- virtual screen; a key that was pressed
+-- An event: a refused call, by its fault's name; n rows from `first` on that were marked because others wrote there; an
+-- update that shows a virtual screen; a key that was pressed.
 pub data Event : Type 0 where
   Refused : (name : List ℕ) → Event
   Marked : (first : ℕ) → (n : ℕ) → Event
   Shown : (virtual : VirtualView) → Event
   Pressed : (key : Key) → Event
 
--- what the commands of a script act on: windows and the virtual screen, and the reader of keys
+-- What a script's commands act on: windows and virtual screen, and the key reader.
 pub record Stage : Type 0 where
   pub drawn : Drawn
   pub keys : ReaderView
 
--- what a command leaves, and what came of it
+-- What a command leaves behind, and the events that it causes.
 pub record Outcome : Type 0 where
   pub stage : Stage
   pub events : List Event
 
+-- The name of each window fault.
 abbrev pub fault_name : WinFault → List ℕ
 fault_name faults.NoWindow = codes "NoWindow"
 fault_name faults.IsPad = codes "IsPad"
@@ -61,6 +63,7 @@ fault_name faults.NoMemory = codes "NoMemory"
 fault_name faults.BadPair = codes "BadPair"
 fault_name faults.BadColour = codes "BadColour"
 
+-- The name of each key fault.
 abbrev pub key_fault_name : KeyFault → List ℕ
 key_fault_name (key_faults.KeyTooLong slot) = codes "KeyTooLong"
 key_fault_name key_faults.QueueFull = codes "QueueFull"
@@ -68,92 +71,96 @@ key_fault_name key_faults.NoMemory = codes "NoMemory"
 
 -- ---- calls
 
--- an answer is an event where it is a refusal
+-- A refusal is an event; no other answer is.
 abbrev pub refusal_of : Answer → List Event
 refusal_of (answers.Refused fault) = Refused (fault_name fault) ∷ []
 refusal_of answer = []
 
--- rows that are marked are an event
+-- Marked rows are an event.
 abbrev pub mark_of : Option (ℕ × ℕ) → List Event
 mark_of None = []
 mark_of (Some rows) = Marked rows.0 rows.1 ∷ []
 
--- windows and virtual screen after a call that is no update, the rows that it marked, and its answer
+-- The stage after a call that is no update, and the events of its marks and its refusal.
 abbrev pub called : Stage → Option (ℕ × ℕ) → Drawn × Answer → Outcome
 called stage rows call = record { stage = record stage { drawn = call.0 }; events = mark_of rows ++ refusal_of call.1 }
 
--- an update shows the virtual screen, which is then settled
+-- An update shows the virtual screen, after which nothing is left to repaint.
 abbrev pub updated : Stage → Outcome
 updated stage = record {
   stage = record stage { drawn = record stage.drawn { virtual = settled stage.drawn.virtual } };
   events = Shown stage.drawn.virtual ∷ [];
 }
 
+-- What a call does.
 unfoldable pub made : Stage → Call → Outcome
 made stage call = if is_update call then updated stage else called stage (marked_by stage.drawn.desk call) (screen_call stage.drawn call)
 
 -- ---- commands
 
--- what follows comes of what an outcome left
+-- The next step continues from what an outcome left.
 abbrev pub followed : Outcome → (Stage → Outcome) → Outcome
 followed outcome next = record { stage = (next outcome.stage).stage; events = outcome.events ++ (next outcome.stage).events }
 
--- what follows comes only where nothing was refused
+-- The next step is only taken if nothing was refused.
 abbrev pub unless_refused : Outcome → (Stage → Outcome) → Outcome
 unless_refused outcome next = if length outcome.events == 0 then next outcome.stage else outcome
 
--- the window that is there from the beginning, over the whole screen
+-- The window that exists from the start, over the whole screen.
 abbrev pub first_window : Win
 first_window = record { 0 = 0 }
 
--- a text at a place of the first window
+-- Writes a text at a place of the first window.
 abbrev pub added : Stage → ℕ → ℕ → List ℕ → Outcome
 added stage row column text = unless_refused (made stage (MoveCursor first_window row column)) (λ moved. made moved (AddText first_window text))
 
--- the first window is taken onto the virtual screen, and this is shown
+-- Copies the first window to the virtual screen and shows it.
 abbrev pub shown : Stage → Outcome
 shown stage = followed (made stage (Noutrefresh first_window)) updated
 
 -- ---- keys
 
--- where the reader refuses what came, that is an event
+-- A refusal by the key reader is an event.
 abbrev pub key_refusal : Result (Unit {0}) KeyFault → List Event
 key_refusal (Ok done) = []
 key_refusal (Err fault) = Refused (key_fault_name fault) ∷ []
 
+-- What the key reader does with input.
 abbrev pub came : Stage → ReaderView × Result (Unit {0}) KeyFault → Outcome
 came stage read = record { stage = record stage { keys = read.0 }; events = key_refusal read.1 }
 
--- bytes come one after another, whatever is refused
+-- Bytes are read one after another, even if some are refused.
 abbrev pub bytes_came : Stage → List ℕ → Outcome
 bytes_came stage [] = record { stage = stage; events = [] }
 bytes_came stage (byte ∷ bytes) = followed (came stage (byte_read stage.keys byte)) (λ next. bytes_came next bytes)
 
--- all keys that wait are taken
+-- All queued keys are taken.
 abbrev pub keys_taken : Stage → Outcome
 keys_taken stage = record { stage = record stage { keys = record stage.keys { queue = [] } }; events = map Pressed stage.keys.queue }
 
--- bytes come from the keyboard, and then all keys are taken; none comes for a while, and all keys are taken
+-- Bytes are read from the keyboard, and then all keys are taken.
 abbrev pub pressed : Stage → List ℕ → Outcome
 pressed stage bytes = followed (bytes_came stage bytes) keys_taken
 
+-- No byte comes for a while, and then all keys are taken.
 abbrev pub idled : Stage → Outcome
 idled stage = followed (came stage (idle_read stage.keys)) keys_taken
 
 -- ---- lines
 
--- the keys of the bundled entry, whose texts are these
+-- The bundled entry: its texts.
 abbrev pub bundled_description : Description
 bundled_description = record (bare bundled_names) { texts = map (listed bundled_texts) (range_with_len 0 512) }
 
+-- The keys of the bundled entry.
 unfoldable pub bundled_keys : Keys
 bundled_keys = keys_of bundled_description
 
--- A size of 1 to 500 rows and columns opens the stage: one blank window over the whole screen, and no key was pressed. Any other first
--- command is bad.
+-- The stage that a size opens: one blank window over the whole screen, and no key pressed.
 abbrev pub first_stage : ℕ → ℕ → Stage
 first_stage rows columns = record { drawn = first_drawn rows columns; keys = record { keys = bundled_keys; queue = []; waiting = [] } }
 
+-- A size of 1 to 500 rows and columns opens the stage; any other first command is bad.
 abbrev pub opened : Command → Option Outcome
 opened (commands.Size rows columns) =
     if nat_le 1 rows && nat_le rows 500 && nat_le 1 columns && nat_le columns 500
@@ -161,7 +168,7 @@ opened (commands.Size rows columns) =
     else None
 opened command = None
 
--- there is one size
+-- What a command does on an open stage; a second size is bad.
 abbrev pub continued : Stage → Command → Option Outcome
 continued stage (commands.Size rows columns) = None
 continued stage (commands.Add row column text) = Some (added stage row column text)
@@ -170,46 +177,52 @@ continued stage (commands.Make call) = Some (made stage call)
 continued stage (commands.Key bytes) = Some (pressed stage bytes)
 continued stage commands.Idle = Some (idled stage)
 
+-- What a command does, on an open stage or as the first one.
 abbrev pub outcome_of : Option Stage → Command → Option Outcome
 outcome_of None command = opened command
 outcome_of (Some stage) command = continued stage command
 
--- what a line does, or none where it is bad
+-- What a line does; none if it is bad.
 abbrev pub line_outcome : Option Stage → List ℕ → Option Outcome
 line_outcome stage line = option_and_then (outcome_of stage) (command_of line)
 
 -- ---- stories
 
--- what happened, and the number of the first bad line, if any; numbers stay at the last one of 32 bits
+-- A story: the events of a script, and the number of the first bad line, if there is one. Line numbers stop at
+-- 4,294,967,295.
 pub record Story : Type 0 where
   pub events : List Event
   pub bad_line : Option ℕ
 
+-- The number of the next line.
 abbrev pub next_number : ℕ → ℕ
 next_number n = min (n + 1) (2 ^ 32 - 1)
 
--- a bad line ends the story; else what follows the outcome goes on with it
+-- A bad line ends the story; otherwise the story continues after the outcome.
 abbrev pub story_from : ℕ → Option Outcome → (Outcome → Story) → Story
 story_from n None rest = record { events = []; bad_line = Some n }
 story_from n (Some outcome) rest = record { events = outcome.events ++ (rest outcome).events; bad_line = (rest outcome).bad_line }
 
--- the lines from the one with this number on
+-- The story of the lines from line n on.
 abbrev pub story_on : ℕ → Option Stage → List (List ℕ) → Story
 story_on n stage [] = record { events = []; bad_line = None }
 story_on n stage (line ∷ lines) =
     story_from n (line_outcome stage line) (λ outcome. story_on (next_number n) (Some outcome.stage) lines)
 
+-- The story of a whole script.
 abbrev pub story_of : List ℕ → Story
 story_of script = story_on 1 None (lines_of script)
 
--- Rows and columns of the screen, which the first line gives. Where it does not, nothing is shown, and whatever stands here will do.
+-- The rows and columns in a command that sets the size. If there is none, nothing is shown and the value is irrelevant.
 abbrev pub size_in : Option Command → ℕ × ℕ
 size_in (Some (commands.Size rows columns)) = (rows, columns)
 size_in command = (1, 1)
 
+-- The size that the first of these lines gives.
 abbrev pub size_on : List (List ℕ) → ℕ × ℕ
 size_on [] = (1, 1)
 size_on (line ∷ lines) = size_in (command_of line)
 
+-- The size that a script gives.
 abbrev pub size_of : List ℕ → ℕ × ℕ
 size_of script = size_on (lines_of script)
