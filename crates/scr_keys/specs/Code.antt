@@ -1,3 +1,3 @@
--- Words of private functions.
+-- Definitions that only private functions use.
 pub mod Maps
 pub mod Rooms

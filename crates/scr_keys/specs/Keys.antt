@@ -1,4 +1,5 @@
--- Keys: which bytes of a keyboard are which key. terminfo(5), 'Function Keys'; X/Open Curses Issue 7, getch(), keypad().
+-- Keys: which bytes from a keyboard are which key. terminfo(5), 'Function Keys'; X/Open Curses Issue 7, getch(),
+-- keypad().
 use Rattle.std.specs.Prelude.{ℕ, suc, zero, ◌-◌, ◌&&◌, max, Bool, true, false, List, [], ◌∷◌, length, take, Option, Some, None, option_map, nat_lt, if◌then◌else◌}
 use Rattle.std.specs.List.{list_any}
 use Rattle.std.specs.Str.{bytes_eq}
@@ -6,66 +7,71 @@ use Rattle.ti_caps.specs.Table.{or_else}
 use Rattle.scr_keys.specs.declared.keys.Key.{Key}
 use Rattle.scr_keys.specs.declared.keys.Key.TheVariants.{Slot, Byte}
 
--- the keys of a terminal: the text that each sends and its position in the capability table; no text is empty, and none stands twice
+-- A terminal's keys: the text that each sends, and its position in the capability table. No text is empty, and none
+-- occurs twice.
 abbrev pub Keys : Type 0
 Keys = List (List ℕ × ℕ)
 
--- the key that sends just this text
+-- The key that sends exactly this text.
 abbrev pub key_of : Keys → List ℕ → Option ℕ
 key_of [] text = None
 key_of (key ∷ keys) text = if bytes_eq text key.0 then Some key.1 else key_of keys text
 
--- some bytes are a beginning of a text, and not all of it
+-- The bytes are a proper beginning of a text.
 abbrev pub is_beginning : List ℕ → List ℕ → Bool
 is_beginning bytes text = nat_lt (length bytes) (length text) && bytes_eq bytes (take (length bytes) text)
 
--- they could become a key, if more follow
+-- The bytes could become a key if more follow.
 abbrev pub goes_on : Keys → List ℕ → Bool
 goes_on keys bytes = list_any (λ key. is_beginning bytes key.0) keys
 
--- the longest beginning of at most n bytes that is a key's text: the key, and how many bytes it has
+-- The longest beginning of the bytes, of at most n bytes, that is a key's text: the key, and the length.
 abbrev pub longest : Keys → List ℕ → ℕ → Option (ℕ × ℕ)
 longest keys bytes zero = None
 longest keys bytes (suc n) = or_else (option_map (λ slot. (slot, suc n)) (key_of keys (take (suc n) bytes))) (longest keys bytes n)
 
--- the first key of some bytes and how many of them it has: the longest text of a key that they begin with, or else the first byte
+-- That key, or else the first byte alone.
 abbrev pub key_or_byte : ℕ → Option (ℕ × ℕ) → Key × ℕ
 key_or_byte byte None = (Byte byte, 1)
 key_or_byte byte (Some key) = (Slot key.0, key.1)
 
+-- The first key of some bytes and how many bytes it has: the longest text of a key that they begin with, or else the
+-- first byte.
 abbrev pub first_key : Keys → ℕ → List ℕ → Key × ℕ
 first_key keys byte bytes = key_or_byte byte (longest keys (byte ∷ bytes) (length (byte ∷ bytes)))
 
+-- The same for a list of bytes.
 abbrev pub first_of : Keys → List ℕ → Key × ℕ
 first_of keys [] = (Byte 0, 1)
 first_of keys (byte ∷ bytes) = first_key keys byte bytes
 
--- The keys of bytes: the first, and then those of the rest. Where more bytes may follow, up to where the rest could become a key. The
--- first n bytes belong to a key before.
+-- The keys of these bytes after the first n, which belong to an earlier key. If more bytes may follow (`more`), the
+-- list stops where the rest could become a key.
 abbrev pub keys_behind : Bool → Keys → ℕ → List ℕ → List Key
 keys_behind more keys n [] = []
 keys_behind more keys (suc n) (byte ∷ bytes) = keys_behind more keys n bytes
 keys_behind more keys zero (byte ∷ bytes) =
     if more && goes_on keys (byte ∷ bytes) then [] else (first_key keys byte bytes).0 ∷ keys_behind more keys ((first_key keys byte bytes).1 - 1) bytes
 
--- the bytes that these keys leave
+-- The bytes that remain after these keys.
 abbrev pub left_behind : Bool → Keys → ℕ → List ℕ → List ℕ
 left_behind more keys n [] = []
 left_behind more keys (suc n) (byte ∷ bytes) = left_behind more keys n bytes
 left_behind more keys zero (byte ∷ bytes) = if more && goes_on keys (byte ∷ bytes) then byte ∷ bytes else left_behind more keys ((first_key keys byte bytes).1 - 1) bytes
 
--- all keys of bytes where no more follow
+-- All keys of these bytes when no more follow.
 abbrev pub keys_in : Keys → List ℕ → List Key
 keys_in keys bytes = keys_behind false keys 0 bytes
 
--- the keys that are *decided* while more bytes may follow, and the bytes that they leave
+-- The keys that are certain while more bytes may still follow.
 abbrev pub decided : Keys → List ℕ → List Key
 decided keys bytes = keys_behind true keys 0 bytes
 
+-- The bytes that remain after these keys.
 abbrev pub undecided : Keys → List ℕ → List ℕ
 undecided keys bytes = left_behind true keys 0 bytes
 
--- how long the longest text of a key is
+-- The length of the longest key text.
 abbrev pub longest_text : Keys → ℕ
 longest_text [] = 0
 longest_text (key ∷ keys) = max (length key.0) (longest_text keys)

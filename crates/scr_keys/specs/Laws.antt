@@ -1,26 +1,26 @@
--- Pieces of input do not matter to keys. X/Open Curses Issue 7, getch().
+-- How input is cut into pieces does not matter to keys. X/Open Curses Issue 7, getch().
 use Rattle.std.specs.Prelude.{ℕ, ◌≡◌, List, [], ◌∷◌, ◌++◌}
 use Rattle.scr_keys.specs.declared.keys.Key.{Key}
 use Rattle.scr_keys.specs.Keys.{Keys, decided, keys_in, undecided}
 
--- what a keyboard does: a byte comes, or none comes for a while
+-- What a keyboard does: a byte arrives, or none arrives for a while.
 pub data Event : Type 0 where
   Came : (byte : ℕ) → Event
   Idled : Event
 
--- The keys of events: an idle ends a stretch of bytes, whose keys are all that they are; of the running stretch those are there that are
--- decided. `bytes` is the running stretch so far.
+-- The keys of these events. A pause ends a stretch of bytes, and all its keys count; of the current stretch, `bytes`,
+-- only the keys that are already decided do.
 abbrev pub keys_from : Keys → List ℕ → List Event → List Key
 keys_from keys bytes [] = decided keys bytes
 keys_from keys bytes (Came byte ∷ events) = keys_from keys (bytes ++ byte ∷ []) events
 keys_from keys bytes (Idled ∷ events) = keys_in keys bytes ++ keys_from keys [] events
 
--- the keys that a reader adds that keeps the bytes that are not decided
+-- The keys that a reader adds if it keeps the undecided bytes, event by event.
 abbrev pub keys_added : Keys → List ℕ → List Event → List Key
 keys_added keys waiting [] = []
 keys_added keys waiting (Came byte ∷ events) = decided keys (waiting ++ byte ∷ []) ++ keys_added keys (undecided keys (waiting ++ byte ∷ [])) events
 keys_added keys waiting (Idled ∷ events) = keys_in keys waiting ++ keys_added keys [] events
 
--- these are the same keys, in the same order
+-- Both give the same keys in the same order.
 abbrev pub PiecesDoNotMatter : Type 0
 PiecesDoNotMatter = (keys : Keys) (events : List Event) → keys_added keys [] events ≡ keys_from keys [] events

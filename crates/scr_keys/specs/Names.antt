@@ -1,4 +1,4 @@
--- The keys by name, beside the table of capabilities (terminfo(5), 'Predefined Capabilities').
+-- The keys by name, beside the capability table. terminfo(5), 'Predefined Capabilities'.
 use Rattle.std.specs.Prelude.{ℕ, Bool, true, false, ◌≡◌, List, [], ◌∷◌, codes}
 use Rattle.std.specs.List.{list_all}
 use Rattle.ti_caps.specs.Slots.{is_slot_of}
@@ -7,11 +7,12 @@ use Rattle.scr_keys.specs.declared.keys.Key.{Key}
 use Rattle.scr_keys.specs.declared.keys.Key.TheVariants.{Slot, Byte}
 use Rattle.scr_keys.specs.declared.names.TheConstants.{BACKSPACE, CLEAR_ALL_TABS, CLEAR, CLEAR_TAB, DELETE, DELETE_LINE, DOWN, EXIT_INSERT, CLEAR_TO_EOL, CLEAR_TO_BOTTOM, F0, F1, F10, F2, F3, F4, F5, F6, F7, F8, F9, HOME, INSERT, INSERT_LINE, LEFT, HOME_DOWN, PAGE_DOWN, PAGE_UP, RIGHT, SCROLL_FORWARD, SCROLL_BACKWARD, SET_TAB, UP, UPPER_LEFT, UPPER_RIGHT, CENTER, LOWER_LEFT, LOWER_RIGHT, BACK_TAB, BEGIN, CANCEL, CLOSE, COMMAND, COPY, CREATE, END, ENTER, EXIT, FIND, HELP, MARK, MESSAGE, MOVE, NEXT, OPEN, OPTIONS, PREVIOUS, PRINT, REDO, REFERENCE, REFRESH, REPLACE, RESTART, RESUME, SAVE, SUSPEND, UNDO, F11, F12, F13, F14, F15, F16, F17, F18, F19, F20, F21, F22, F23, F24, F25, F26, F27, F28, F29, F30, F31, F32, F33, F34, F35, F36, F37, F38, F39, F40, F41, F42, F43, F44, F45, F46, F47, F48, F49, F50, F51, F52, F53, F54, F55, F56, F57, F58, F59, F60, F61, F62, F63}
 
--- the key is at the position of this name, among those of texts
+-- The key is at the position of this name in the table of texts.
 abbrev pub is_key_of : Key → List ℕ → Bool
 is_key_of (Slot n) name = is_slot_of Text (record { 0 = n }) name
 is_key_of (Byte n) name = false
 
+-- Each of these keys is at its name's position.
 abbrev pub first_keys : List Bool
 first_keys =
     is_key_of BACKSPACE (codes "kbs")
@@ -35,6 +36,7 @@ first_keys =
     ∷ is_key_of F7 (codes "kf7")
     ∷ is_key_of F8 (codes "kf8") ∷ []
 
+-- The same of these.
 abbrev pub second_keys : List Bool
 second_keys =
     is_key_of F9 (codes "kf9")
@@ -58,6 +60,7 @@ second_keys =
     ∷ is_key_of BACK_TAB (codes "kcbt")
     ∷ is_key_of BEGIN (codes "kbeg") ∷ []
 
+-- The same of these.
 abbrev pub third_keys : List Bool
 third_keys =
     is_key_of CANCEL (codes "kcan")
@@ -81,6 +84,7 @@ third_keys =
     ∷ is_key_of REDO (codes "krdo")
     ∷ is_key_of REFERENCE (codes "kref") ∷ []
 
+-- The same of these.
 abbrev pub fourth_keys : List Bool
 fourth_keys =
     is_key_of REFRESH (codes "krfr")
@@ -104,6 +108,7 @@ fourth_keys =
     ∷ is_key_of F22 (codes "kf22")
     ∷ is_key_of F23 (codes "kf23") ∷ []
 
+-- The same of these.
 abbrev pub fifth_keys : List Bool
 fifth_keys =
     is_key_of F24 (codes "kf24")
@@ -127,6 +132,7 @@ fifth_keys =
     ∷ is_key_of F42 (codes "kf42")
     ∷ is_key_of F43 (codes "kf43") ∷ []
 
+-- The same of these.
 abbrev pub sixth_keys : List Bool
 sixth_keys =
     is_key_of F44 (codes "kf44")
@@ -150,7 +156,7 @@ sixth_keys =
     ∷ is_key_of F62 (codes "kf62")
     ∷ is_key_of F63 (codes "kf63") ∷ []
 
--- each key is at the position of its name
+-- Each key is at the position of its name.
 pub record KeysAreNamed : Type 0 where
   pub first : list_all (λ is. is) first_keys ≡ true
   pub second : list_all (λ is. is) second_keys ≡ true

@@ -8,52 +8,56 @@ use Rattle.scr_keys.specs.declared.faults.KeyFault.{KeyFault}
 use Rattle.scr_keys.specs.declared.faults.KeyFault.TheVariants.{KeyTooLong, NoMemory, QueueFull}
 use Rattle.scr_keys.specs.Keys.{Keys, key_of}
 
--- the name is a key's
+-- The capability's name begins with k.
 abbrev pub begins_with_k : Option (List ℕ) → Bool
 begins_with_k (Some (byte ∷ name)) = byte == 107
 begins_with_k _ = false
 
+-- The capability at this position is a key.
 abbrev pub is_key : ℕ → Bool
 is_key slot = begins_with_k (name_at Text slot)
 
+-- The text without its padding; empty if it is absent.
 abbrev pub without_padding : Option (List ℕ) → List ℕ
 without_padding None = []
 without_padding (Some text) = stripped text
 
--- what the key at a position sends, without padding; nothing where there is no key
+-- What the key at a position sends, without padding; nothing if there is no key.
 abbrev pub text_of_key : Description → ℕ → List ℕ
 text_of_key entry slot = if is_key slot then without_padding (text_at entry slot) else []
 
--- a text makes a new key: it is not empty, and no other key sends the same
+-- The text makes a new key: it is not empty, and no other key sends it.
 abbrev pub is_new : Keys → List ℕ → Bool
 is_new keys text = not (length text == 0) && not (is_some (key_of keys text))
 
--- one key more, if its text makes one
+-- The keys with this one added, if its text makes a new key.
 abbrev pub with_key : Keys → List ℕ → ℕ → Keys
 with_key keys text slot = if is_new keys text then keys ++ (text, slot) ∷ [] else keys
 
--- the keys at the first n positions
+-- The keys at the first n positions.
 abbrev pub keys_below : Description → ℕ → Keys
 keys_below entry zero = []
 keys_below entry (suc n) = with_key (keys_below entry n) (text_of_key entry n) n
 
+-- All keys of an entry.
 unfoldable pub keys_of : Description → Keys
 keys_of entry = keys_below entry 512
 
--- the first position below n whose text is too long for a key
+-- The first position below n with a key text longer than 64 bytes.
 abbrev pub too_long_below : Description → ℕ → Option ℕ
 too_long_below entry zero = None
 too_long_below entry (suc n) = or_else (too_long_below entry n) (if nat_lt 64 (length (text_of_key entry n)) then Some n else None)
 
+-- The first position whose key text is too long.
 unfoldable pub too_long : Description → Option ℕ
 too_long entry = too_long_below entry 512
 
--- the keys of an entry, none of whose texts is too long
+-- These are the keys of the entry, and none of its key texts is too long.
 pub record AreKeysOf (entry : Description) (keys : Keys) : Type 0 where
   pub all : keys ≡ keys_of entry
   pub few : too_long entry ≡ None
 
--- a text is too long, or memory ran out
+-- Why an entry's keys are refused: a text is too long, or memory ran out.
 abbrev pub AreRefused : Description → KeyFault → Type 0
 AreRefused entry NoMemory = Unit {0}
 AreRefused entry QueueFull = ⊥
