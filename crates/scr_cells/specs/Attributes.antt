@@ -1,7 +1,7 @@
 -- Sets of attributes, as numbers whose bits are the members. X/Open Curses Issue 7, 'Attributes'.
 use Rattle.std.specs.Prelude.{ℕ, List, [], ◌∷◌, ◌==◌, ◌-◌, filter, bit_and, bit_or, if◌then◌else◌}
 
--- the attributes, in the order in which a terminal is told them
+-- The attributes, in the order in which `sgr` takes them.
 abbrev pub standout : ℕ
 standout = 1
 
@@ -23,17 +23,18 @@ bold = 32
 abbrev pub invis : ℕ
 invis = 64
 
+-- All seven, in that order.
 abbrev pub all_attributes : List ℕ
 all_attributes = standout ∷ underline ∷ reverse ∷ blink ∷ dim ∷ bold ∷ invis ∷ []
 
--- the set of all seven
+-- The set of all seven.
 abbrev pub every_attribute : ℕ
 every_attribute = 127
 
--- the attributes of a set, one by one, in that order
+-- The attributes of a set, one by one, in the same order.
 abbrev pub attributes_of : ℕ → List ℕ
 attributes_of set = filter (λ a. bit_and set a == a) all_attributes
 
--- the set as it is seen on a terminal that shows standout as reverse: reverse in place of standout
+-- The negative of a set, as seen on a terminal that shows standout as reverse: reverse in place of standout.
 abbrev pub negative_set : ℕ → ℕ
 negative_set set = if bit_and set standout == standout then bit_or (set - standout) reverse else set

@@ -1,4 +1,4 @@
--- The words of private functions: nothing that has to be read to know what the library does.
+-- Definitions that only private functions use. Nobody has to read them to know what the library does.
 pub mod Lanes
 pub mod Numbers
 pub mod PackedPens
