@@ -1,2 +1,2 @@
--- Words of private functions.
+-- Definitions that only private functions use.
 pub mod Steps

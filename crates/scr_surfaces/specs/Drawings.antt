@@ -1,11 +1,11 @@
--- What a drawing does: the cell of each place of the area after it, from the cells of the area before.
+-- What a drawing does: the cell of each place of the area after it, given the cells before.
 use Rattle.std.specs.Prelude.{ℕ, ◌<◌, ◌≤◌}
 use Rattle.scr_cells.specs.CellViews.{CellView}
 use Rattle.scr_surfaces.specs.declared.drawings.Drawing.{Drawing}
 use Rattle.scr_surfaces.specs.declared.drawings.Drawing.TheVariants.{Run, Rows, Below, Column, Opened, Closed, Up, Down, Exchanged, Edges}
 use Rattle.scr_surfaces.specs.Formulas.{all_exchanged, below_put, bordered, column_put, row_closed, row_opened, rows_down, rows_put, rows_up, run_put}
 
--- in an area of so many rows and columns
+-- A drawing in an area of this size, place by place.
 abbrev pub drawn : Drawing → ℕ → ℕ → (ℕ → ℕ → CellView) → ℕ → ℕ → CellView
 drawn (Run row from end cell) rows columns at = run_put row from end cell at
 drawn (Rows first end cell) rows columns at = rows_put first end cell at
@@ -18,7 +18,7 @@ drawn (Down first end count cell) rows columns at = rows_down first end count ce
 drawn (Exchanged old new) rows columns at = all_exchanged old new at
 drawn (Edges border) rows columns at = bordered rows columns border at
 
--- the places that a drawing names are in an area of so many rows and columns
+-- The places that the drawing names lie in an area of this size.
 abbrev pub IsFitting : Drawing → ℕ → ℕ → Type 0
 IsFitting (Run row from end cell) rows columns = (row < rows) × (from ≤ end) × (end ≤ columns)
 IsFitting (Rows first end cell) rows columns = (first ≤ end) × (end ≤ rows)

@@ -1,5 +1,5 @@
--- What drawings put into the places of an area: for each row and column a formula over the cells of the area before.
--- X/Open Curses Issue 7, the pages named.
+-- What drawings put into an area: for each row and column, a formula over the cells before. X/Open Curses Issue 7, the
+-- pages named.
 use Rattle.std.specs.Prelude.{Bool, ℕ, ◌+◌, ◌-◌, ltb, leb, ◌==◌, ◌&&◌, ◌||◌, if◌then◌else◌}
 use Rattle.scr_cells.specs.CellViews.{CellView, blank_cell, exchanged}
 use Rattle.scr_cells.specs.Grids.{GridView, grid_at}
@@ -7,44 +7,44 @@ use Rattle.scr_surfaces.specs.declared.areas.Area.{Area}
 use Rattle.scr_surfaces.specs.declared.borders.Border.{Border}
 use Rattle.scr_surfaces.specs.SurfaceViews.{is_inside}
 
--- in one row the places from one column up to another have this cell
+-- The places of one row from column `from` up to, but not including, `end` get this cell.
 abbrev pub run_put : ℕ → ℕ → ℕ → CellView → (ℕ → ℕ → CellView) → ℕ → ℕ → CellView
 run_put row from end cell at r c = if r == row && leb from c && ltb c end then cell else at r c
 
--- the rows from one up to another have this cell everywhere
+-- The rows from `first` up to, but not including, `end` get this cell everywhere.
 abbrev pub rows_put : ℕ → ℕ → CellView → (ℕ → ℕ → CellView) → ℕ → ℕ → CellView
 rows_put first end cell at r c = if leb first r && ltb r end then cell else at r c
 
--- in one row the places from one column on move right by one, and the cell takes the place: insch()
+-- insch(): the places of row y from column x on move right by one, and the cell takes the place.
 abbrev pub row_opened : ℕ → ℕ → CellView → (ℕ → ℕ → CellView) → ℕ → ℕ → CellView
 row_opened y x cell at r c = if r == y && leb x c then (if c == x then cell else at r (c - 1)) else at r c
 
--- in a row of so many columns the places after one column move left by one, and the cell takes the last place: delch()
+-- delch(): the places of row y after column x move left by one, and the cell takes the last place.
 abbrev pub row_closed : ℕ → ℕ → ℕ → CellView → (ℕ → ℕ → CellView) → ℕ → ℕ → CellView
 row_closed columns y x cell at r c = if r == y && leb x c then (if ltb (c + 1) columns then at r (c + 1) else cell) else at r c
 
--- the rows from one up to another move up by n among themselves, and the rows left free have this cell: scrl(), insdelln()
+-- scrl(), insdelln(): the rows from `first` up to `end` move up by n; rows left free get this cell.
 abbrev pub rows_up : ℕ → ℕ → ℕ → CellView → (ℕ → ℕ → CellView) → ℕ → ℕ → CellView
 rows_up first end n cell at r c = if leb first r && ltb r end then (if ltb (r + n) end then at (r + n) c else cell) else at r c
 
--- the same down
+-- The same, down.
 abbrev pub rows_down : ℕ → ℕ → ℕ → CellView → (ℕ → ℕ → CellView) → ℕ → ℕ → CellView
 rows_down first end n cell at r c = if leb first r && ltb r end then (if leb (first + n) r then at (r - n) c else cell) else at r c
 
--- the places from one place to the end of its row, and the rows below, have this cell: clrtobot()
+-- clrtobot(): the places from (y, x) to the end of the row, and all rows below, get this cell.
 abbrev pub below_put : ℕ → ℕ → CellView → (ℕ → ℕ → CellView) → ℕ → ℕ → CellView
 below_put y x cell at r c = if (r == y && leb x c) || ltb y r then cell else at r c
 
--- in one column the places from one row up to another have this cell: vline()
+-- vline(): the places of one column from row `first` up to, but not including, `end` get this cell.
 abbrev pub column_put : ℕ → ℕ → ℕ → CellView → (ℕ → ℕ → CellView) → ℕ → ℕ → CellView
 column_put column first end cell at r c = if c == column && leb first r && ltb r end then cell else at r c
 
--- every cell has a background in place of another: bkgd()
+-- bkgd(): the background is replaced in every place.
 abbrev pub all_exchanged : CellView → CellView → (ℕ → ℕ → CellView) → ℕ → ℕ → CellView
 all_exchanged old new at r c = exchanged old new (at r c)
 
--- the edges and corners of an area of so many rows and columns have the border's cells, and the other places stay; where
--- edges meet, as corners do with edges, and in an area of one row or column, the cell that comes later in the border counts: border()
+-- border(): the edges and corners get the border's cells, other places stay. Where several cells fall on one place, as
+-- at the corners or in an area of one row or column, the one that comes later in the border counts.
 abbrev pub bordered : ℕ → ℕ → Border → (ℕ → ℕ → CellView) → ℕ → ℕ → CellView
 bordered rows columns border at r c =
     if r + 1 == rows && c + 1 == columns then border.bottom_right
@@ -57,22 +57,22 @@ bordered rows columns border at r c =
     else if c == 0 then border.left
     else at r c
 
--- a cell takes the place of another, but for a blank, which leaves it, whatever the blank's attributes: overlay()
+-- overlay(): a cell replaces another, except that a blank, whatever its attributes, leaves it.
 abbrev pub over : CellView → CellView → CellView
 over cell under = if cell.byte == 32 then under else cell
 
--- a cell laid over another: with overlay a blank leaves it, and without overlay no cell does: copywin()
+-- copywin(): a cell laid over another; with `overlay`, a blank leaves it.
 abbrev pub laid : Bool → CellView → CellView → CellView
 laid overlay cell under = if overlay then over cell under else cell
 
--- a block of cells laid over a part of an area; every other place stays
+-- A block of cells laid over a part of an area; every other place stays.
 abbrev pub part_laid : Bool → Area → (ℕ → ℕ → CellView) → (ℕ → ℕ → CellView) → ℕ → ℕ → CellView
 part_laid overlay part cells at r c = if is_inside part r c then laid overlay (cells (r - part.top) (c - part.left)) (at r c) else at r c
 
--- the part of an area that a block takes from a row and a column on
+-- The part of an area that a block covers from (top, left) on.
 abbrev pub part_of : ℕ → ℕ → GridView CellView → Area
 part_of top left block = record { top = top; left = left; rows = block.rows; columns = block.columns }
 
--- the cell of a block in a row and a column
+-- The cell of a block in row r and column c.
 abbrev pub block_at : GridView CellView → ℕ → ℕ → CellView
 block_at block r c = grid_at blank_cell block.lines r c
