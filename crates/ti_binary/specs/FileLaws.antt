@@ -4,17 +4,16 @@ use Rattle.ti_caps.specs.Description.{Description, IsDescription}
 use Rattle.ti_binary.specs.Canonical.{canonical}
 use Rattle.ti_binary.specs.Files.{IsFile, refusal}
 
--- bytes that are a file of an entry have no reason to be refused
+-- Bytes that are a file of an entry have no reason to be refused.
 abbrev pub FilesAreNotRefused : Type 0
 FilesAreNotRefused = (bytes rest : List ℕ) (entry : Description) → IsFile bytes entry rest → refusal bytes ≡ None
 
--- bytes are a file of one entry, and one rest follows it
+-- Bytes are a file of at most one entry, with one rest after it.
 abbrev pub FilesHaveOneEntry : Type 0
 FilesHaveOneEntry =
     (bytes rest other : List ℕ) (entry another : Description) → IsFile bytes entry rest → IsFile bytes another other → (entry ≡ another) × (rest ≡ other)
 
--- the canonical form of an entry, where it is within the limits, is a file of that entry and of no other, and nothing
--- follows it
+-- The canonical form of an entry within the limits is a file of that entry and no other, with nothing after it.
 abbrev pub CanonicalReadsBack : Type 0
 CanonicalReadsBack =
     (entry : Description) → IsDescription entry → length entry.names + 1 ≤ 128 → length (canonical entry) ≤ 4096

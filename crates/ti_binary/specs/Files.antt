@@ -9,45 +9,48 @@ use Rattle.ti_binary.specs.Canonical.{magic}
 use Rattle.ti_binary.specs.declared.faults.BinFault.{BinFault}
 use Rattle.ti_binary.specs.declared.faults.BinFault.TheVariants.{TooLarge, Truncated, WideNumbers, BadMagic, BadCount, BadNames, BadOffset, Unended}
 
--- the 16-bit number at an offset, the lower byte first
+-- The 16-bit number at an offset, the lower byte first.
 abbrev pub word_at : List ℕ → ℕ → ℕ
 word_at bytes offset = little_number 2 (drop offset bytes)
 
--- the first numbers of a section
+-- The first `count` numbers of a section.
 abbrev pub words_in : List ℕ → ℕ → List ℕ
 words_in section count = map (λ i. word_at section (2 * i)) (range_with_len 0 count)
 
--- a number is signed, and a negative one says that something is absent
+-- Numbers are signed; a negative one says that something is absent.
 abbrev pub is_negative : ℕ → Bool
 is_negative word = nat_lt 32767 word
 
+-- The byte is NUL.
 abbrev pub is_nul : ℕ → Bool
 is_nul byte = byte == 0
 
+-- What a byte says of a flag: 1 means that it is present.
 abbrev pub flag_said : ℕ → Bool
 flag_said byte = byte == 1
 
+-- What a 16-bit number says of a number: its value, or that it is absent.
 abbrev pub number_said : ℕ → Option ℕ
 number_said word = if is_negative word then None else Some word
 
--- the text that begins at an offset of the string table, up to a NUL
+-- The text at an offset of the string table, up to the next NUL; none if the offset is negative.
 abbrev pub text_said : List ℕ → ℕ → Option (List ℕ)
 text_said table offset = if is_negative offset then None else Some (before_first is_nul (drop offset table))
 
--- an offset of a text that is there is past the table's end
+-- The offset is not negative but lies beyond the table.
 abbrev pub is_outside : List ℕ → ℕ → Bool
 is_outside table offset = not (is_negative offset) && not (nat_lt offset (length table))
 
--- the text at an offset has no NUL in the table
+-- The text at this offset is not ended by a NUL in the table.
 abbrev pub is_unended : List ℕ → ℕ → Bool
 is_unended table offset = not (is_negative offset) && not (list_any is_nul (drop offset table))
 
--- what is said of the first positions, and that the others are absent
+-- What the list says of the first positions; all others are absent.
 abbrev pub padded : {A : Type 0} → ℕ → A → List A → List A
 padded count absent said = said ++ replicate (count - length said) absent
 
--- A file of an entry, and what follows it: a header of six numbers, the sections with the sizes that it gives, and in
--- them what the entry has.
+-- The bytes are a file of the entry, followed by `rest`: a header of six numbers, and sections of the sizes it gives,
+-- within the limits, which hold what the entry has.
 pub record IsFile (bytes : List ℕ) (entry : Description) (rest : List ℕ) : Type 0 where
   pub header : List ℕ
   pub names : List ℕ
@@ -81,57 +84,65 @@ pub record IsFile (bytes : List ℕ) (entry : Description) (rest : List ℕ) : T
   pub texts_end : list_any (is_unended table) (words_in offsets (word_at header 8)) ≡ false
   pub texts_say : entry.texts ≡ padded 512 None (map (text_said table) (words_in offsets (word_at header 8)))
 
--- the bytes are a file of the entry, and so many bytes follow
+-- The bytes are a file of the entry, followed by `count` bytes.
 abbrev pub Reads : List ℕ → Description → ℕ → Type 0
 Reads bytes entry count = (rest : List ℕ) × IsFile bytes entry rest × (count ≡ length rest)
 
--- the six numbers of a header
+-- The size of the names that the header gives.
 abbrev pub names_of : List ℕ → ℕ
 names_of bytes = word_at bytes 2
 
+-- The number of flags that it gives.
 abbrev pub flags_of : List ℕ → ℕ
 flags_of bytes = word_at bytes 4
 
+-- The number of numbers that it gives.
 abbrev pub numbers_of : List ℕ → ℕ
 numbers_of bytes = word_at bytes 6
 
+-- The number of offsets that it gives.
 abbrev pub offsets_of : List ℕ → ℕ
 offsets_of bytes = word_at bytes 8
 
+-- The size of the string table that it gives.
 abbrev pub table_of : List ℕ → ℕ
 table_of bytes = word_at bytes 10
 
--- where the sections begin, and where the last one ends
+-- Where the flags begin.
 abbrev pub flags_place : List ℕ → ℕ
 flags_place bytes = 12 + names_of bytes
 
+-- Where the numbers begin.
 abbrev pub numbers_place : List ℕ → ℕ
 numbers_place bytes = flags_place bytes + flags_of bytes + (names_of bytes + flags_of bytes) % 2
 
+-- Where the offsets begin.
 abbrev pub offsets_place : List ℕ → ℕ
 offsets_place bytes = numbers_place bytes + 2 * numbers_of bytes
 
+-- Where the string table begins.
 abbrev pub table_place : List ℕ → ℕ
 table_place bytes = offsets_place bytes + 2 * offsets_of bytes
 
+-- Where the string table ends.
 abbrev pub end_place : List ℕ → ℕ
 end_place bytes = table_place bytes + table_of bytes
 
--- the bytes from an offset on, as many as these
+-- `size` bytes from an offset on.
 abbrev pub part : List ℕ → ℕ → ℕ → List ℕ
 part bytes offset size = take size (drop offset bytes)
 
--- a size or a count that is negative or past the limits, or names without their NUL
+-- A size or count in the header is negative or beyond its limit, or the names have no size.
 abbrev pub has_bad_count : List ℕ → Bool
 has_bad_count bytes =
     names_of bytes == 0 || is_negative (names_of bytes) || nat_lt 64 (flags_of bytes) || nat_lt 64 (numbers_of bytes)
     || nat_lt 512 (offsets_of bytes) || is_negative (table_of bytes)
 
--- names end at a NUL, and are such as an entry has
+-- The names have no NUL, or are not what an entry can have.
 abbrev pub has_bad_names : List ℕ → Bool
 has_bad_names section = not (list_any is_nul section && are_names (before_first is_nul section))
 
--- Why bytes are no file, the first reason of these, if any. First what is told by the size and the magic number:
+-- Why bytes are no file, by their size and the magic number.
 abbrev pub header_refusal : List ℕ → Option BinFault
 header_refusal bytes =
     if nat_lt 32768 (length bytes) then Some TooLarge else
@@ -140,18 +151,19 @@ header_refusal bytes =
     (if not (word_at bytes 0 == magic) then Some BadMagic else
     (if nat_lt (length bytes) 12 then Some Truncated else None))))
 
--- then the numbers of the header, and whether the sections have room,
+-- Why they are none, by the numbers of the header and the room for the sections.
 abbrev pub room_refusal : List ℕ → Option BinFault
 room_refusal bytes =
     if has_bad_count bytes then Some BadCount else (if nat_lt (length bytes) (end_place bytes) then Some Truncated else None)
 
--- then what stands in the sections.
+-- Why they are none, by the contents of the sections.
 abbrev pub sections_refusal : List ℕ → List ℕ → List ℕ → Option BinFault
 sections_refusal names table offsets =
     if has_bad_names names then Some BadNames else
     (if list_any (is_outside table) offsets then Some BadOffset else
     (if list_any (is_unended table) offsets then Some Unended else None))
 
+-- The first of these reasons that applies, in this order, if any.
 abbrev pub refusal : List ℕ → Option BinFault
 refusal bytes =
     option_or (header_refusal bytes) (option_or (room_refusal bytes)

@@ -1,11 +1,11 @@
--- What the code keeps of a file's sections: nothing that a reader has to believe.
+-- What the code keeps of a file's sections; nobody has to read this to know what a compiled file is.
 use Rattle.std.specs.Prelude.{ℕ, ◌≡◌, ◌+◌, ◌≤◌, List, length, take, min}
 use Rattle.ti_caps.specs.Description.{Description}
 use Rattle.ti_binary.specs.Canonical.{kept_flags, kept_numbers, kept_texts, table_of}
 use Rattle.ti_binary.specs.Files.{names_of, flags_of, numbers_of, offsets_of, table_of as table_size, end_place}
 use Rattle.ti_binary.specs.declared.shapes.Shape.{Shape}
 
--- the sizes of the sections of an entry's file
+-- The sizes of the sections of an entry's file.
 pub record IsShape (entry : Description) (shape : Shape) : Type 0 where
   pub names : shape.names ≡ length entry.names + 1
   pub short : shape.names ≤ 128
@@ -17,7 +17,7 @@ pub record IsShape (entry : Description) (shape : Shape) : Type 0 where
   pub few_numbers : shape.numbers ≤ 64
   pub few_texts : shape.texts ≤ 512
 
--- the numbers of a header are within the limits, and the sections have room
+-- The numbers of the header are within the limits, and there is room for the sections.
 pub record HasRoom (bytes : List ℕ) : Type 0 where
   pub some_names : 1 ≤ names_of bytes
   pub names : names_of bytes ≤ 32767
