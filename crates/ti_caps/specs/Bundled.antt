@@ -5,25 +5,28 @@ use Rattle.ti_caps.specs.Description.{Description, flag_at, number_at, text_at}
 use Rattle.ti_caps.specs.Table.{or_else}
 use Rattle.ti_caps.specs.declared.slots.TheConstants.{AM, MSGR, XENL, COLS, LINES, COLORS, PAIRS, CLEAR, CUP, HOME, CR, CUU1, CUD1, CUF1, CUB1, CUU, CUD, CUF, CUB, HPA, VPA, EL, ED, ECH, SGR0, BOLD, DIM, SMUL, BLINK, REV, INVIS, SMSO, SGR, SETAF, SETAB, OP, KCUU1, KCUD1, KCUF1, KCUB1, KBS}
 
--- what a list gives a position: what stands there last
+-- What a list gives for a position: its last element there.
 abbrev pub listed : {A : Type 0} → List (ℕ × A) → ℕ → Option A
 listed [] slot = None
 listed (one ∷ more) slot = or_else (listed more slot) (if one.0 == slot then Some one.1 else None)
 
--- a text that begins with ESC [
+-- A text that begins with ESC [.
 abbrev pub control : List ℕ → List ℕ
 control bytes = 27 ∷ 91 ∷ bytes
 
+-- The names of the bundled entry.
 abbrev pub bundled_names : List ℕ
 bundled_names = codes "ecma48|ECMA-48 profile of this library"
 
+-- Its flags.
 abbrev pub bundled_flags : List ℕ
 bundled_flags = AM.0 ∷ MSGR.0 ∷ XENL.0 ∷ []
 
+-- Its numbers.
 abbrev pub bundled_numbers : List (ℕ × ℕ)
 bundled_numbers = (COLS.0, 80) ∷ (LINES.0, 24) ∷ (COLORS.0, 8) ∷ (PAIRS.0, 64) ∷ []
 
--- motions: 8 is a backspace, 13 a carriage return
+-- Its motions; 8 is a backspace, 13 a carriage return.
 abbrev pub bundled_motions : List (ℕ × List ℕ)
 bundled_motions =
     (CUP.0, control (codes "%i%p1%d;%p2%dH"))
@@ -41,6 +44,7 @@ bundled_motions =
     ∷ (VPA.0, control (codes "%i%p1%dd"))
     ∷ []
 
+-- Its erasures.
 abbrev pub bundled_erasures : List (ℕ × List ℕ)
 bundled_erasures =
     (CLEAR.0, control (codes "H") ++ control (codes "2J"))
@@ -49,6 +53,7 @@ bundled_erasures =
     ∷ (ECH.0, control (codes "%p1%dX"))
     ∷ []
 
+-- Its texts for attributes and colours.
 abbrev pub bundled_renditions : List (ℕ × List ℕ)
 bundled_renditions =
     (SGR0.0, control (codes "0m"))
@@ -65,6 +70,7 @@ bundled_renditions =
     ∷ (OP.0, control (codes "39;49m"))
     ∷ []
 
+-- Its keys.
 abbrev pub bundled_keys : List (ℕ × List ℕ)
 bundled_keys =
     (KCUU1.0, control (codes "A"))
@@ -74,10 +80,11 @@ bundled_keys =
     ∷ (KBS.0, 8 ∷ [])
     ∷ []
 
+-- All its texts.
 unfoldable pub bundled_texts : List (ℕ × List ℕ)
 bundled_texts = bundled_motions ++ bundled_erasures ++ bundled_renditions ++ bundled_keys
 
--- the description is the bundled entry: it has these names, flags, numbers and texts, and nothing else
+-- The description is the bundled entry: these names, flags, numbers and texts, and nothing else.
 pub record IsBundled (d : Description) : Type 0 where
   pub names : d.names ≡ bundled_names
   pub flags : (slot : ℕ) → flag_at d slot ≡ list_any (λ flag. flag == slot) bundled_flags

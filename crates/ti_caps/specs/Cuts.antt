@@ -1,8 +1,8 @@
--- What is left of names behind the first of them.
+-- What follows the first of several names.
 use Rattle.std.specs.Prelude.{ℕ, List, [], Option, Some, None}
 use Rattle.ti_caps.specs.Names.{alternatives}
 
--- the alternatives behind the first bar, if there is one
+-- The alternatives after the first bar; none if there is no bar.
 abbrev pub alternatives_behind : Option (List ℕ) → List (List ℕ)
 alternatives_behind None = []
 alternatives_behind (Some names) = alternatives names

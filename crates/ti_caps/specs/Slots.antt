@@ -8,21 +8,22 @@ use Rattle.ti_caps.specs.declared.table.Slot.{Slot}
 use Rattle.ti_caps.specs.declared.slots.TheConstants.{AM, XHP, XENL, GN, HC, MSGR, OS, XT, HZ, UL, SAM, COLS, LINES, XMC, COLORS, PAIRS, NCV, CR, CLEAR, EL, ED, HPA, CUP, CUD1, HOME, CUB1, CUF1, CUU1, BLINK, BOLD, SMCUP, DIM, INVIS, REV, SMSO, SMUL, ECH, SGR0, RMCUP, KBS, KCUD1, KCUB1, KCUF1, KCUU1, RMKX, SMKX, CUD, CUB, CUF, CUU, VPA, SGR, OP, SETAF, SETAB}
 use Rattle.ti_caps.specs.Table.{name_at}
 
--- how many positions there are of a kind
+-- The number of positions of a kind.
 abbrev pub positions_of : Kind → ℕ
 positions_of Flag = 64
 positions_of Number = 64
 positions_of Text = 512
 
+-- The table's name is this one.
 abbrev pub is_name : List ℕ → Option (List ℕ) → Bool
 is_name name None = false
 is_name name (Some known) = bytes_eq known name
 
--- the position is one of its kind, and has this name in the table
+-- The position exists for its kind and has this name in the table.
 abbrev pub is_slot_of : Kind → Slot → List ℕ → Bool
 is_slot_of kind slot name = nat_lt slot.0 (positions_of kind) && is_name name (name_at kind slot.0)
 
--- the flags
+-- Each of these flags has its name in the table.
 abbrev pub flags_are_named : List Bool
 flags_are_named =
     is_slot_of Flag AM (codes "am")
@@ -37,7 +38,7 @@ flags_are_named =
     ∷ is_slot_of Flag UL (codes "ul")
     ∷ is_slot_of Flag SAM (codes "sam") ∷ []
 
--- the numbers
+-- Each of these numbers has its name in the table.
 abbrev pub numbers_are_named : List Bool
 numbers_are_named =
     is_slot_of Number COLS (codes "cols")
@@ -47,7 +48,7 @@ numbers_are_named =
     ∷ is_slot_of Number PAIRS (codes "pairs")
     ∷ is_slot_of Number NCV (codes "ncv") ∷ []
 
--- the texts
+-- Each of these texts has its name in the table.
 abbrev pub texts_are_named : List Bool
 texts_are_named =
     is_slot_of Text CR (codes "cr")
@@ -89,7 +90,7 @@ texts_are_named =
     ∷ is_slot_of Text SETAF (codes "setaf")
     ∷ is_slot_of Text SETAB (codes "setab") ∷ []
 
--- each position is that of its name
+-- Every position that the code names is that of its name.
 pub record SlotsAreNamed : Type 0 where
   pub flags : list_all (λ is. is) flags_are_named ≡ true
   pub numbers : list_all (λ is. is) numbers_are_named ≡ true
