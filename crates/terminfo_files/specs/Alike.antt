@@ -1,4 +1,4 @@
--- Entries that are alike but for their names.
+-- Entries that are alike except for their names.
 use Rattle.std.specs.Prelude.{◌≡◌, ℕ, List}
 use Rattle.ti_binary.specs.Canonical.{renamed}
 use Rattle.ti_caps.specs.Description.{Description}
@@ -6,10 +6,10 @@ use Rattle.ti_source.specs.Described.{Described}
 use Rattle.ti_source.specs.Resolving.Uses.{Resolved}
 use Rattle.terminfo_files.specs.declared.alike.Alike.{Alike}
 
--- a name resolves to an entry but for its names
+-- A name resolves to this entry, except for the names.
 abbrev pub IsAlike : List Described → List ℕ → Description → Type 0
 IsAlike entries name entry = (d : Description) × Resolved entries name d × (d ≡ renamed entry d.names)
 
--- and so do both names at hand
+-- The two names at hand both do.
 abbrev pub AreAlike : List Described → Alike → Type 0
 AreAlike entries alike = IsAlike entries alike.used.now alike.resolved × IsAlike entries alike.last.now alike.resolved

@@ -6,21 +6,21 @@ use Rattle.ti_source.specs.Resolving.Uses.{Resolved}
 use Rattle.terminfo_files.specs.declared.compiled_entry.CompiledEntry.{CompiledEntry}
 use Rattle.terminfo_files.specs.Compiling.{AreCompiled, files_of, names_of, refusal_of, size_of}
 
--- the entries of a source, and how many of them were compiled
+-- The entries of a source, and how many have been compiled.
 pub record EntryCompiling : Type 0 where
   pub entries : List Described
   pub next : ℕ
 
--- the first so many entries are compiled to something
+-- The first `next` entries can be compiled.
 abbrev pub AreCompiledBefore : List Described → ℕ → Type 0
 AreCompiledBefore entries next = (ds : List Description) × AreCompiled entries (take next (names_of entries)) ds
 
--- the files and the size of an entry
+-- This is the compiled form of an entry: its files and its size.
 pub record IsCompiledOf (d : Description) (c : CompiledEntry) : Type 0 where
   pub files : map (λ path. (path, c.bytes)) c.paths ≡ files_of d
   pub size : (c.name, length c.bytes) ≡ size_of d
 
--- the entry of the name at an index is compiled to this
+-- The entry at this index is compiled to this.
 pub record IsCompiledNext (entries : List Described) (next : ℕ) (c : CompiledEntry) : Type 0 where
   pub name : List ℕ
   pub at : slice_get (names_of entries) next ≡ Some name
@@ -29,6 +29,6 @@ pub record IsCompiledNext (entries : List Described) (next : ℕ) (c : CompiledE
   pub good : refusal_of d ≡ None
   pub compiled : IsCompiledOf d c
 
--- these are all entries, and each is compiled to something
+-- There are no further entries, and each can be compiled.
 abbrev pub AllCompiled : List Described → ℕ → Type 0
 AllCompiled entries next = (length entries ≤ next) × ((ds : List Description) × AreCompiled entries (names_of entries) ds)

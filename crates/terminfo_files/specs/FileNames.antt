@@ -2,19 +2,20 @@
 use Rattle.std.specs.Prelude.{ℕ, Bool, false, List, [], ◌∷◌, ◌++◌, take, ◌==◌, ◌&&◌, not}
 use Rattle.std.specs.List.{list_any}
 
+-- The byte is a slash.
 abbrev pub is_slash : ℕ → Bool
 is_slash b = b == 47
 
--- the names `.` and `..`, which stand for folders
+-- The names `.` and `..`, which stand for folders.
 abbrev pub is_dots : List ℕ → Bool
 is_dots (b ∷ []) = b == 46
 is_dots (b ∷ c ∷ []) = b == 46 && c == 46
 is_dots _ = false
 
--- the names that a file can have
+-- A name that a file can have.
 abbrev pub is_file_name : List ℕ → Bool
 is_file_name name = not (list_any is_slash name) && not (is_dots name)
 
--- the path of a name's file: a folder that is named after the first byte, and in it a file with the name
+-- The path of a name's file: a folder named after its first byte, then the name.
 abbrev pub path_of : List ℕ → List ℕ
 path_of name = take 1 name ++ 47 ∷ name

@@ -4,12 +4,14 @@ use Rattle.terminfo_files.specs.declared.compiler.Compiled.{Compiled}
 use Rattle.terminfo_files.specs.declared.fault.TicFault.{TicFault}
 use Rattle.terminfo_files.specs.Compiling.{IsCompiled, IsFaulty}
 
--- a source is compiled to one thing, has one fault, and not both
+-- A source is compiled to at most one thing.
 abbrev pub CompileOnce : Type 0
 CompileOnce = (text : List ℕ) (c d : Compiled) → IsCompiled text c → IsCompiled text d → c ≡ d
 
+-- A source has at most one fault.
 abbrev pub FaultyOnce : Type 0
 FaultyOnce = (text : List ℕ) (f g : TicFault) → IsFaulty text f → IsFaulty text g → f ≡ g
 
+-- A source cannot both be compiled and be faulty.
 abbrev pub CompiledOrFaulty : Type 0
 CompiledOrFaulty = (text : List ℕ) (c : Compiled) (fault : TicFault) → IsCompiled text c → IsFaulty text fault → ⊥

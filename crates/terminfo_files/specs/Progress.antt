@@ -5,9 +5,10 @@ use Rattle.ti_caps.specs.Description.{Description}
 use Rattle.terminfo_files.specs.declared.written.Written.{Written}
 use Rattle.terminfo_files.specs.Compiling.{files_of, size_of}
 
--- the files and sizes of these, and with those of one more
+-- The files and sizes of these entries.
 abbrev pub written_of : List Description → Written
 written_of ds = record { files = flat_map files_of ds; sizes = map size_of ds }
 
+-- The files and sizes, with those of one more entry.
 abbrev pub with_entry : Description → Written → Written
 with_entry d written = record { files = written.files ++ files_of d; sizes = written.sizes ++ size_of d ∷ [] }
