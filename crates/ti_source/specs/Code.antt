@@ -1,4 +1,5 @@
--- The code's own forms, proved to be what the other files define: nothing that a reader has to believe.
+-- How the functions of src/ do their work. Their results are proved to be what the other files define; nobody has to
+-- read this.
 pub mod Keyed
 pub mod Laid
 pub mod Marked

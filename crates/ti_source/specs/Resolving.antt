@@ -1,4 +1,4 @@
--- Entries by their names, and with their uses taken in.
+-- Entries by name, with their uses taken in.
 pub mod Named
 pub mod Passing
 pub mod Uses

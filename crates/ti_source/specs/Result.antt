@@ -3,26 +3,26 @@ use Rattle.std.specs.Prelude.{◌≡◌, ◌⊎◌, Result, Ok, Err}
 use Rattle.ti_source.specs.declared.fault.SourceFault.{SourceFault}
 use Rattle.ti_source.specs.declared.fault.SourceFault.TheVariants.{NoMemory}
 
--- what comes after a step that may be a fault
+-- What follows a step that may fail.
 infixl 10 ◌>>=◌
 abbrev pub ◌>>=◌ : {A B : Type 0} → Result A SourceFault → (A → Result B SourceFault) → Result B SourceFault
 (Ok x) >>= f = f x
 (Err e) >>= f = Err e
 
--- memory ran out, or this is the fault
+-- Memory ran out, or this is the fault wanted.
 abbrev pub Fails : {A : Type 0} → SourceFault → Result A SourceFault → Type 0
 Fails e wanted = (e ≡ NoMemory) ⊎ (wanted ≡ Err e)
 
--- an answer is the one that is wanted, memory aside
+-- The answer is the one wanted, unless memory ran out.
 abbrev pub Gives : {A : Type 0} → Result A SourceFault → Result A SourceFault → Type 0
 Gives (Ok x) wanted = wanted ≡ Ok x
 Gives (Err e) wanted = Fails e wanted
 
--- the same of a call that changes a value in its place
+-- The same for a call that changes a value in place.
 abbrev pub Becomes : {Done A : Type 0} → Result Done SourceFault → Result A SourceFault → A → Type 0
 Becomes (Ok done) wanted new = wanted ≡ Ok new
 Becomes (Err e) wanted new = Fails e wanted
 
--- memory ran out, or the fault is one that is known of
+-- Memory ran out, or the fault is one of the known ones.
 abbrev pub Stops : SourceFault → Type 0 → Type 0
 Stops fault Known = (fault ≡ NoMemory) ⊎ Known

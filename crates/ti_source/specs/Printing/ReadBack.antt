@@ -1,4 +1,4 @@
--- A printed text as it is read again.
+-- What a printed text is when it is read again.
 use Rattle.std.specs.Prelude.{◌≡◌, [], ◌∷◌, Ok}
 use Rattle.ti_caps.specs.Names.{first_name}
 use Rattle.ti_caps.specs.Description.{Description, IsDescription}
@@ -7,10 +7,12 @@ use Rattle.ti_source.specs.Printing.Print.{named_only, printed}
 use Rattle.ti_source.specs.Reading.Sources.{source_of}
 use Rattle.ti_source.specs.Resolving.Uses.{Resolved}
 
--- the printed text is a source of one entry without a note, whose resolved entry is the description without its unnamed capabilities
+-- The printed text is a source of one entry without a note; it resolves to the description without its unnamed
+-- capabilities.
 abbrev pub ReadsBack : Description → Type 0
 ReadsBack d =
     (entry : Described) × (source_of (printed d) ≡ Ok (record { entries = entry ∷ []; notes = [] })) × Resolved (entry ∷ []) (first_name d.names) (named_only d)
 
+-- This holds of every description.
 abbrev pub EachReadsBack : Type 0
 EachReadsBack = (d : Description) → IsDescription d → ReadsBack d

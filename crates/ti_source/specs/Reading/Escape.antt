@@ -2,20 +2,21 @@
 use Rattle.std.specs.Prelude.{◌<◌, ℕ, zero, suc, ◌+◌, ◌-◌, ◌*◌, ◌/◌, ◌%◌, Bool, false, List, [], ◌∷◌, ◌==◌, ◌&&◌, ◌||◌, nat_le, nat_lt, if◌then◌else◌}
 use Rattle.std.specs.List.{flat_map}
 
+-- The byte is an octal digit.
 abbrev pub is_octal : ℕ → Bool
 is_octal b = nat_le 48 b && nat_le b 55
 
--- the bytes begin with three octal digits
+-- The bytes begin with three octal digits.
 abbrev pub begins_octal : List ℕ → Bool
 begins_octal (a ∷ b ∷ c ∷ bs) = is_octal a && (is_octal b && is_octal c)
 begins_octal _ = false
 
--- the low eight bits of what these digits say
+-- The low eight bits of the number that these digits give.
 abbrev pub octal : List ℕ → ℕ
 octal (a ∷ b ∷ c ∷ bs) = ((a - 48) * 64 + (b - 48) * 8 + (c - 48)) % 256
 octal _ = 0
 
--- what a backslash and this byte stand for; `\0` is 128, since a text has no byte 0
+-- What a backslash and this byte stand for; `\0` is 128, since a text has no byte 0.
 abbrev pub letter : ℕ → ℕ
 letter c =
     if c == 69 || c == 101 then 27
@@ -29,17 +30,17 @@ letter c =
     else (if c == 48 then 128
     else c))))))))
 
--- what `^` and this byte stand for: a control character
+-- What `^` and this byte stand for: a control character.
 abbrev pub control : ℕ → ℕ
 control c = if c == 63 then 127 else c % 32
 
--- how many bytes the first character of a text is written with
+-- How many bytes write the first character of a text.
 abbrev pub written_length : List ℕ → ℕ
 written_length (b ∷ c ∷ bs) =
     if b == 92 && begins_octal (c ∷ bs) then 4 else (if b == 92 || b == 94 then 2 else 1)
 written_length _ = 1
 
--- what they stand for; a backslash or `^` that is the last byte stands for itself
+-- What they stand for; a backslash or `^` that is the last byte stands for itself.
 abbrev pub meant : List ℕ → ℕ
 meant [] = 0
 meant (b ∷ []) = b
@@ -47,21 +48,21 @@ meant (b ∷ c ∷ bs) =
     if b == 92 && begins_octal (c ∷ bs) then octal (c ∷ bs)
     else (if b == 92 then letter c else (if b == 94 then control c else b))
 
--- a value that would be 0 is 128
+-- A value that would be 0 is 128.
 abbrev pub not_nul : ℕ → ℕ
 not_nul v = if v == 0 then 128 else v
 
--- the characters of a text, after k bytes that belong to one before
+-- The characters of a text, after k bytes that belong to the one before.
 abbrev pub decoded_after : ℕ → List ℕ → List ℕ
 decoded_after k [] = []
 decoded_after zero (b ∷ bs) = not_nul (meant (b ∷ bs)) ∷ decoded_after (written_length (b ∷ bs) - 1) bs
 decoded_after (suc k) (b ∷ bs) = decoded_after k bs
 
--- the text that a string field stands for
+-- The text that a string field stands for.
 abbrev pub decoded : List ℕ → List ℕ
 decoded bytes = decoded_after 0 bytes
 
--- a byte as it is printed
+-- A byte as it is printed.
 abbrev pub printed_byte : ℕ → List ℕ
 printed_byte b =
     if b == 27 then 92 ∷ 69 ∷ []
@@ -72,11 +73,11 @@ printed_byte b =
     else (if nat_lt b 128 then b ∷ []
     else 92 ∷ (48 + b / 64) ∷ (48 + b / 8 % 8) ∷ (48 + b % 8) ∷ [])))))
 
--- a text as it is printed
+-- A text as it is printed.
 abbrev pub printed_text : List ℕ → List ℕ
 printed_text bytes = flat_map printed_byte bytes
 
--- bytes, none of which is 0
+-- All are bytes, and none is 0.
 abbrev pub IsText : List ℕ → Type 0
 IsText [] = Unit {0}
 IsText (b ∷ bs) = (0 < b) × (b < 256) × IsText bs

@@ -1,25 +1,24 @@
--- How a text is spelled in a source (terminfo(5), "Types of Capabilities"): a rule for each escape.
+-- How a text is spelled in a source (terminfo(5), "Types of Capabilities"): one rule for each escape.
 use Rattle.std.specs.Prelude.{◌≡◌, ◌≢◌, ◌⊎◌, ◌↔◌, ◌<◌, ℕ, ◌+◌, ◌-◌, ◌*◌, ◌%◌, true, false, List, [], ◌∷◌, ◌==◌}
 use Rattle.std.specs.List.{list_any}
 use Rattle.ti_caps.specs.Description.{has_nul}
 use Rattle.ti_source.specs.Reading.Escape.{is_octal, begins_octal, decoded}
 
--- the letters that mean something behind a backslash: E e n l r t b f a s 0
+-- The letters with a meaning after a backslash: E e n l r t b f a s 0.
 abbrev pub letters : List ℕ
 letters = 69 ∷ 101 ∷ 110 ∷ 108 ∷ 114 ∷ 116 ∷ 98 ∷ 102 ∷ 97 ∷ 115 ∷ 48 ∷ []
 
--- a text has no byte 0: in its place stands 128
+-- A text has no byte 0; 128 stands in its place.
 pub data IsFor : ℕ → ℕ → Type 0 where
   itself : {byte : ℕ} → 0 < byte → IsFor byte byte
   nul : IsFor 128 0
 
--- these bytes of a source are this text:
--- nothing;
+-- `Spells bytes text`: these bytes of a source are this text. The escapes:
 -- \E and \e, escape; \n and \l, line feed; \r, carriage return; \t, tab; \b, backspace; \f, form feed; \a, bell; \s, blank;
--- \ and three octal digits, the byte of that number, less what is above eight bits;
+-- \ and three octal digits, the low eight bits of that number, or 128 for 0;
 -- \0 that does not begin three octal digits, 128; \ and any other byte, that byte;
--- ^?, delete; ^ and any other byte, the control character of its low five bits;
--- \ or ^ that is the last byte, itself; and any other byte, itself
+-- ^?, delete; ^ and any other byte, the control character of its low five bits, or 128 for 0.
+-- A \ or ^ that is the last byte stands for itself, and so does any other byte.
 pub data Spells : List ℕ → List ℕ → Type 0 where
   nothing : Spells [] []
   upper_e : {bytes text : List ℕ} → Spells bytes text → Spells (92 ∷ 69 ∷ bytes) (27 ∷ text)
@@ -43,6 +42,6 @@ pub data Spells : List ℕ → List ℕ → Type 0 where
   last : {b : ℕ} → (b ≡ 92) ⊎ (b ≡ 94) → Spells (b ∷ []) (b ∷ [])
   plain : {b : ℕ} {bytes text : List ℕ} → b ≢ 92 → b ≢ 94 → 0 < b → Spells bytes text → Spells (b ∷ bytes) (b ∷ text)
 
--- bytes without a 0 spell one text, the one that is read
+-- Bytes without a 0 spell one text: the one that is read.
 abbrev pub AreSpelled : Type 0
 AreSpelled = (bytes text : List ℕ) → has_nul bytes ≡ false → Spells bytes text ↔ (text ≡ decoded bytes)
