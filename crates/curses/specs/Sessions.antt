@@ -214,8 +214,9 @@ counted_in kind (answer ∷ answers) count = counted_in kind answers (counted (k
 
 -- ---- the promise
 
--- The terminal shows a picture: nothing is owed; its cells, attributes, colours and cursor are those of the picture, as
--- far as it can show them. On the bundled ECMA-48 entry, if nothing was owed at the start, the bytes taken lead there.
+-- The terminal shows a picture: nothing is owed (no text was cut short); its cells, attributes, colours and cursor are
+-- those of the picture, as far as it can show them. On the bundled ECMA-48 entry, if nothing was owed at the start, the
+-- bytes taken, read as an ECMA-48 text, lead to the negative of its state (reverse in place of standout).
 pub record IsShowing (profile : ProfileView) (opened now : TerminalState) (before owed taken : List ℕ) (picture : PictureView) : Type 0 where
   pub nothing : owed ≡ []
   pub shows : Shows (abilities profile) now picture

@@ -15,7 +15,7 @@ abbrev pub in_range : Option (ℕ × ℕ) → ℕ → Bool
 in_range None c = false
 in_range (Some range) c = leb range.0 c && leb c range.1
 
--- Only rows from `first` up to, but not including, `end` have a range.
+-- Only rows from `first` up to, but not including, `end` may have a range.
 abbrev pub AreNoneOutside : List (Option (ℕ × ℕ)) → ℕ → ℕ → Type 0
 AreNoneOutside ranges first end = (r : ℕ) → (r < first) ⊎ (end ≤ r) → slice_index_or ranges r None ≡ None
 

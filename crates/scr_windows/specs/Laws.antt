@@ -18,7 +18,7 @@ DeletingKeepsOthers =
     (desk : DeskView) (number other k : ℕ) → IsDesk desk → has_children number desk.windows ≡ false → other ≢ number → index_of desk other ≡ Ok k
     → (m : ℕ) × (index_of (deleted desk number) other ≡ Ok m) × (window_at (deleted desk number) m ≡ window_at desk k) × ((r c : ℕ) → at (deleted desk number) m r c ≡ at desk k r c)
 
--- derwin(): a subwindow's cell is the parent's cell at the place where the subwindow lies.
+-- derwin(): a subwindow's cell is the parent's cell in the same place of their surface.
 abbrev pub SubwindowsShareCells : Type 0
 SubwindowsShareCells =
     (desk : DeskView) (number k i : ℕ) → IsDesk desk → k < length desk.windows → (window_at desk k).frame.parent ≡ Some number → index_of desk number ≡ Ok i

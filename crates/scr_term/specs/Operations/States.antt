@@ -20,7 +20,7 @@ abbrev pub IsSpot : ℕ → ℕ → Spot → Type 0
 IsSpot rows columns (At r c) = (r < rows) × (c < columns)
 IsSpot rows columns (Margin r) = r < rows
 
--- Colours that are shown: any, on a terminal with colours; the default ones, on one without.
+-- Colours that a terminal can have: the eight and the default on one with colours, only the default on one without.
 abbrev pub AreShownColours : Bool → Option ℕ → Option ℕ → Type 0
 AreShownColours true foreground background = IfSome foreground IsColour × IfSome background IsColour
 AreShownColours false foreground background = (foreground ≡ None) × (background ≡ None)

@@ -23,7 +23,7 @@ abbrev pub lines_below_erased : ℕ → ℕ → TerminalState → Option Termina
 lines_below_erased rows columns state =
     from_place state.spot (λ r c. if c == 0 then Some (erased rows columns (is_from_place r c) state) else None)
 
--- The pen is changed so that characters can be written with it; undefined at the margin.
+-- The pen is replaced; undefined at the margin.
 abbrev pub coloured : TerminalState → PenView → Option TerminalState
 coloured state pen = from_place state.spot (λ _ _. Some (record state { pen = pen }))
 

@@ -32,8 +32,9 @@ written_form byte attrs state =
 abbrev pub gone_to : DeskView → ℕ → ℕ × ℕ → DeskView × Added
 gone_to desk i cursor = (with_state desk i (cursor_at cursor (window_at desk i).state), Done)
 
--- The cursor goes to the start of the next line, if there is one. From the region's last row the region is first
--- scrolled up by one if the window may scroll; if not, and in the window's last row, the cursor stays (`Stayed`).
+-- The cursor goes to the start of the next line. From the region's last row, the region scrolls up by one and the
+-- cursor goes to the start of the same row, if the window may scroll; otherwise, and from the window's last row, it
+-- stays (`Stayed`).
 unfoldable pub line_begun : DeskView → ℕ → DeskView × Added
 line_begun desk i =
     let w : WindowView = window_at desk i in
