@@ -4,6 +4,7 @@ use Rattle.scr_cells.specs.CellViews.{CellView, blank_cell}
 use Rattle.scr_surfaces.specs.declared.areas.Area.{Area}
 use Rattle.scr_surfaces.specs.SurfaceViews.{SurfaceView, IsSurface, IsSurfaceSize, blank_surface, cell_of, filled, is_inside}
 
+-- What follows from the definitions of surfaces.
 pub record SurfaceLaws : Type 0 where
   -- Surfaces of one size with the same cells are the same.
   pub same : (s t : SurfaceView) → IsSurface s → IsSurface t → s.rows ≡ t.rows → s.columns ≡ t.columns → ((r c : ℕ) → r < s.rows → c < s.columns → cell_of s r c ≡ cell_of t r c) → s ≡ t

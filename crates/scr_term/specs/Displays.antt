@@ -4,6 +4,7 @@ use Rattle.scr_cells.specs.PictureViews.{IsSize}
 use Rattle.scr_term.specs.Operations.Abilities.{full_abilities}
 use Rattle.scr_term.specs.Operations.States.{TerminalState, IsState, blank_state}
 
+-- The size of the emulated terminal's screen, and its state.
 pub record DisplayView : Type 0 where
   pub rows : ℕ
   pub columns : ℕ

@@ -5,6 +5,7 @@ use Rattle.std.specs.List.{AllByRecursion, flat_map}
 use Rattle.std.specs.Char.{is_ascii_digit}
 use Rattle.scr_cells.specs.CellViews.{IsCharacter}
 
+-- A unit: a character; a control function of one byte; or a control sequence with its parameter bytes and final byte.
 pub data EcmaUnit : Type 0 where
   Graphic : (byte : ℕ) → EcmaUnit
   Control : (byte : ℕ) → EcmaUnit
