@@ -27,7 +27,7 @@ files_under names bytes = map (λ name. (path_of name, bytes)) names
 unfoldable pub files_of : Description → List (List ℕ × List ℕ)
 files_of entry = files_under (reference_names entry.names) (canonical entry)
 
--- An entry's name, and the size of each of these files.
+-- An entry's name, and the size that each of its files has.
 unfoldable pub size_of : Description → List ℕ × ℕ
 size_of entry = (first_name entry.names, length (canonical entry))
 
