@@ -26,9 +26,10 @@ pub use starting::closing_laws;
 pub use texts::{closing_text, opening_text};
 pub use writers::{Counted, Device};
 
-// What a program names besides: windows, cells and keys, terminals, and the operations and faults of updates.
-pub use scr_cells::{Attrs, Cell, NoMemory, Picture, Size};
+// What a program names besides: windows, cells and keys, terminals, and the operations and faults of updates; and for a test
+// without a terminal the emulated one.
+pub use scr_cells::{Attrs, Cell, Look, NoMemory, Picture, Size};
 pub use scr_keys::{Key, KeyFault, names as keys};
-pub use scr_term::{Op, Ops, ProfileFault};
+pub use scr_term::{EcmaScreen, Op, Ops, ProfileFault, Spot, Undefined};
 pub use scr_windows::{Added, Win, WinFault, WindowRef};
-pub use ti_caps::{Bytes, Entry, Kind, Slot, bundled};
+pub use ti_caps::{Bytes, CapFault, Entry, Kind, Slot, bundled};

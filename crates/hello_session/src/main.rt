@@ -4,12 +4,10 @@
 #![tactic(auto)]
 
 use anyhow::{Context, Result, bail};
-use curses::{Call, Device, Screen, session};
-use scr_cells::{Attrs, Look, Size};
-use scr_term::{EcmaScreen, Spot};
-use scr_windows::Win;
+use curses::{
+    Attrs, Bytes, Call, Device, EcmaScreen, Entry, Look, Screen, Size, Spot, Win, bundled, session,
+};
 use std::alloc::Global;
-use ti_caps::{Bytes, Entry, bundled};
 
 // The rows that the terminal is to show, with a star where reverse video begins and where it ends.
 const WANTED: [&str; 5] = [
