@@ -1,5 +1,5 @@
 -- The canonical form of an entry is a file of it.
-use Rattle.std.proofs.Common.{◌≡◌, ℕ, ◌+◌, ◌*◌, ◌%◌, ◌-◌, ◌<◌, ◌≤◌, ◌||◌, ◌&&◌, not, nat_lt, nat_le, cond, Bool, false, true, refl, sym, ◌∙◌, ap, arith, zero, suc, List, [], ◌∷◌, ◌++◌, append_assoc, length, length-append, map, take, drop, replicate, Option, Some, None, is_some, IfSome, slice_index_or, subst}
+use Rattle.std.proofs.Common.{◌≡◌, ℕ, ◌+◌, ◌*◌, ◌%◌, ◌-◌, ◌<◌, ◌≤◌, ◌||◌, ◌&&◌, not, min, nat_lt, nat_le, cond, Bool, false, true, refl, sym, ◌∙◌, ap, arith, zero, suc, List, [], ◌∷◌, ◌++◌, append_assoc, length, length-append, map, take, drop, replicate, Option, Some, None, is_some, IfSome, slice_index_or, subst}
 use Rattle.std.proofs.Math.ListN.{length-replicate}
 use Rattle.ti_caps.specs.Names.{is_name_byte, are_names}
 use Rattle.std.specs.List.{list_all, list_any, before_first, range_with_len, position_or_len}
@@ -12,6 +12,7 @@ use Rattle.ti_binary.specs.Canonical.{canonical, header_of, padding, kept_flags,
 use Rattle.ti_binary.specs.FileLaws.{CanonicalReadsBack}
 use Rattle.ti_binary.proofs.CanonicalLaws.{canonical_length, words_length, offsets_length}
 use Rattle.ti_binary.proofs.FileLaws.{files_have_one_entry}
+use Rattle.ti_binary.specs.declared.widths.Width.TheVariants.{Legacy}
 use Rattle.ti_binary.specs.Files.{IsFile, word_at, words_in, padded, flag_said, number_said, text_said, is_nul, is_outside, is_unended, is_negative}
 
 -- a 16-bit number is read as it was written
@@ -29,11 +30,12 @@ abbrev IsSmall : Option ℕ → Type 0
 IsSmall None = Unit {0}
 IsSmall (Some n) = n ≤ 32767
 
-number_back : (o : Option ℕ) → IsSmall o → number_said (number_word o) ≡ o
+number_back : (o : Option ℕ) → IsSmall o → number_said Legacy (number_word o) ≡ o
 number_back None h = refl
 number_back (Some n) h =
     let test : nat_lt 32767 n ≡ false = grind (arith, nat_tests) in
-    ap (λ b. cond b None (Some n)) test
+    let least : min n 32767 ≡ n = grind (arith, nat_tests) in
+    ap (λ b. cond b None (Some (min n 32767))) test ∙ ap Some least
 
 -- ---- what is kept, and then nothing
 
@@ -227,7 +229,7 @@ whole_kept (o ∷ os) h = whole_cond (is_some o || list_any is_some os) o (up_to
     whole_cond true o os a b = (a, b)
     whole_cond false o os a b = tt
 
-numbers_back : (os : List (Option ℕ)) → AreSmall os → map number_said (map number_word os) ≡ os
+numbers_back : (os : List (Option ℕ)) → AreSmall os → map (number_said Legacy) (map number_word os) ≡ os
 numbers_back [] h = refl
 numbers_back (o ∷ os) h = λ i. number_back o h.0 i ∷ numbers_back os h.1 i
 
@@ -281,7 +283,7 @@ names_bytes names h =
     let rest = (and_parts (nat_le 1 (length names) && nat_le (length names) 511) _ h).1 in
     (and_parts (list_all is_name_byte names) _ rest).0
 
-pub canonical_file : (entry : Description) → IsDescription entry → length entry.names + 1 ≤ 128 → length (canonical entry) ≤ 4096 → IsFile (canonical entry) entry []
+pub canonical_file : (entry : Description) → IsDescription entry → length entry.names + 1 ≤ 128 → length (canonical entry) ≤ 4096 → IsFile Legacy (canonical entry) entry []
 canonical_file entry d short small =
     let flags : List Bool = kept_flags entry in
     let numbers : List (Option ℕ) = kept_numbers entry in
@@ -322,7 +324,7 @@ canonical_file entry d short small =
       names_size = at2 ∙ sym names_length;
       flag_count = at4 ∙ sym (length-map flags flag_byte);
       odd_size = length-replicate {A = ℕ} ((length entry.names + 1 + length flags) % 2) 0 ∙ (λ i. (sym names_length i + sym (length-map flags flag_byte) i) % 2);
-      numbers_size = words_length (map number_word numbers) ∙ ap (λ n. 2 * n) (length-map numbers number_word ∙ sym at6);
+      numbers_fit = words_length (map number_word numbers) ∙ ap (λ n. 2 * n) (length-map numbers number_word ∙ sym at6);
       offsets_size = words_length (offsets_from 0 texts) ∙ ap (λ n. 2 * n) (offsets_length 0 texts ∙ sym at8);
       table_size = at10;
       some_names = omega (arith, names_length);
@@ -337,7 +339,7 @@ canonical_file entry d short small =
       flags_say = padded_is (λ present. present) false only_false entry.flags 64 d.flags ∙ ap (padded 64 false) (sym (flags_back flags));
       numbers_say =
           padded_is is_some None only_none entry.numbers 64 d.numbers
-          ∙ ap (padded 64 None) (sym (ap (map number_said) number_words ∙ numbers_back numbers small_numbers));
+          ∙ ap (padded 64 None) (sym (ap (map (number_said Legacy)) number_words ∙ numbers_back numbers small_numbers));
       offsets_inside = ap (list_any (is_outside (table_of texts))) offset_words ∙ said.inside;
       texts_end = ap (list_any (is_unended (table_of texts))) offset_words ∙ said.ends;
       texts_say =
@@ -347,5 +349,5 @@ canonical_file entry d short small =
 
 pub canonical_reads_back : CanonicalReadsBack
 canonical_reads_back entry d short small =
-    let is : IsFile (canonical entry) entry [] = canonical_file entry d short small in
-    (is, λ other rest f. files_have_one_entry (canonical entry) rest [] other entry f is)
+    let is : IsFile Legacy (canonical entry) entry [] = canonical_file entry d short small in
+    (is, λ other rest f. files_have_one_entry Legacy (canonical entry) rest [] other entry f is)

@@ -4,6 +4,7 @@ use Rattle.ti_caps.specs.Description.{Description}
 use Rattle.ti_binary.specs.Canonical.{kept_flags, kept_numbers, kept_texts, table_of}
 use Rattle.ti_binary.specs.Files.{names_of, flags_of, numbers_of, offsets_of, table_of as table_size, end_place}
 use Rattle.ti_binary.specs.declared.shapes.Shape.{Shape}
+use Rattle.ti_binary.specs.declared.widths.Width.{Width}
 
 -- The sizes of the sections of an entry's file.
 pub record IsShape (entry : Description) (shape : Shape) : Type 0 where
@@ -18,11 +19,11 @@ pub record IsShape (entry : Description) (shape : Shape) : Type 0 where
   pub few_texts : shape.texts ≤ 512
 
 -- The numbers of the header are within the limits, and there is room for the sections.
-pub record HasRoom (bytes : List ℕ) : Type 0 where
+pub record HasRoom (width : Width) (bytes : List ℕ) : Type 0 where
   pub some_names : 1 ≤ names_of bytes
   pub names : names_of bytes ≤ 32767
   pub flags : flags_of bytes ≤ 64
   pub numbers : numbers_of bytes ≤ 64
   pub offsets : offsets_of bytes ≤ 512
   pub table : table_size bytes ≤ 32767
-  pub room : end_place bytes ≤ length bytes
+  pub room : end_place width bytes ≤ length bytes

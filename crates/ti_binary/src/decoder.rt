@@ -2,14 +2,27 @@
 ghost use Rattle.std.specs.Prelude.{◌≡◌, ◌≤◌, ◌*◌, ◌⊎◌, false, true, length, IfOk, IfErr, OnOk, None, Some, IsErrOf, IsOkUnless};
 ghost use Rattle.std.specs.List.{before_first, list_any};
 ghost use Rattle.ti_caps.specs.Names.{are_names};
-ghost use Rattle.ti_binary.specs.Files.{Reads, has_bad_names, is_nul, is_outside, is_unended, refusal, words_in};
+ghost use Rattle.ti_binary.specs.Files.{Reads, clamped_of, has_bad_names, is_nul, is_outside, is_unended, refusal, words_in};
+ghost use Rattle.ti_binary.specs.declared.widths.Width.TheVariants.{Legacy, Wide};
 
 use crate::faults::BinFault;
 use crate::filler::{set_flags, set_numbers, set_texts, want_of_memory};
 use crate::parts::{check_header, check_room, cut, word};
 use crate::texts::{before_nul, has_nul, rest_from};
+use crate::widths::Width;
 use std::alloc::Global;
 use ti_caps::{Entry, MOST_NUMBER, are_names};
+
+/// What a compiled file with 32-bit numbers says.
+#[derive(Drop)]
+pub struct Decoded {
+    /// The file's entry.
+    pub entry: Entry,
+    /// The number of bytes after the string table, which were not read.
+    pub skipped: usize,
+    /// How many numbers were above 32,767, and are 32,767 in the entry.
+    pub clamped: u16,
+}
 
 /// Reads a compiled file: its entry, and how many bytes follow its string table (term(5), 'Legacy
 /// Storage Format'). Capabilities without a name are kept.
@@ -17,14 +30,44 @@ use ti_caps::{Entry, MOST_NUMBER, are_names};
 /// Refused with the first fault that applies, in the order of `BinFault`; with `NoMemory` if memory
 /// runs out and nothing else is wrong.
 pub fn decode(alloc: Global, bytes: &[u8]) -> Result<(Entry, usize), BinFault>
-    ensures refused { IfErr result (λ fault. (fault ≡ BinFault.NoMemory) ⊎ (refusal bytes.now ≡ Some fault)) }
-    ensures memory { IsErrOf result BinFault.NoMemory → refusal bytes.now ≡ None }
-    ensures good { refusal bytes.now ≡ None → IsOkUnless result BinFault.NoMemory }
-    ensures ok { IfOk result (λ read. Reads bytes.now read.0 read.1) }
+    ensures refused { IfErr result (λ fault. (fault ≡ BinFault.NoMemory) ⊎ (refusal Legacy bytes.now ≡ Some fault)) }
+    ensures memory { IsErrOf result BinFault.NoMemory → refusal Legacy bytes.now ≡ None }
+    ensures good { refusal Legacy bytes.now ≡ None → IsOkUnless result BinFault.NoMemory }
+    ensures ok { IfOk result (λ read. Reads Legacy bytes.now read.0 read.1) }
 {
-    check_header(bytes)?;
-    check_room(bytes)?;
-    let parts = cut(bytes);
+    match read(alloc, Width::Legacy, bytes) {
+        Ok(decoded) => Ok((decoded.entry, decoded.skipped)),
+        Err(fault) => Err(fault),
+    }
+}
+
+/// Reads a compiled file with 32-bit numbers (term(5), 'Extended Number Format'), which is as one in
+/// the legacy format except for its magic number, octal 01036, and the width of its numbers. A
+/// number above 32,767, the most that an entry has, counts as 32,767; a negative one is absent.
+/// Capabilities without a name are kept.
+///
+/// Refused as by `decode`, but for the magic number: any other is `BadMagic`.
+pub fn decode_wide(alloc: Global, bytes: &[u8]) -> Result<Decoded, BinFault>
+    ensures refused { IfErr result (λ fault. (fault ≡ BinFault.NoMemory) ⊎ (refusal Wide bytes.now ≡ Some fault)) }
+    ensures memory { IsErrOf result BinFault.NoMemory → refusal Wide bytes.now ≡ None }
+    ensures good { refusal Wide bytes.now ≡ None → IsOkUnless result BinFault.NoMemory }
+    ensures ok { IfOk result (λ read. Reads Wide bytes.now read.entry read.skipped) }
+    ensures clamped { IfOk result (λ read. read.clamped ≡ clamped_of Wide bytes.now) }
+{
+    read(alloc, Width::Wide, bytes)
+}
+
+// Reads a compiled file with numbers of this width.
+fn read(alloc: Global, width: Width, bytes: &[u8]) -> Result<Decoded, BinFault>
+    ensures refused { IfErr result (λ fault. (fault ≡ BinFault.NoMemory) ⊎ (refusal width bytes.now ≡ Some fault)) }
+    ensures memory { IsErrOf result BinFault.NoMemory → refusal width bytes.now ≡ None }
+    ensures good { refusal width bytes.now ≡ None → IsOkUnless result BinFault.NoMemory }
+    ensures ok { IfOk result (λ read. Reads width bytes.now read.entry read.skipped) }
+    ensures clamped { IfOk result (λ read. read.clamped ≡ clamped_of width bytes.now) }
+{
+    check_header(width, bytes)?;
+    check_room(width, bytes)?;
+    let parts = cut(width, bytes);
     let names = names_in(parts.names)?;
     if any_outside(parts.table, parts.offsets, parts.offset_count) {
         return Err(BinFault::BadOffset);
@@ -37,9 +80,13 @@ pub fn decode(alloc: Global, bytes: &[u8]) -> Result<(Entry, usize), BinFault>
         Err(fault) => return Err(want_of_memory(fault)),
     };
     set_flags(&mut entry, parts.flags);
-    set_numbers(&mut entry, parts.numbers, parts.number_count);
+    let clamped = set_numbers(&mut entry, width, parts.numbers, parts.number_count);
     set_texts(&mut entry, parts.table, parts.offsets, parts.offset_count)?;
-    Ok((entry, parts.rest))
+    Ok(Decoded {
+        entry,
+        skipped: parts.rest,
+        clamped,
+    })
 }
 
 // The names in their section.

@@ -11,7 +11,8 @@ pub enum BinFault {
     /// The bytes end before the file does.
     #[error("truncated")]
     Truncated,
-    /// The magic number is that of the format with 32-bit numbers, octal 01036.
+    /// The magic number is that of the format with 32-bit numbers, octal 01036, where one with
+    /// 16-bit numbers is wanted.
     #[error("32-bit numbers")]
     WideNumbers,
     /// The magic number is any other.

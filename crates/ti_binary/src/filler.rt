@@ -1,11 +1,12 @@
 //! Filling an entry with what the sections of a file say.
-ghost use Rattle.std.specs.Prelude.{◌≡◌, ◌≤◌, ◌*◌, false, length, map, option_map, replicate, IfErr, IfSome, OnOk, None};
+ghost use Rattle.std.specs.Prelude.{◌≡◌, ◌≤◌, ◌*◌, false, length, map, option_map, replicate, IfErr, OnOk, None};
 ghost use Rattle.ti_caps.specs.Description.{text_has_nul};
-ghost use Rattle.ti_binary.specs.Files.{flag_said, number_said, padded, text_said, words_in};
+ghost use Rattle.ti_binary.specs.Files.{clamped_count, flag_said, number_said, numbers_in, numbers_size, padded, text_said, words_in};
 
 use crate::faults::BinFault;
 use crate::parts::word;
 use crate::texts::{before_nul, rest_from};
+use crate::widths::Width;
 use ti_caps::{CapFault, Entry, MOST_NUMBER, Slot};
 
 /// Sets the flags that a section says are present, in an entry without flags.
@@ -19,17 +20,22 @@ pub(crate) fn set_flags(entry: &mut Entry, flags: &[u8])
     }
 }
 
-/// Sets the numbers that a section gives, in an entry without numbers.
-pub(crate) fn set_numbers(entry: &mut Entry, numbers: &[u8], count: u16)
+/// Sets the numbers that a section gives, in an entry without numbers. Gives how many are above
+/// 32,767, and are set to that.
+pub(crate) fn set_numbers(entry: &mut Entry, width: Width, numbers: &[u8], count: u16) -> u16
     requires few { count ≤ 64 }
-    requires room { 2 * count ≤ length numbers.now }
+    requires room { numbers_size width count ≤ length numbers.now }
     requires bare { entry.old.numbers ≡ replicate 64 None }
-    ensures { entry.new ≡ record entry.old { numbers = padded 64 None (map number_said (words_in numbers.now count)) } }
+    ensures set { entry.new ≡ record entry.old { numbers = padded 64 None (map (number_said width) (numbers_in width numbers.now count)) } }
+    ensures clamped { result ≡ clamped_count width numbers.now count }
 {
+    let mut clamped = 0;
     for slot in 0..count {
-        let said = number_said(word(numbers, 2 * usize::from(slot)));
-        let _ = entry.set_number(Slot(slot), said);
+        let number = width.number(numbers, slot);
+        let _ = entry.set_number(Slot(slot), width.said(number));
+        clamped += u16::from(width.is_clamped(number));
     }
+    clamped
 }
 
 /// Sets the texts at these offsets, in an entry without texts. Fails only when memory runs out.
@@ -62,18 +68,6 @@ pub(crate) fn want_of_memory(fault: CapFault) -> BinFault
     match fault {
         CapFault::NoMemory => BinFault::NoMemory,
         CapFault::BadNames | CapFault::SlotTooBig | CapFault::NulInText => BinFault::BadNames,
-    }
-}
-
-// The number that 16 bits mean; `None` (absent) if they are negative.
-fn number_said(word: u16) -> Option<u16>
-    ensures value { result ≡ number_said word }
-    ensures small { IfSome result (λ n. n ≤ 32767) }
-{
-    if word <= MOST_NUMBER {
-        Some(word)
-    } else {
-        None
     }
 }
 

@@ -2,13 +2,14 @@
 //! them.
 ghost use Rattle.ti_binary.specs.FileLaws.{CanonicalReadsBack, FilesAreNotRefused, FilesHaveOneEntry};
 
-/// No refusal applies to bytes that are a file of some entry, so `decode` reads them if there is
-/// memory.
+/// No refusal applies to bytes that are a file of some entry, so `decode` reads them, or
+/// `decode_wide` where the numbers have 32 bits, if there is memory.
 pub fn files_are_not_refused()
     ensures { FilesAreNotRefused }
 {}
 
-/// Bytes are a file of at most one entry, with one number of bytes that follow.
+/// Bytes are a file with numbers of some width of at most one entry, with one number of bytes that
+/// follow.
 pub fn files_have_one_entry()
     ensures { FilesHaveOneEntry }
 {}

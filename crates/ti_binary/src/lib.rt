@@ -1,4 +1,5 @@
-//! Reading and writing compiled files of terminfo entries (term(5), 'Legacy Storage Format').
+//! Reading and writing compiled files of terminfo entries (term(5), 'Legacy Storage
+//! Format'), and reading those with 32-bit numbers ('Extended Number Format').
 #![tactic(auto)]
 
 mod counts;
@@ -11,8 +12,10 @@ mod parts;
 mod sections;
 mod shapes;
 mod texts;
+mod widths;
 
-pub use decoder::decode;
+pub use decoder::{Decoded, decode, decode_wide};
 pub use encoder::{EncFault, encode, encode_named};
 pub use faults::BinFault;
 pub use laws::{canonical_reads_back, files_are_not_refused, files_have_one_entry};
+pub use widths::Width;

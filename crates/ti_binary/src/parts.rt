@@ -1,20 +1,15 @@
 //! The header of a compiled file, and the places of its sections.
 ghost use Rattle.std.specs.Prelude.{◌≡◌, ◌≤◌, ◌+◌, ◌*◌, length, drop, IfErr, IsErrOf, OnOk, None, Some};
-ghost use Rattle.ti_binary.specs.Files.{end_place, flags_of, flags_place, header_refusal, names_of, numbers_of, numbers_place, offsets_of, offsets_place, part, room_refusal, table_of, table_place, word_at};
+ghost use Rattle.ti_binary.specs.Files.{end_place, flags_of, flags_place, header_refusal, magic_of, names_of, numbers_of, numbers_place, numbers_size, offsets_of, offsets_place, part, room_refusal, table_of, table_place, word_at};
 ghost use Rattle.ti_binary.specs.Shapes.{HasRoom};
 
 use crate::faults::BinFault;
+use crate::widths::Width;
 use byteorder::{ByteOrder, LittleEndian};
 use ti_caps::{MOST_FLAGS, MOST_NUMBER, MOST_NUMBERS, MOST_TEXTS};
 
 /// The most bytes that are read as a file.
 const MOST_BYTES: usize = 32_768;
-
-/// The magic number of the legacy format, octal 0432.
-const MAGIC: u16 = 0o432;
-
-/// The magic number of the format with 32-bit numbers.
-const WIDE_MAGIC: u16 = 0o1036;
 
 /// The 16-bit number at an offset, the lower byte first.
 pub(crate) fn word(bytes: &[u8], offset: usize) -> u16
@@ -25,13 +20,13 @@ pub(crate) fn word(bytes: &[u8], offset: usize) -> u16
 }
 
 /// Refuses bytes that are too many, have another magic number, or end inside the header.
-pub(crate) fn check_header(bytes: &[u8]) -> Result<(), BinFault>
-    ensures refused { IfErr result (λ fault. header_refusal bytes.now ≡ Some fault) }
+pub(crate) fn check_header(width: Width, bytes: &[u8]) -> Result<(), BinFault>
+    ensures refused { IfErr result (λ fault. header_refusal width bytes.now ≡ Some fault) }
     ensures plain { IsErrOf result BinFault.NoMemory → ⊥ }
-    ensures good { OnOk result (header_refusal bytes.now ≡ None) }
+    ensures good { OnOk result (header_refusal width bytes.now ≡ None) }
     ensures room { OnOk result (12 ≤ length bytes.now) }
     ensures short { OnOk result (length bytes.now ≤ 32768) }
-    ensures magic { OnOk result (word_at bytes.now 0 ≡ 282) }
+    ensures magic { OnOk result (word_at bytes.now 0 ≡ magic_of width) }
 {
     if bytes.len() > MOST_BYTES {
         return Err(BinFault::TooLarge);
@@ -39,10 +34,9 @@ pub(crate) fn check_header(bytes: &[u8]) -> Result<(), BinFault>
     if bytes.len() < 2 {
         return Err(BinFault::Truncated);
     }
-    match word(bytes, 0) {
-        WIDE_MAGIC => return Err(BinFault::WideNumbers),
-        MAGIC => {}
-        _ => return Err(BinFault::BadMagic),
+    let found = word(bytes, 0);
+    if found != width.magic() {
+        return Err(width.wrong_magic(found));
     }
     if bytes.len() < 12 {
         return Err(BinFault::Truncated);
@@ -57,7 +51,7 @@ pub(crate) struct Parts<'a> {
     pub(crate) names: &'a [u8],
     /// One byte for each flag.
     pub(crate) flags: &'a [u8],
-    /// The number of numbers, and two bytes for each.
+    /// The number of numbers, and two or four bytes for each.
     pub(crate) number_count: u16,
     pub(crate) numbers: &'a [u8],
     /// The number of offsets of texts, and two bytes for each.
@@ -71,13 +65,13 @@ pub(crate) struct Parts<'a> {
 
 /// Refuses a header with a number that is negative or too great (`BadCount`), and bytes that end
 /// before the sections do (`Truncated`).
-pub(crate) fn check_room(bytes: &[u8]) -> Result<(), BinFault>
+pub(crate) fn check_room(width: Width, bytes: &[u8]) -> Result<(), BinFault>
     requires room { 12 ≤ length bytes.now }
     requires short { length bytes.now ≤ 32768 }
-    ensures refused { IfErr result (λ fault. room_refusal bytes.now ≡ Some fault) }
+    ensures refused { IfErr result (λ fault. room_refusal width bytes.now ≡ Some fault) }
     ensures plain { IsErrOf result BinFault.NoMemory → ⊥ }
-    ensures good { OnOk result (room_refusal bytes.now ≡ None) }
-    ensures fits { OnOk result (HasRoom bytes.now) }
+    ensures good { OnOk result (room_refusal width bytes.now ≡ None) }
+    ensures fits { OnOk result (HasRoom width bytes.now) }
 {
     let (names, flags) = (word(bytes, 2), word(bytes, 4));
     let (numbers, offsets, table) = (word(bytes, 6), word(bytes, 8), word(bytes, 10));
@@ -89,32 +83,32 @@ pub(crate) fn check_room(bytes: &[u8]) -> Result<(), BinFault>
     }
     let (names, flags, table) = (usize::from(names), usize::from(flags), usize::from(table));
     let front = 12 + names + flags + (names + flags) % 2;
-    if bytes.len() < front + 2 * usize::from(numbers) + 2 * usize::from(offsets) + table {
+    if bytes.len() < front + width.size_of(numbers) + 2 * usize::from(offsets) + table {
         return Err(BinFault::Truncated);
     }
     Ok(())
 }
 
 /// Divides a file into sections, by the numbers of its header.
-pub(crate) fn cut(bytes: &[u8]) -> Parts<'_>
+pub(crate) fn cut(width: Width, bytes: &[u8]) -> Parts<'_>
     requires room { 12 ≤ length bytes.now }
     requires short { length bytes.now ≤ 32768 }
-    requires fits { HasRoom bytes.now }
+    requires fits { HasRoom width bytes.now }
     ensures names { result.names.now ≡ part bytes.now 12 (names_of bytes.now) }
     ensures flags { result.flags.now ≡ part bytes.now (flags_place bytes.now) (flags_of bytes.now) }
-    ensures numbers { result.numbers.now ≡ part bytes.now (numbers_place bytes.now) (2 * numbers_of bytes.now) }
-    ensures offsets { result.offsets.now ≡ part bytes.now (offsets_place bytes.now) (2 * offsets_of bytes.now) }
-    ensures number_count { (result.number_count ≡ numbers_of bytes.now) × (length result.numbers.now ≡ 2 * result.number_count) × (result.number_count ≤ 64) }
+    ensures numbers { result.numbers.now ≡ part bytes.now (numbers_place bytes.now) (numbers_size width (numbers_of bytes.now)) }
+    ensures offsets { result.offsets.now ≡ part bytes.now (offsets_place width bytes.now) (2 * offsets_of bytes.now) }
+    ensures number_count { (result.number_count ≡ numbers_of bytes.now) × (length result.numbers.now ≡ numbers_size width result.number_count) × (result.number_count ≤ 64) }
     ensures offset_count { (result.offset_count ≡ offsets_of bytes.now) × (length result.offsets.now ≡ 2 * result.offset_count) × (result.offset_count ≤ 512) }
     ensures flag_count { length result.flags.now ≤ 64 }
-    ensures table { result.table.now ≡ part bytes.now (table_place bytes.now) (table_of bytes.now) }
-    ensures rest { result.rest ≡ length (drop (end_place bytes.now) bytes.now) }
+    ensures table { result.table.now ≡ part bytes.now (table_place width bytes.now) (table_of bytes.now) }
+    ensures rest { result.rest ≡ length (drop (end_place width bytes.now) bytes.now) }
 {
     let (names, flags) = (usize::from(word(bytes, 2)), usize::from(word(bytes, 4)));
     let (numbers, offsets, table) = (word(bytes, 6), word(bytes, 8), word(bytes, 10));
     let flags_place = 12 + names;
     let numbers_place = flags_place + flags + (names + flags) % 2;
-    let offsets_place = numbers_place + 2 * usize::from(numbers);
+    let offsets_place = numbers_place + width.size_of(numbers);
     let table_place = offsets_place + 2 * usize::from(offsets);
     let end = table_place + usize::from(table);
     Parts {

@@ -10,4 +10,4 @@ loop-i-preserved c =
     ap (λ b. b || c.is_outside-found.result) c.loop-i.invariant
     ∙ ap (λ b. list_any p (words_in c.args.offsets.now c.loop-i.i) || b)
     (c.is_outside-found.ensures ∙ ap p (c.word.ensures ∙ ap (λ n. word_at c.args.offsets.now (2 * n)) c.from.ensures))
-    ∙ sym (any_more p c.args.offsets.now c.loop-i.i)
+    ∙ sym (any_more p (λ i. word_at c.args.offsets.now (2 * i)) c.loop-i.i)

@@ -10,6 +10,7 @@ pub loop-slot-preserved : goal.loop-slot-preserved
 loop-slot-preserved c =
     let offsets = c.args.offsets.now in
     let f : ℕ → Option (List ℕ) = text_said c.args.table.now in
+    let read : ℕ → ℕ = λ n. word_at offsets (2 * n) in
     let i = c.loop-slot.slot in
     let inside : i < 512 = omega (arith, c.loop-slot-test.true, c.requires.few) in
     let here : Option (List ℕ) = f (word_at offsets (2 * i)) in
@@ -18,4 +19,4 @@ loop-slot-preserved c =
     ∙ ap (λ (o : Option (List ℕ)). record c.loop-slot.entry { texts = set c.loop-slot.entry.texts i o }) said
     ∙ ap (λ (e : Description). record e { texts = set e.texts i here }) c.loop-slot.invariant
     ∙ ap (λ (ts : List (Option (List ℕ))). record c.args.entry.now { texts = ts })
-    (padded_more 512 None here (map f (words_in offsets i)) i (said_length f offsets i) inside ∙ ap (padded 512 None) (said_more f offsets i))
+    (padded_more 512 None here (map f (words_in offsets i)) i (said_length f read i) inside ∙ ap (padded 512 None) (said_more f read i))
