@@ -1,0 +1,22 @@
+//! Finding a compiled entry by the name of its terminal (terminfo(5), 'Fetching Compiled
+//! Descriptions'; term(5), 'Storage Location').
+#![tactic(auto)]
+
+mod faults;
+mod file_paths;
+mod folders;
+mod memory;
+mod names;
+mod programs;
+mod reading;
+mod searching;
+mod stores;
+
+pub use faults::DatabaseFault;
+pub use file_paths::{FilePath, FilePaths, paths};
+pub use folders::Variables;
+pub use memory::MemoryFiles;
+pub use programs::find;
+pub use reading::read_entry;
+pub use searching::{find_in, search};
+pub use stores::Store;

@@ -1,0 +1,62 @@
+//! Finding an entry among the files of the system, for programs.
+ghost use Rattle.std.specs.Prelude.{◌≡◌, ℕ, List, ◌⊎◌, ◌↔◌, IfErr, IfOk, IsErrOf, Option, Some, false};
+ghost use Rattle.ti_database.specs.Places.{is_terminal_name, paths_of};
+ghost use Rattle.ti_database.specs.Search.{IsFound, search_fault};
+ghost use Rattle.ti_database.specs.declared.folders.Variables.{Variables};
+
+use crate::faults::DatabaseFault;
+use crate::folders::Variables;
+use crate::names::is_terminal_name;
+use crate::searching::find_in;
+use crate::stores::SystemFiles;
+use std::env;
+use std::env::VarError;
+use std::rt::{Env, Files};
+use ti_caps::{Bytes, Entry};
+
+/// Finds the compiled entry of a terminal's name, as programs find that of their `TERM`: in the
+/// folders that the variables `TERMINFO`, `HOME` and `TERMINFO_DIRS` name, and then in those of the
+/// system (terminfo(5), 'Fetching Compiled Descriptions'; `paths` lists the files in order). The
+/// first file that can be read decides. A variable that is not UTF-8 counts as not set.
+///
+/// Files with 16-bit and with 32-bit numbers are read. Numbers above 32,767, such as the pairs of
+/// `xterm-256color`, are 32,767 in the entry, which is nothing to worry about (`read_entry`).
+///
+/// A program that has more rights than its user should not call this: the variables are the user's.
+///
+/// Refused with `BadName` if the name is empty, is `.` or `..`, or has a `/` or a byte outside 33 to
+/// 126; with `NotFound` and the paths if none of the files can be read; with `Faulty` if the first
+/// is not a compiled entry; or with `NoMemory`.
+pub fn find<R: Files + Env + AllocGlobal>(rt: &R, name: &str) -> Result<Entry, DatabaseFault>
+    ensures bad { IsErrOf result DatabaseFault.BadName ↔ (is_terminal_name name.now ≡ false) }
+    ensures entry { IfOk result (λ entry. (variables : Variables) × (files : List ℕ → Option (List ℕ)) × IsFound files (paths_of variables name.now) entry) }
+    ensures fault { IfErr result (λ fault. (fault ≡ DatabaseFault.BadName) ⊎ (fault ≡ DatabaseFault.NoMemory) ⊎ ((variables : Variables) × (files : List ℕ → Option (List ℕ)) × (search_fault files (paths_of variables name.now) ≡ Some fault))) }
+{
+    if !is_terminal_name(name.as_bytes()) {
+        return Err(DatabaseFault::BadName);
+    }
+    let variables = variables_of(rt)?;
+    find_in(rt.alloc(), &SystemFiles { rt }, name.as_bytes(), &variables)
+}
+
+// The variables as the environment has them.
+fn variables_of<R: Env + AllocGlobal>(rt: &R) -> Result<Variables, DatabaseFault>
+    ensures { IfErr result (λ fault. fault ≡ DatabaseFault.NoMemory) }
+{
+    Ok(Variables {
+        terminfo: variable(rt, "TERMINFO")?,
+        home: variable(rt, "HOME")?,
+        terminfo_dirs: variable(rt, "TERMINFO_DIRS")?,
+    })
+}
+
+// The bytes of a variable; `None` if it is not set, or not UTF-8.
+fn variable<R: Env + AllocGlobal>(rt: &R, name: &str) -> Result<Option<Bytes>, DatabaseFault>
+    ensures { IfErr result (λ fault. fault ≡ DatabaseFault.NoMemory) }
+{
+    match env::var(rt, name) {
+        Ok(text) => Ok(Some(Bytes(text.into_bytes()))),
+        Err(VarError::OutOfMemory) => Err(DatabaseFault::NoMemory),
+        Err(_) => Ok(None),
+    }
+}

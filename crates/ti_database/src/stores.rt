@@ -1,0 +1,92 @@
+//! Where the search reads files: a trait, which the system's files and files in memory have.
+ghost use Rattle.std.specs.Prelude.{◌≡◌, ◌≤◌, ℕ, List, Option, None, length, option_map, IfOk, IfSome};
+ghost use Rattle.ti_database.specs.Search.{beginning};
+
+use std::alloc::{AllocError, Global};
+use std::fs;
+use std::io::{ErrorKind, Read};
+use std::rt::Files;
+use ti_caps::Bytes;
+
+/// Files by path.
+pub trait Store {
+    // What stands at each path, if that is known.
+    ghost has: { Self → Option (List ℕ → Option (List ℕ)) };
+
+    /// The file at a path, at most its first 32,769 bytes: one more than a compiled entry has.
+    /// `None` if there is no file that can be read. Fails only when memory runs out.
+    fn read(&self, alloc: Global, path: &[u8]) -> Result<Option<Bytes>, AllocError>
+        ensures few { IfOk result (λ read. IfSome read (λ bytes. length bytes ≤ 32769)) }
+        ensures bytes { IfOk result (λ read. IfSome (has self.now) (λ files. read ≡ option_map beginning (files path.now))) };
+}
+
+/// The most bytes that are read of a file.
+const MOST_BYTES: usize = 32_769;
+
+/// How many bytes each read asks for.
+const PIECE: usize = 4_096;
+
+/// The most reads that are made of a file. Each gives a byte or more, unless it is interrupted.
+const MOST_READS: u32 = 100_000;
+
+/// The files of the system. What stands at which path is not known: others change them.
+#[derive(Clone, Copy)]
+pub(crate) struct SystemFiles<'a, R> {
+    /// The runtime that reaches them.
+    pub(crate) rt: &'a R,
+}
+
+impl<R: Files> Store for SystemFiles<'_, R> {
+    ghost has = { λ _. None };
+
+    fn read(&self, alloc: Global, path: &[u8]) -> Result<Option<Bytes>, AllocError> {
+        let Ok(path) = str::from_utf8(path) else {
+            return Ok(None);
+        };
+        match fs::open(self.rt, path) {
+            Ok(mut file) => read_beginning(alloc, &mut file),
+            Err(_) => Ok(None),
+        }
+    }
+}
+
+/// What is read of a file.
+pub(crate) fn beginning(file: &[u8]) -> &[u8]
+    ensures value { result.now ≡ beginning file.now }
+    ensures few { length result.now ≤ 32769 }
+{
+    &file[..file.len().min(MOST_BYTES)]
+}
+
+// The first bytes of a file; `None` if it cannot be read, as a folder.
+fn read_beginning<F: Read>(alloc: Global, file: &mut F) -> Result<Option<Bytes>, AllocError>
+    ensures few { IfOk result (λ read. IfSome read (λ bytes. length bytes ≤ 32769)) }
+{
+    let mut bytes = Vec::new(alloc);
+    match fill(file, &mut bytes) {
+        Ok(true) => Ok(Some(Bytes(bytes))),
+        Ok(false) => Ok(None),
+        Err(error) => Err(error),
+    }
+}
+
+// Appends what a reader has left, up to the most bytes of a file. Whether all reads went well.
+fn fill<F: Read>(file: &mut F, bytes: &mut Vec<u8>) -> Result<bool, AllocError>
+    requires { length bytes.old.items ≤ 32769 }
+    ensures { length bytes.new.items ≤ 32769 }
+{
+    let mut piece = [0u8; PIECE];
+    for _ in 0..MOST_READS {
+        let wanted = PIECE.min(MOST_BYTES - bytes.len());
+        if wanted == 0 {
+            return Ok(true);
+        }
+        match file.read(&mut piece[..wanted]) {
+            Ok(0) => return Ok(true),
+            Ok(count) => bytes.extend_from_slice(&piece[..count])?,
+            Err(error) if error.kind() == ErrorKind::Interrupted => {}
+            Err(_) => return Ok(false),
+        }
+    }
+    Ok(false)
+}
