@@ -7,8 +7,9 @@ use crate::dump::{mark_of, mark_of_entry};
 use crate::fault::CheckFault;
 use std::alloc::Global;
 use terminfo_files::{Compiled, CompiledEntry, EntryCompiler, Listing, TicFault};
-use ti_binary::{BinFault, EncFault};
+use ti_binary::{BinFault, Decoded, EncFault};
 use ti_caps::{Bytes, CapFault, Entry, Slot};
+use ti_database::{DatabaseFault, FilePaths, MemoryFiles, Variables};
 use ti_param::{NoMemory, ParamFault, Program, RunFault, Vars};
 use ti_source::{Printed, Resolver, Source, SourceFault};
 
@@ -158,6 +159,47 @@ pub fn encode_named(alloc: Global, entry: &Entry, names: &[u8]) -> Result<Bytes,
 pub fn decode(alloc: Global, bytes: &[u8]) -> Result<(Entry, usize), BinFault> {
     match ti_binary::decode(alloc, bytes) {
         Err(BinFault::NoMemory) => ti_binary::decode(alloc, bytes),
+        other => other,
+    }
+}
+
+/// Reads a compiled file with 32-bit numbers.
+pub fn decode_wide(alloc: Global, bytes: &[u8]) -> Result<Decoded, BinFault> {
+    match ti_binary::decode_wide(alloc, bytes) {
+        Err(BinFault::NoMemory) => ti_binary::decode_wide(alloc, bytes),
+        other => other,
+    }
+}
+
+/// Reads a compiled file of either format.
+pub fn read_entry(alloc: Global, bytes: &[u8]) -> Result<Entry, BinFault> {
+    match ti_database::read_entry(alloc, bytes) {
+        Err(BinFault::NoMemory) => ti_database::read_entry(alloc, bytes),
+        other => other,
+    }
+}
+
+/// Gives the paths of a name.
+pub fn paths(
+    alloc: Global,
+    name: &[u8],
+    variables: &Variables,
+) -> Result<FilePaths, DatabaseFault> {
+    match ti_database::paths(alloc, name, variables) {
+        Err(DatabaseFault::NoMemory) => ti_database::paths(alloc, name, variables),
+        other => other,
+    }
+}
+
+/// Looks up a name.
+pub fn find_in(
+    alloc: Global,
+    store: &MemoryFiles,
+    name: &[u8],
+    variables: &Variables,
+) -> Result<Entry, DatabaseFault> {
+    match ti_database::find_in(alloc, store, name, variables) {
+        Err(DatabaseFault::NoMemory) => ti_database::find_in(alloc, store, name, variables),
         other => other,
     }
 }

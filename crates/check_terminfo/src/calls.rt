@@ -23,11 +23,17 @@
 //! | `encode-named NAMES` | the compiled file of the entry with these names in the place of its own |
 //! | `file BYTES` | takes these bytes as the file, and answers how many there are |
 //! | `decode` | how many bytes follow, and the entry of the file, which is then the entry |
+//! | `decode-wide` | how many bytes follow a file with 32-bit numbers, how many numbers are clamped, and its entry |
+//! | `read-entry` | the entry of a file in either format |
 //! | `changed INDEX BYTE..` | the same, of the file with bytes changed |
 //! | `file-cuts` | how many ways there are to cut the file short, each of which is `truncated` |
+//! | `wide-cuts` | the same of a file with 32-bit numbers |
 //! | `file-bytes BYTE..` | how many files come of setting each byte in turn to each of these, read or refused |
 //! | `compile SOURCE` | each `file PATH BYTES`, each `size NAME BYTES`, each `note LINE CAUSE NAME` |
 //! | `compiler STEP..` | what the entries of the source are compiled to, one after another by one compiler: at each `next` a name, its paths and the bytes of their file, or `end`; `restart` goes back before the first |
+//! | `store PATH BYTES ..` | takes these files, and no others, as those in which names are looked up |
+//! | `paths NAME VARIABLE=VALUE..` | the paths at which the entry of a name is looked for, where these variables are set |
+//! | `look-up NAME VARIABLE=VALUE..` | the entry that is found there |
 //! | `list` | the text of the file, how many capabilities that leaves out, and how many bytes follow |
 //! | `padding TEXT` | the text without padding |
 //! | `vars` | sets the static variables to 0 |
@@ -44,7 +50,7 @@ use crate::answer::Answer;
 use crate::current::Current;
 use crate::mutated::Subject;
 use crate::words::Words;
-use crate::{changes, cuts, entries, files, inputs, mutated, programs, sources, table};
+use crate::{changes, cuts, database, entries, files, inputs, mutated, programs, sources, table};
 
 #[derive(Clone, Copy)]
 enum Call {
@@ -81,11 +87,17 @@ enum Call {
     EncodeNamed,
     File,
     Decode,
+    DecodeWide,
+    ReadEntry,
+    Store,
+    Paths,
+    LookUp,
     Compile,
     Compiler,
     List,
     Changed,
     FileCuts,
+    WideCuts,
     FileBytes,
     Vars,
     Program,
@@ -97,7 +109,7 @@ enum Call {
     MutatedPrograms,
 }
 
-static CALLS: [(&str, Call); 47] = [
+static CALLS: [(&str, Call); 53] = [
     ("find", Call::Find),
     ("name-of", Call::NameOf),
     ("table", Call::Table),
@@ -131,11 +143,17 @@ static CALLS: [(&str, Call); 47] = [
     ("encode-named", Call::EncodeNamed),
     ("file", Call::File),
     ("decode", Call::Decode),
+    ("decode-wide", Call::DecodeWide),
+    ("read-entry", Call::ReadEntry),
+    ("store", Call::Store),
+    ("paths", Call::Paths),
+    ("look-up", Call::LookUp),
     ("compile", Call::Compile),
     ("compiler", Call::Compiler),
     ("list", Call::List),
     ("changed", Call::Changed),
     ("file-cuts", Call::FileCuts),
+    ("wide-cuts", Call::WideCuts),
     ("file-bytes", Call::FileBytes),
     ("vars", Call::Vars),
     ("program", Call::Program),
@@ -240,7 +258,19 @@ fn of_changes(call: Call, current: &mut Current, words: &mut Words<'_>, answer: 
     match call {
         Call::Changed => changes::decode_changed(current, words, answer),
         Call::FileCuts => changes::cut_everywhere(current, answer),
+        Call::WideCuts => changes::cut_wide_everywhere(current, answer),
         Call::FileBytes => changes::set_each(current, words, answer),
+        _ => of_database(call, current, words, answer),
+    }
+}
+
+fn of_database(call: Call, current: &mut Current, words: &mut Words<'_>, answer: &mut Answer) {
+    match call {
+        Call::DecodeWide => files::decode_wide(current, answer),
+        Call::ReadEntry => database::read_entry(current, answer),
+        Call::Store => database::store(current, words, answer),
+        Call::Paths => database::paths(current.alloc, words, answer),
+        Call::LookUp => database::look_up(current, words, answer),
         _ => of_programs(call, current, words, answer),
     }
 }

@@ -43,6 +43,19 @@ pub fn cut_everywhere(current: &Current, answer: &mut Answer) {
     answer.say_number(file.len());
 }
 
+/// The same where the file has 32-bit numbers.
+pub fn cut_wide_everywhere(current: &Current, answer: &mut Answer) {
+    let file = current.file.as_slice();
+    for length in 0..file.len() {
+        if !is_wide_truncated(current.alloc, file, length) {
+            answer.say(b"cut");
+            answer.say_number(length);
+            return;
+        }
+    }
+    answer.say_number(file.len());
+}
+
 /// Each byte in turn set to each of some: how many files that makes. What is read of one is written and read again.
 pub fn set_each(current: &Current, words: &mut Words<'_>, answer: &mut Answer) {
     let mut count = 0usize;
@@ -72,6 +85,13 @@ fn byte(words: &mut Words<'_>, index: usize) -> u8 {
 fn is_truncated(alloc: Global, file: &[u8], length: usize) -> bool {
     match file.get(..length) {
         Some(cut) => again::decode(alloc, cut).err() == Some(BinFault::Truncated),
+        None => false,
+    }
+}
+
+fn is_wide_truncated(alloc: Global, file: &[u8], length: usize) -> bool {
+    match file.get(..length) {
+        Some(cut) => again::decode_wide(alloc, cut).err() == Some(BinFault::Truncated),
         None => false,
     }
 }

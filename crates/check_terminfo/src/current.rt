@@ -3,6 +3,7 @@
 use crate::words::Words;
 use std::alloc::Global;
 use ti_caps::Entry;
+use ti_database::MemoryFiles;
 use ti_param::Vars;
 use ti_source::Source;
 
@@ -17,6 +18,8 @@ pub struct Current {
     pub source: Option<Source>,
     /// The bytes of a compiled file.
     pub file: Vec<u8>,
+    /// The files in which names are looked up.
+    pub store: MemoryFiles,
     /// The static variables of programs.
     pub vars: Vars,
 }
@@ -29,6 +32,7 @@ impl Current {
             entry: None,
             source: None,
             file: Vec::new(alloc),
+            store: MemoryFiles(Vec::new(alloc)),
             vars: Vars::new(),
         }
     }

@@ -76,6 +76,19 @@ pub fn decode(current: &mut Current, words: &mut Words<'_>, answer: &mut Answer)
     }
 }
 
+/// `decode-wide`.
+pub fn decode_wide(current: &Current, answer: &mut Answer) {
+    let read = again::decode_wide(current.alloc, current.file.as_slice());
+    match &read {
+        Ok(decoded) => {
+            answer.say_number(decoded.skipped);
+            answer.say_number(usize::from(decoded.clamped));
+            say_entry(&decoded.entry, answer);
+        }
+        Err(fault) => answer.refused(fault),
+    }
+}
+
 /// `compile SOURCE`.
 pub fn compile(alloc: Global, words: &mut Words<'_>, answer: &mut Answer) {
     let compiled = again::compile(alloc, words.text(1));

@@ -22,6 +22,7 @@ mod calls;
 mod changes;
 mod current;
 mod cuts;
+mod database;
 mod dump;
 mod entries;
 mod fault;

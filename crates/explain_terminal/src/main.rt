@@ -1,5 +1,6 @@
-//! Reads a compiled terminfo entry on standard input, and says in one line whether this library can
-//! serve the terminal.
+//! Reads a compiled terminfo entry, and says in one line whether this library can serve the
+//! terminal. `explain_terminal NAME` finds the entry by the terminal's name; without a name it reads
+//! standard input.
 //!
 //! The line has the size of the screen, or says that the entry has none (then 24 rows of 80 columns
 //! are tried), the attributes that the terminal shows, whether it shows colours, and how long the
@@ -8,16 +9,18 @@
 //! error (status 2).
 #![tactic(auto)]
 
-use clap::Command;
 use clap::error::ErrorKind;
+use clap::{Arg, ArgMatches, Command};
 use program_input::{InputFault, read_input};
 use scr_cells::Size;
 use scr_term::{Profile, ProfileFault};
-use std::alloc::Global;
+use std::alloc::{AllocError, Global};
 use std::process::ExitCode;
 use std::{env, io};
 use thiserror::Error;
-use ti_binary::{BinFault, decode};
+use ti_binary::BinFault;
+use ti_caps::Entry;
+use ti_database::{DatabaseFault, find, read_entry};
 
 // Why a terminal cannot be served.
 #[derive(Debug, Drop, Error)]
@@ -26,6 +29,8 @@ enum Refusal {
     Read,
     #[error("{0}")]
     File(BinFault),
+    #[error("{0}")]
+    Database(DatabaseFault),
     #[error("{0}")]
     Profile(ProfileFault),
     #[error("out of memory")]
@@ -51,20 +56,41 @@ fn report_of(profile: &Profile, size: Option<Size>) -> Report {
     }
 }
 
-// Reads an entry and admits it.
-fn explain(alloc: Global, bytes: &[u8]) -> Result<Report, Refusal> {
-    let (entry, _) = match decode(alloc, bytes) {
-        Ok(read) => read,
-        Err(BinFault::NoMemory) => return Err(Refusal::NoMemory),
-        Err(fault) => return Err(Refusal::File(fault)),
-    };
-    match Profile::admit(alloc, &entry, None) {
+// The entry on standard input.
+fn entry_read(rt: &HostRuntime) -> Result<Entry, Refusal> {
+    match read_input(rt.alloc(), &mut rt.reader()) {
+        Ok(bytes) => entry_of(rt.alloc(), &bytes),
+        Err(InputFault::NoMemory) => Err(Refusal::NoMemory),
+        Err(InputFault::Failed) => Err(Refusal::Read),
+    }
+}
+
+fn entry_of(alloc: Global, bytes: &[u8]) -> Result<Entry, Refusal> {
+    match read_entry(alloc, bytes) {
+        Ok(entry) => Ok(entry),
+        Err(BinFault::NoMemory) => Err(Refusal::NoMemory),
+        Err(fault) => Err(Refusal::File(fault)),
+    }
+}
+
+// The entry of a terminal's name.
+fn entry_named(rt: &HostRuntime, name: &str) -> Result<Entry, Refusal> {
+    match find(rt, name) {
+        Ok(entry) => Ok(entry),
+        Err(DatabaseFault::NoMemory) => Err(Refusal::NoMemory),
+        Err(fault) => Err(Refusal::Database(fault)),
+    }
+}
+
+// Admits an entry.
+fn explain(alloc: Global, entry: &Entry) -> Result<Report, Refusal> {
+    match Profile::admit(alloc, entry, None) {
         Err(ProfileFault::NoSize) => {}
         Err(ProfileFault::NoMemory) => return Err(Refusal::NoMemory),
         Err(fault) => return Err(Refusal::Profile(fault)),
         Ok(profile) => return Ok(report_of(&profile, Some(profile.size()))),
     }
-    match Profile::admit(alloc, &entry, Size::new(24, 80)) {
+    match Profile::admit(alloc, entry, Size::new(24, 80)) {
         Ok(profile) => Ok(report_of(&profile, None)),
         Err(ProfileFault::NoMemory) => Err(Refusal::NoMemory),
         Err(fault) => Err(Refusal::Profile(fault)),
@@ -92,9 +118,11 @@ fn word_of(bit: u8, word: &'static str) -> &'static str {
     if bit == 0 { "" } else { word }
 }
 
-// What the command line asks for: nothing, or a text as an answer.
+// What the command line asks for: the entry on standard input, that of a name, or a text as an
+// answer.
 enum Words {
-    None,
+    Input,
+    Named(String),
     Answered(clap::Error),
     NotText,
     NoMemory,
@@ -112,26 +140,47 @@ fn words_given(rt: &HostRuntime) -> Words {
 }
 
 fn words_of(alloc: Global, words: &[String]) -> Words {
-    let command = Command::new(alloc, "explain_terminal")
-        .version("0.1.0")
-        .about(
-            "Says whether the terminal of the compiled entry on the standard input can be served",
-        );
-    match command.try_get_matches_from(words) {
-        Ok(_matches) => Words::None,
+    match matches(alloc, words) {
+        Ok(matches) => match matches.get_str("name") {
+            Some(name) => named(alloc, name),
+            None => Words::Input,
+        },
         Err(error) if error.kind() == ErrorKind::OutOfMemory => Words::NoMemory,
         Err(error) => Words::Answered(error),
     }
 }
 
-// Explains the entry on standard input, and returns the status.
-fn explain_input(rt: &HostRuntime) -> u8 {
-    let explained = match read_input(rt.alloc(), &mut rt.reader()) {
-        Ok(bytes) => explain(rt.alloc(), &bytes),
-        Err(InputFault::NoMemory) => Err(Refusal::NoMemory),
-        Err(InputFault::Failed) => Err(Refusal::Read),
-    };
-    match explained {
+fn matches<'a>(alloc: Global, words: &'a [String]) -> Result<ArgMatches<'a>, clap::Error> {
+    command(alloc)?.try_get_matches_from(words)
+}
+
+fn command<'a>(alloc: Global) -> Result<Command<'a>, AllocError> {
+    let name = Arg::new(alloc, "name").value_name("NAME").help(
+        "The terminal's name; without it the entry is read on the standard input",
+    );
+    Command::new(alloc, "explain_terminal")
+        .version("0.1.0")
+        .about("Says whether a terminal can be served, by its compiled entry")
+        .arg(name)
+}
+
+fn named(alloc: Global, name: &str) -> Words {
+    match String::from_str(alloc, name) {
+        Ok(name) => Words::Named(name),
+        Err(_) => Words::NoMemory,
+    }
+}
+
+// Explains an entry, and returns the status.
+fn say(rt: &HostRuntime, entry: Result<Entry, Refusal>) -> u8 {
+    match entry {
+        Ok(entry) => say_entry(rt, &entry),
+        Err(refusal) => refuse(rt, &refusal),
+    }
+}
+
+fn say_entry(rt: &HostRuntime, entry: &Entry) -> u8 {
+    match explain(rt.alloc(), entry) {
         Ok(said) => {
             print_report(rt, said);
             0
@@ -156,7 +205,8 @@ fn answer(rt: &HostRuntime, error: &clap::Error) -> u8 {
 
 fn main(rt: HostRuntime) -> ExitCode {
     let status = match words_given(&rt) {
-        Words::None => explain_input(&rt),
+        Words::Input => say(&rt, entry_read(&rt)),
+        Words::Named(name) => say(&rt, entry_named(&rt, name.as_str())),
         Words::Answered(error) => answer(&rt, &error),
         Words::NotText => 2,
         Words::NoMemory => refuse(&rt, &Refusal::NoMemory),

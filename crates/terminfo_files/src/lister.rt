@@ -2,6 +2,7 @@
 
 ghost use Rattle.std.specs.Prelude.{◌≡◌, ◌⊎◌, IfErr, IfOk, IsErrOf, IsOkUnless, None, Some};
 ghost use Rattle.ti_binary.specs.declared.faults.BinFault.{BinFault};
+ghost use Rattle.ti_binary.specs.declared.widths.Width.TheVariants.{Legacy};
 ghost use Rattle.ti_binary.specs.Files.{Reads, refusal};
 ghost use Rattle.ti_caps.specs.Description.{Description, unnamed_count};
 ghost use Rattle.ti_source.specs.Printing.Print.{printed};
@@ -33,10 +34,10 @@ pub struct Listing {
 /// Refused with `Decode` and the first reason why the bytes are not a file; with `NoMemory` if
 /// memory runs out and there is no such reason.
 pub fn list(alloc: Global, bytes: &[u8]) -> Result<Listing, TicFault>
-    ensures ok { IfOk result (λ l. (d : Description) × Reads bytes.now d l.skipped × (l.text ≡ printed d) × (l.unnamed ≡ unnamed_count d) × ReadsBack d) }
-    ensures err { IfErr result (λ f. (f ≡ TicFault.NoMemory) ⊎ ((b : BinFault) × (refusal bytes.now ≡ Some b) × (f ≡ TicFault.Decode b))) }
-    ensures memory { IsErrOf result TicFault.NoMemory → refusal bytes.now ≡ None }
-    ensures good { refusal bytes.now ≡ None → IsOkUnless result TicFault.NoMemory }
+    ensures ok { IfOk result (λ l. (d : Description) × Reads Legacy bytes.now d l.skipped × (l.text ≡ printed d) × (l.unnamed ≡ unnamed_count d) × ReadsBack d) }
+    ensures err { IfErr result (λ f. (f ≡ TicFault.NoMemory) ⊎ ((b : BinFault) × (refusal Legacy bytes.now ≡ Some b) × (f ≡ TicFault.Decode b))) }
+    ensures memory { IsErrOf result TicFault.NoMemory → refusal Legacy bytes.now ≡ None }
+    ensures good { refusal Legacy bytes.now ≡ None → IsOkUnless result TicFault.NoMemory }
     ensures plain { IfErr result IsPlain }
 {
     let (entry, skipped) = decode(alloc, bytes)?;
