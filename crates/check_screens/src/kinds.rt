@@ -1,5 +1,7 @@
-//! What the lines of a script work on: windows, or, behind a line `about keys`, the keys of terminals.
+//! What the lines of a script work on: windows, or, behind a line `about keys`, the keys of
+//! terminals, or, behind `about texts`, a text that is edited.
 
+use crate::editing::TextStage;
 use crate::keys::stages::KeyStage;
 use crate::stages::DeskStage;
 use check_scripts::answers::add_word;
@@ -15,6 +17,7 @@ pub struct KindStage {
     alloc: Global,
     windows: DeskStage,
     keys: Option<KeyStage>,
+    texts: Option<TextStage>,
 }
 
 impl Stage for KindStage {
@@ -23,6 +26,7 @@ impl Stage for KindStage {
             alloc,
             windows: DeskStage::new(alloc),
             keys: None,
+            texts: None,
         }
     }
 
@@ -32,15 +36,23 @@ impl Stage for KindStage {
             self.begin(words, came);
             return;
         }
-        match &mut self.keys {
-            Some(keys) => keys.answer(words, came),
+        if let Some(keys) = &mut self.keys {
+            keys.answer(words, came);
+            return;
+        }
+        match &mut self.texts {
+            Some(texts) => texts.answer(words, came),
             None => self.windows.answer(words, came),
         }
     }
 
     fn dump(&self, bytes: &mut Buffer) {
-        match &self.keys {
-            Some(keys) => keys.dump(bytes),
+        if let Some(keys) = &self.keys {
+            keys.dump(bytes);
+            return;
+        }
+        match &self.texts {
+            Some(texts) => texts.dump(bytes),
             None => self.windows.dump(bytes),
         }
     }
@@ -50,21 +62,34 @@ impl Stage for KindStage {
     }
 }
 
-// What lines about keys work on, where those behind a line are about keys.
-fn keys_of(alloc: Global, words: &mut Words<'_>) -> Option<KeyStage> {
-    match words.next() {
-        b"keys" => return Some(KeyStage::new(alloc)),
-        b"windows" => {}
-        _ => words.fail(Trouble::Bad("no such kind of lines")),
+// What lines about keys work on, if this kind is `keys`.
+fn keys_of(alloc: Global, kind: &[u8]) -> Option<KeyStage> {
+    if kind == b"keys".as_slice() {
+        Some(KeyStage::new(alloc))
+    } else {
+        None
     }
-    None
+}
+
+// What lines about texts work on, if this kind is `texts`.
+fn texts_of(alloc: Global, kind: &[u8]) -> Option<TextStage> {
+    if kind == b"texts".as_slice() {
+        Some(TextStage::new(alloc))
+    } else {
+        None
+    }
 }
 
 impl KindStage {
-    // The line `about windows` or `about keys`: nothing is there yet for the lines behind it.
+    // The line `about windows`, `about keys` or `about texts`: nothing is there yet for the lines behind it.
     fn begin(&mut self, words: &mut Words<'_>, came: &mut Buffer) {
+        let kind = words.next();
+        if !matches!(kind, b"windows" | b"keys" | b"texts") {
+            words.fail(Trouble::Bad("no such kind of lines"));
+        }
         put(&mut self.windows, DeskStage::new(self.alloc));
-        put(&mut self.keys, keys_of(self.alloc, words));
+        put(&mut self.keys, keys_of(self.alloc, kind));
+        put(&mut self.texts, texts_of(self.alloc, kind));
         add_word("Ok", came);
     }
 }

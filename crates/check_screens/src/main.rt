@@ -1,5 +1,6 @@
-//! Runs a script of calls on windows and of keys, each with the answer or the state that is wanted, which it reads from the standard
-//! input. It prints how many lines agree, or the first that does not with what was wanted and what came (status 1).
+//! Runs a script of calls on windows, of keys and of edits of a text, each with the answer or the state that is wanted,
+//! which it reads from the standard input. It prints how many lines agree, or the first that does not with what was
+//! wanted and what came (status 1).
 #![tactic(auto)]
 
 mod answers;
@@ -10,6 +11,7 @@ mod desk_calls;
 mod desk_lines;
 mod differences;
 mod dumps;
+mod editing;
 mod generated;
 mod generating;
 mod keys;

@@ -1,0 +1,6 @@
+pub mod HistoryLaws
+pub mod InverseLaws
+pub mod KeptLaws
+pub mod ReadingLaws
+pub mod ByteLaws
+pub mod SearchLaws

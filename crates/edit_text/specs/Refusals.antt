@@ -1,0 +1,19 @@
+-- Why an edit is refused.
+use Rattle.std.specs.Prelude.{◌≡◌, ℕ, ◌==◌, List, Option, None, Some, MatchOption, Result, Err, IsOkUnless, if◌then◌else◌}
+use Rattle.edit_text.specs.declared.places.Place.{Place}
+use Rattle.edit_text.specs.declared.faults.EditFault.{EditFault}
+use Rattle.edit_text.specs.declared.faults.EditFault.TheVariants.{OutsideText, LineFeed, NoMemory}
+use Rattle.edit_text.specs.Lines.{is_inside}
+
+-- the refusal of an edit at a place, if any
+abbrev pub place_refusal : List (List ℕ) → Place → Option EditFault
+place_refusal lines place = if is_inside lines place then None else Some OutsideText
+
+-- the refusal of an insertion, if any
+abbrev pub insert_refusal : List (List ℕ) → Place → ℕ → Option EditFault
+insert_refusal lines place byte =
+    if is_inside lines place then (if byte == 10 then Some LineFeed else None) else Some OutsideText
+
+-- a call with this refusal answers it, and one without a refusal fails only when memory runs out
+abbrev pub IsRefusedBy : {T : Type 0} → Result T EditFault → Option EditFault → Type 0
+IsRefusedBy result refusal = MatchOption refusal (IsOkUnless result NoMemory) (λ fault. result ≡ Err fault)

@@ -1,0 +1,32 @@
+//! Edits, as what is kept of each to undo it. The definitions are in `specs/Code/Edits.antt`.
+ghost use Rattle.std.specs.Prelude.{◌≡◌};
+ghost use Rattle.edit_text.specs.Code.Edits.{place_of};
+
+use crate::places::Place;
+
+// An edit that was made at a place.
+#[derive(Clone, Copy)]
+pub(crate) enum Edit {
+    // A byte was inserted.
+    Inserted(Place),
+    // This byte was deleted.
+    Deleted(Place, u8),
+    // The line was split.
+    Split(Place),
+    // The next line was joined to the line that ended there.
+    Joined(Place),
+}
+
+impl Edit {
+    // Where it was made.
+    pub(crate) fn place(self) -> Place
+        ensures { result ≡ place_of self }
+    {
+        match self {
+            Edit::Inserted(place)
+            | Edit::Deleted(place, _)
+            | Edit::Split(place)
+            | Edit::Joined(place) => place,
+        }
+    }
+}

@@ -1,0 +1,19 @@
+//! The text of a small editor: lines of bytes, edits at a place, undo, and a search.
+//!
+//! A text is one line or more, a line is bytes without a line feed, and the bytes of a file are its lines joined by
+//! line feeds. So a file that ends in a line feed has an empty last line, and every byte of every file is kept.
+#![tactic(auto)]
+
+mod edits;
+mod faults;
+mod finding;
+mod laws;
+mod lines;
+mod places;
+mod texts;
+
+pub use faults::EditFault;
+pub use laws::{edits_change_one_byte, texts_read_back};
+pub use out_of_memory::NoMemory;
+pub use places::Place;
+pub use texts::Text;

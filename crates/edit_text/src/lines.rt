@@ -1,0 +1,253 @@
+//! Lines of bytes, and what edits do to them. The definitions are in `specs/Lines.antt`.
+ghost use Rattle.std.specs.Prelude.{◌≡◌, ◌==◌, suc, false, ◌<◌, ◌≤◌, [], ◌∷◌, ◌++◌, length, drop, take, IfOk, OnOk, OnErr, option_map, slice_get, slice_set};
+ghost use Rattle.std.specs.List.{flat_map, slice_split};
+ghost use Rattle.edit_text.specs.Lines.{bytes_of, deleted, inserted, is_end, is_inside, joined, line_at, removed, split_at};
+ghost use Rattle.edit_text.specs.Code.Edits.{CanUndo, Undoes, undone};
+
+use crate::edits::Edit;
+use crate::places::Place;
+use out_of_memory::NoMemory;
+use std::alloc::Global;
+use std::marker::Model;
+
+// The byte between two lines.
+pub(crate) const LINE_FEED: u8 = b'\n';
+
+// A line of bytes.
+#[derive(Drop)]
+struct Line(Vec<u8>);
+
+impl Model for Line {
+    ghost use Rattle.std.specs.Prelude.{List, ℕ};
+
+    ghost Value = { List ℕ };
+
+    ghost view = { λ line. line.0.items };
+}
+
+impl Line {
+    // Cuts the line at a column, and gives the rest. Fails only when memory runs out.
+    fn cut(&mut self, column: usize) -> Result<Line, NoMemory>
+        requires { column ≤ length self.old }
+        ensures rest { IfOk result (λ rest. rest ≡ drop column self.old) }
+        ensures ok { OnOk result (self.new ≡ take column self.old) }
+        ensures err { OnErr result (self.new ≡ self.old) }
+    {
+        let rest = self.0.split_off(column)?;
+        Ok(Line(rest))
+    }
+
+    // Appends another line's bytes. Fails only when memory runs out.
+    fn append(&mut self, other: &Line) -> Result<(), NoMemory>
+        ensures ok { OnOk result (self.new ≡ self.old ++ other.now) }
+        ensures err { OnErr result (self.new ≡ self.old) }
+    {
+        self.0.extend_from_slice(&other.0)?;
+        Ok(())
+    }
+}
+
+// Lines in order.
+#[derive(Drop)]
+pub(crate) struct Lines(Vec<Line>);
+
+impl Model for Lines {
+    ghost use Rattle.std.specs.Prelude.{List, ℕ};
+
+    ghost Value = { List (List ℕ) };
+
+    ghost view = { λ lines. lines.0.items };
+}
+
+impl Lines {
+    // One empty line. Fails only when memory runs out.
+    pub(crate) fn new(alloc: Global) -> Result<Lines, NoMemory>
+        ensures { IfOk result (λ lines. lines ≡ [] ∷ []) }
+    {
+        let mut lines = Vec::new(alloc);
+        lines.push(Line(Vec::new(alloc)))?;
+        Ok(Lines(lines))
+    }
+
+    // How many lines there are.
+    pub(crate) fn count(&self) -> usize
+        ensures { result ≡ length self.now }
+    {
+        self.0.len()
+    }
+
+    // A line; `None` past the last one.
+    pub(crate) fn get(&self, line: usize) -> Option<&[u8]>
+        ensures { option_map (λ bytes. bytes.now) result ≡ slice_get self.now line }
+    {
+        match self.0.get(line) {
+            Some(line) => Some(line.0.as_slice()),
+            None => None,
+        }
+    }
+
+    // The length of a line; 0 past the last one.
+    pub(crate) fn length_of(&self, line: usize) -> usize
+        ensures { result ≡ length (line_at self.now line) }
+    {
+        match self.0.get(line) {
+            Some(line) => line.0.len(),
+            None => 0,
+        }
+    }
+
+    // Whether a place is in these lines.
+    pub(crate) fn is_inside(&self, place: Place) -> bool
+        ensures { result ≡ is_inside self.now place }
+    {
+        place.line < self.count() && place.column <= self.length_of(place.line)
+    }
+
+    // The lines of a file with these bytes. Fails only when memory runs out.
+    pub(crate) fn read(alloc: Global, bytes: &[u8]) -> Result<Lines, NoMemory>
+        ensures { IfOk result (λ lines. lines ≡ slice_split (λ byte. byte == 10) bytes.now) }
+    {
+        let mut lines = Vec::new(alloc);
+        for line in bytes.split(|byte| *byte == LINE_FEED) {
+            lines.push(Line(Vec::from_slice(alloc, line)?))?;
+        }
+        Ok(Lines(lines))
+    }
+
+    // The bytes of a file with these lines. Fails only when memory runs out.
+    pub(crate) fn bytes(&self, alloc: Global) -> Result<Vec<u8>, NoMemory>
+        ensures { IfOk result (λ bytes. bytes.items ≡ bytes_of self.now) }
+    {
+        let Some((first, rest)) = self.0.split_first() else {
+            return Ok(Vec::new(alloc));
+        };
+        let first: &Line = first;
+        let mut bytes = Vec::from_slice(alloc, &first.0)?;
+        append_lines(&mut bytes, rest)?;
+        Ok(bytes)
+    }
+
+    // The byte at a place; `None` at the end of a line and behind it.
+    fn byte_at(&self, place: Place) -> Option<u8>
+        ensures { result ≡ slice_get (line_at self.now place.line) place.column }
+    {
+        self.bytes_of(place.line).get(place.column).copied()
+    }
+
+    // The bytes of a line; none past the last one.
+    pub(crate) fn bytes_of(&self, line: usize) -> &[u8]
+        ensures { result.now ≡ line_at self.now line }
+    {
+        match self.0.get(line) {
+            Some(line) => line.0.as_slice(),
+            None => &[],
+        }
+    }
+
+    // Deletes at a place that is not the end of the lines, and gives the edit that this was. Fails only when memory runs
+    // out.
+    pub(crate) fn delete(&mut self, place: Place) -> Result<Edit, NoMemory>
+        requires line { place.line < length self.old }
+        requires column { place.column ≤ length (line_at self.old place.line) }
+        requires not_end { is_end self.old place ≡ false }
+        ensures ok { OnOk result (self.new ≡ deleted self.old place) }
+        ensures edit { IfOk result (λ edit. Undoes edit place self.old self.new) }
+        ensures err { OnErr result (self.new ≡ self.old) }
+    {
+        match self.byte_at(place) {
+            Some(byte) => {
+                self.remove(place);
+                Ok(Edit::Deleted(place, byte))
+            }
+            None => {
+                self.join(place.line)?;
+                Ok(Edit::Joined(place))
+            }
+        }
+    }
+
+    // Undoes the last edit that was made. Fails only when memory runs out.
+    pub(crate) fn undo(&mut self, edit: Edit) -> Result<(), NoMemory>
+        requires { CanUndo edit self.old }
+        ensures ok { OnOk result (self.new ≡ undone edit self.old) }
+        ensures err { OnErr result (self.new ≡ self.old) }
+    {
+        match edit {
+            Edit::Inserted(place) => {
+                self.remove(place);
+                Ok(())
+            }
+            Edit::Deleted(place, byte) => self.insert(place, byte),
+            Edit::Split(place) => self.join(place.line),
+            Edit::Joined(place) => self.split(place),
+        }
+    }
+
+    // Inserts a byte at a place. Fails only when memory runs out.
+    pub(crate) fn insert(&mut self, place: Place, byte: u8) -> Result<(), NoMemory>
+        requires line { place.line < length self.old }
+        requires column { place.column ≤ length (line_at self.old place.line) }
+        ensures ok { OnOk result (self.new ≡ inserted self.old place byte) }
+        ensures err { OnErr result (self.new ≡ self.old) }
+    {
+        let line = &mut self.0[place.line];
+        line.0.insert(place.column, byte)?;
+        Ok(())
+    }
+
+    // Removes the byte at a place.
+    pub(crate) fn remove(&mut self, place: Place)
+        requires line { place.line < length self.old }
+        requires column { place.column < length (line_at self.old place.line) }
+        ensures { self.new ≡ removed self.old place }
+    {
+        let line = &mut self.0[place.line];
+        let _ = line.0.remove(place.column);
+    }
+
+    // Splits a line at a place. Fails only when memory runs out.
+    pub(crate) fn split(&mut self, place: Place) -> Result<(), NoMemory>
+        requires line { place.line < length self.old }
+        requires column { place.column ≤ length (line_at self.old place.line) }
+        ensures ok { OnOk result (self.new ≡ split_at self.old place) }
+        ensures err { OnErr result (self.new ≡ self.old) }
+    {
+        self.0.reserve(1)?;
+        let rest = self.0[place.line].cut(place.column)?;
+        self.0.insert(place.line + 1, rest)?;
+        Ok(())
+    }
+
+    // Joins the next line to a line. Fails only when memory runs out.
+    pub(crate) fn join(&mut self, line: usize) -> Result<(), NoMemory>
+        requires { suc line < length self.old }
+        ensures ok { OnOk result (self.new ≡ joined self.old line) }
+        ensures err { OnErr result (self.new ≡ self.old) }
+    {
+        append_next(&mut self.0, line)?;
+        let _ = self.0.remove(line + 1);
+        Ok(())
+    }
+}
+
+// Appends the bytes of the next line to a line. Fails only when memory runs out.
+fn append_next(lines: &mut [Line], line: usize) -> Result<(), NoMemory>
+    requires { suc line < length lines.old }
+    ensures ok { OnOk result (lines.new ≡ slice_set lines.old line (line_at lines.old line ++ line_at lines.old (suc line))) }
+    ensures err { OnErr result (lines.new ≡ lines.old) }
+{
+    let (front, back) = lines.split_at_mut(line + 1);
+    front[line].append(&back[0])?;
+    Ok(())
+}
+
+// Appends lines, each behind a line feed. Fails only when memory runs out.
+fn append_lines(bytes: &mut Vec<u8>, lines: &[Line]) -> Result<(), NoMemory>
+    ensures { OnOk result (bytes.new.items ≡ bytes.old.items ++ flat_map (λ line. 10 ∷ line) lines.now) }
+{
+    for line in lines {
+        bytes.push(LINE_FEED)?;
+        bytes.extend_from_slice(&line.0)?;
+    }
+    Ok(())
+}
