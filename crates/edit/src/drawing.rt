@@ -1,0 +1,200 @@
+//! Drawing the editor on a screen: lines of the text, and in the last row what is edited.
+
+use crate::editor::{Editor, Mode};
+use crate::view::{column_of, first_shown, form_of, printable_length, width_of};
+use curses::{Attrs, Screen, Size, Win};
+
+/// The colours of the last row, as a pair.
+const STATUS_PAIR: u32 = 1;
+
+const BLUE: u32 = 4;
+
+const WHITE: u32 = 7;
+
+// What is left to draw of a row: columns of the text to leave out, and columns of the row to fill.
+#[derive(Drop)]
+struct Room {
+    skipped: usize,
+    left: usize,
+}
+
+/// The rows of a screen that show lines of the text: all but the last, if there are two.
+pub(crate) fn text_rows(size: Size) -> u32 {
+    size.rows.saturating_sub(1).max(1)
+}
+
+/// Sets the colours of a screen that was opened.
+pub(crate) fn prepare(screen: &mut Screen) {
+    if screen.colours() {
+        let _ = screen.set_pair(STATUS_PAIR, BLUE, WHITE);
+    }
+}
+
+/// Draws the editor, and takes the screen's window onto the virtual screen. A screen of one row shows the last row's
+/// messages in place of a line.
+pub(crate) fn draw(screen: &mut Screen, editor: &mut Editor) {
+    let size = screen.screen();
+    let rows = text_rows(size);
+    editor.show_cursor(rows as usize);
+    let columns = size.columns as usize;
+    for row in 0..rows {
+        draw_text_row(screen, editor, row, columns);
+    }
+    let (row, column) = cursor_of(editor, columns);
+    let place = if rows < size.rows || is_asking(editor) || !editor.message.is_empty() {
+        let last = size.rows.saturating_sub(1);
+        let end = draw_status(screen, editor, last, columns);
+        if is_asking(editor) {
+            (last, end)
+        } else {
+            (row, column)
+        }
+    } else {
+        (row, column)
+    };
+    let _ = screen.move_cursor(Win(0), place.0, place.1);
+    let _ = screen.noutrefresh(Win(0));
+}
+
+// Whether the last row asks for what is looked for.
+fn is_asking(editor: &Editor) -> bool {
+    editor.mode == Mode::Find
+}
+
+// The row and the column in which the cursor is shown.
+fn cursor_of(editor: &Editor, columns: usize) -> (u32, u32) {
+    let column = editor.column();
+    let shown = column.saturating_sub(first_shown(column, columns));
+    let row = editor.cursor.line.saturating_sub(editor.top);
+    (low(row), low(shown))
+}
+
+// A number of rows or columns; they are at most 500.
+fn low(number: usize) -> u32 {
+    u32::try_from(number).unwrap_or(0)
+}
+
+// Draws the line that a row shows. The cursor's line is shown from where the cursor is within the row.
+fn draw_text_row(screen: &mut Screen, editor: &Editor, row: u32, columns: usize) {
+    let line = editor.top.saturating_add(row as usize);
+    let first = if line == editor.cursor.line {
+        first_shown(editor.column(), columns)
+    } else {
+        0
+    };
+    let _ = screen.move_cursor(Win(0), row, 0);
+    let mut room = Room {
+        skipped: first,
+        left: columns,
+    };
+    if let Some(bytes) = editor.text.line(line) {
+        draw_bytes(screen, bytes, &mut room);
+    }
+    if room.left > 0 {
+        let _ = screen.clear_to_eol(Win(0));
+    }
+}
+
+// Draws bytes from the cursor on, as far as there is room.
+fn draw_bytes(screen: &mut Screen, bytes: &[u8], room: &mut Room) {
+    let mut rest = bytes;
+    for _ in 0..bytes.len() {
+        if rest.is_empty() || room.left == 0 {
+            return;
+        }
+        let printable = printable_length(rest);
+        rest = if printable > 0 {
+            draw_piece(screen, rest.get(..printable).unwrap_or(rest), room);
+            rest.get(printable..).unwrap_or(&[])
+        } else {
+            draw_form(screen, rest[0], room);
+            &rest[1..]
+        };
+    }
+}
+
+// Draws the form of a byte that is not printable in bold, so that it is not taken for the same characters in the text.
+fn draw_form(screen: &mut Screen, byte: u8, room: &mut Room) {
+    let form = form_of(byte);
+    let _ = screen.attr_on(Win(0), Attrs::BOLD);
+    draw_piece(screen, form.get(..width_of(byte)).unwrap_or(&form), room);
+    let _ = screen.attr_off(Win(0), Attrs::BOLD);
+}
+
+// Draws characters from the cursor on, without those that are left out, as far as there is room.
+fn draw_piece(screen: &mut Screen, text: &[u8], room: &mut Room) {
+    let skipped = room.skipped.min(text.len());
+    let shown = &text[skipped..];
+    let count = shown.len().min(room.left);
+    let _ = screen.add_text(Win(0), &shown[..count]);
+    room.skipped -= skipped;
+    room.left -= count;
+}
+
+// Draws the last row, and gives the column behind what it says.
+fn draw_status(screen: &mut Screen, editor: &Editor, row: u32, columns: usize) -> u32 {
+    let _ = screen.move_cursor(Win(0), row, 0);
+    let _ = screen.attr_set(Win(0), Attrs::REVERSE);
+    if screen.colours() {
+        let _ = screen.color_set(Win(0), STATUS_PAIR);
+    }
+    let mut room = Room {
+        skipped: 0,
+        left: columns,
+    };
+    if is_asking(editor) {
+        draw_piece(screen, b"find: ", &mut room);
+        let most = room.left.saturating_sub(1);
+        draw_end(screen, &editor.needle, most, &mut room);
+    } else {
+        draw_state(screen, editor, &mut room);
+    }
+    let end = columns
+        .saturating_sub(room.left)
+        .min(columns.saturating_sub(1));
+    for _ in 0..room.left {
+        let _ = screen.add_byte(Win(0), b' ', Attrs(0));
+    }
+    let _ = screen.attr_set(Win(0), Attrs(0));
+    let _ = screen.color_set(Win(0), 0);
+    low(end)
+}
+
+// Draws what is said of the last key and the file's name, or else the name and where the cursor is. A star behind the name
+// says that the text was changed.
+fn draw_state(screen: &mut Screen, editor: &Editor, room: &mut Room) {
+    if !editor.message.is_empty() {
+        draw_piece(screen, editor.message.beginning().as_bytes(), room);
+        draw_piece(screen, editor.message.words().as_bytes(), room);
+        draw_piece(screen, b"  ", room);
+        draw_bytes(screen, &editor.name, room);
+        draw_mark(screen, editor, room);
+        return;
+    }
+    let half = room.left / 2;
+    draw_end(screen, &editor.name, half, room);
+    draw_mark(screen, editor, room);
+    draw_piece(screen, b"  line ", room);
+    draw_number(screen, editor.cursor.line.saturating_add(1), room);
+    draw_piece(screen, b" column ", room);
+    draw_number(screen, editor.cursor.column.saturating_add(1), room);
+}
+
+// Draws the end of bytes, as much of it as some columns show.
+fn draw_end(screen: &mut Screen, bytes: &[u8], columns: usize, room: &mut Room) {
+    room.skipped = column_of(bytes, bytes.len()).saturating_sub(columns);
+    draw_bytes(screen, bytes, room);
+    room.skipped = 0;
+}
+
+// Draws the star of a text that was changed.
+fn draw_mark(screen: &mut Screen, editor: &Editor, room: &mut Room) {
+    if editor.is_changed() {
+        draw_piece(screen, b"*", room);
+    }
+}
+
+fn draw_number(screen: &mut Screen, number: usize, room: &mut Room) {
+    let mut buffer = itoa::Buffer::new();
+    draw_piece(screen, buffer.format(number).as_bytes(), room);
+}

@@ -1,0 +1,50 @@
+//! What the editor says of the last key in its last row.
+
+use crate::saving::SaveFault;
+
+/// What is said of the last key.
+#[derive(Clone, Copy)]
+pub(crate) enum Message {
+    Nothing,
+    NewFile,
+    Saved,
+    NotSaved,
+    CannotSave(SaveFault),
+    CannotSuspend,
+    // Said by a script alone, which goes on.
+    Left,
+    NotFound,
+    NothingToUndo,
+    NoMemory,
+}
+
+impl Message {
+    /// Whether there is nothing to say.
+    pub(crate) fn is_empty(&self) -> bool {
+        matches!(self, Message::Nothing)
+    }
+
+    /// What stands before the words.
+    pub(crate) fn beginning(&self) -> &'static str {
+        match self {
+            Message::CannotSave(_) => "NOT SAVED: ",
+            _ => "",
+        }
+    }
+
+    /// The words of a message.
+    pub(crate) fn words(&self) -> &'static str {
+        match self {
+            Message::Nothing => "",
+            Message::NewFile => "new file",
+            Message::Saved => "saved",
+            Message::NotSaved => "not saved: ^S saves, ^Q leaves without saving",
+            Message::CannotSave(fault) => fault.words(),
+            Message::CannotSuspend => "cannot be suspended: not run by run-on-terminal",
+            Message::Left => "left",
+            Message::NotFound => "not found",
+            Message::NothingToUndo => "nothing to undo",
+            Message::NoMemory => "out of memory",
+        }
+    }
+}

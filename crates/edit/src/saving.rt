@@ -1,0 +1,174 @@
+//! Files: reading one, and saving a text so that no failure loses what the file had.
+
+use edit_text::Text;
+use program_input::{InputFault, read_input};
+use std::fs::{File, OpenOptions};
+use std::io::{ErrorKind, Write};
+use std::{fs, io};
+use thiserror::Error;
+
+/// How many names are tried for a text that would be lost.
+const MOST_RECOVERED: u32 = 100;
+
+/// Why a file was not opened.
+#[derive(Clone, Copy, Debug, PartialEq, Eq, Error)]
+pub(crate) enum ReadFault {
+    #[error("not a regular file")]
+    NotFile,
+    #[error("cannot be opened")]
+    Closed,
+    #[error("cannot be read, or has more than 16 MB")]
+    Failed,
+    #[error("out of memory")]
+    NoMemory,
+}
+
+/// Why a text was not saved. The file has what it had.
+#[derive(Clone, Copy, Debug, PartialEq, Eq)]
+pub(crate) enum SaveFault {
+    NoMemory,
+    // The new file beside the old one is there already.
+    IsThere,
+    ReadOnly,
+    BrokenLink,
+    CannotCreate,
+    WriteFailed,
+    RenameFailed,
+}
+
+impl SaveFault {
+    /// What is said of a text that was not saved.
+    pub(crate) fn words(self) -> &'static str {
+        match self {
+            SaveFault::NoMemory => "out of memory",
+            SaveFault::IsThere => "there is a file of this name with .new behind it",
+            SaveFault::ReadOnly => "the file may not be written",
+            SaveFault::BrokenLink => "the name is a link to a file that is not there",
+            SaveFault::CannotCreate => "no file can be made beside it",
+            SaveFault::WriteFailed => "write failed",
+            SaveFault::RenameFailed => "the new file cannot take the name of the old one",
+        }
+    }
+}
+
+/// The bytes of a file; `None` if there is no such file.
+pub(crate) fn bytes_of(rt: &HostRuntime, path: &str) -> Result<Option<Vec<u8>>, ReadFault> {
+    // A device or a pipe is not even opened, since that may wait.
+    if let Ok(metadata) = fs::metadata(rt, path)
+        && !metadata.is_file()
+    {
+        return Err(ReadFault::NotFile);
+    }
+    let mut file = match File::open(rt, path) {
+        Ok(file) => file,
+        Err(error) if error.kind() == ErrorKind::NotFound => return Ok(None),
+        Err(_) => return Err(ReadFault::Closed),
+    };
+    match read_input(rt.alloc(), &mut file) {
+        Ok(bytes) => Ok(Some(bytes)),
+        Err(InputFault::Failed) => Err(ReadFault::Failed),
+        Err(InputFault::NoMemory) => Err(ReadFault::NoMemory),
+    }
+}
+
+/// Saves a text: writes a new file, named as the old one with `.new` behind it, which then takes the name of the old
+/// one. A name that is a link stays one. The new file has the old one's permissions.
+pub(crate) fn save(rt: &HostRuntime, path: &str, text: &Text) -> Result<(), SaveFault> {
+    let Ok(bytes) = text.bytes(rt.alloc()) else {
+        return Err(SaveFault::NoMemory);
+    };
+    match fs::canonicalize(rt, path) {
+        Ok(real) => replace(rt, real.as_path().as_str(), &bytes),
+        Err(error) if error.kind() == ErrorKind::NotFound => save_new(rt, path, &bytes),
+        Err(error) if error.kind() == ErrorKind::OutOfMemory => Err(SaveFault::NoMemory),
+        Err(_) => Err(SaveFault::CannotCreate),
+    }
+}
+
+/// Saves a text that would be lost: beside the file, with `.recovered` behind its name, or `.recovered.1` and so on if that
+/// is there. Gives the name.
+pub(crate) fn save_beside(rt: &HostRuntime, path: &str, text: &Text) -> Result<String, SaveFault> {
+    let Ok(bytes) = text.bytes(rt.alloc()) else {
+        return Err(SaveFault::NoMemory);
+    };
+    for number in 0..MOST_RECOVERED {
+        let name = recovered_name(rt, path, number)?;
+        match create(rt, name.as_str(), path, &bytes) {
+            Ok(()) => return Ok(name),
+            Err(SaveFault::IsThere) => {}
+            Err(fault) => return Err(fault),
+        }
+    }
+    Err(SaveFault::IsThere)
+}
+
+// The name of the nth file beside a file.
+fn recovered_name(rt: &HostRuntime, path: &str, number: u32) -> Result<String, SaveFault> {
+    let name = if number == 0 {
+        format!(in rt.alloc(); "{path}.recovered")
+    } else {
+        format!(in rt.alloc(); "{path}.recovered.{number}")
+    };
+    name.map_err(|_| SaveFault::NoMemory)
+}
+
+// Saves a file that is not there yet.
+fn save_new(rt: &HostRuntime, path: &str, bytes: &[u8]) -> Result<(), SaveFault> {
+    match fs::symlink_metadata(rt, path) {
+        Ok(_) => Err(SaveFault::BrokenLink),
+        Err(_) => replace(rt, path, bytes),
+    }
+}
+
+// Writes bytes into a new file, which then takes the name of a file that may be there.
+fn replace(rt: &HostRuntime, path: &str, bytes: &[u8]) -> Result<(), SaveFault> {
+    if is_read_only(rt, path) {
+        return Err(SaveFault::ReadOnly);
+    }
+    let Ok(beside) = format!(in rt.alloc(); "{path}.new") else {
+        return Err(SaveFault::NoMemory);
+    };
+    let beside = beside.as_str();
+    create(rt, beside, path, bytes)?;
+    if fs::rename(rt, beside, path).is_err() {
+        let _ = fs::remove_file(rt, beside);
+        return Err(SaveFault::RenameFailed);
+    }
+    Ok(())
+}
+
+// Whether a file is there that may not be written.
+fn is_read_only(rt: &HostRuntime, path: &str) -> bool {
+    match OpenOptions::new().write(true).open(rt, path) {
+        Ok(_) => false,
+        Err(error) => error.kind() != ErrorKind::NotFound,
+    }
+}
+
+// Makes a file of bytes with the permissions of another, which may not be there.
+fn create(rt: &HostRuntime, path: &str, other: &str, bytes: &[u8]) -> Result<(), SaveFault> {
+    let mut file = match OpenOptions::new()
+        .write(true)
+        .create_new(true)
+        .open(rt, path)
+    {
+        Ok(file) => file,
+        Err(error) if error.kind() == ErrorKind::AlreadyExists => return Err(SaveFault::IsThere),
+        Err(_) => return Err(SaveFault::CannotCreate),
+    };
+    if fill(rt, &mut file, other, bytes).is_err() {
+        let _ = fs::remove_file(rt, path);
+        return Err(SaveFault::WriteFailed);
+    }
+    Ok(())
+}
+
+// Gives a file the permissions of another that is there, before it has anything to read, and writes bytes to it and through
+// to its disk.
+fn fill(rt: &HostRuntime, file: &mut File, other: &str, bytes: &[u8]) -> io::Result<()> {
+    if let Ok(metadata) = fs::metadata(rt, other) {
+        file.set_permissions(metadata.permissions())?;
+    }
+    file.write_all(bytes)?;
+    file.sync_all()
+}

@@ -1,0 +1,38 @@
+//! Sequences that an unknown key sends, which are no text: an escape, and `[` or `O` with what follows.
+
+use curses::Key;
+
+/// How far such a sequence is read.
+#[derive(Clone, Copy, PartialEq, Eq)]
+pub(crate) enum Sequence {
+    /// It is not begun.
+    Outside,
+    /// An escape came.
+    Escape,
+    /// Behind an escape and `[`: a control sequence (ECMA-48, 5.4), up to a byte from 64 to 126.
+    Control,
+    /// Behind an escape and `O`: one more byte.
+    Single,
+}
+
+impl Sequence {
+    /// Whether a key belongs to a sequence that is begun, behind its escape.
+    pub(crate) fn has(self, key: Key) -> bool {
+        match (self, key) {
+            (Sequence::Escape, Key::Byte(byte)) => byte == b'[' || byte == b'O',
+            (Sequence::Control | Sequence::Single, Key::Byte(byte)) => matches!(byte, 32..=126),
+            _ => false,
+        }
+    }
+
+    /// How far it is read after a key.
+    pub(crate) fn after(self, key: Key) -> Sequence {
+        match (self, key) {
+            (_, Key::Byte(27)) => Sequence::Escape,
+            (Sequence::Escape, Key::Byte(b'[')) => Sequence::Control,
+            (Sequence::Escape, Key::Byte(b'O')) => Sequence::Single,
+            (Sequence::Control, Key::Byte(32..=63)) => Sequence::Control,
+            _ => Sequence::Outside,
+        }
+    }
+}

@@ -1,0 +1,70 @@
+//! What is seen of a line: how each byte is shown, and the columns that it takes.
+
+/// Whether a byte is shown as itself: it is a printable character.
+pub(crate) fn is_printable(byte: u8) -> bool {
+    matches!(byte, 32..=126)
+}
+
+/// How many columns a byte takes.
+pub(crate) fn width_of(byte: u8) -> usize {
+    match byte {
+        32..=126 => 1,
+        128..=255 => 4,
+        _ => 2,
+    }
+}
+
+/// What is shown of a byte that is not printable, in its first `width_of` places: `^X` for a control character, `\ooo`
+/// in octal from 128 on.
+pub(crate) fn form_of(byte: u8) -> [u8; 4] {
+    if byte < 128 {
+        return [b'^', byte ^ 64, b' ', b' '];
+    }
+    [
+        b'\\',
+        b'0' + (byte >> 6),
+        b'0' + (byte >> 3) % 8,
+        b'0' + byte % 8,
+    ]
+}
+
+/// How many printable bytes a text begins with.
+pub(crate) fn printable_length(text: &[u8]) -> usize {
+    match text.iter().position(|&byte| !is_printable(byte)) {
+        Some(place) => place,
+        None => text.len(),
+    }
+}
+
+/// The column, from the line's first, in which the byte behind the first `count` bytes is shown.
+pub(crate) fn column_of(line: &[u8], count: usize) -> usize {
+    let mut column = 0usize;
+    for &byte in line.iter().take(count) {
+        column = column.saturating_add(width_of(byte));
+    }
+    column
+}
+
+/// How many bytes of a line are shown before a column, wholly.
+pub(crate) fn bytes_before(line: &[u8], column: usize) -> usize {
+    let mut end = 0usize;
+    let mut count = 0usize;
+    for &byte in line {
+        end = end.saturating_add(width_of(byte));
+        if end > column {
+            return count;
+        }
+        count = count.saturating_add(1);
+    }
+    count
+}
+
+/// The first column of a line that its row shows so that the cursor's column is within the row: 0, or a multiple of half
+/// a row for a cursor that is further to the right.
+pub(crate) fn first_shown(cursor: usize, columns: usize) -> usize {
+    let half = columns / 2;
+    if cursor < columns || half == 0 {
+        return if half == 0 { cursor } else { 0 };
+    }
+    (cursor / half - 1) * half
+}

@@ -1,0 +1,55 @@
+//! The command line.
+
+use clap::{Arg, ArgAction, ArgMatches, Command, Error};
+use std::alloc::{AllocError, Global};
+
+/// What the command line asks for.
+#[derive(Clone, Copy)]
+pub(crate) struct Task<'a> {
+    /// The file to edit.
+    pub(crate) file: &'a str,
+    /// The bundled entry is used, whatever `TERM` names.
+    pub(crate) bundled: bool,
+    /// A script of keys is read from standard input, and the emulated terminal is printed.
+    pub(crate) script: bool,
+}
+
+/// Parses the command line: one file, and the options.
+pub(crate) fn matches<'a>(alloc: Global, words: &'a [String]) -> Result<ArgMatches<'a>, Error> {
+    command(alloc)?.try_get_matches_from(words)
+}
+
+fn command<'a>(alloc: Global) -> Result<Command<'a>, AllocError> {
+    Command::new(alloc, "edit")
+        .version("0.1.0")
+        .about("Edits a text file on the terminal; run it by run-on-terminal")
+        .arg(
+            Arg::new(alloc, "bundled")
+                .short('b')
+                .long("bundled")
+                .action(ArgAction::SetTrue)
+                .help("Uses the bundled ECMA-48 entry, whatever TERM names"),
+        )?
+        .arg(
+            Arg::new(alloc, "script")
+                .short('s')
+                .long("script")
+                .action(ArgAction::SetTrue)
+                .help("Reads keys from a script, and prints what an emulated terminal shows"),
+        )?
+        .arg(
+            Arg::new(alloc, "file")
+                .required(true)
+                .value_name("FILE")
+                .help("The file to edit"),
+        )
+}
+
+/// What a parsed command line asks for.
+pub(crate) fn task_of<'a>(matches: &ArgMatches<'a>) -> Option<Task<'a>> {
+    Some(Task {
+        file: matches.get_str("file")?,
+        bundled: matches.get_flag("bundled"),
+        script: matches.get_flag("script"),
+    })
+}
