@@ -1,6 +1,6 @@
 //! Uses a screen, its windows or its terminal again and again, so that the instructions of one time can be counted:
-//! `bench_screen refresh|update|keys|windows|terminals ..`, whose words are said in the file of each. A number is printed, so that the
-//! work is done. Without words a small case of each is done.
+//! `bench_screen refresh|update|keys|windows|terminals|writes ..`, whose words are said in the file of each. A number is printed, so that
+//! the work is done. Without words a small case of each is done, but of the writes.
 #![tactic(auto)]
 
 mod changes;
@@ -11,6 +11,7 @@ mod screens;
 mod terminals;
 mod updating;
 mod windows;
+mod writes;
 
 use anyhow::{Context, Result, bail};
 use changes::Change;
@@ -99,7 +100,16 @@ fn measure(rt: &HostRuntime, words: &[String]) -> Result<()> {
     let name = if named { word(words, 3) } else { "" };
     let begin = if named { 4 } else { 3 };
     let numbers = numbers_of(words.get(begin..).unwrap_or(&[]))?;
+    if benchmark == "writes" {
+        return write(rt, word(words, 2), numbers);
+    }
     print(rt, [benchmark, word(words, 2), name], numbers)
+}
+
+// The benchmark of writes, which prints no number.
+fn write(rt: &HostRuntime, action: &str, numbers: [u32; 4]) -> Result<()> {
+    let mut screen = screen_for(rt.alloc(), "writes", numbers)?;
+    writes::measure(rt, &mut screen, action)
 }
 
 // A word, empty where there is none.
