@@ -6,7 +6,7 @@ use curses::{Answer, UpdateFault};
 use scr_windows::{Added, WinFault};
 use std::io::ErrorKind;
 
-/// Adds what a call answered: `Ok` and what it gives, an update the number of its bytes; `Refused` and why; or `NoMemory`.
+/// Adds what a call answered: `Ok` or what it gives, an update `Ok` and the number of its bytes; or why it was refused.
 pub fn add_answer(answer: &Answer, words: &mut Buffer) {
     match answer {
         Answer::Nothing => add_word("Ok", words),
@@ -16,7 +16,7 @@ pub fn add_answer(answer: &Answer, words: &mut Buffer) {
         Answer::Seen(cell) => add_cell(*cell, words),
         Answer::Pair(row, column) => add_place(*row, *column, words),
         Answer::Touched(touched) => add_flag(*touched, words),
-        Answer::Refused(fault) => add_refusal(*fault, words),
+        Answer::Refused(fault) => add_name(fault, words),
         Answer::Sent(sent) => {
             add_word("Ok", words);
             add_count(sent.bytes, words)
@@ -33,14 +33,6 @@ pub fn ran_out(answer: &Answer) -> bool {
     )
 }
 
-fn add_refusal(fault: WinFault, words: &mut Buffer) {
-    if fault == WinFault::NoMemory {
-        add_word("NoMemory", words);
-        return;
-    }
-    add_word("Refused", words);
-    add_name(&fault, words);
-}
 
 // Adds why an update ended early, how many operations it began, and how many bytes it sent.
 fn add_fault(fault: &UpdateFault, words: &mut Buffer) {

@@ -6,7 +6,7 @@ use crate::recorded::Recorded;
 use check_scripts::buffers::Buffer;
 use check_scripts::random::Random;
 use check_scripts::troubles::Trouble;
-use curses::Call;
+use curses::{Call, Screen};
 use scr_cells::{Attrs, Size};
 use scr_windows::Win;
 use std::alloc::Global;
@@ -39,25 +39,32 @@ pub fn compose(
     answer: &mut Buffer,
 ) -> Result<bool, Trouble> {
     for _ in 0..random.below(6) {
-        opened.call(next(alloc, size, random)?, answer)?;
+        let call = next(alloc, &opened.screen, size, random)?;
+        opened.call(call, answer)?;
         if answer.bytes().ends_with(b" NoMemory") {
             return Ok(false);
         }
     }
-    opened.call(next_taking(size, random), answer)?;
+    let taking = next_taking(&opened.screen, size, random);
+    opened.call(taking, answer)?;
     Ok(!answer.bytes().ends_with(b" NoMemory"))
 }
 
 // The next call.
-fn next(alloc: Global, size: Size, random: &mut Random) -> Result<Call, Trouble> {
+fn next(
+    alloc: Global,
+    screen: &Screen,
+    size: Size,
+    random: &mut Random,
+) -> Result<Call, Trouble> {
     Ok(match random.below(16) {
         0..6 => next_change(alloc, size, random)?,
-        6..10 => next_call(alloc, random)?,
+        6..10 => next_call(alloc, screen, random)?,
         10 | 11 => next_mark(size, random),
         12 => next_colour(random),
         13 => Call::AddByte(SMALL, random.byte(), Attrs(random.attributes())),
         14 => Call::AddByte(PAD, random.byte(), Attrs(random.attributes())),
-        _ => next_taking(size, random),
+        _ => next_taking(screen, size, random),
     })
 }
 
@@ -83,10 +90,10 @@ fn next_colour(random: &mut Random) -> Call {
 }
 
 // The taking of a window, most often the first, or of a part of the pad.
-fn next_taking(size: Size, random: &mut Random) -> Call {
+fn next_taking(screen: &Screen, size: Size, random: &mut Random) -> Call {
     match random.below(8) {
         0 => Call::Noutrefresh(SMALL),
-        1 => Call::Noutrefresh(next_window(random)),
+        1 => Call::Noutrefresh(next_window(screen, random)),
         2 => {
             let (top, left) = (random.below(size.rows), random.below(size.columns));
             let (bottom, right) = (size.rows.saturating_sub(1), size.columns.saturating_sub(1));

@@ -2,54 +2,46 @@
 
 use crate::recorded::Recorded;
 use crate::shown_lines::add_spot;
-use check_scripts::answers::add_look;
+use crate::window_lines::{FIELDS, add_field, is_touched, line_of};
+use check_scripts::answers::{add_look, add_number, add_place};
 use check_scripts::buffers::Buffer;
 use check_scripts::dumps::{dump_cells, dump_place};
 use curses::Screen;
 use scr_cells::Picture;
 use scr_term::EcmaScreen;
-use scr_windows::{Win, WindowRef};
-
-// More windows than a script makes on one screen.
-const WINDOWS: u32 = 16;
+use scr_windows::WindowRef;
 
 /// Adds the windows, the picture, what the terminal shows, and what the writer took.
 pub fn dump_recorded(opened: &Recorded, bytes: &mut Buffer) {
-    for number in 0..WINDOWS {
-        if let Ok(window) = opened.screen.window(Win(number)) {
-            bytes.push(b'w');
-            dump_window(&window, bytes);
-            dump_lines(&opened.screen, Win(number), bytes);
-        }
-    }
+    dump_windows(&opened.screen, bytes);
     dump_picture(opened.screen.picture(), bytes);
     dump_emulated(&opened.emulated, bytes);
     opened.dump_writer(bytes);
 }
 
-// Adds where a window is, and its settings.
-fn dump_window(window: &WindowRef<'_>, bytes: &mut Buffer) {
-    for (row, column) in [window.size(), window.cursor(), window.region()] {
-        dump_place(row, column, bytes);
+/// Adds the size of the screen, and each window that there is.
+pub fn dump_windows(screen: &Screen, bytes: &mut Buffer) {
+    let size = screen.screen();
+    add_place(size.rows, size.columns, bytes);
+    for index in 0..screen.count() {
+        if let Some(win) = screen.nth(index)
+            && let Ok(window) = screen.window(win)
+        {
+            add_number(i64::from(win.0), bytes);
+            dump_window(&window, bytes);
+        }
     }
-    if let Some((row, column)) = window.origin() {
-        dump_place(row, column, bytes);
-    }
-    dump_place(u32::from(window.attrs().0), window.pair(), bytes);
-    for flag in [window.scroll_ok(), window.clear_ok(), window.leave_ok()] {
-        bytes.push(u8::from(flag));
-    }
-    dump_cells(&[window.background()], bytes);
 }
 
-// Adds the cells of each row of a window, and which are touched.
-fn dump_lines(screen: &Screen, win: Win, bytes: &mut Buffer) {
-    let (rows, _) = screen.size(win).unwrap_or((0, 0));
+// Adds what a window tells, its cells, and which of its lines are touched.
+fn dump_window(window: &WindowRef<'_>, bytes: &mut Buffer) {
+    for name in FIELDS {
+        let _is_one = add_field(window, name, bytes);
+    }
+    let (rows, _) = window.size();
     for row in 0..rows {
-        if let (Ok(cells), Ok(touched)) = (screen.line(win, row), screen.line_touched(win, row)) {
-            bytes.push(u8::from(touched));
-            dump_cells(cells, bytes);
-        }
+        bytes.push(u8::from(is_touched(window, row)));
+        dump_cells(line_of(window, row), bytes);
     }
 }
 

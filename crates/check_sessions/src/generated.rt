@@ -1,8 +1,11 @@
 //! Generated calls on a screen, and generated updates.
 
+use crate::answers::ran_out;
 use crate::changing::next_change;
 use crate::entries::read_entry;
+use crate::families::Families;
 use crate::generating::{COLUMNS, ROWS, next_call, next_fails, next_window};
+use crate::laws::Before;
 use crate::recorded::Recorded;
 use crate::writers::Fails;
 use check_scripts::answers::{add_number, add_word, read_size};
@@ -10,11 +13,41 @@ use check_scripts::buffers::Buffer;
 use check_scripts::random::Random;
 use check_scripts::troubles::Trouble;
 use check_scripts::words::Words;
-use curses::Call;
+use curses::{Answer, Call};
 use scr_cells::Size;
 use scr_windows::Win;
 use std::alloc::Global;
 use std::io::Write;
+
+// What is seen of the windows behind each call.
+#[derive(Drop)]
+struct Seen {
+    families: Families,
+    before: Before,
+}
+
+impl Seen {
+    fn new(alloc: Global) -> Seen {
+        Seen {
+            families: Families::new(alloc),
+            before: Before::new(alloc),
+        }
+    }
+
+    // What is wrong behind the last call, which answered so.
+    fn trouble_of(
+        &mut self,
+        opened: &Recorded,
+        answered: &Answer,
+    ) -> Result<Option<&'static str>, Trouble> {
+        let Some(call) = opened.last_call() else {
+            return Ok(None);
+        };
+        let screen = &opened.screen;
+        self.families.follow(screen, call, answered)?;
+        self.before.trouble_of(screen, &self.families, call, answered)
+    }
+}
 
 // What is made up.
 #[derive(Clone, Copy)]
@@ -26,8 +59,9 @@ enum Made {
 }
 
 /// The line `generated COUNT SEED`: so many calls on a screen, every fifth of them or so an update whose writer may fail. After each
+/// call what `laws` says has to hold of the windows. After each
 /// update that is Ok the terminal has to show the picture, and no more may be sent than what differs; one session has to give the same
-/// answers and send the same bytes. Adds `agrees`, or the number of the update that is not so.
+/// answers and send the same bytes. Adds `agrees`, or the number of the call or the update that is not so.
 pub fn check_generated(
     alloc: Global,
     tried: &mut Option<Recorded>,
@@ -106,9 +140,10 @@ fn make_each(
     answer: &mut Buffer,
     came: &mut Buffer,
 ) -> Result<bool, Trouble> {
+    let mut seen = Seen::new(alloc);
     for number in 0..count {
         answer.clear();
-        let is_well = step(alloc, opened, made, &mut random, answer)?;
+        let is_well = step(alloc, opened, made, &mut seen, &mut random, answer)?;
         answer.done()?;
         if answer.bytes().ends_with(b" NoMemory") {
             add_word("NoMemory", came);
@@ -128,11 +163,12 @@ fn step(
     alloc: Global,
     opened: &mut Recorded,
     made: Made,
+    seen: &mut Seen,
     random: &mut Random,
     answer: &mut Buffer,
 ) -> Result<bool, Trouble> {
     match made {
-        Made::Calls => make_call(alloc, opened, random, answer),
+        Made::Calls => make_call(alloc, opened, seen, random, answer),
         Made::Updates => make_update(alloc, opened, random, answer),
     }
 }
@@ -141,15 +177,26 @@ fn step(
 fn make_call(
     alloc: Global,
     opened: &mut Recorded,
+    seen: &mut Seen,
     random: &mut Random,
     answer: &mut Buffer,
 ) -> Result<bool, Trouble> {
     if random.below(5) == 0 {
-        opened.call(Call::Noutrefresh(next_window(random)), answer)?;
+        let taking = Call::Noutrefresh(next_window(&opened.screen, random));
+        opened.call(taking, answer)?;
         return opened.update(next_fails(random), answer);
     }
-    opened.call(next_call(alloc, random)?, answer)?;
-    Ok(true)
+    let call = next_call(alloc, &opened.screen, random)?;
+    seen.before.keep(&opened.screen, &seen.families)?;
+    let answered = opened.answered(call, answer)?;
+    if ran_out(&answered) {
+        return Ok(true);
+    }
+    let trouble = seen.trouble_of(opened, &answered)?;
+    if let Some(words) = trouble {
+        add_word(words, answer);
+    }
+    Ok(trouble.is_none())
 }
 
 // Makes a few changes and an update.

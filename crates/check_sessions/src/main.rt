@@ -16,8 +16,10 @@ mod dumps;
 mod ends;
 mod entries;
 mod every_cut;
+mod families;
 mod generated;
 mod generating;
+mod laws;
 mod listed;
 mod recorded;
 mod refusals;
@@ -25,6 +27,7 @@ mod shown;
 mod shown_lines;
 mod stages;
 mod uncut;
+mod window_lines;
 mod writers;
 
 use check_scripts::checking::check_input;

@@ -100,11 +100,21 @@ impl Recorded {
 
     /// Makes a call other than an update, and adds what it answers.
     pub fn call(&mut self, call: Call, came: &mut Buffer) -> Result<(), Trouble> {
+        let _answer = self.answered(call, came)?;
+        Ok(())
+    }
+
+    /// The same, and gives the answer.
+    pub fn answered(&mut self, call: Call, came: &mut Buffer) -> Result<Answer, Trouble> {
         if may_paint_all(&self.screen, &call) {
             self.left.forget();
         }
-        let _answer = self.make(call, came)?;
-        Ok(())
+        self.make(call, came)
+    }
+
+    /// The last call that was made, unless memory ran out.
+    pub fn last_call(&self) -> Option<&Call> {
+        self.calls.last()
     }
 
     /// Updates with a writer that fails so, adds what the update answers, and tells whether all is as it has to be. Where that

@@ -11,13 +11,20 @@ use crate::generated::{check_generated, check_updates};
 use crate::recorded::Recorded;
 use crate::refusals::add_refusal;
 use crate::shown_lines::{answer_of_shown, check_changed};
+use crate::window_lines::answer_of_windows;
 use crate::writers::Fails;
 use check_scripts::answers::{add_word, read_size};
 use check_scripts::buffers::{Buffer, are_same};
 use check_scripts::checking::Stage;
 use check_scripts::troubles::Trouble;
 use check_scripts::words::Words;
+use curses::Call;
+use scr_windows::Win;
 use std::alloc::Global;
+use ti_caps::Bytes;
+
+// The window that there is from the beginning.
+const FIRST: Win = Win(0);
 
 /// The state of a script.
 #[derive(Drop)]
@@ -41,6 +48,7 @@ impl Stage for SessionStage {
         let (alloc, word) = (self.alloc, str::from_utf8(words.next()).unwrap_or(""));
         let done = match word {
             "screen" => open(alloc, &mut self.opened, words, came),
+            "drawn" => open_drawn(alloc, &mut self.opened, words, came),
             "cuts" => check_cuts(alloc, &mut self.tried, words, came),
             "every_cut" => check_every_cut(alloc, &mut self.tried, words, came),
             "generated" => check_generated(alloc, &mut self.tried, words, came),
@@ -92,6 +100,40 @@ fn open(
     Ok(())
 }
 
+// The line `drawn R C TEXT`, which opens a screen of so many rows and columns on the bundled entry, with a text in its first window, whose
+// lines are untouched then and whose cursor is in the first place.
+fn open_drawn(
+    alloc: Global,
+    opened: &mut Option<Recorded>,
+    words: &mut Words<'_>,
+    came: &mut Buffer,
+) -> Result<(), Trouble> {
+    let size = read_size(words);
+    let mut text = Buffer::new(alloc);
+    words.text(&mut text);
+    let Some(size) = size else {
+        return Ok(());
+    };
+    let is_open = Recorded::open_bundled(alloc, size, opened)?;
+    match opened {
+        Some(opened) if is_open => draw(opened, text.into_bytes(), came),
+        _ => {
+            add_word("NoMemory", came);
+            Ok(())
+        }
+    }
+}
+
+// Adds a text to the first window, whose lines are untouched then and whose cursor is in the first place.
+fn draw(opened: &mut Recorded, text: Vec<u8>, came: &mut Buffer) -> Result<(), Trouble> {
+    opened.call(Call::AddText(FIRST, Bytes(text)), came)?;
+    opened.call(Call::MoveCursor(FIRST, 0, 0), came)?;
+    opened.call(Call::Untouch(FIRST), came)?;
+    came.clear();
+    add_word("Ok", came);
+    Ok(())
+}
+
 // Makes the call of a line about a screen.
 fn answer_of_opened(
     alloc: Global,
@@ -129,7 +171,9 @@ fn call(
     if let Some(call) = read_call(alloc, word, words) {
         return opened.call(call, came);
     }
-    if !answer_of_shown(opened, word, words, came) {
+    if !answer_of_shown(opened, word, words, came)
+        && !answer_of_windows(&opened.screen, word, words, came)
+    {
         words.fail(Trouble::Bad("no such call"));
     }
     Ok(())

@@ -1,9 +1,10 @@
-//! What the lines of a script work on: windows, or, behind a line `about keys`, the keys of
+//! What the lines of a script work on: nothing, where they are about values; or, behind a line `about keys`, the keys of
 //! terminals, or, behind `about texts`, a text that is edited.
 
+use crate::cell_lines::answer_of_cells;
+use crate::compared_rows::{check_rows, is_about_rows};
 use crate::editing::TextStage;
 use crate::keys::stages::KeyStage;
-use crate::stages::DeskStage;
 use check_scripts::answers::add_word;
 use check_scripts::buffers::Buffer;
 use check_scripts::checking::{Stage, put};
@@ -15,7 +16,6 @@ use std::alloc::Global;
 #[derive(Drop)]
 pub struct KindStage {
     alloc: Global,
-    windows: DeskStage,
     keys: Option<KeyStage>,
     texts: Option<TextStage>,
 }
@@ -24,7 +24,6 @@ impl Stage for KindStage {
     fn new(alloc: Global) -> KindStage {
         KindStage {
             alloc,
-            windows: DeskStage::new(alloc),
             keys: None,
             texts: None,
         }
@@ -42,7 +41,7 @@ impl Stage for KindStage {
         }
         match &mut self.texts {
             Some(texts) => texts.answer(words, came),
-            None => self.windows.answer(words, came),
+            None => answer_of_values(self.alloc, words, came),
         }
     }
 
@@ -53,12 +52,23 @@ impl Stage for KindStage {
         }
         match &self.texts {
             Some(texts) => texts.dump(bytes),
-            None => self.windows.dump(bytes),
+            None => {}
         }
     }
 
     fn leaves_all(word: &[u8]) -> bool {
-        DeskStage::leaves_all(word) || KeyStage::leaves_all(word)
+        is_about_rows(word) || KeyStage::leaves_all(word)
+    }
+}
+
+// Makes the call of a line about sizes, sets of attributes, cells, looks, and rows of them.
+fn answer_of_values(alloc: Global, words: &mut Words<'_>, came: &mut Buffer) {
+    let word = words.next();
+    if is_about_rows(word) {
+        let done = check_rows(alloc, word, words, came);
+        words.check(done);
+    } else if !answer_of_cells(str::from_utf8(word).unwrap_or(""), words, came) {
+        words.fail(Trouble::Bad("no such call"));
     }
 }
 
@@ -81,13 +91,12 @@ fn texts_of(alloc: Global, kind: &[u8]) -> Option<TextStage> {
 }
 
 impl KindStage {
-    // The line `about windows`, `about keys` or `about texts`: nothing is there yet for the lines behind it.
+    // The line `about values`, `about keys` or `about texts`: nothing is there yet for the lines behind it.
     fn begin(&mut self, words: &mut Words<'_>, came: &mut Buffer) {
         let kind = words.next();
-        if !matches!(kind, b"windows" | b"keys" | b"texts") {
+        if !matches!(kind, b"values" | b"keys" | b"texts") {
             words.fail(Trouble::Bad("no such kind of lines"));
         }
-        put(&mut self.windows, DeskStage::new(self.alloc));
         put(&mut self.keys, keys_of(self.alloc, kind));
         put(&mut self.texts, texts_of(self.alloc, kind));
         add_word("Ok", came);
