@@ -1,44 +1,11 @@
-//! A first program on a real terminal: a greeting in a box, until a key is pressed. With the word `--bundled` it takes the bundled
-//! entry at its own size, whatever the terminal is.
+//! A first program: a greeting in a box, until a key is pressed. A word behind its name asks for the bundled entry.
 #![tactic(auto)]
 
-use anyhow::{Result, bail};
-use curses::{Attrs, Counted, Device, Entry, Key, Screen, Win, bundled};
-use std::alloc::Global;
+use anyhow::Result;
+use curses::{Attrs, Screen, Win, bundled};
 use std::env;
-use std::io::BufWriter;
-use terminal_line::{Input, TerminalLine};
-use ti_database::find;
+use terminal_screen::{Event, TerminalScreen};
 
-const CTRL_Z: Key = Key::Byte(26);
-
-// The entry of the terminal that `TERM` names.
-fn entry(rt: &HostRuntime) -> Result<Entry> {
-    match find(rt, env::var(rt, "TERM")?.as_str()) {
-        Ok(entry) => Ok(entry),
-        Err(fault) => bail!("{fault}"),
-    }
-}
-
-// Whether the bundled entry is asked for.
-fn is_bundled(rt: &HostRuntime) -> Result<bool> {
-    for word in env::args(rt)? {
-        if word.as_str() == "--bundled" {
-            return Ok(true);
-        }
-    }
-    Ok(false)
-}
-
-// Opens a screen of the terminal's size, or at the entry's own if nothing says what that is.
-fn open(rt: &HostRuntime, line: &TerminalLine) -> Result<Screen> {
-    if is_bundled(rt)? {
-        return Ok(Screen::open_at_own_size(rt.alloc(), &bundled(rt.alloc())?)?);
-    }
-    Ok(Screen::open(rt.alloc(), &entry(rt)?, line.size())?)
-}
-
-// Draws a box, a greeting in reverse, and what to do.
 fn draw(screen: &mut Screen) -> Result<()> {
     screen.border(Win(0), *b"||--++++")?;
     screen.move_cursor(Win(0), 2, 4)?;
@@ -51,70 +18,23 @@ fn draw(screen: &mut Screen) -> Result<()> {
     Ok(())
 }
 
-// Takes the terminal, and shows what is drawn.
-fn show<W: Counted>(alloc: Global, screen: &mut Screen, out: &mut W) -> Result<()> {
-    screen.start(out)?;
-    match screen.doupdate(alloc, out) {
-        Ok(_) => Ok(()),
-        Err(fault) => bail!("{fault}"),
-    }
-}
-
-// Waits for a key; `None` if the input ends.
-fn wait(rt: &HostRuntime, line: &mut TerminalLine, screen: &mut Screen) -> Result<Option<Key>> {
-    let mut piece = [0; 16];
+fn greet(rt: &HostRuntime, terminal: &mut TerminalScreen) -> Result<()> {
     for _ in 0..u64::MAX {
-        if let Some(key) = screen.key() {
-            return Ok(Some(key));
-        }
-        match line.read(rt, &mut piece) {
-            Input::Bytes(count) => {
-                for byte in &piece[..count] {
-                    screen.key_byte(*byte)?;
-                }
-            }
-            Input::Idle => screen.key_idle()?,
-            Input::Ended | Input::Failed => break,
-        }
-    }
-    Ok(None)
-}
-
-// Shows the greeting until a key is pressed. At ctrl-Z it gives the terminal back until the user continues the program.
-fn greet<W: Counted>(
-    rt: &HostRuntime,
-    line: &mut TerminalLine,
-    screen: &mut Screen,
-    out: &mut W,
-) -> Result<()> {
-    show(rt.alloc(), screen, out)?;
-    for _ in 0..u64::MAX {
-        if wait(rt, line, screen)? != Some(CTRL_Z) {
+        draw(terminal.screen())?;
+        let _ = terminal.update(rt.alloc())?;
+        if let Event::Key(_) | Event::Ended = terminal.event(rt)? {
             break;
         }
-        screen.close(out)?;
-        line.suspend(rt);
-        show(rt.alloc(), screen, out)?;
     }
     Ok(())
 }
 
-// Draws, greets, and closes the screen whatever happened then.
-fn greet_and_close(rt: &HostRuntime, line: &mut TerminalLine, screen: &mut Screen) -> Result<()> {
-    draw(screen)?;
-    let mut out = Device::new(BufWriter::new(rt.alloc(), rt.stdout())?);
-    let greeted = greet(rt, line, screen, &mut out);
-    screen.close(&mut out)?;
-    greeted
-}
-
-// Opens the screen, and runs the program on it.
-fn run(rt: &HostRuntime, line: &mut TerminalLine) -> Result<()> {
-    let mut screen = open(rt, line)?;
-    greet_and_close(rt, line, &mut screen)
-}
-
 fn main(rt: HostRuntime) -> Result<()> {
-    let mut line = TerminalLine::open(&rt)?;
-    run(&rt, &mut line)
+    let mut terminal = match env::args(&rt)?.count() {
+        0 | 1 => TerminalScreen::open(&rt)?,
+        _ => TerminalScreen::open_entry(&rt, bundled(rt.alloc())?)?,
+    };
+    let greeted = greet(&rt, &mut terminal);
+    terminal.close()?;
+    greeted
 }

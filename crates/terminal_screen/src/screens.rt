@@ -1,0 +1,179 @@
+//! The screen of the terminal that a program runs on.
+
+use crate::events::Event;
+use crate::faults::TerminalFault;
+use curses::{Device, Entry, Key, OpenFault, Screen, Sent, Size};
+use std::alloc::Global;
+use std::env;
+use std::env::VarError;
+use std::io::{BufWriter, Stdout};
+use terminal_line::{Input, TerminalLine};
+use ti_database::find;
+
+/// The key that asks for suspension: `^Z`, as at a shell's own line.
+const SUSPEND: Key = Key::Byte(26);
+
+// How many bytes of the keyboard are read at a time.
+const PIECE: usize = 64;
+
+/// The screen of the terminal that a program runs on, from its opening to its close.
+#[derive(Drop)]
+pub struct TerminalScreen {
+    entry: Entry,
+    line: TerminalLine,
+    screen: Screen,
+    out: Device<BufWriter<Stdout>>,
+}
+
+impl TerminalScreen {
+    /// Opens a screen of the terminal's size, or of the entry's own if nothing says what that is, on the entry of the
+    /// machine's database that `TERM` names, and starts it.
+    ///
+    /// Refused if `TERM` is not set, if there is no such entry or it cannot be served, or if memory runs out.
+    pub fn open(rt: &HostRuntime) -> Result<TerminalScreen, TerminalFault> {
+        let entry = named_entry(rt)?;
+        TerminalScreen::open_entry(rt, entry)
+    }
+
+    /// The same on an entry that the program has, such as the bundled one.
+    pub fn open_entry(rt: &HostRuntime, entry: Entry) -> Result<TerminalScreen, TerminalFault> {
+        let line = TerminalLine::open(rt)?;
+        let out = device(rt)?;
+        let screen = open_screen(rt.alloc(), &entry, line.size())?;
+        Ok(started(TerminalScreen {
+            entry,
+            line,
+            screen,
+            out,
+        }))
+    }
+
+    /// The screen.
+    pub fn screen(&mut self) -> &mut Screen {
+        &mut self.screen
+    }
+
+    /// Brings the terminal to the virtual screen, by one write.
+    pub fn update(&mut self, alloc: Global) -> Result<Sent, TerminalFault> {
+        match self.screen.doupdate(alloc, &mut self.out) {
+            Ok(sent) => Ok(sent),
+            Err(fault) => Err(TerminalFault::Update(fault)),
+        }
+    }
+
+    /// Waits for a key, for another size of the terminal, or for the end. `^Z` suspends the program until its user
+    /// continues it, and is a key only where nobody suspends programs.
+    pub fn event(&mut self, rt: &HostRuntime) -> Result<Event, TerminalFault> {
+        for _ in 0..u64::MAX {
+            if let Some(key) = self.screen.key() {
+                return Ok(self.pressed(rt, key));
+            }
+            if let Some(event) = self.read(rt)? {
+                return Ok(event);
+            }
+        }
+        Ok(Event::Ended)
+    }
+
+    /// Gives the terminal back: without attributes, with the cursor on its last line, and out of the modes of
+    /// full-screen programs.
+    pub fn close(&mut self) -> Result<(), TerminalFault> {
+        match self.screen.close(&mut self.out) {
+            Ok(_) => Ok(()),
+            Err(fault) => Err(TerminalFault::Close(fault)),
+        }
+    }
+
+    // What a key that was pressed means.
+    fn pressed(&mut self, rt: &HostRuntime, key: Key) -> Event {
+        if key == SUSPEND && self.suspend(rt) {
+            Event::Continued
+        } else {
+            Event::Key(key)
+        }
+    }
+
+    // Gives the terminal back, and takes it again when the user continues the program. Answers whether it was suspended.
+    fn suspend(&mut self, rt: &HostRuntime) -> bool {
+        let _ = self.screen.close(&mut self.out);
+        let is_suspended = self.line.suspend(rt);
+        let _ = self.screen.start(&mut self.out);
+        is_suspended
+    }
+
+    // Reads the keyboard once. The size is followed while nothing is typed, since a new screen knows nothing of a key
+    // whose first bytes came.
+    fn read(&mut self, rt: &HostRuntime) -> Result<Option<Event>, TerminalFault> {
+        let mut piece = [0u8; PIECE];
+        match self.line.read(rt, &mut piece) {
+            Input::Bytes(count) => {
+                self.take(&piece[..count])?;
+                Ok(None)
+            }
+            Input::Idle => self.idle(rt.alloc()),
+            Input::Ended => Ok(Some(Event::Ended)),
+            Input::Failed => Err(TerminalFault::Input),
+        }
+    }
+
+    fn take(&mut self, bytes: &[u8]) -> Result<(), TerminalFault> {
+        for byte in bytes {
+            if let Err(fault) = self.screen.key_byte(*byte) {
+                return Err(TerminalFault::Keys(fault));
+            }
+        }
+        Ok(())
+    }
+
+    // No byte came for a while.
+    fn idle(&mut self, alloc: Global) -> Result<Option<Event>, TerminalFault> {
+        if let Err(fault) = self.screen.key_idle() {
+            return Err(TerminalFault::Keys(fault));
+        }
+        match self.line.size() {
+            Some(size) if size != self.screen.screen() => {
+                put(&mut self.screen, open_screen(alloc, &self.entry, Some(size))?);
+                Ok(Some(Event::Resized))
+            }
+            _ => Ok(None),
+        }
+    }
+}
+
+// Starts a screen. What a failed write leaves of the opening text is sent by the first update.
+fn started(opened: TerminalScreen) -> TerminalScreen {
+    let mut terminal = opened;
+    let _ = terminal.screen.start(&mut terminal.out);
+    terminal
+}
+
+// The entry of the terminal that `TERM` names.
+fn named_entry(rt: &HostRuntime) -> Result<Entry, TerminalFault> {
+    match env::var(rt, "TERM") {
+        Ok(name) => entry_of(rt, name.as_str()),
+        Err(VarError::OutOfMemory) => Err(TerminalFault::NoMemory),
+        Err(_) => Err(TerminalFault::NoName),
+    }
+}
+
+fn entry_of(rt: &HostRuntime, name: &str) -> Result<Entry, TerminalFault> {
+    match find(rt, name) {
+        Ok(entry) => Ok(entry),
+        Err(fault) => Err(TerminalFault::Entry(fault)),
+    }
+}
+
+fn device(rt: &HostRuntime) -> Result<Device<BufWriter<Stdout>>, TerminalFault> {
+    match BufWriter::new(rt.alloc(), rt.stdout()) {
+        Ok(writer) => Ok(Device::new(writer)),
+        Err(_) => Err(TerminalFault::NoMemory),
+    }
+}
+
+fn open_screen(alloc: Global, entry: &Entry, size: Option<Size>) -> Result<Screen, OpenFault> {
+    Screen::open(alloc, entry, size)
+}
+
+fn put<T: Drop>(place: &mut T, value: T) {
+    *place = value;
+}
