@@ -33,7 +33,6 @@ pub fn ran_out(answer: &Answer) -> bool {
     )
 }
 
-
 // Adds why an update ended early, how many operations it began, and how many bytes it sent.
 fn add_fault(fault: &UpdateFault, words: &mut Buffer) {
     match fault {

@@ -51,12 +51,7 @@ pub fn compose(
 }
 
 // The next call.
-fn next(
-    alloc: Global,
-    screen: &Screen,
-    size: Size,
-    random: &mut Random,
-) -> Result<Call, Trouble> {
+fn next(alloc: Global, screen: &Screen, size: Size, random: &mut Random) -> Result<Call, Trouble> {
     Ok(match random.below(16) {
         0..6 => next_change(alloc, size, random)?,
         6..10 => next_call(alloc, screen, random)?,

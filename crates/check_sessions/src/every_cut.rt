@@ -1,11 +1,10 @@
 //! Generated sessions, each of whose updates is cut at every byte.
 
-use crate::answers::ran_out;
+use crate::answers::{add_count, ran_out};
 use crate::composing::{begin, compose};
-use crate::cuts::{Cut, Ended, Verdict, ended_at, is_writer_full, judge_shown};
+use crate::cuts::{Cut, Ended, Text, Verdict, ended_at, is_writer_full, judge_shown, render_all};
 use crate::entries::{pass_names, read_entry};
 use crate::recorded::Recorded;
-use crate::uncut::{Text, render_all};
 use crate::writers::Fails;
 use check_scripts::answers::{add_number, add_word, read_size};
 use check_scripts::buffers::Buffer;
@@ -54,6 +53,19 @@ pub fn check_every_cut(
     };
     if check_each(alloc, opened, names, count, &mut sessions, came)? {
         add_tried(sessions.tried, u64::from(least), came);
+    }
+    Ok(())
+}
+
+/// The line `cuts`: the last update of a screen, which ended well, is cut everywhere as by `every_cut`. Adds how many cuts there are, or
+/// how and where the first was made that does not agree.
+pub fn check_cuts(alloc: Global, opened: &mut Recorded, came: &mut Buffer) -> Result<(), Trouble> {
+    let mut tried: u64 = 0;
+    let mut answer = Buffer::new(alloc);
+    match cut_update(alloc, opened, &mut tried, &mut answer)? {
+        Verdict::Agrees => add_count(tried, came),
+        Verdict::Differs => came.extend(answer.bytes()),
+        Verdict::NoMemory => add_word("NoMemory", came),
     }
     Ok(())
 }

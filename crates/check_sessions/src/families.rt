@@ -60,12 +60,7 @@ impl Families {
     }
 
     /// Follows a call that was made and answered.
-    pub fn follow(
-        &mut self,
-        screen: &Screen,
-        call: &Call,
-        answer: &Answer,
-    ) -> Result<(), Trouble> {
+    pub fn follow(&mut self, screen: &Screen, call: &Call, answer: &Answer) -> Result<(), Trouble> {
         match answer {
             Answer::Made(win) => self.add(screen, call, *win),
             Answer::Nothing => {
@@ -84,7 +79,11 @@ impl Families {
             }
             Call::Sub(parent, _, _, row, column) => {
                 let (top, left) = screen.origin(*parent).unwrap_or((0, 0));
-                (*parent, row.saturating_sub(top), column.saturating_sub(left))
+                (
+                    *parent,
+                    row.saturating_sub(top),
+                    column.saturating_sub(left),
+                )
             }
             _ => return Ok(()),
         };

@@ -45,7 +45,8 @@ impl Seen {
         };
         let screen = &opened.screen;
         self.families.follow(screen, call, answered)?;
-        self.before.trouble_of(screen, &self.families, call, answered)
+        self.before
+            .trouble_of(screen, &self.families, call, answered)
     }
 }
 

@@ -102,13 +102,17 @@ fn next_making(about: About, random: &mut Random) -> Call {
     if random.below(3) == 0 {
         return Call::NewPad(rows.saturating_add(1), columns.saturating_add(1));
     }
-    Call::NewWindow(rows, columns, random.about(ROWS / 2), random.about(COLUMNS / 2))
+    Call::NewWindow(
+        rows,
+        columns,
+        random.about(ROWS / 2),
+        random.about(COLUMNS / 2),
+    )
 }
 
 // A window within another.
 fn next_subwindow(about: About, random: &mut Random) -> Call {
-    let (win, (rows, columns), (row, column)) =
-        (about.win, about.half(random), about.half(random));
+    let (win, (rows, columns), (row, column)) = (about.win, about.half(random), about.half(random));
     match random.below(5) {
         0 => Call::Sub(win, rows, columns, row, column),
         1 => Call::SubPad(win, rows, columns, row, column),
@@ -171,7 +175,9 @@ fn next_erasing(about: About, random: &mut Random) -> Call {
 
 // A graphic character with attributes and a colour pair.
 fn next_cell(random: &mut Random) -> Cell {
-    let byte = u8::try_from(random.below(94)).unwrap_or(0).saturating_add(33);
+    let byte = u8::try_from(random.below(94))
+        .unwrap_or(0)
+        .saturating_add(33);
     Cell::paired(byte, Attrs(random.attributes()), random.pair()).unwrap_or(Cell::blank())
 }
 
@@ -195,11 +201,7 @@ fn next_copy(screen: &Screen, about: About, random: &mut Random) -> Call {
 }
 
 fn next_setting(about: About, random: &mut Random) -> Call {
-    let (win, attrs, (row, column)) = (
-        about.win,
-        Attrs(random.attributes()),
-        about.place(random),
-    );
+    let (win, attrs, (row, column)) = (about.win, Attrs(random.attributes()), about.place(random));
     match random.below(12) {
         0..4 => Call::MoveCursor(win, row, column),
         4 | 5 => Call::SetRegion(win, row, random.about(about.rows.saturating_sub(1))),

@@ -26,7 +26,6 @@ mod refusals;
 mod shown;
 mod shown_lines;
 mod stages;
-mod uncut;
 mod window_lines;
 mod writers;
 

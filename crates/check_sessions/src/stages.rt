@@ -2,11 +2,10 @@
 
 use crate::answers::add_count;
 use crate::call_lines::read_call;
-use crate::cuts::check_cuts;
 use crate::dumps::dump_recorded;
 use crate::ends::read_end;
 use crate::entries::read_entry;
-use crate::every_cut::check_every_cut;
+use crate::every_cut::{check_cuts, check_every_cut};
 use crate::generated::{check_generated, check_updates};
 use crate::recorded::Recorded;
 use crate::refusals::add_refusal;
@@ -49,7 +48,6 @@ impl Stage for SessionStage {
         let done = match word {
             "screen" => open(alloc, &mut self.opened, words, came),
             "drawn" => open_drawn(alloc, &mut self.opened, words, came),
-            "cuts" => check_cuts(alloc, &mut self.tried, words, came),
             "every_cut" => check_every_cut(alloc, &mut self.tried, words, came),
             "generated" => check_generated(alloc, &mut self.tried, words, came),
             "updates" => check_updates(alloc, &mut self.tried, words, came),
@@ -144,6 +142,7 @@ fn answer_of_opened(
 ) -> Result<(), Trouble> {
     match word {
         "session" => opened.add_session(came),
+        "cuts" => check_cuts(alloc, opened, came),
         "others" => {
             write_as_others(alloc, opened, words, came);
             Ok(())
