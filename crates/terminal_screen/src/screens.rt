@@ -130,12 +130,15 @@ impl TerminalScreen {
         if let Err(fault) = self.screen.key_idle() {
             return Err(TerminalFault::Keys(fault));
         }
-        match self.line.size() {
-            Some(size) if size != self.screen.screen() => {
-                put(&mut self.screen, open_screen(alloc, &self.entry, Some(size))?);
-                Ok(Some(Event::Resized))
-            }
-            _ => Ok(None),
+        let Some(size) = self.line.size() else {
+            return Ok(None);
+        };
+        if size == self.screen.screen() {
+            return Ok(None);
+        }
+        match reopen(alloc, &self.entry, size, &mut self.screen) {
+            Ok(()) => Ok(Some(Event::Resized)),
+            Err(fault) => Err(TerminalFault::Open(fault)),
         }
     }
 }
@@ -172,6 +175,17 @@ fn device(rt: &HostRuntime) -> Result<Device<BufWriter<Stdout>>, TerminalFault> 
 
 fn open_screen(alloc: Global, entry: &Entry, size: Option<Size>) -> Result<Screen, OpenFault> {
     Screen::open(alloc, entry, size)
+}
+
+// Opens a screen of this size in place of another.
+fn reopen(alloc: Global, entry: &Entry, size: Size, screen: &mut Screen) -> Result<(), OpenFault> {
+    match Screen::open_sized(alloc, entry, size) {
+        Ok(opened) => {
+            put(screen, opened);
+            Ok(())
+        }
+        Err(fault) => Err(fault),
+    }
 }
 
 fn put<T: Drop>(place: &mut T, value: T) {
