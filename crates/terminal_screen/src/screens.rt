@@ -23,6 +23,8 @@ pub struct TerminalScreen {
     line: TerminalLine,
     screen: Screen,
     out: Device<BufWriter<Stdout>>,
+    // Whether the last thing that was sent is an update that ended well, so that nothing is owed.
+    is_shown: bool,
 }
 
 impl TerminalScreen {
@@ -45,6 +47,7 @@ impl TerminalScreen {
             line,
             screen,
             out,
+            is_shown: false,
         }))
     }
 
@@ -55,7 +58,9 @@ impl TerminalScreen {
 
     /// Brings the terminal to the virtual screen, by one write.
     pub fn update(&mut self, alloc: Global) -> Result<Sent, TerminalFault> {
-        match self.screen.doupdate(alloc, &mut self.out) {
+        let updated = self.screen.doupdate(alloc, &mut self.out);
+        self.is_shown = updated.is_ok();
+        match updated {
             Ok(sent) => Ok(sent),
             Err(fault) => Err(TerminalFault::Update(fault)),
         }
@@ -95,6 +100,7 @@ impl TerminalScreen {
 
     // Gives the terminal back, and takes it again when the user continues the program. Answers whether it was suspended.
     fn suspend(&mut self, rt: &HostRuntime) -> bool {
+        self.is_shown = false;
         let _ = self.screen.close(&mut self.out);
         let is_suspended = self.line.suspend(rt);
         let _ = self.screen.start(&mut self.out);
@@ -102,7 +108,7 @@ impl TerminalScreen {
     }
 
     // Reads the keyboard once. The size is followed while nothing is typed, since a new screen knows nothing of a key
-    // whose first bytes came.
+    // whose first bytes came, and behind an update that ended well.
     fn read(&mut self, rt: &HostRuntime) -> Result<Option<Event>, TerminalFault> {
         let mut piece = [0u8; PIECE];
         match self.line.read(rt, &mut piece) {
@@ -133,7 +139,8 @@ impl TerminalScreen {
         let Some(size) = self.line.size() else {
             return Ok(None);
         };
-        if size == self.screen.screen() {
+        // What a failed write left of a text is owed by this screen alone.
+        if !self.is_shown || size == self.screen.screen() {
             return Ok(None);
         }
         match reopen(alloc, &self.entry, size, &mut self.screen) {
