@@ -1,126 +1,155 @@
-//! The file with bytes changed, or cut short.
+//! Lines about the file with bytes changed, or cut short.
 
-use crate::again;
-use crate::answer::Answer;
-use crate::current::Current;
-use crate::fault::CheckFault;
-use crate::files::say_decoded;
-use crate::words::Words;
+use crate::answers::add_size;
+use crate::files::add_decoded;
+use crate::reading::is_end;
+use check_scripts::answers::add_word;
+use check_scripts::buffers::Buffer;
+use check_scripts::troubles::Trouble;
+use check_scripts::words::Words;
 use std::alloc::Global;
-use ti_binary::BinFault;
-use ti_caps::Bytes;
+use std::mem;
+use terminfo_files::TicFault;
+use ti_binary::{BinFault, decode, decode_wide, encode};
+use ti_caps::{Bytes, Entry};
 
-/// `changed PLACE BYTE..`.
-pub fn decode_changed(current: &mut Current, words: &mut Words<'_>, answer: &mut Answer) {
-    match Vec::from_slice(current.alloc, current.file.as_slice()) {
-        Ok(mut file) => {
-            set_all(&mut file, words);
-            say_decoded(current, file.as_slice(), answer);
+/// The line `decode`, or `changed INDEX BYTE..`, which reads the file with bytes changed.
+pub fn decode_changed(
+    alloc: Global,
+    file: &[u8],
+    entry: &mut Option<Entry>,
+    words: &mut Words<'_>,
+    text: &mut Buffer,
+    came: &mut Buffer,
+) {
+    text.clear();
+    text.extend(file);
+    words.check(text.done());
+    for _ in 0..u32::MAX {
+        if is_end(words) {
+            break;
         }
-        Err(_) => words.check(Err(CheckFault::NoMemory)),
+        let (index, byte) = (words.number() as usize, words.byte());
+        match text.vector().get_mut(index) {
+            Some(old) => *old = byte,
+            None => words.fail(Trouble::Bad("no such index in the file")),
+        }
     }
+    add_decoded(alloc, text.bytes(), entry, came);
 }
 
-// Sets the bytes of a file that a call names.
-fn set_all(file: &mut [u8], words: &mut Words<'_>) {
-    for pair in 0..words.all().len() / 2 {
-        let index = words.size(pair.saturating_mul(2).saturating_add(1));
-        let byte = byte(words, pair.saturating_mul(2).saturating_add(2));
-        words.check(set(file, index, byte));
+/// The lines `file-cuts`, `wide-cuts` and `file-bytes BYTE..`. Tells whether a line is one of them.
+pub fn answer_of_changes(
+    alloc: Global,
+    file: &[u8],
+    word: &str,
+    words: &mut Words<'_>,
+    text: &mut Buffer,
+    came: &mut Buffer,
+) -> bool {
+    match word {
+        "file-cuts" | "wide-cuts" => {
+            let cut = cut_everywhere(alloc, file, word == "wide-cuts", came);
+            words.check(cut);
+        }
+        "file-bytes" => set_each(alloc, file, words, text, came),
+        _ => return false,
     }
+    true
 }
 
-/// How many beginnings of the file there are, which are all truncated; or the length of the first that is not.
-pub fn cut_everywhere(current: &Current, answer: &mut Answer) {
-    let file = current.file.as_slice();
+// How many beginnings of a file there are, which are all truncated; or the length of the first that is not.
+fn cut_everywhere(
+    alloc: Global,
+    file: &[u8],
+    is_wide: bool,
+    came: &mut Buffer,
+) -> Result<(), Trouble> {
     for length in 0..file.len() {
-        if !is_truncated(current.alloc, file, length) {
-            answer.say(b"cut");
-            answer.say_number(length);
-            return;
+        match fault_of(alloc, file.get(..length).unwrap_or(b""), is_wide) {
+            Some(BinFault::Truncated) => {}
+            Some(BinFault::NoMemory) => return Err(Trouble::NoMemory),
+            _ => {
+                add_word("cut", came);
+                add_size(length, came);
+                return Ok(());
+            }
         }
     }
-    answer.say_number(file.len());
+    add_size(file.len(), came);
+    Ok(())
 }
 
-/// The same where the file has 32-bit numbers.
-pub fn cut_wide_everywhere(current: &Current, answer: &mut Answer) {
-    let file = current.file.as_slice();
-    for length in 0..file.len() {
-        if !is_wide_truncated(current.alloc, file, length) {
-            answer.say(b"cut");
-            answer.say_number(length);
-            return;
-        }
+// Why bytes are no file.
+fn fault_of(alloc: Global, bytes: &[u8], is_wide: bool) -> Option<BinFault> {
+    if is_wide {
+        decode_wide(alloc, bytes).err()
+    } else {
+        decode(alloc, bytes).err()
     }
-    answer.say_number(file.len());
 }
 
-/// Each byte in turn set to each of some: how many files that makes. What is read of one is written and read again.
-pub fn set_each(current: &Current, words: &mut Words<'_>, answer: &mut Answer) {
+// Each byte of a file in turn set to each of some: how many files that makes.
+fn set_each(
+    alloc: Global,
+    file: &[u8],
+    words: &mut Words<'_>,
+    text: &mut Buffer,
+    came: &mut Buffer,
+) {
     let mut count = 0usize;
-    for at in 1..words.all().len() {
-        let byte = byte(words, at);
-        words.check(set_everywhere(current.alloc, current.file.as_slice(), byte));
-        count = count.saturating_add(current.file.len());
-    }
-    answer.say_number(count);
-}
-
-// Sets a byte of a file.
-fn set(file: &mut [u8], index: usize, byte: u8) -> Result<(), CheckFault> {
-    match file.get_mut(index) {
-        Some(old) => {
-            *old = byte;
-            Ok(())
+    for _ in 0..u32::MAX {
+        if is_end(words) {
+            break;
         }
-        None => Err(CheckFault::Line("no such index in the file")),
+        text.clear();
+        text.extend(file);
+        words.check(text.done());
+        let set = set_everywhere(alloc, text.vector(), words.byte());
+        words.check(set);
+        count = count.saturating_add(file.len());
     }
+    add_size(count, came);
 }
 
-fn byte(words: &mut Words<'_>, index: usize) -> u8 {
-    u8::try_from(words.number(index, 0, 255)).unwrap_or(0)
-}
-
-fn is_truncated(alloc: Global, file: &[u8], length: usize) -> bool {
-    match file.get(..length) {
-        Some(cut) => again::decode(alloc, cut).err() == Some(BinFault::Truncated),
-        None => false,
-    }
-}
-
-fn is_wide_truncated(alloc: Global, file: &[u8], length: usize) -> bool {
-    match file.get(..length) {
-        Some(cut) => again::decode_wide(alloc, cut).err() == Some(BinFault::Truncated),
-        None => false,
-    }
-}
-
-fn set_everywhere(alloc: Global, file: &[u8], byte: u8) -> Result<(), CheckFault> {
+// Sets each byte of a file in turn. What is read of the file is written as a file, of which the same is read and written.
+fn set_everywhere(alloc: Global, file: &mut [u8], byte: u8) -> Result<(), Trouble> {
     for index in 0..file.len() {
-        set_at(alloc, file, index, byte)?;
+        let old = set(file, index, byte);
+        check_read(alloc, file)?;
+        let _changed = set(file, index, old);
     }
     Ok(())
 }
 
-fn set_at(alloc: Global, file: &[u8], index: usize, byte: u8) -> Result<(), CheckFault> {
-    let mut changed = Vec::from_slice(alloc, file)?;
-    set(&mut changed, index, byte).and(read_twice(alloc, changed.as_slice()))
+// Sets a byte of a file, and gives the one before.
+fn set(file: &mut [u8], index: usize, byte: u8) -> u8 {
+    match file.get_mut(index) {
+        Some(old) => mem::replace(old, byte),
+        None => 0,
+    }
+}
+
+fn check_read(alloc: Global, bytes: &[u8]) -> Result<(), Trouble> {
+    match written(alloc, bytes) {
+        Ok(file) => check_written(alloc, &file),
+        Err(TicFault::NoMemory) => Err(Trouble::NoMemory),
+        Err(_) => Ok(()),
+    }
+}
+
+fn check_written(alloc: Global, file: &Bytes) -> Result<(), Trouble> {
+    match written(alloc, &file.0) {
+        Ok(again) if again.0 == file.0 => Ok(()),
+        Err(TicFault::NoMemory) => Err(Trouble::NoMemory),
+        _ => Err(Trouble::Bad("a file that is read is written in two ways")),
+    }
 }
 
 // The file that is written of what is read of bytes.
-fn written(alloc: Global, bytes: &[u8]) -> Option<Bytes> {
-    let (entry, _) = again::decode(alloc, bytes).ok()?;
-    again::encode(alloc, &entry).ok()
-}
-
-// What is read of bytes is written as a file, of which the same is read and written.
-fn read_twice(alloc: Global, bytes: &[u8]) -> Result<(), CheckFault> {
-    let Some(file) = written(alloc, bytes) else {
-        return Ok(());
-    };
-    match written(alloc, file.0.as_slice()) {
-        Some(again) if again.0 == file.0 => Ok(()),
-        _ => Err(CheckFault::Line("a file that is read is written in two ways")),
+fn written(alloc: Global, bytes: &[u8]) -> Result<Bytes, TicFault> {
+    match &decode(alloc, bytes) {
+        Ok((entry, _)) => Ok(encode(alloc, entry)?),
+        Err(fault) => Err(TicFault::from(*fault)),
     }
 }

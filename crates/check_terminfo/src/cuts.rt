@@ -1,80 +1,78 @@
 //! Parameter strings, cut at every place.
 
-use crate::again;
-use crate::answer::Answer;
-use crate::fault::CheckFault;
-use crate::words::Words;
+use crate::answers::add_size;
+use crate::programs::write;
+use crate::reading::is_end;
+use check_scripts::answers::{add_text, add_word};
+use check_scripts::buffers::Buffer;
+use check_scripts::troubles::Trouble;
+use check_scripts::words::Words;
 use std::alloc::Global;
-use ti_param::{ParamFault, Program, Vars};
+use ti_param::{ParamFault, Program, RunFault, Vars};
 
-/// Answers `ok` where all texts agree, else the first that does not, and where it is cut.
-pub fn cut_all(alloc: Global, words: &mut Words<'_>, answer: &mut Answer) {
-    let done = say_cuts(alloc, words.all(), answer);
-    words.check(done);
+/// The line `cuts TEXT..`: `Ok` where all texts agree, else those that do not, and where they are cut then.
+pub fn check_cuts(alloc: Global, words: &mut Words<'_>, text: &mut Buffer, came: &mut Buffer) {
+    for _ in 0..u32::MAX {
+        if is_end(words) {
+            break;
+        }
+        words.text(text);
+        let wrong = add_first_wrong(alloc, text.bytes(), came);
+        words.check(wrong);
+    }
+    if came.bytes().is_empty() {
+        add_word("Ok", came);
+    }
 }
 
-fn say_cuts(alloc: Global, words: &[Vec<u8>], answer: &mut Answer) -> Result<(), CheckFault> {
-    for text in words.iter().skip(1) {
-        if let Some(end) = first_wrong(alloc, text.as_slice())? {
-            answer.say(text.as_slice());
-            answer.say_number(end);
+// Adds a text that is cut so that its beginning does not agree, if there is a place for it.
+fn add_first_wrong(alloc: Global, text: &[u8], came: &mut Buffer) -> Result<(), Trouble> {
+    let whole = fault_of(alloc, text)?;
+    for end in 0..text.len() {
+        if !agrees(alloc, text.get(..end).unwrap_or(b""), whole)? {
+            add_text(text, came);
+            add_size(end, came);
             return Ok(());
         }
     }
-    answer.say(b"ok");
     Ok(())
 }
 
-// Where a text is cut so that its beginning does not agree.
-fn first_wrong(alloc: Global, text: &[u8]) -> Result<Option<usize>, CheckFault> {
-    let whole = fault_of(alloc, text);
-    for end in 0..text.len() {
-        if !agrees(alloc, text, end, whole)? {
-            return Ok(Some(end));
-        }
-    }
-    Ok(None)
-}
-
 // Why a text is no program.
-fn fault_of(alloc: Global, text: &[u8]) -> Option<ParamFault> {
-    again::read_program(alloc, text).err()
+fn fault_of(alloc: Global, text: &[u8]) -> Result<Option<ParamFault>, Trouble> {
+    match Program::read(alloc, text).err() {
+        Some(ParamFault::NoMemory) => Err(Trouble::NoMemory),
+        fault => Ok(fault),
+    }
 }
 
 // A beginning of a text is a program that runs, or ends inside a directive, before which it is a program; or it has
 // the fault of the whole text.
-fn agrees(
-    alloc: Global,
-    text: &[u8],
-    end: usize,
-    whole: Option<ParamFault>,
-) -> Result<bool, CheckFault> {
-    let Some(cut) = text.get(..end) else {
-        return Ok(false);
-    };
-    match again::read_program(alloc, cut) {
-        Ok(program) => runs(alloc, &program),
-        Err(ParamFault::Truncated(place)) => Ok(is_cut_at(alloc, cut, place)),
-        Err(fault) => Ok(whole == Some(fault)),
+fn agrees(alloc: Global, cut: &[u8], whole: Option<ParamFault>) -> Result<bool, Trouble> {
+    match &Program::read(alloc, cut) {
+        Ok(program) => runs(alloc, program),
+        Err(ParamFault::Truncated(place)) => is_cut_at(alloc, cut, *place),
+        Err(ParamFault::NoMemory) => Err(Trouble::NoMemory),
+        Err(fault) => Ok(whole == Some(*fault)),
     }
 }
 
 /// Whether a directive begins at a place of a text, which is a program before it.
-pub fn is_cut_at(alloc: Global, text: &[u8], place: usize) -> bool {
+pub fn is_cut_at(alloc: Global, text: &[u8], place: usize) -> Result<bool, Trouble> {
     match text.split_at_checked(place) {
-        Some((before, rest)) => rest.first() == Some(&b'%') && fault_of(alloc, before).is_none(),
-        None => false,
+        Some((before, rest)) if rest.first() == Some(&b'%') => {
+            Ok(fault_of(alloc, before)?.is_none())
+        }
+        _ => Ok(false),
     }
 }
 
-// Runs a program, which writes at most what its bound says.
-fn runs(alloc: Global, program: &Program) -> Result<bool, CheckFault> {
-    let mut vars = Vars::new();
-    let mut out = Vec::new(alloc);
-    runs_into(program, &mut vars, &mut out)
-}
-
-fn runs_into(program: &Program, vars: &mut Vars, out: &mut Vec<u8>) -> Result<bool, CheckFault> {
-    let ran = again::run_program(program, [3; 9], vars, out)?;
-    Ok(ran.is_ok() && out.len() <= program.bound())
+// Whether a program runs as it says.
+fn runs(alloc: Global, program: &Program) -> Result<bool, Trouble> {
+    let mut text = Buffer::new(alloc);
+    match write(program, [3; 9], &mut Vars::new(), &mut text) {
+        Ok(Err(RunFault::NoMemory)) => Err(Trouble::NoMemory),
+        Ok(ran) => Ok(ran.is_ok()),
+        Err(trouble) => Err(trouble),
+    }
 }

@@ -1,114 +1,121 @@
-//! Calls about finding entries by the names of terminals.
+//! Lines about finding entries by the names of terminals.
 
-use crate::again;
-use crate::answer::Answer;
-use crate::current::Current;
-use crate::dump::say_entry;
-use crate::fault::CheckFault;
-use crate::words::Words;
+use crate::answers::{add_entry, add_refusal};
+use crate::reading::is_end;
+use check_scripts::answers::{add_text, add_word};
+use check_scripts::buffers::Buffer;
+use check_scripts::words::Words;
 use std::alloc::Global;
 use ti_caps::Bytes;
-use ti_database::{DatabaseFault, FilePath, FilePaths, MemoryFiles, Variables};
+use ti_database::{FilePath, MemoryFiles, Variables, find_in, paths};
 
-/// `store PATH BYTES ..`.
-pub fn store(current: &mut Current, words: &mut Words<'_>, answer: &mut Answer) {
-    let put = put_all(current.alloc, words.all(), &mut current.store);
-    words.check(put);
-    answer.say(b"ok");
-}
-
-// Files in the place of those before.
-fn put_all(alloc: Global, words: &[Vec<u8>], store: &mut MemoryFiles) -> Result<(), CheckFault> {
+/// The line `store PATH BYTES ..`: files in the place of those before.
+pub fn store(alloc: Global, store: &mut MemoryFiles, words: &mut Words<'_>, came: &mut Buffer) {
     store.0.clear();
-    for pair in 0..words.len() / 2 {
-        let index = pair.saturating_mul(2).saturating_add(1);
-        match (words.get(index), words.get(index.saturating_add(1))) {
-            (Some(path), Some(bytes)) => put(alloc, path, bytes, store)?,
-            _ => return Err(CheckFault::Line("a path without bytes")),
+    for _ in 0..u32::MAX {
+        if is_end(words) {
+            break;
         }
+        store_file(alloc, store, words, came);
     }
-    Ok(())
+    add_word("Ok", came);
 }
 
-fn put(
+fn store_file(alloc: Global, store: &mut MemoryFiles, words: &mut Words<'_>, came: &mut Buffer) {
+    let path = FilePath(read_bytes(alloc, words));
+    let bytes = Bytes(read_bytes(alloc, words));
+    let pushed = store.0.push((path, bytes));
+    came.check(pushed.is_ok());
+}
+
+/// Reads a text.
+pub fn read_bytes(alloc: Global, words: &mut Words<'_>) -> Vec<u8> {
+    let mut bytes = Buffer::new(alloc);
+    words.text(&mut bytes);
+    bytes.into_bytes()
+}
+
+/// The lines `paths NAME VARIABLE=VALUE..` and `look-up NAME VARIABLE=VALUE..`. Tells whether a line is one of them.
+pub fn answer_of_database(
     alloc: Global,
-    path: &[u8],
-    bytes: &[u8],
-    store: &mut MemoryFiles,
-) -> Result<(), CheckFault> {
-    let path = FilePath(Vec::from_slice(alloc, path)?);
-    let bytes = Bytes(Vec::from_slice(alloc, bytes)?);
-    store.0.push((path, bytes))?;
-    Ok(())
+    store: &MemoryFiles,
+    word: &str,
+    words: &mut Words<'_>,
+    text: &mut Buffer,
+    came: &mut Buffer,
+) -> bool {
+    if word != "paths" && word != "look-up" {
+        return false;
+    }
+    words.text(text);
+    let variables = read_variables(alloc, words, came);
+    if word == "paths" {
+        add_paths(alloc, text.bytes(), &variables, came);
+    } else {
+        look_up(alloc, store, text.bytes(), &variables, came);
+    }
+    true
 }
 
-/// `paths NAME VARIABLE=VALUE..`.
-pub fn paths(alloc: Global, words: &mut Words<'_>, answer: &mut Answer) {
-    let mut variables = unset();
-    let set = set_all(alloc, words.all(), &mut variables);
-    words.check(set);
-    let paths = again::paths(alloc, words.text(1), &variables);
-    say_paths(&paths, answer);
-}
-
-fn say_paths(paths: &Result<FilePaths, DatabaseFault>, answer: &mut Answer) {
-    match paths {
+fn add_paths(alloc: Global, name: &[u8], variables: &Variables, came: &mut Buffer) {
+    match &paths(alloc, name, variables) {
         Ok(paths) => {
-            for path in paths.0.as_slice() {
-                answer.say(path.0.as_slice());
+            for path in &paths.0 {
+                add_text(&path.0, came);
             }
         }
-        Err(fault) => answer.refused(fault),
+        Err(fault) => add_refusal(fault, came),
     }
 }
 
-/// `look-up NAME VARIABLE=VALUE..`.
-pub fn look_up(current: &Current, words: &mut Words<'_>, answer: &mut Answer) {
-    let mut variables = unset();
-    let set = set_all(current.alloc, words.all(), &mut variables);
-    words.check(set);
-    let found = again::find_in(current.alloc, &current.store, words.text(1), &variables);
-    match &found {
-        Ok(entry) => say_entry(entry, answer),
-        Err(fault) => answer.refused(fault),
+fn look_up(
+    alloc: Global,
+    store: &MemoryFiles,
+    name: &[u8],
+    variables: &Variables,
+    came: &mut Buffer,
+) {
+    match &find_in(alloc, store, name, variables) {
+        Ok(entry) => add_entry(entry, came),
+        Err(fault) => add_refusal(fault, came),
     }
 }
 
-/// `read-entry`.
-pub fn read_entry(current: &Current, answer: &mut Answer) {
-    let read = again::read_entry(current.alloc, current.file.as_slice());
-    match &read {
-        Ok(entry) => say_entry(entry, answer),
-        Err(fault) => answer.refused(fault),
+// Reads the variables that are set.
+fn read_variables(alloc: Global, words: &mut Words<'_>, came: &mut Buffer) -> Variables {
+    let line = *words;
+    for _ in 0..u32::MAX {
+        if is_end(words) {
+            break;
+        }
+        let _variable = words.next();
     }
-}
-
-fn unset() -> Variables {
     Variables {
-        terminfo: None,
-        home: None,
-        terminfo_dirs: None,
+        terminfo: variable(alloc, line, b"TERMINFO=", came),
+        home: variable(alloc, line, b"HOME=", came),
+        terminfo_dirs: variable(alloc, line, b"TERMINFO_DIRS=", came),
     }
 }
 
-// Sets the variables that a call gives behind the name.
-fn set_all(alloc: Global, words: &[Vec<u8>], variables: &mut Variables) -> Result<(), CheckFault> {
-    for word in words.iter().skip(2) {
-        set(alloc, str::from_utf8(word).unwrap_or(""), variables)?;
-    }
-    Ok(())
+fn variable(alloc: Global, line: Words<'_>, name: &[u8], came: &mut Buffer) -> Option<Bytes> {
+    let value = value_of(line, name)?;
+    let mut bytes = Buffer::new(alloc);
+    bytes.extend(value);
+    came.check(bytes.done().is_ok());
+    Some(Bytes(bytes.into_bytes()))
 }
 
-fn set(alloc: Global, word: &str, variables: &mut Variables) -> Result<(), CheckFault> {
-    let Some((variable, value)) = word.split_once('=') else {
-        return Err(CheckFault::Line("a variable without a value"));
-    };
-    let value = Some(Bytes(Vec::from_slice(alloc, value.as_bytes())?));
-    match variable {
-        "TERMINFO" => variables.terminfo = value,
-        "HOME" => variables.home = value,
-        "TERMINFO_DIRS" => variables.terminfo_dirs = value,
-        _ => return Err(CheckFault::Line("no such variable")),
+// What stands behind a name in the words of a line.
+fn value_of<'a>(line: Words<'a>, name: &[u8]) -> Option<&'a [u8]> {
+    let mut words = line;
+    for _ in 0..u32::MAX {
+        if is_end(&words) {
+            break;
+        }
+        let value = words.next().strip_prefix(name);
+        if value.is_some() {
+            return value;
+        }
     }
-    Ok(())
+    None
 }

@@ -1,155 +1,144 @@
-//! Calls about the entry.
+//! Lines about the entry.
 
-use crate::again;
-use crate::answer::Answer;
-use crate::current::Current;
-use crate::dump::say_entry;
-use crate::words::Words;
-use ti_caps::{CapFault, Entry, Slot};
+use crate::answers::{
+    add_done, add_entry, add_number_if_any, add_refusal, add_size, add_text_if_any, keep,
+};
+use crate::reading::{is_end, read_slot};
+use check_scripts::answers::{add_flag, add_text, add_word};
+use check_scripts::buffers::Buffer;
+use check_scripts::troubles::Trouble;
+use check_scripts::words::Words;
+use std::alloc::Global;
+use ti_caps::{CapFault, Entry, Kind, Slot, bundled, name_of};
+use ti_source::print;
 
-/// `entry NAMES`.
-pub fn make(current: &mut Current, words: &mut Words<'_>, answer: &mut Answer) {
-    match again::new_entry(current.alloc, words.text(1)) {
-        Ok(entry) => {
-            current.entry = Some(entry);
-            answer.say(b"ok");
+/// The line `entry NAMES`, and those about the entry that there is. Tells whether a line is one of them.
+pub fn answer_of_entry(
+    alloc: Global,
+    entry: &mut Option<Entry>,
+    word: &str,
+    words: &mut Words<'_>,
+    text: &mut Buffer,
+    came: &mut Buffer,
+) -> bool {
+    match word {
+        "entry" => make_entry(alloc, entry, words, text, came),
+        "shown" | "is-bundled" | "names" | "unnamed" | "print" | "flag" | "number" | "text" =>
+            match entry {
+                Some(entry) => show(alloc, entry, word, words, came),
+                None => words.fail(Trouble::Bad("no entry")),
+            },
+        "set-flag" | "set-number" | "set-text" => match entry {
+            Some(entry) => set(entry, word, words, text, came),
+            None => words.fail(Trouble::Bad("no entry")),
+        },
+        _ => return false,
+    }
+    true
+}
+
+fn make_entry(
+    alloc: Global,
+    entry: &mut Option<Entry>,
+    words: &mut Words<'_>,
+    text: &mut Buffer,
+    came: &mut Buffer,
+) {
+    words.text(text);
+    if keep(Entry::new(alloc, text.bytes()), entry, came) {
+        add_word("Ok", came);
+    }
+}
+
+// The lines `shown`, `is-bundled`, `names`, `unnamed`, `print`, and `flag N`, `number N` and `text N`.
+fn show(alloc: Global, entry: &Entry, word: &str, words: &mut Words<'_>, came: &mut Buffer) {
+    match word {
+        "shown" => add_entry(entry, came),
+        "is-bundled" => compare_bundled(alloc, entry, came),
+        "names" => add_text(entry.names(), came),
+        "unnamed" => add_size(entry.unnamed(), came),
+        "print" => add_printed(alloc, entry, came),
+        "flag" => add_flag(entry.flag(read_slot(words)), came),
+        "number" => add_number_if_any(entry.number(read_slot(words)), came),
+        _ => add_text_if_any(entry.text(read_slot(words)), came),
+    }
+}
+
+fn compare_bundled(alloc: Global, entry: &Entry, came: &mut Buffer) {
+    match bundled(alloc) {
+        Ok(bundled) => add_flag(are_same(&bundled, entry), came),
+        Err(fault) => add_refusal(&fault, came),
+    }
+}
+
+fn add_printed(alloc: Global, entry: &Entry, came: &mut Buffer) {
+    match print(alloc, entry) {
+        Ok(printed) => {
+            add_text(&printed.text.0, came);
+            add_size(printed.unnamed, came);
         }
-        Err(fault) => answer.refused(&fault),
+        Err(fault) => add_refusal(&fault, came),
     }
 }
 
-/// `shown`.
-pub fn show(current: &Current, words: &mut Words<'_>, answer: &mut Answer) {
-    if let Some(entry) = current.entry(words) {
-        say_entry(entry, answer);
-    }
-}
-
-/// `is-bundled`.
-pub fn is_bundled(current: &Current, words: &mut Words<'_>, answer: &mut Answer) {
-    if let Some(entry) = current.entry(words) {
-        match again::bundled(current.alloc) {
-            Ok(bundled) => answer.say_whether(are_same(&bundled, entry)),
-            Err(fault) => answer.refused(&fault),
+// The lines `set-flag N yes`, `set-number N NUMBER` and `set-text N TEXT`; without a last word a capability becomes absent.
+fn set(entry: &mut Entry, word: &str, words: &mut Words<'_>, text: &mut Buffer, came: &mut Buffer) {
+    let slot = read_slot(words);
+    let done = match word {
+        "set-flag" => entry.set_flag(slot, words.next() == b"yes".as_slice()),
+        "set-number" => set_number(entry, slot, words),
+        _ if is_end(words) => entry.set_text(slot, None),
+        _ => {
+            words.text(text);
+            entry.set_text(slot, Some(text.bytes()))
         }
-    }
-}
-
-/// `names`.
-pub fn names(current: &Current, words: &mut Words<'_>, answer: &mut Answer) {
-    if let Some(entry) = current.entry(words) {
-        answer.say(entry.names());
-    }
-}
-
-/// `unnamed`.
-pub fn unnamed(current: &Current, words: &mut Words<'_>, answer: &mut Answer) {
-    if let Some(entry) = current.entry(words) {
-        answer.say_number(entry.unnamed());
-    }
-}
-
-/// `flag N`.
-pub fn flag(current: &Current, words: &mut Words<'_>, answer: &mut Answer) {
-    let slot = slot(words);
-    if let Some(entry) = current.entry(words) {
-        answer.say_whether(entry.flag(slot));
-    }
-}
-
-/// `number N`.
-pub fn number(current: &Current, words: &mut Words<'_>, answer: &mut Answer) {
-    let slot = slot(words);
-    if let Some(entry) = current.entry(words) {
-        match entry.number(slot) {
-            Some(number) => answer.say_number(usize::from(number)),
-            None => answer.say(b"none"),
-        }
-    }
-}
-
-/// `text N`.
-pub fn give_text(current: &Current, words: &mut Words<'_>, answer: &mut Answer) {
-    let slot = slot(words);
-    if let Some(entry) = current.entry(words) {
-        answer.say(entry.text(slot).unwrap_or(b"none"));
-    }
-}
-
-/// `set-flag N yes`.
-pub fn set_flag(current: &mut Current, words: &mut Words<'_>, answer: &mut Answer) {
-    let (slot, present) = (slot(words), words.is_yes(2));
-    if let Some(entry) = current.entry_mut(words) {
-        say_set(entry.set_flag(slot, present), answer);
-    }
-}
-
-/// `set-number N NUMBER`; a number above 32,767, which the call does not take, is read as that.
-pub fn set_number(current: &mut Current, words: &mut Words<'_>, answer: &mut Answer) {
-    let slot = slot(words);
-    let number = if words.all().len() > 2 {
-        Some(words.small(2).min(32_767))
-    } else {
-        None
     };
-    if let Some(entry) = current.entry_mut(words) {
-        say_set(entry.set_number(slot, number), answer);
-    }
+    add_done(done, came);
 }
 
-/// `set-text N TEXT`.
-pub fn set_text(current: &mut Current, words: &mut Words<'_>, answer: &mut Answer) {
-    let slot = slot(words);
-    let text = match words.all().get(2) {
-        Some(text) => Some(text.as_slice()),
-        None => None,
-    };
-    if let Some(entry) = current.entry_mut(words) {
-        match again::set_text(entry, slot, text) {
-            Ok(set) => say_set(set, answer),
-            Err(fault) => words.check(Err(fault)),
-        }
+// Sets a number, at most 32,767, or takes it away.
+fn set_number(entry: &mut Entry, slot: Slot, words: &mut Words<'_>) -> Result<(), CapFault> {
+    if is_end(words) {
+        return entry.set_number(slot, None);
     }
+    let number = u16::try_from(words.number()).unwrap_or(u16::MAX);
+    entry.set_number(slot, Some(number.min(32_767)))
 }
 
-/// `print`.
-pub fn print(current: &Current, words: &mut Words<'_>, answer: &mut Answer) {
-    if let Some(entry) = current.entry(words) {
-        match again::print(current.alloc, entry) {
-            Ok(printed) => {
-                answer.say(printed.text.0.as_slice());
-                answer.say_number(printed.unnamed);
-            }
-            Err(fault) => answer.refused(&fault),
-        }
-    }
+/// Whether two entries have the same names, and the same at each position.
+pub fn are_same(one: &Entry, other: &Entry) -> bool {
+    are_same_where(one, other, false)
 }
 
-// Whether two entries have the same names, and the same at each position.
-fn are_same(one: &Entry, other: &Entry) -> bool {
+/// Whether an entry is what another is without all that has no name.
+pub fn is_named_part(part: &Entry, entry: &Entry) -> bool {
+    part.unnamed() == 0 && are_same_where(part, entry, true)
+}
+
+// Whether two entries have the same names, and the same at each position, or at each that has a name.
+fn are_same_where(one: &Entry, other: &Entry, named: bool) -> bool {
     let mut same = one.names() == other.names();
     for position in 0..512u16 {
-        same = same && are_same_at(one, other, Slot(position));
+        same = same && are_same_at(one, other, Slot(position), named);
     }
     same
 }
 
-fn are_same_at(one: &Entry, other: &Entry, slot: Slot) -> bool {
-    let texts = match (one.text(slot), other.text(slot)) {
-        (Some(text), Some(that)) => text == that,
+fn are_same_at(one: &Entry, other: &Entry, slot: Slot, named: bool) -> bool {
+    let flags = one.flag(slot) == other.flag(slot) || is_left_out(Kind::Flag, slot, named);
+    let numbers = one.number(slot) == other.number(slot) || is_left_out(Kind::Number, slot, named);
+    let texts = are_same_texts(one.text(slot), other.text(slot));
+    flags && numbers && (texts || is_left_out(Kind::Text, slot, named))
+}
+
+fn are_same_texts(one: Option<&[u8]>, other: Option<&[u8]>) -> bool {
+    match (one, other) {
+        (Some(one), Some(other)) => one == other,
         (None, None) => true,
         _ => false,
-    };
-    texts && one.flag(slot) == other.flag(slot) && one.number(slot) == other.number(slot)
-}
-
-fn slot(words: &mut Words<'_>) -> Slot {
-    Slot(words.small(1))
-}
-
-fn say_set(set: Result<(), CapFault>, answer: &mut Answer) {
-    match set {
-        Ok(()) => answer.say(b"ok"),
-        Err(fault) => answer.refused(&fault),
     }
+}
+
+fn is_left_out(kind: Kind, slot: Slot, named: bool) -> bool {
+    named && name_of(kind, slot).is_none()
 }

@@ -1,8 +1,12 @@
-//! Calls about reading an input, of readers that fail.
+//! Lines about reading an input, of readers that fail.
 
-use crate::answer::Answer;
-use crate::words::Words;
-use program_input::{InputFault, read_input};
+use crate::answers::{add_refusal, add_size};
+use crate::reading::is_end;
+use check_scripts::answers::add_text;
+use check_scripts::buffers::Buffer;
+use check_scripts::troubles::Trouble;
+use check_scripts::words::Words;
+use program_input::read_input;
 use std::alloc::Global;
 use std::io;
 use std::io::{ErrorKind, Read};
@@ -13,7 +17,7 @@ struct Pieces {
     left: usize,
     each: usize,
     /// How many reads come before the one that fails, and how it fails.
-    fault: Option<(usize, ErrorKind)>,
+    fault: Option<(u32, ErrorKind)>,
 }
 
 impl Read for Pieces {
@@ -32,67 +36,67 @@ impl Read for Pieces {
     }
 }
 
-/// `input COUNT EACH [BEFORE FAULT]`.
-pub fn read_pieces(alloc: Global, words: &mut Words<'_>, answer: &mut Answer) {
-    let pieces = Pieces {
-        left: words.size(1),
-        each: words.size(2),
-        fault: fault(words),
-    };
-    match read_again(alloc, pieces) {
-        Ok(bytes) => say_pieces(bytes.as_slice(), words, answer),
-        Err(fault) => answer.refused(&fault),
-    }
-}
-
-// Answers how many bytes are read.
-fn say_pieces(bytes: &[u8], words: &mut Words<'_>, answer: &mut Answer) {
-    if bytes.iter().any(|byte| *byte != b'x') {
-        words.fail("other bytes are read");
-    }
-    answer.say_number(bytes.len());
-}
-
-/// `input-of TEXT`.
-pub fn read_text(alloc: Global, words: &mut Words<'_>, answer: &mut Answer) {
-    let text = words.text(1);
-    let mut reader = text;
-    let read = match read_input(alloc, &mut reader) {
-        Err(InputFault::NoMemory) => {
-            let mut reader = text;
-            read_input(alloc, &mut reader)
+/// The lines `input COUNT EACH [BEFORE FAULT]` and `input-of TEXT`. Tells whether a line is one of them.
+pub fn answer_of_input(
+    alloc: Global,
+    word: &str,
+    words: &mut Words<'_>,
+    text: &mut Buffer,
+    came: &mut Buffer,
+) -> bool {
+    match word {
+        "input" => read_pieces(alloc, words, came),
+        "input-of" => {
+            words.text(text);
+            read_text(alloc, text.bytes(), came);
         }
-        other => other,
+        _ => return false,
+    }
+    true
+}
+
+fn read_pieces(alloc: Global, words: &mut Words<'_>, came: &mut Buffer) {
+    let mut pieces = Pieces {
+        left: words.number() as usize,
+        each: words.number() as usize,
+        fault: read_fault(words),
     };
-    match read {
-        Ok(bytes) => answer.say(bytes.as_slice()),
-        Err(fault) => answer.refused(&fault),
+    match read_input(alloc, &mut pieces) {
+        Ok(bytes) => add_pieces(&bytes, words, came),
+        Err(fault) => add_refusal(&fault, came),
     }
 }
 
-fn fault(words: &mut Words<'_>) -> Option<(usize, ErrorKind)> {
-    if words.all().len() < 4 {
+// Adds how many bytes are read.
+fn add_pieces(bytes: &[u8], words: &mut Words<'_>, came: &mut Buffer) {
+    for byte in bytes {
+        if *byte != b'x' {
+            words.fail(Trouble::Bad("other bytes are read"));
+        }
+    }
+    add_size(bytes.len(), came);
+}
+
+fn read_text(alloc: Global, text: &[u8], came: &mut Buffer) {
+    let mut reader = text;
+    match read_input(alloc, &mut reader) {
+        Ok(bytes) => add_text(&bytes, came),
+        Err(fault) => add_refusal(&fault, came),
+    }
+}
+
+// Reads how many reads come before one that is `interrupted` or `broken`, if there is one.
+fn read_fault(words: &mut Words<'_>) -> Option<(u32, ErrorKind)> {
+    if is_end(words) {
         return None;
     }
-    let before = words.size(3);
-    match str::from_utf8(words.text(4)).unwrap_or("") {
-        "interrupted" => Some((before, ErrorKind::Interrupted)),
-        "broken" => Some((before, ErrorKind::BrokenPipe)),
+    let before = words.number();
+    match words.next() {
+        b"interrupted" => Some((before, ErrorKind::Interrupted)),
+        b"broken" => Some((before, ErrorKind::BrokenPipe)),
         _ => {
-            words.fail("no such fault");
+            words.fail(Trouble::Bad("no such fault"));
             None
         }
-    }
-}
-
-// Reads all that a reader gives, anew where memory was refused.
-fn read_again(alloc: Global, pieces: Pieces) -> Result<Vec<u8>, InputFault> {
-    let mut reader = pieces;
-    match read_input(alloc, &mut reader) {
-        Err(InputFault::NoMemory) => {
-            let mut reader = pieces;
-            read_input(alloc, &mut reader)
-        }
-        other => other,
     }
 }

@@ -6,74 +6,103 @@ mod mutants;
 mod programs;
 mod sources;
 
-use crate::answer::Answer;
-use crate::current::Current;
-use crate::fault::CheckFault;
-use crate::random::Random;
-use crate::words::Words;
+use crate::database::read_bytes;
+use crate::reading::is_end;
+use check_scripts::answers::{add_number, add_text, add_word};
+use check_scripts::buffers::Buffer;
+use check_scripts::troubles::Trouble;
+use check_scripts::words::Words;
 use mutants::Mutants;
+use std::alloc::Global;
 
-/// What the texts are.
-#[derive(Clone, Copy)]
-pub enum Subject {
-    Sources,
-    Files,
-    Programs,
+/// The lines `mutated-sources SEED COUNT READ REFUSED TEXT..`, `mutated-files ..` and `mutated-programs ..`: `Ok` where so many texts,
+/// made of these by changes at random, agree, and at least READ of them are read and REFUSED refused; else how many were,
+/// or what is wrong with which text. Tells whether a line is one of them.
+pub fn answer_of_mutants(
+    alloc: Global,
+    word: &str,
+    words: &mut Words<'_>,
+    came: &mut Buffer,
+) -> bool {
+    let is_one = matches!(
+        word,
+        "mutated-sources" | "mutated-files" | "mutated-programs"
+    );
+    if is_one {
+        check_mutants(alloc, word, words, came);
+    }
+    is_one
 }
 
-/// `mutated-sources SEED COUNT READ REFUSED TEXT..`, and the same of files and programs. Answers `as wanted` where all of
-/// so many texts agree, of which at least READ are read and REFUSED are refused; else how many were, or what is wrong
-/// with which text.
-pub fn check(subject: Subject, current: &mut Current, words: &mut Words<'_>, answer: &mut Answer) {
-    let pool = words.all().get(5..).unwrap_or(&[]);
-    let mut mutants = Mutants::new(current.alloc, words.small(1), pool);
-    match read_of(subject, current, words.size(2), &mut mutants) {
-        Ok(read) => say_counts(read, words, answer),
-        Err(CheckFault::Line(cause)) => {
-            answer.say(cause.as_bytes());
-            answer.say(mutants.parts().0);
+fn check_mutants(alloc: Global, word: &str, words: &mut Words<'_>, came: &mut Buffer) {
+    let (seed, count) = (words.number(), words.number());
+    let least = (words.number(), words.number());
+    let pool = read_pool(alloc, words, came);
+    let mut mutants = Mutants::new(alloc, seed, &pool);
+    let read = count_read(alloc, word, count, &mut mutants);
+    words.check(add_counts(read, count, least, mutants.text(), came));
+}
+
+// Reads all texts of a line.
+fn read_pool(alloc: Global, words: &mut Words<'_>, came: &mut Buffer) -> Vec<Vec<u8>> {
+    let mut pool = Vec::new(alloc);
+    for _ in 0..u32::MAX {
+        if is_end(words) {
+            break;
         }
-        Err(fault) => words.check(Err(fault)),
+        let pushed = pool.push(read_bytes(alloc, words));
+        came.check(pushed.is_ok());
     }
+    pool
 }
 
-fn say_counts(read: usize, words: &mut Words<'_>, answer: &mut Answer) {
-    let refused = words.size(2).saturating_sub(read);
-    if read >= words.size(3) && refused >= words.size(4) {
-        answer.say(b"as wanted");
-    } else {
-        answer.say_number(read);
-        answer.say_number(refused);
+fn add_counts(
+    read: Result<u32, Trouble>,
+    count: u32,
+    least: (u32, u32),
+    text: &[u8],
+    came: &mut Buffer,
+) -> Result<(), Trouble> {
+    match read {
+        Ok(read) if read >= least.0 && count.saturating_sub(read) >= least.1 => {
+            add_word("Ok", came);
+        }
+        Ok(read) => {
+            add_number(i64::from(read), came);
+            add_number(i64::from(count.saturating_sub(read)), came);
+        }
+        Err(Trouble::Bad(cause)) => {
+            add_text(cause.as_bytes(), came);
+            add_text(text, came);
+        }
+        Err(Trouble::NoMemory) => return Err(Trouble::NoMemory),
     }
+    Ok(())
 }
 
 // How many of so many texts are read.
-fn read_of(
-    subject: Subject,
-    current: &mut Current,
-    count: usize,
+fn count_read(
+    alloc: Global,
+    word: &str,
+    count: u32,
     mutants: &mut Mutants<'_>,
-) -> Result<usize, CheckFault> {
-    let mut read = 0usize;
+) -> Result<u32, Trouble> {
+    let mut read = 0u32;
     for _ in 0..count {
-        mutants.make()?;
-        let (text, random) = mutants.parts();
-        if is_read(subject, current, text, random)? {
+        mutants.make();
+        if is_read(alloc, word, mutants)? {
             read = read.saturating_add(1);
         }
     }
     Ok(read)
 }
 
-fn is_read(
-    subject: Subject,
-    current: &mut Current,
-    text: &[u8],
-    random: &mut Random,
-) -> Result<bool, CheckFault> {
-    match subject {
-        Subject::Sources => sources::is_read(current.alloc, text),
-        Subject::Files => files::is_read(current.alloc, text),
-        Subject::Programs => programs::is_read(current, text, random),
+fn is_read(alloc: Global, word: &str, mutants: &mut Mutants<'_>) -> Result<bool, Trouble> {
+    mutants.done()?;
+    let (text, random) = mutants.parts();
+    match word {
+        "mutated-sources" => sources::is_read(alloc, text),
+        "mutated-files" => files::is_read(alloc, text),
+        _ => programs::is_read(alloc, text, random),
     }
 }

@@ -1,152 +1,186 @@
-//! Calls about parameter strings.
+//! Lines about parameter strings.
 
-use crate::again;
-use crate::answer::Answer;
-use crate::current::Current;
-use crate::fault::CheckFault;
-use crate::words::Words;
+use crate::answers::{add_refusal, add_size};
+use crate::cuts::check_cuts;
+use crate::reading::is_end;
+use check_scripts::answers::{add_text, add_word};
+use check_scripts::buffers::Buffer;
+use check_scripts::troubles::Trouble;
+use check_scripts::words::Words;
 use std::alloc::Global;
-use ti_param::{Program, RunFault, Vars};
+use ti_param::{ParamFault, Program, RunFault, Vars, strip_padding};
 
-/// What stands in the text before a program writes to it.
+// What stands in a text before a program writes to it.
 const BEFORE: &[u8] = b"before ";
 
-/// `padding TEXT`.
-pub fn strip(alloc: Global, words: &mut Words<'_>, answer: &mut Answer) {
-    match again::strip_padding(alloc, words.text(1)) {
-        Ok(text) => answer.say(text.as_slice()),
-        Err(fault) => answer.refused(&fault),
+/// The lines `padding TEXT`, `read-program TEXT`, `measure TEXT` and `cuts TEXT..`, which leave all as it is. Tells whether a line
+/// is one of them.
+pub fn answer_of_programs(
+    alloc: Global,
+    word: &str,
+    words: &mut Words<'_>,
+    text: &mut Buffer,
+    came: &mut Buffer,
+) -> bool {
+    match word {
+        "cuts" => check_cuts(alloc, words, text, came),
+        "padding" => {
+            words.text(text);
+            add_stripped(alloc, text.bytes(), came);
+        }
+        "read-program" | "measure" => {
+            words.text(text);
+            add_program(&Program::read(alloc, text.bytes()), word, came);
+        }
+        _ => return false,
+    }
+    true
+}
+
+fn add_stripped(alloc: Global, text: &[u8], came: &mut Buffer) {
+    match strip_padding(alloc, text) {
+        Ok(stripped) => add_text(&stripped, came),
+        Err(fault) => add_refusal(&fault, came),
     }
 }
 
-/// `vars`.
-pub fn forget(current: &mut Current, answer: &mut Answer) {
-    current.vars = Vars::new();
-    answer.say(b"ok");
-}
-
-/// `read-program TEXT`.
-pub fn read(alloc: Global, words: &mut Words<'_>, answer: &mut Answer) {
-    match again::read_program(alloc, words.text(1)) {
-        Ok(_) => answer.say(b"ok"),
-        Err(fault) => answer.refused(&fault),
+fn add_program(read: &Result<Program, ParamFault>, word: &str, came: &mut Buffer) {
+    match read {
+        Ok(program) if word == "measure" => {
+            add_size(program.bound(), came);
+            add_size(program.depth(), came);
+        }
+        Ok(_) => add_word("Ok", came),
+        Err(fault) => add_refusal(fault, came),
     }
 }
 
-/// `measure TEXT`.
-pub fn measure(alloc: Global, words: &mut Words<'_>, answer: &mut Answer) {
-    match again::read_program(alloc, words.text(1)) {
-        Ok(program) => say_measures(&program, answer),
-        Err(fault) => answer.refused(&fault),
+/// The line `program TEXT PARAMETER..`.
+pub fn run(
+    alloc: Global,
+    vars: &mut Vars,
+    words: &mut Words<'_>,
+    text: &mut Buffer,
+    came: &mut Buffer,
+) {
+    words.text(text);
+    let params = read_params(words);
+    match &Program::read(alloc, text.bytes()) {
+        Ok(program) => {
+            let written = write(program, params, vars, text);
+            words.check(add_written(written, text.bytes(), came));
+        }
+        Err(fault) => add_refusal(fault, came),
     }
 }
 
-// Answers the bound and the depth of a program.
-fn say_measures(program: &Program, answer: &mut Answer) {
-    answer.say_number(program.bound());
-    answer.say_number(program.depth());
-}
-
-/// `program TEXT PARAMETER..`.
-pub fn run(current: &mut Current, words: &mut Words<'_>, answer: &mut Answer) {
-    let params = params(words);
-    match again::read_program(current.alloc, words.text(1)) {
-        Ok(program) => words.check(write(current, &program, params, answer)),
-        Err(fault) => answer.refused(&fault),
-    }
-}
-
-// The parameters behind a program's text; those that are missing are 0.
-fn params(words: &mut Words<'_>) -> [i32; 9] {
+// Reads parameters; those that are missing are 0.
+fn read_params(words: &mut Words<'_>) -> [i32; 9] {
     let mut params = [0; 9];
-    for (i, param) in params.iter_mut().enumerate() {
-        let place = i.saturating_add(2);
-        if place < words.all().len() {
-            *param = words.signed(place);
+    for param in params.iter_mut() {
+        if !is_end(words) {
+            *param = i32::try_from(words.integer()).unwrap_or(0);
         }
     }
     params
 }
 
-/// Runs a program behind a text, which stays; it writes as many bytes as `length` says, and `bound` at most; and the same
-/// for two parameters alone, where there are no others.
-pub fn write(
-    current: &mut Current,
-    program: &Program,
-    params: [i32; 9],
-    answer: &mut Answer,
-) -> Result<(), CheckFault> {
-    let mut out = Vec::from_slice(current.alloc, BEFORE)?;
-    if is_of_two(params, &current.vars) {
-        write_twice(program, params, &mut out)?;
-        out.truncate(BEFORE.len());
+// Adds what a program wrote behind a text, which stays.
+fn add_written(
+    written: Result<Result<(), RunFault>, Trouble>,
+    text: &[u8],
+    came: &mut Buffer,
+) -> Result<(), Trouble> {
+    match written? {
+        Ok(()) => add_text(text.strip_prefix(BEFORE).unwrap_or(text), came),
+        Err(fault) => add_refusal(&fault, came),
     }
-    write_behind(program, params, &mut current.vars, &mut out, answer)
+    Ok(())
 }
 
-// The same behind the text that is there.
-fn write_behind(
+/// Runs a program behind a text, in place of what is in the buffer; the text stays, and the program writes as many bytes as `length`
+/// says, and `bound` at most. Where there are but two parameters, and no variable is set, it writes the same for two parameters alone.
+pub fn write(
     program: &Program,
     params: [i32; 9],
     vars: &mut Vars,
-    out: &mut Vec<u8>,
-    answer: &mut Answer,
-) -> Result<(), CheckFault> {
-    let length = program.length(params, vars);
-    match again::run_program(program, params, vars, out)? {
-        Ok(()) => say_written(program, length, out, answer),
-        Err(fault) => say_full(program, length, fault, answer),
+    text: &mut Buffer,
+) -> Result<Result<(), RunFault>, Trouble> {
+    text.clear();
+    text.extend(BEFORE);
+    text.done()?;
+    if !is_of_two(params, vars) {
+        return write_behind(program, params, vars, false, text);
     }
+    let alone = write_behind(program, params, vars, true, text)?;
+    if alone == Err(RunFault::NoMemory) {
+        return Ok(alone);
+    }
+    let middle = text.bytes().len();
+    let ran = write_behind(program, params, vars, false, text)?;
+    if ran != Err(RunFault::NoMemory) && (ran != alone || !is_twice(text.bytes(), middle)) {
+        return Err(Trouble::Bad("for two parameters a run writes something else"));
+    }
+    text.vector().truncate(middle);
+    Ok(ran)
 }
 
-// Run for two parameters alone, a program writes as many bytes as it says, and the same once more when it is run for all.
-fn write_twice(program: &Program, params: [i32; 9], out: &mut Vec<u8>) -> Result<(), CheckFault> {
-    let length = program.length_of_two(params[0], params[1]);
-    let ran = again::run_of_two(program, params[0], params[1], out)?;
-    let middle = out.len();
-    let ran_again = again::run_program(program, params, &mut Vars::new(), out)?;
-    let same = match length {
-        Ok(count) => middle == BEFORE.len().saturating_add(count) && ran.is_ok(),
-        Err(fault) => ran == Err(fault),
-    };
-    if same && ran == ran_again && out.get(BEFORE.len()..middle) == out.get(middle..) {
-        return Ok(());
-    }
-    Err(CheckFault::Line("for two parameters a run or its length is wrong"))
+// Whether what stands before a place of a text, behind what was there first, stands behind that place too.
+fn is_twice(text: &[u8], middle: usize) -> bool {
+    text.get(BEFORE.len()..middle) == text.get(middle..)
 }
 
 // All parameters but the first two are 0, and so are the static variables.
 fn is_of_two(params: [i32; 9], vars: &Vars) -> bool {
-    params.iter().skip(2).all(|param| *param == 0) && *vars == Vars::new()
+    params == two_of(params) && *vars == Vars::new()
 }
 
-// Answers what a program wrote behind a text, which stays.
-fn say_written(
+/// The first two parameters, and 0 for the others.
+pub fn two_of(params: [i32; 9]) -> [i32; 9] {
+    [params[0], params[1], 0, 0, 0, 0, 0, 0, 0]
+}
+
+// Runs a program behind a text, for two parameters alone or for all. A refused run changes nothing.
+fn write_behind(
     program: &Program,
-    length: Result<usize, RunFault>,
-    out: &[u8],
-    answer: &mut Answer,
-) -> Result<(), CheckFault> {
-    let Some(written) = out.strip_prefix(BEFORE) else {
-        return Err(CheckFault::Line("a run changes what stood before it"));
+    params: [i32; 9],
+    vars: &mut Vars,
+    is_of_two: bool,
+    text: &mut Buffer,
+) -> Result<Result<(), RunFault>, Trouble> {
+    let (before, start) = (*vars, text.bytes().len());
+    let (length, ran) = if is_of_two {
+        (
+            program.length_of_two(params[0], params[1]),
+            program.run_of_two(params[0], params[1], text.vector()),
+        )
+    } else {
+        (
+            program.length(params, vars),
+            program.run(params, vars, text.vector()),
+        )
     };
-    if length != Ok(written.len()) || written.len() > program.bound() {
-        return Err(CheckFault::Line("length or bound is wrong"));
+    let written = text.bytes().len().saturating_sub(start);
+    let kept = text.bytes().starts_with(BEFORE) && (ran.is_ok() || *vars == before);
+    if kept && is_foretold(program, length, ran, written) {
+        Ok(ran)
+    } else {
+        Err(Trouble::Bad("a run is not as it was to be"))
     }
-    answer.say(written);
-    Ok(())
 }
 
-// Answers why a program wrote nothing: it wants more places than the stack has, which its length and its depth say too.
-fn say_full(
+// Whether a program says how many bytes it wrote, or that it wants more places than the stack has.
+fn is_foretold(
     program: &Program,
     length: Result<usize, RunFault>,
-    fault: RunFault,
-    answer: &mut Answer,
-) -> Result<(), CheckFault> {
-    if length != Err(RunFault::StackFull) || program.depth() <= 20 {
-        return Err(CheckFault::Line("length or depth is wrong"));
+    ran: Result<(), RunFault>,
+    written: usize,
+) -> bool {
+    match ran {
+        Ok(()) => length == Ok(written) && written <= program.bound(),
+        Err(RunFault::StackFull) => {
+            written == 0 && length == Err(RunFault::StackFull) && program.depth() > 20
+        }
+        Err(RunFault::NoMemory) => written == 0,
     }
-    answer.refused(&fault);
-    Ok(())
 }

@@ -1,154 +1,269 @@
-//! Calls about sources.
+//! Lines about sources.
 
-use crate::again;
-use crate::answer::Answer;
-use crate::current::Current;
-use crate::dump::say_entry;
-use crate::fault::CheckFault;
-use crate::words::Words;
+use crate::answers::{
+    add_entry, add_entry_if_any, add_note, add_notes, add_number_if_any, add_refusal, add_size,
+    add_text_if_any, is_taken_back, keep,
+};
+use crate::reading::is_end;
+use check_scripts::answers::{add_text, add_word};
+use check_scripts::buffers::Buffer;
+use check_scripts::troubles::Trouble;
+use check_scripts::words::Words;
 use std::alloc::Global;
+use terminfo_files::{Compiled, CompiledEntry, EntryCompiler, TicFault};
 use ti_caps::{Entry, Slot};
-use ti_source::{Cause, Note, Resolver, Source, SourceFault};
+use ti_source::{Resolver, Source, SourceFault};
 
-/// `source TEXT`. A source that is refused leaves none.
-pub fn read(current: &mut Current, words: &mut Words<'_>, answer: &mut Answer) {
-    current.source = None;
-    match again::read_source(current.alloc, words.text(1)) {
-        Ok(source) => {
-            say_length(&source, words, answer);
-            current.source = Some(source);
-        }
-        Err(fault) => answer.refused(&fault),
-    }
-}
-
-// Answers how many entries a source has.
-fn say_length(source: &Source, words: &mut Words<'_>, answer: &mut Answer) {
-    if source.is_empty() != (source.len() == 0) {
-        words.fail("is_empty and len differ");
-    }
-    answer.say_number(source.len());
-}
-
-/// `listed`.
-pub fn list_names(current: &Current, words: &mut Words<'_>, answer: &mut Answer) {
-    if let Some(source) = current.source(words) {
-        for i in 0..source.len() {
-            answer.say(source.name(i));
-        }
-    }
-}
-
-/// The word of a note's cause.
-pub fn word_of(cause: Cause) -> &'static [u8] {
-    match cause {
-        Cause::Unknown => b"Unknown",
-        Cause::WrongKind => b"WrongKind",
-        Cause::TooGreat => b"TooGreat",
-        Cause::Repeated => b"Repeated",
-    }
-}
-
-/// Answers a note: its line, cause and name.
-pub fn say_note(note: &Note, answer: &mut Answer) {
-    answer.say_number(note.line as usize);
-    answer.say(word_of(note.cause));
-    answer.say(note.name.0.as_slice());
-}
-
-/// `notes`.
-pub fn notes(current: &Current, words: &mut Words<'_>, answer: &mut Answer) {
-    if let Some(source) = current.source(words) {
-        for note in source.notes() {
-            say_note(note, answer);
-        }
-    }
-}
-
-/// `take-notes`.
-pub fn take_notes(current: &mut Current, words: &mut Words<'_>, answer: &mut Answer) {
-    match current.source.take() {
-        Some(source) => {
-            for note in source.into_notes().as_slice() {
-                say_note(note, answer);
-            }
-        }
-        None => words.fail("there is no source"),
-    }
-}
-
-/// `resolve NAME`. A refusal leaves no entry.
-pub fn resolve(current: &mut Current, words: &mut Words<'_>, answer: &mut Answer) {
-    let name = words.text(1);
-    let resolved = match current.source(words) {
-        Some(source) => again::resolve(current.alloc, source, name),
-        None => return,
-    };
-    say_resolved(&resolved, answer);
-    current.entry = resolved.ok();
-}
-
-/// One resolver for all names.
-pub fn resolve_all(current: &Current, words: &mut Words<'_>, answer: &mut Answer) {
-    let names = words.all();
-    if let Some(source) = current.source(words) {
-        let mut resolver = Resolver::new(source);
-        for name in names.iter().skip(1) {
-            say_next(current.alloc, &mut resolver, name.as_slice(), answer);
-        }
-    }
-}
-
-// Answers what a name resolves to by a resolver.
-fn say_next(alloc: Global, resolver: &mut Resolver<'_>, name: &[u8], answer: &mut Answer) {
-    let resolved = again::resolve_next(alloc, resolver, name);
-    say_resolved(&resolved, answer);
-}
-
-/// `string TEXT`.
-pub fn mean_string(alloc: Global, words: &mut Words<'_>, answer: &mut Answer) {
-    let text = words.text(1);
-    match entry_of(alloc, [b"t,\n\tcr=", text, b""], words) {
-        Ok(entry) => answer.say(entry.text(Slot(2)).unwrap_or(b"none")),
-        Err(fault) => answer.refused(&fault),
-    }
-}
-
-/// `decimal TEXT`.
-pub fn mean_number(alloc: Global, words: &mut Words<'_>, answer: &mut Answer) {
-    let text = words.text(1);
-    match entry_of(alloc, [b"t,\n\tcols#", text, b","], words) {
-        Ok(entry) => match entry.number(Slot(0)) {
-            Some(number) => answer.say_number(usize::from(number)),
-            None => answer.say(b"none"),
+/// The line `source TEXT`, and those about the source that there is. Tells whether a line is one of them.
+pub fn answer_of_source(
+    alloc: Global,
+    source: &mut Option<Source>,
+    word: &str,
+    words: &mut Words<'_>,
+    text: &mut Buffer,
+    came: &mut Buffer,
+) -> bool {
+    match word {
+        "source" => read_source(alloc, source, words, text, came),
+        "take-notes" => take_notes(source, words, came),
+        "listed" | "notes" | "resolver" | "compiler" => match source {
+            Some(source) => show(alloc, source, word, words, text, came),
+            None => words.fail(Trouble::Bad("no source")),
         },
-        Err(fault) => answer.refused(&fault),
+        _ => return false,
+    }
+    true
+}
+
+fn read_source(
+    alloc: Global,
+    source: &mut Option<Source>,
+    words: &mut Words<'_>,
+    text: &mut Buffer,
+    came: &mut Buffer,
+) {
+    words.text(text);
+    if keep(ti_source::read(alloc, text.bytes()), source, came) {
+        add_length(source, words, came);
     }
 }
 
-// Answers what a name resolves to.
-fn say_resolved(resolved: &Result<Entry, SourceFault>, answer: &mut Answer) {
+// Adds how many entries a source has.
+fn add_length(source: &Option<Source>, words: &mut Words<'_>, came: &mut Buffer) {
+    if let Some(source) = source {
+        if source.is_empty() != (source.len() == 0) {
+            words.fail(Trouble::Bad("is_empty and len differ"));
+        }
+        add_size(source.len(), came);
+    }
+}
+
+fn take_notes(source: &mut Option<Source>, words: &mut Words<'_>, came: &mut Buffer) {
+    match source.take() {
+        Some(source) => add_notes(&source.into_notes(), came),
+        None => words.fail(Trouble::Bad("no source")),
+    }
+}
+
+// The lines `listed`, `notes`, `resolver NAME..` and `compiler STEP..`.
+fn show(
+    alloc: Global,
+    source: &Source,
+    word: &str,
+    words: &mut Words<'_>,
+    text: &mut Buffer,
+    came: &mut Buffer,
+) {
+    match word {
+        "listed" => add_list(source, came),
+        "notes" => add_notes(source.notes(), came),
+        "resolver" => resolve_all(alloc, source, words, text, came),
+        _ => compile_all(alloc, source, words, came),
+    }
+}
+
+/// Adds the first name of each entry.
+pub fn add_list(source: &Source, came: &mut Buffer) {
+    for i in 0..source.len() {
+        add_text(source.name(i), came);
+    }
+}
+
+// Resolves all names by one resolver.
+fn resolve_all(
+    alloc: Global,
+    source: &Source,
+    words: &mut Words<'_>,
+    text: &mut Buffer,
+    came: &mut Buffer,
+) {
+    let mut resolver = Resolver::new(source);
+    for _ in 0..u32::MAX {
+        if is_end(words) {
+            break;
+        }
+        words.text(text);
+        resolve_next(alloc, &mut resolver, text.bytes(), came);
+    }
+}
+
+// Adds what a name resolves to by a resolver, which gives the same where memory was refused before.
+fn resolve_next(alloc: Global, resolver: &mut Resolver<'_>, name: &[u8], came: &mut Buffer) {
+    let from = came.bytes().len();
+    add_resolved(&resolver.resolve(alloc, name), came);
+    if is_taken_back(from, came) {
+        add_resolved(&resolver.resolve(alloc, name), came);
+    }
+}
+
+fn add_resolved(resolved: &Result<Entry, SourceFault>, came: &mut Buffer) {
     match resolved {
-        Ok(entry) => say_entry(entry, answer),
-        Err(fault) => answer.refused(fault),
+        Ok(entry) => add_entry(entry, came),
+        Err(fault) => add_refusal(fault, came),
     }
 }
 
-// The entry `t` of a source of three parts.
-fn entry_of(alloc: Global, parts: [&[u8]; 3], words: &mut Words<'_>) -> Result<Entry, SourceFault> {
-    let mut source = Vec::new(alloc);
-    words.check(join(parts, &mut source));
-    entry_in(alloc, &source)
+/// The line `resolve NAME`; what it resolves to is the entry then.
+pub fn resolve(
+    alloc: Global,
+    source: &Option<Source>,
+    entry: &mut Option<Entry>,
+    words: &mut Words<'_>,
+    text: &mut Buffer,
+    came: &mut Buffer,
+) {
+    words.text(text);
+    match source {
+        Some(source) => resolve_name(alloc, source, text.bytes(), entry, came),
+        None => words.fail(Trouble::Bad("no source")),
+    }
 }
 
-fn join(parts: [&[u8]; 3], source: &mut Vec<u8>) -> Result<(), CheckFault> {
-    for part in parts {
-        source.extend_from_slice(part)?;
+fn resolve_name(
+    alloc: Global,
+    source: &Source,
+    name: &[u8],
+    entry: &mut Option<Entry>,
+    came: &mut Buffer,
+) {
+    if keep(ti_source::resolve(alloc, source, name), entry, came) {
+        add_entry_if_any(entry, came);
     }
-    Ok(())
+}
+
+// Compiles entries one after another by one compiler.
+fn compile_all(alloc: Global, source: &Source, words: &mut Words<'_>, came: &mut Buffer) {
+    let mut compiler = EntryCompiler::new(source);
+    for _ in 0..u32::MAX {
+        if is_end(words) {
+            break;
+        }
+        match words.next() {
+            b"next" => compile_next(alloc, &mut compiler, came),
+            b"restart" => compiler.restart(),
+            _ => words.fail(Trouble::Bad("no such step")),
+        }
+    }
+}
+
+// Adds what the next entry is compiled to. A compiler that was refused memory is where it was: it gives the same entry then.
+fn compile_next(alloc: Global, compiler: &mut EntryCompiler<'_>, came: &mut Buffer) {
+    let from = came.bytes().len();
+    add_next(&compiler.next_entry(alloc), came);
+    if is_taken_back(from, came) {
+        add_next(&compiler.next_entry(alloc), came);
+    }
+}
+
+fn add_next(compiled: &Result<Option<CompiledEntry>, TicFault>, came: &mut Buffer) {
+    match compiled {
+        Ok(Some(entry)) => add_compiled_entry(entry, came),
+        Ok(None) => add_word("end", came),
+        Err(fault) => add_refusal(fault, came),
+    }
+}
+
+// Adds what an entry is compiled to: its name, its paths and the bytes of its file.
+fn add_compiled_entry(entry: &CompiledEntry, came: &mut Buffer) {
+    add_text(&entry.name.0, came);
+    for path in &entry.paths.0 {
+        add_text(&path.0, came);
+    }
+    add_text(&entry.bytes.0, came);
+}
+
+/// The lines `string TEXT`, `decimal TEXT` and `compile SOURCE`, which leave all as it is. Tells whether a line is one of them.
+pub fn answer_of_meaning(
+    alloc: Global,
+    word: &str,
+    words: &mut Words<'_>,
+    text: &mut Buffer,
+    came: &mut Buffer,
+) -> bool {
+    match word {
+        "string" => mean(alloc, [b"t,\n\tcr=", b""], words, text, came),
+        "decimal" => mean(alloc, [b"t,\n\tcols#", b","], words, text, came),
+        "compile" => compile(alloc, words, text, came),
+        _ => return false,
+    }
+    true
+}
+
+// What a text means between two parts of a source: the text or the number that its entry `t` has then.
+fn mean(
+    alloc: Global,
+    parts: [&[u8]; 2],
+    words: &mut Words<'_>,
+    text: &mut Buffer,
+    came: &mut Buffer,
+) {
+    let mut source = Buffer::new(alloc);
+    words.text(text);
+    source.extend(parts[0]);
+    source.extend(text.bytes());
+    source.extend(parts[1]);
+    words.check(source.done());
+    add_meaning(&entry_in(alloc, source.bytes()), came);
+}
+
+fn add_meaning(entry: &Result<Entry, SourceFault>, came: &mut Buffer) {
+    match entry {
+        Ok(entry) if entry.number(Slot(0)).is_some() => add_number_if_any(
+            entry.number(Slot(0)),
+            came,
+        ),
+        Ok(entry) => add_text_if_any(entry.text(Slot(2)), came),
+        Err(fault) => add_refusal(fault, came),
+    }
 }
 
 fn entry_in(alloc: Global, source: &[u8]) -> Result<Entry, SourceFault> {
-    let read = again::read_source(alloc, source)?;
-    again::resolve(alloc, &read, b"t")
+    let read = ti_source::read(alloc, source)?;
+    ti_source::resolve(alloc, &read, b"t")
+}
+
+fn compile(alloc: Global, words: &mut Words<'_>, text: &mut Buffer, came: &mut Buffer) {
+    words.text(text);
+    match &terminfo_files::compile(alloc, text.bytes()) {
+        Ok(compiled) => add_compiled(compiled, came),
+        Err(fault) => add_refusal(fault, came),
+    }
+}
+
+// Adds each `file PATH BYTES`, each `size NAME BYTES` and each `note LINE CAUSE NAME`.
+fn add_compiled(compiled: &Compiled, came: &mut Buffer) {
+    for (path, bytes) in &compiled.files.0 {
+        add_word("file", came);
+        add_text(&path.0, came);
+        add_text(&bytes.0, came);
+    }
+    for (name, size) in &compiled.sizes.0 {
+        add_word("size", came);
+        add_text(&name.0, came);
+        add_size(*size, came);
+    }
+    for note in &compiled.notes.0 {
+        add_word("note", came);
+        add_note(note, came);
+    }
 }

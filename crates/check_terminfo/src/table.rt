@@ -1,79 +1,92 @@
-//! Calls about the table of capabilities and about names.
+//! Lines about the table of capabilities and about names.
 
-use crate::answer::Answer;
-use crate::words::Words;
+use crate::reading::{is_end, read_slot};
+use check_scripts::answers::{add_flag, add_name, add_number, add_text, add_word};
+use check_scripts::buffers::Buffer;
+use check_scripts::troubles::Trouble;
+use check_scripts::words::Words;
 use ti_caps::{Kind, Slot, are_names, find_name, first_name, name_of};
 
-/// `find NAME`.
-pub fn find(words: &mut Words<'_>, answer: &mut Answer) {
-    match find_name(words.text(1)) {
-        Some((kind, slot)) => {
-            answer.say(word_of(kind));
-            answer.say_number(usize::from(slot.0));
+/// The lines `find NAME`, `name-of KIND POSITION`, `table KIND POSITION NAME..`, `named KIND`, `are-names TEXT` and
+/// `first-name TEXT`. Tells whether a line is one of them.
+pub fn answer_of_table(
+    word: &str,
+    words: &mut Words<'_>,
+    text: &mut Buffer,
+    came: &mut Buffer,
+) -> bool {
+    match word {
+        "name-of" | "table" | "named" => answer_of_kind(word, words, came),
+        "find" | "are-names" | "first-name" => {
+            words.text(text);
+            answer_of_name(word, text.bytes(), came);
         }
-        None => answer.say(b"none"),
+        _ => return false,
+    }
+    true
+}
+
+fn answer_of_name(word: &str, text: &[u8], came: &mut Buffer) {
+    match word {
+        "find" => find(text, came),
+        "are-names" => add_flag(are_names(text), came),
+        _ => add_text(first_name(text), came),
     }
 }
 
-/// `name-of KIND POSITION`.
-pub fn give_name(words: &mut Words<'_>, answer: &mut Answer) {
-    match name_of(kind(words), Slot(words.small(2))) {
-        Some(name) => answer.say(name.as_bytes()),
-        None => answer.say(b"none"),
+fn find(name: &[u8], came: &mut Buffer) {
+    match find_name(name) {
+        Some((kind, slot)) => {
+            add_name(&kind, came);
+            add_number(i64::from(slot.0), came);
+        }
+        None => add_word("none", came),
     }
 }
 
-/// Names that stand one after another: the position behind them, or the first name that is not there.
-pub fn names_from(words: &mut Words<'_>, answer: &mut Answer) {
-    let kind = kind(words);
-    let mut position = words.small(2);
-    for name in words.text(3).split(|byte| *byte == b' ') {
+fn answer_of_kind(word: &str, words: &mut Words<'_>, came: &mut Buffer) {
+    let kind = read_kind(words);
+    match word {
+        "name-of" => add_word(name_of(kind, read_slot(words)).unwrap_or("none"), came),
+        "table" => add_names_from(kind, read_slot(words).0, words, came),
+        _ => count_named(kind, came),
+    }
+}
+
+// Adds the position behind names that stand one after another, and before it each that does not stand there.
+fn add_names_from(kind: Kind, first: u16, words: &mut Words<'_>, came: &mut Buffer) {
+    let mut position = first;
+    for _ in 0..u16::MAX {
+        if is_end(words) {
+            break;
+        }
+        let name = words.next();
         if !is_named(kind, Slot(position), name) {
-            answer.say(name);
-            return;
+            add_text(name, came);
         }
         position = position.saturating_add(1);
     }
-    answer.say_number(usize::from(position));
+    add_number(i64::from(position), came);
 }
 
-/// `named KIND`, among the positions from 0 to 65,534.
-pub fn count_named(words: &mut Words<'_>, answer: &mut Answer) {
-    let kind = kind(words);
-    let mut named = 0usize;
+// How many of the positions from 0 to 65,534 have a name.
+fn count_named(kind: Kind, came: &mut Buffer) {
+    let mut named = 0u16;
     for position in 0..u16::MAX {
         if name_of(kind, Slot(position)).is_some() {
             named = named.saturating_add(1);
         }
     }
-    answer.say_number(named);
+    add_number(i64::from(named), came);
 }
 
-/// `are-names TEXT`.
-pub fn are_good(words: &mut Words<'_>, answer: &mut Answer) {
-    answer.say_whether(are_names(words.text(1)));
-}
-
-/// `first-name TEXT`.
-pub fn first(words: &mut Words<'_>, answer: &mut Answer) {
-    answer.say(first_name(words.text(1)));
-}
-
-fn word_of(kind: Kind) -> &'static [u8] {
-    match kind {
-        Kind::Flag => b"Flag",
-        Kind::Number => b"Number",
-        Kind::Text => b"Text",
-    }
-}
-
-fn kind(words: &mut Words<'_>) -> Kind {
-    match words.text(1) {
-        b"Flag" => Kind::Flag,
-        b"Number" => Kind::Number,
-        b"Text" => Kind::Text,
+fn read_kind(words: &mut Words<'_>) -> Kind {
+    match str::from_utf8(words.next()).unwrap_or("") {
+        "Flag" => Kind::Flag,
+        "Number" => Kind::Number,
+        "Text" => Kind::Text,
         _ => {
-            words.fail("no such kind");
+            words.fail(Trouble::Bad("no such kind"));
             Kind::Flag
         }
     }
@@ -81,9 +94,5 @@ fn kind(words: &mut Words<'_>) -> Kind {
 
 // Whether a capability has a name, both ways.
 fn is_named(kind: Kind, slot: Slot, name: &[u8]) -> bool {
-    find_name(name) == Some((kind, slot))
-        && match name_of(kind, slot) {
-            Some(known) => known.as_bytes() == name,
-            None => false,
-        }
+    find_name(name) == Some((kind, slot)) && name_of(kind, slot).unwrap_or("").as_bytes() == name
 }

@@ -1,77 +1,88 @@
 //! A source that was changed.
 
-use crate::again;
-use crate::dump::{mark_of, mark_of_entry, mixed};
-use crate::fault::CheckFault;
+use crate::entries::{are_same, is_named_part};
+use check_scripts::troubles::Trouble;
 use std::alloc::Global;
-use terminfo_files::{Compiled, EntryCompiler, TicFault};
-use ti_caps::{Bytes, Entry, Kind, Slot, first_name, name_of};
-use ti_source::{Resolver, Source, SourceFault};
+use terminfo_files::{Compiled, CompiledEntry, EntryCompiler, TicFault, compile};
+use ti_binary::encode;
+use ti_caps::{Bytes, Entry, first_name};
+use ti_source::{Printed, Resolver, Source, SourceFault, print, read, resolve};
 
 /// Whether a text is read as a source. Where it is, a resolver of all its names and one of each name alone give the same;
 /// each entry that resolves is read again as it is printed; and it is compiled to the file of its resolved entry, after
 /// the entry before it and with the whole source, up to the first fault.
-pub fn is_read(alloc: Global, text: &[u8]) -> Result<bool, CheckFault> {
-    let compiled = again::compile(alloc, text);
-    match again::read_source(alloc, text) {
-        Ok(source) => is_compiled(alloc, &source, &compiled),
-        Err(SourceFault::NoMemory) => Err(CheckFault::NoMemory),
-        Err(fault) if compiled.err() == Some(TicFault::Source(fault)) => Ok(false),
-        Err(_) => Err(CheckFault::Line("a source is compiled that is not read")),
+pub fn is_read(alloc: Global, text: &[u8]) -> Result<bool, Trouble> {
+    compare(alloc, &read(alloc, text), &compile(alloc, text))
+}
+
+fn compare(
+    alloc: Global,
+    source: &Result<Source, SourceFault>,
+    compiled: &Result<Compiled, TicFault>,
+) -> Result<bool, Trouble> {
+    match (source, compiled) {
+        (Ok(source), _) => is_compiled(alloc, source, compiled).and(Ok(true)),
+        (Err(fault), Err(other)) if *other == TicFault::from(*fault) => Ok(false),
+        _ => Err(Trouble::Bad("a source is compiled that is not read")),
     }
 }
 
 /// What is printed of an entry is read as that entry alone, without what has no name and without a note.
-pub fn read_back(alloc: Global, mut entry: Entry, text: &[u8]) -> Result<(), CheckFault> {
-    forget_unnamed(&mut entry);
-    match resolved_alone(alloc, text, first_name(entry.names())) {
-        Some(mark) if mark == mark_of_entry(&entry) => Ok(()),
-        _ => Err(CheckFault::Line("what is printed is read as something else")),
+pub fn check_printed(alloc: Global, entry: &Entry, text: &[u8]) -> Result<(), Trouble> {
+    if is_printed(alloc, entry, &read(alloc, text)) {
+        Ok(())
+    } else {
+        Err(Trouble::Bad("what is printed is read as something else"))
     }
 }
 
-// The mark of the entry of a name, in a source that has no other entry.
-fn resolved_alone(alloc: Global, text: &[u8], name: &[u8]) -> Option<u64> {
-    match again::read_source(alloc, text) {
-        Ok(source) => mark_alone(alloc, &source, name),
-        Err(_) => None,
-    }
-}
-
-fn mark_alone(alloc: Global, source: &Source, name: &[u8]) -> Option<u64> {
-    if source.len() != 1 || !source.notes().is_empty() {
-        return None;
-    }
-    match again::resolve(alloc, source, name) {
-        Ok(entry) => Some(mark_of_entry(&entry)),
-        Err(_) => None,
-    }
-}
-
-// Makes absent what has no name.
-fn forget_unnamed(entry: &mut Entry) {
-    if entry.unnamed() == 0 {
-        return;
-    }
-    for position in 0..512u16 {
-        let slot = Slot(position);
-        if name_of(Kind::Flag, slot).is_none() {
-            let _ = entry.set_flag(slot, false);
+fn is_printed(alloc: Global, entry: &Entry, source: &Result<Source, SourceFault>) -> bool {
+    match source {
+        Ok(source) if source.len() == 1 && source.notes().is_empty() => {
+            is_resolved(&resolve(alloc, source, first_name(entry.names())), entry)
         }
-        if name_of(Kind::Number, slot).is_none() {
-            let _ = entry.set_number(slot, None);
-        }
-        if name_of(Kind::Text, slot).is_none() {
-            let _ = entry.set_text(slot, None);
-        }
+        _ => false,
     }
 }
 
-// What was compiled so far: the mark of the files, and the first fault.
+fn is_resolved(resolved: &Result<Entry, SourceFault>, entry: &Entry) -> bool {
+    match resolved {
+        Ok(resolved) => is_named_part(resolved, entry),
+        Err(_) => false,
+    }
+}
+
+// What the entries of a source are compiled to so far.
 #[derive(Clone, Copy)]
-struct Progress {
-    files: u64,
+struct Progress<'a> {
+    // The files that are still to come, unless the whole source is refused.
+    files: Option<&'a [(Bytes, Bytes)]>,
+    // The first fault of an entry.
     fault: Option<TicFault>,
+    // The first trouble.
+    trouble: Option<Trouble>,
+}
+
+impl Progress<'_> {
+    // There is trouble, unless something is so.
+    fn check(&mut self, is_so: bool, cause: &'static str) {
+        if !is_so {
+            self.trouble = self.trouble.or(Some(Trouble::Bad(cause)));
+        }
+    }
+
+    // A file is the next of those that are to come.
+    fn take(&mut self, path: &Bytes, file: &Bytes) {
+        let Some(files) = self.files else {
+            return;
+        };
+        let is_next = match files.first() {
+            Some((next, bytes)) => next.0 == path.0 && bytes.0 == file.0,
+            None => false,
+        };
+        self.check(is_next, "a source is compiled to other files");
+        self.files = files.get(1..);
+    }
 }
 
 // The files of all entries up to the first fault, compiled one after another, are those that the whole source is
@@ -80,106 +91,95 @@ fn is_compiled(
     alloc: Global,
     source: &Source,
     compiled: &Result<Compiled, TicFault>,
-) -> Result<bool, CheckFault> {
+) -> Result<(), Trouble> {
+    let (files, fault) = match compiled {
+        Ok(compiled) => (Some(compiled.files.0.as_slice()), None),
+        Err(fault) => (None, Some(*fault)),
+    };
     let mut progress = Progress {
-        files: mark_of(b""),
+        files,
         fault: None,
+        trouble: None,
     };
-    compile_each(alloc, source, &mut progress)?;
-    let agrees = match compiled {
-        Ok(whole) => progress.fault.is_none() && mark_of_files(whole) == progress.files,
-        Err(first) => progress.fault == Some(*first),
-    };
-    if agrees {
-        Ok(true)
-    } else {
-        Err(CheckFault::Line("a source is compiled in two ways"))
-    }
+    compile_each(alloc, source, &mut progress);
+    let is_whole = progress.files.unwrap_or(&[]).is_empty() && progress.fault == fault;
+    progress.check(is_whole, "a source is compiled in two ways");
+    progress.trouble.map_or(Ok(()), Err)
 }
 
 // Resolves all entries by one resolver, and compiles them by one compiler.
-fn compile_each(alloc: Global, source: &Source, progress: &mut Progress) -> Result<(), CheckFault> {
+fn compile_each(alloc: Global, source: &Source, progress: &mut Progress<'_>) {
     let mut resolver = Resolver::new(source);
     let mut compiler = EntryCompiler::new(source);
-    compile_all(alloc, source, &mut resolver, &mut compiler, progress)
-}
-
-fn compile_all(
-    alloc: Global,
-    source: &Source,
-    resolver: &mut Resolver<'_>,
-    compiler: &mut EntryCompiler<'_>,
-    progress: &mut Progress,
-) -> Result<(), CheckFault> {
     for i in 0..source.len() {
-        let wanted = file_of(alloc, source, resolver, source.name(i))?;
+        let name = source.name(i);
+        let alone = resolve(alloc, source, name);
+        compare_resolved(alloc, &alone, &resolver.resolve(alloc, name), progress);
         if progress.fault.is_none() {
-            progress.fault = compile_next(alloc, compiler, &wanted, &mut progress.files)?;
+            compare_compiled(
+                &compiler.next_entry(alloc),
+                &file_of(alloc, &alone),
+                progress,
+            );
         }
     }
-    Ok(())
 }
 
-// The file of the resolved entry of a name, or why there is none.
-fn file_of(
+// A resolver gives what a name resolves to alone, which is read again as it is printed.
+fn compare_resolved(
     alloc: Global,
-    source: &Source,
-    resolver: &mut Resolver<'_>,
-    name: &[u8],
-) -> Result<Result<Bytes, TicFault>, CheckFault> {
-    let alone = again::resolve(alloc, source, name);
-    let resolved = again::resolve_next(alloc, resolver, name);
-    if mark_of_resolved(&alone) != mark_of_resolved(&resolved) {
-        return Err(CheckFault::Line("a name is resolved in two ways"));
-    }
-    match resolved {
-        Ok(entry) => written(alloc, entry),
-        Err(fault) => Ok(Err(TicFault::from(fault))),
-    }
-}
-
-fn mark_of_resolved(resolved: &Result<Entry, SourceFault>) -> Result<u64, SourceFault> {
-    match resolved {
-        Ok(entry) => Ok(mark_of_entry(entry)),
-        Err(fault) => Err(*fault),
+    alone: &Result<Entry, SourceFault>,
+    resolved: &Result<Entry, SourceFault>,
+    progress: &mut Progress<'_>,
+) {
+    match (alone, resolved) {
+        (Ok(entry), Ok(other)) => {
+            progress.check(are_same(entry, other), "a name is resolved in two ways");
+            compare_printed(alloc, entry, &print(alloc, entry), progress);
+        }
+        (Err(fault), Err(other)) => {
+            progress.check(fault == other, "a name is refused in two ways");
+        }
+        _ => progress.check(false, "a name is resolved once"),
     }
 }
 
-// The file of an entry that is read again as it is printed.
-fn written(alloc: Global, entry: Entry) -> Result<Result<Bytes, TicFault>, CheckFault> {
-    let file = again::encode(alloc, &entry);
-    let Ok(printed) = again::print(alloc, &entry) else {
-        return Err(CheckFault::NoMemory);
+fn compare_printed(
+    alloc: Global,
+    entry: &Entry,
+    printed: &Result<Printed, SourceFault>,
+    progress: &mut Progress<'_>,
+) {
+    let is_read = match printed {
+        Ok(printed) => check_printed(alloc, entry, &printed.text.0).is_ok(),
+        Err(_) => false,
     };
-    read_back(alloc, entry, printed.text.0.as_slice())?;
-    Ok(file.map_err(TicFault::from))
+    progress.check(is_read, "what is printed is read as something else");
 }
 
-// Compiles the next entry to the file that is wanted. Its fault is the one that is wanted, or that of a name that no file
+// The file of a resolved entry, or why there is none.
+fn file_of(alloc: Global, resolved: &Result<Entry, SourceFault>) -> Result<Bytes, TicFault> {
+    match resolved {
+        Ok(entry) => Ok(encode(alloc, entry)?),
+        Err(fault) => Err(TicFault::from(*fault)),
+    }
+}
+
+// The next entry is compiled to the file that is wanted. Its fault is the one that is wanted, or that of a name that no file
 // can have.
-fn compile_next(
-    alloc: Global,
-    compiler: &mut EntryCompiler<'_>,
+fn compare_compiled(
+    came: &Result<Option<CompiledEntry>, TicFault>,
     wanted: &Result<Bytes, TicFault>,
-    files: &mut u64,
-) -> Result<Option<TicFault>, CheckFault> {
-    match (again::next_entry(alloc, compiler), wanted) {
+    progress: &mut Progress<'_>,
+) {
+    match (came, wanted) {
         (Ok(Some(entry)), Ok(file)) if entry.bytes.0 == file.0 => {
             for path in &entry.paths.0 {
-                *files = mixed(mixed(*files, path.0.as_slice()), file.0.as_slice());
+                progress.take(path, file);
             }
-            Ok(None)
         }
-        (Err(TicFault::BadFileName), Ok(_)) => Ok(Some(TicFault::BadFileName)),
-        (Err(came), Err(fault)) if came == *fault => Ok(Some(came)),
-        _ => Err(CheckFault::Line("an entry is compiled to something else")),
+        (Err(TicFault::BadFileName), Ok(_)) => progress.fault = Some(TicFault::BadFileName),
+        (Err(came), Err(fault)) if *came == *fault => progress.fault = Some(*came),
+        _ => progress.check(false, "an entry is compiled to something else"),
     }
-}
-
-fn mark_of_files(compiled: &Compiled) -> u64 {
-    let mut mark = mark_of(b"");
-    for (path, bytes) in compiled.files.0.as_slice() {
-        mark = mixed(mixed(mark, path.0.as_slice()), bytes.0.as_slice());
-    }
-    mark
 }

@@ -1,0 +1,144 @@
+//! Answers of the terminfo libraries, in words.
+
+use check_scripts::answers::{add_name, add_number, add_text, add_word};
+use check_scripts::buffers::Buffer;
+use check_scripts::checking::put;
+use std::fmt::Display;
+use std::io::Write;
+use ti_caps::{Entry, Kind, Slot, name_of};
+use ti_source::Note;
+
+/// Adds a size.
+pub fn add_size(size: usize, came: &mut Buffer) {
+    add_number(i64::try_from(size).unwrap_or(i64::MAX), came);
+}
+
+/// Adds a text, or `none`.
+pub fn add_text_if_any(text: Option<&[u8]>, came: &mut Buffer) {
+    match text {
+        Some(text) => add_text(text, came),
+        None => add_word("none", came),
+    }
+}
+
+/// Adds a number, or `none`.
+pub fn add_number_if_any(number: Option<u16>, came: &mut Buffer) {
+    match number {
+        Some(number) => add_number(i64::from(number), came),
+        None => add_word("none", came),
+    }
+}
+
+/// Adds `Ok`, or that a call was refused.
+pub fn add_done<F: Display + Drop>(done: Result<(), F>, came: &mut Buffer) {
+    match done {
+        Ok(()) => add_word("Ok", came),
+        Err(fault) => add_refusal(&fault, came),
+    }
+}
+
+/// Keeps what was made, or adds that it was refused. Tells whether it was made.
+pub fn keep<T: Drop, F: Display + Drop>(
+    made: Result<T, F>,
+    place: &mut Option<T>,
+    came: &mut Buffer,
+) -> bool {
+    match made {
+        Ok(value) => {
+            put(place, Some(value));
+            true
+        }
+        Err(fault) => {
+            add_refusal(&fault, came);
+            false
+        }
+    }
+}
+
+/// Whether memory ran out for what was added behind so many bytes, which is taken away then.
+pub fn is_taken_back(from: usize, came: &mut Buffer) -> bool {
+    let ran_out = came.bytes().ends_with(b" NoMemory");
+    if ran_out {
+        came.vector().truncate(from);
+    }
+    ran_out
+}
+
+/// Adds that a call was refused, with the text of the fault, and `NoMemory` behind it where memory ran out.
+pub fn add_refusal<F: Display>(fault: &F, came: &mut Buffer) {
+    came.extend(b" refused \"");
+    let written = write!(came.vector(), "{fault}");
+    came.check(written.is_ok());
+    let ran_out = came.bytes().ends_with(b"\"out of memory");
+    came.push(b'"');
+    if ran_out {
+        add_word("NoMemory", came);
+    }
+}
+
+/// Adds an entry: its names, each flag by its name, each number behind its name, and each text behind its name, each kind by
+/// position. A capability without a name has its kind and its position, as `Flag 40`, `Number 40 0` and `Text 271 "x"`.
+pub fn add_entry(entry: &Entry, came: &mut Buffer) {
+    add_text(entry.names(), came);
+    for position in 0..64u16 {
+        add_flag_at(entry, Slot(position), came);
+    }
+    for position in 0..64u16 {
+        add_number_at(entry, Slot(position), came);
+    }
+    for position in 0..512u16 {
+        add_text_at(entry, Slot(position), came);
+    }
+}
+
+/// Adds the entry that there is.
+pub fn add_entry_if_any(entry: &Option<Entry>, came: &mut Buffer) {
+    if let Some(entry) = entry {
+        add_entry(entry, came);
+    }
+}
+
+fn add_flag_at(entry: &Entry, slot: Slot, came: &mut Buffer) {
+    if entry.flag(slot) {
+        add_capability(Kind::Flag, slot, came);
+    }
+}
+
+fn add_number_at(entry: &Entry, slot: Slot, came: &mut Buffer) {
+    if let Some(number) = entry.number(slot) {
+        add_capability(Kind::Number, slot, came);
+        add_number(i64::from(number), came);
+    }
+}
+
+fn add_text_at(entry: &Entry, slot: Slot, came: &mut Buffer) {
+    if let Some(text) = entry.text(slot) {
+        add_capability(Kind::Text, slot, came);
+        add_text(text, came);
+    }
+}
+
+// Adds the name of a capability, or its kind and position where it has none.
+fn add_capability(kind: Kind, slot: Slot, came: &mut Buffer) {
+    match name_of(kind, slot) {
+        Some(name) => add_word(name, came),
+        None => {
+            add_name(&kind, came);
+            add_number(i64::from(slot.0), came);
+        }
+    }
+}
+
+/// Adds notes: of each its line, cause and name.
+pub fn add_notes(notes: &[Note], came: &mut Buffer) {
+    for note in notes {
+        add_note(note, came);
+    }
+}
+
+/// Adds a note.
+pub fn add_note(note: &Note, came: &mut Buffer) {
+    add_number(i64::from(note.line), came);
+    add_name(&note.cause, came);
+    add_text(&note.name.0, came);
+}

@@ -1,0 +1,202 @@
+//! What the lines of a script work on. Where nothing else is said a line answers `Ok`, or `refused` and the fault's text; one
+//! that has nothing to answer has `none`.
+//!
+//! | Line | What it answers |
+//! |---|---|
+//! | `find NAME` | the kind and position of a capability, or `none` |
+//! | `name-of KIND POSITION` | the name there, or `none` |
+//! | `table KIND POSITION NAME..` | the position behind these names, which stand there one after another |
+//! | `named KIND` | how many positions have a name |
+//! | `are-names TEXT`, `first-name TEXT` | `yes` or `no`; the first alternative |
+//! | `entry NAMES` | makes an entry, which the next lines are about |
+//! | `shown` | the entry: its names and what is present (`answers.rt`) |
+//! | `is-bundled` | whether the entry is the bundled one, name by name and position by position |
+//! | `names`, `unnamed` | its names; how many present capabilities have no name |
+//! | `flag N`, `number N`, `text N` | what it has at a position |
+//! | `set-flag N yes`, `set-number N 80`, `set-text N TEXT` | sets that; without a last word it becomes absent |
+//! | `print` | its source text, and how many capabilities that leaves out |
+//! | `source TEXT` | how many entries a source has; it is what the next lines are about |
+//! | `listed`, `notes`, `take-notes` | the first name of each entry; the notes on it; the same, and the source is gone |
+//! | `resolve NAME` | the resolved entry, which is then the entry |
+//! | `resolver NAME..` | each resolved entry or refusal, by one resolver |
+//! | `string TEXT`, `decimal TEXT` | what a string or a number in a source means |
+//! | `encode` | the compiled file of the entry, which is then the file |
+//! | `encode-named NAMES` | the compiled file of the entry with these names in the place of its own |
+//! | `file BYTES` | takes these bytes as the file, and answers how many there are |
+//! | `decode` | how many bytes follow, and the entry of the file, which is then the entry |
+//! | `decode-wide` | how many bytes follow a file with 32-bit numbers, how many numbers are clamped, and its entry |
+//! | `read-entry` | the entry of a file in either format |
+//! | `changed INDEX BYTE..` | as `decode`, of the file with bytes changed |
+//! | `file-cuts` | how many ways there are to cut the file short, each of which is `truncated` |
+//! | `wide-cuts` | the same of a file with 32-bit numbers |
+//! | `file-bytes BYTE..` | how many files come of setting each byte in turn to each of these, read or refused |
+//! | `compile SOURCE` | each `file PATH BYTES`, each `size NAME BYTES`, each `note LINE CAUSE NAME` |
+//! | `compiler STEP..` | what the entries of the source are compiled to, one after another by one compiler: at each `next` a name, its paths and the bytes of their file, or `end`; `restart` goes back before the first |
+//! | `store PATH BYTES ..` | takes these files, and no others, as those in which names are looked up |
+//! | `paths NAME VARIABLE=VALUE..` | the paths at which the entry of a name is looked for, where these variables are set |
+//! | `look-up NAME VARIABLE=VALUE..` | the entry that is found there |
+//! | `list` | the text of the file, how many capabilities that leaves out, and how many bytes follow |
+//! | `padding TEXT` | the text without padding |
+//! | `vars` | sets the static variables to 0 |
+//! | `program TEXT PARAMETER..` | what the program writes; `length` and `bound` are compared with it, and where no more than two parameters and no variable are set, `length_of_two` and `run_of_two` |
+//! | `measure TEXT` | the bound and the depth of a program |
+//! | `read-program TEXT` | whether a text is a program |
+//! | `mutated-sources SEED COUNT READ REFUSED TEXT..` | `Ok` where so many texts, made of these by changes at random, agree (`mutated.rt`), of which at least READ are read and REFUSED refused |
+//! | `mutated-files ..`, `mutated-programs ..` | the same of compiled files and of programs |
+//! | `cuts TEXT..` | whether each text, cut at each place, is a program, or is refused for the cut or as the text is |
+//! | `input COUNT EACH [BEFORE FAULT]` | how many bytes are read of a reader that gives EACH at a time, of which the read behind BEFORE others is `interrupted` or `broken` |
+//! | `input-of TEXT` | what is read of a reader of these bytes |
+
+use crate::answers::{add_entry_if_any, add_notes};
+use crate::changes::{answer_of_changes, decode_changed};
+use crate::database::{answer_of_database, store};
+use crate::entries::answer_of_entry;
+use crate::files::{answer_of_file, answer_of_writing, take_file};
+use crate::inputs::answer_of_input;
+use crate::mutated::answer_of_mutants;
+use crate::programs::{answer_of_programs, run};
+use crate::sources::{add_list, answer_of_meaning, answer_of_source, resolve};
+use crate::table::answer_of_table;
+use check_scripts::answers::{add_name, add_text, add_word};
+use check_scripts::buffers::Buffer;
+use check_scripts::checking::Stage;
+use check_scripts::troubles::Trouble;
+use check_scripts::words::Words;
+use std::alloc::Global;
+use ti_caps::Entry;
+use ti_database::MemoryFiles;
+use ti_param::Vars;
+use ti_source::Source;
+
+// The lines that may change what is there.
+const CHANGING: [&str; 14] = [
+    "entry",
+    "set-flag",
+    "set-number",
+    "set-text",
+    "source",
+    "take-notes",
+    "resolve",
+    "encode",
+    "file",
+    "decode",
+    "changed",
+    "store",
+    "vars",
+    "program",
+];
+
+/// What earlier lines have made.
+#[derive(Drop)]
+pub struct TerminfoStage {
+    alloc: Global,
+    // The entry that was made, resolved or decoded last.
+    entry: Option<Entry>,
+    // The source that was read last.
+    source: Option<Source>,
+    // The bytes of a compiled file.
+    file: Vec<u8>,
+    // The files in which names are looked up.
+    store: MemoryFiles,
+    // The static variables of programs.
+    vars: Vars,
+    // Room for the text of a line.
+    text: Buffer,
+}
+
+impl Stage for TerminfoStage {
+    fn new(alloc: Global) -> TerminfoStage {
+        TerminfoStage {
+            alloc,
+            entry: None,
+            source: None,
+            file: Vec::new(alloc),
+            store: MemoryFiles(Vec::new(alloc)),
+            vars: Vars::new(),
+            text: Buffer::new(alloc),
+        }
+    }
+
+    fn answer(&mut self, words: &mut Words<'_>, came: &mut Buffer) {
+        let word = str::from_utf8(words.next()).unwrap_or("");
+        if !self.is_answered(word, words, came)
+            && !answer_of_values(self.alloc, word, words, &mut self.text, came)
+        {
+            words.fail(Trouble::Bad("no such line"));
+        }
+        if came.bytes().is_empty() {
+            add_word("none", came);
+        }
+    }
+
+    fn dump(&self, bytes: &mut Buffer) {
+        add_entry_if_any(&self.entry, bytes);
+        if let Some(source) = &self.source {
+            add_list(source, bytes);
+            add_notes(source.notes(), bytes);
+        }
+        add_text(&self.file, bytes);
+        for (path, file) in &self.store.0 {
+            add_text(&path.0, bytes);
+            add_text(&file.0, bytes);
+        }
+        add_name(&self.vars, bytes);
+    }
+
+    fn leaves_all(word: &[u8]) -> bool {
+        for changing in &CHANGING {
+            if changing.as_bytes() == word {
+                return false;
+            }
+        }
+        true
+    }
+}
+
+impl TerminfoStage {
+    // Makes the call of a line that goes on with what is there. Tells whether a line is one of them.
+    fn is_answered(&mut self, word: &str, words: &mut Words<'_>, came: &mut Buffer) -> bool {
+        let (alloc, text) = (self.alloc, &mut self.text);
+        match word {
+            "resolve" => resolve(alloc, &self.source, &mut self.entry, words, text, came),
+            "file" => take_file(alloc, &mut self.file, words, came),
+            "decode" | "changed" => {
+                decode_changed(alloc, &self.file, &mut self.entry, words, text, came);
+            }
+            "store" => store(alloc, &mut self.store, words, came),
+            "program" => run(alloc, &mut self.vars, words, text, came),
+            "vars" => {
+                self.vars = Vars::new();
+                add_word("Ok", came);
+            }
+            _ => return self.is_answered_of_one(word, words, came),
+        }
+        true
+    }
+
+    // Makes the call of a line about the entry, the source, the file or the files in which names are looked up.
+    fn is_answered_of_one(&mut self, word: &str, words: &mut Words<'_>, came: &mut Buffer) -> bool {
+        let (alloc, text) = (self.alloc, &mut self.text);
+        answer_of_entry(alloc, &mut self.entry, word, words, text, came)
+            || answer_of_source(alloc, &mut self.source, word, words, text, came)
+            || answer_of_writing(alloc, &self.entry, &mut self.file, word, words, text, came)
+            || answer_of_file(alloc, &self.file, word, came)
+            || answer_of_changes(alloc, &self.file, word, words, text, came)
+            || answer_of_database(alloc, &self.store, word, words, text, came)
+    }
+}
+
+// Makes the call of a line that leaves all as it is. Tells whether a line is one of them.
+fn answer_of_values(
+    alloc: Global,
+    word: &str,
+    words: &mut Words<'_>,
+    text: &mut Buffer,
+    came: &mut Buffer,
+) -> bool {
+    answer_of_table(word, words, text, came)
+        || answer_of_meaning(alloc, word, words, text, came)
+        || answer_of_programs(alloc, word, words, text, came)
+        || answer_of_input(alloc, word, words, text, came)
+        || answer_of_mutants(alloc, word, words, came)
+}
