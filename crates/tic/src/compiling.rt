@@ -8,8 +8,8 @@ use crate::failure::Failure;
 use crate::input::input_of;
 use crate::output::{print, write_files};
 use crate::places::{index_of_many_uses, place_of};
-use crate::report::{add_note, add_size, entry_line, unknown_lines};
-use std::alloc::Global;
+use crate::report::{add_entry, add_note, add_size, add_unknown};
+use std::alloc::AllocError;
 use std::io::Write;
 use terminfo_files::{CompiledEntry, EntryCompiler, TicFault};
 use ti_source::{Note, Source, SourceFault, read};
@@ -21,36 +21,244 @@ const PIECE: usize = 65_536;
 /// together.
 const MOST_HELD: usize = 16_777_216;
 
-/// Prints the name of each entry of a source, and the size of its file.
-pub(crate) fn print_sizes<'a>(
-    rt: &HostRuntime,
-    file: &'a str,
-    verbose: bool,
-) -> Result<(), Failure<'a>> {
-    let text = input_of(rt, file)?;
-    let source = source_of(rt, text.as_slice(), verbose)?;
-    let mut compiler = EntryCompiler::new(&source);
-    let sizes = sizes_of(rt, text.as_slice(), &source, &mut compiler, verbose)?;
-    tell_notes(rt, source.notes(), verbose)?;
-    print_size_lines(rt, &source, sizes.as_slice())
+/// What a source is compiled for.
+#[derive(Clone, Copy)]
+pub(crate) enum Purpose<'a> {
+    /// To print the sizes of its entries' files.
+    Sizes,
+    /// To write the files below this folder.
+    Files(&'a str),
 }
 
-/// Writes the files of a source's entries below a folder.
-pub(crate) fn write_all_files<'a>(
+// A source that is compiled.
+#[derive(Clone, Copy)]
+struct Job<'a> {
+    rt: &'a HostRuntime,
+    text: &'a [u8],
+    source: &'a Source,
+    verbose: bool,
+}
+
+/// Compiles a source. With `verbose`, more is said on standard error.
+pub(crate) fn compile<'a>(
     rt: &HostRuntime,
-    directory: &str,
+    purpose: Purpose<'_>,
     file: &'a str,
     verbose: bool,
 ) -> Result<(), Failure<'a>> {
     let text = input_of(rt, file)?;
-    let source = source_of(rt, text.as_slice(), verbose)?;
-    let mut compiler = EntryCompiler::new(&source);
-    let held = held_entries(rt, text.as_slice(), &source, &mut compiler, verbose)?;
-    tell_notes(rt, source.notes(), verbose)?;
-    match held {
-        Some(entries) => write_entries(rt, directory, entries.as_slice()),
-        None => write_again(rt, directory, &source, &mut compiler),
+    compile_text(rt, purpose, text.as_slice(), verbose)
+}
+
+fn compile_text<'a>(
+    rt: &HostRuntime,
+    purpose: Purpose<'_>,
+    text: &[u8],
+    verbose: bool,
+) -> Result<(), Failure<'a>> {
+    match read(rt.alloc(), text) {
+        Ok(source) => {
+            let source = &source;
+            compile_source(
+                &Job {
+                    rt,
+                    text,
+                    source,
+                    verbose,
+                },
+                purpose,
+            )
+        }
+        Err(fault) => Err(unread(rt, text, fault, verbose)),
     }
+}
+
+// Why a source was not read.
+fn unread<'a>(rt: &HostRuntime, text: &[u8], fault: SourceFault, verbose: bool) -> Failure<'a> {
+    if verbose
+        && fault == SourceFault::TooManyUses
+        && let Some(index) = index_of_many_uses(rt.alloc(), text)
+    {
+        tell_entry(rt, text, index);
+    }
+    TicFault::from(fault).into()
+}
+
+// Prints on standard error which entry a fault is in.
+fn tell_entry(rt: &HostRuntime, text: &[u8], index: usize) {
+    if let Some(place) = place_of(text, index) {
+        let mut line = Vec::new(rt.alloc());
+        if add_entry(rt.alloc(), place, &mut line).is_ok() {
+            tell(rt, &mut line);
+        }
+    }
+}
+
+// Prints lines on standard error.
+fn tell(rt: &HostRuntime, lines: &mut Vec<u8>) {
+    let _ = rt.stderr().write_all(lines.as_slice());
+    lines.clear();
+}
+
+fn compile_source<'a>(job: &Job<'_>, purpose: Purpose<'_>) -> Result<(), Failure<'a>> {
+    let mut compiler = EntryCompiler::new(job.source);
+    match purpose {
+        Purpose::Sizes => print_sizes(job, &mut compiler),
+        Purpose::Files(directory) => write_all_files(job, &mut compiler, directory),
+    }
+}
+
+// Compiles the next entry, whose index is `index`.
+fn next_entry<'a>(
+    job: &Job<'_>,
+    compiler: &mut EntryCompiler<'_>,
+    index: usize,
+) -> Result<Option<CompiledEntry>, Failure<'a>> {
+    match compiler.next_entry(job.rt.alloc()) {
+        Ok(entry) => Ok(entry),
+        Err(fault) => Err(uncompiled(job, index, fault)),
+    }
+}
+
+// Why an entry was not compiled.
+fn uncompiled<'a>(job: &Job<'_>, index: usize, fault: TicFault) -> Failure<'a> {
+    if job.verbose && fault != TicFault::NoMemory {
+        tell_entry(job.rt, job.text, index);
+    }
+    fault.into()
+}
+
+// Prints the name of each entry of a source, and the size of its file.
+fn print_sizes<'a>(job: &Job<'_>, compiler: &mut EntryCompiler<'_>) -> Result<(), Failure<'a>> {
+    let mut sizes = Vec::with_capacity(job.rt.alloc(), job.source.len())?;
+    add_sizes(job, compiler, &mut sizes)?;
+    tell_notes(job)?;
+    print_size_lines(job, sizes.as_slice())
+}
+
+// Adds the sizes of all entries' files.
+fn add_sizes<'a>(
+    job: &Job<'_>,
+    compiler: &mut EntryCompiler<'_>,
+    sizes: &mut Vec<u16>,
+) -> Result<(), Failure<'a>> {
+    for i in 0..job.source.len() {
+        if let Some(size) = next_size(job, compiler, i)? {
+            sizes.push(size)?;
+        }
+    }
+    Ok(())
+}
+
+// The size of the next entry's file.
+fn next_size<'a>(
+    job: &Job<'_>,
+    compiler: &mut EntryCompiler<'_>,
+    index: usize,
+) -> Result<Option<u16>, Failure<'a>> {
+    match next_entry(job, compiler, index)? {
+        Some(entry) => Ok(Some(size_of(&entry))),
+        None => Ok(None),
+    }
+}
+
+fn size_of(entry: &CompiledEntry) -> u16 {
+    u16::try_from(entry.bytes.0.len()).unwrap_or(u16::MAX)
+}
+
+fn print_size_lines<'a>(job: &Job<'_>, sizes: &[u16]) -> Result<(), Failure<'a>> {
+    let mut lines = Vec::new(job.rt.alloc());
+    add_size_lines(job, sizes, &mut lines)?;
+    print(job.rt, lines.as_slice())
+}
+
+// Adds the lines of all sizes, and prints them as soon as there are many.
+fn add_size_lines<'a>(
+    job: &Job<'_>,
+    sizes: &[u16],
+    lines: &mut Vec<u8>,
+) -> Result<(), Failure<'a>> {
+    for (i, size) in sizes.iter().enumerate() {
+        if i < job.source.len() {
+            add_size(job.rt.alloc(), job.source.name(i), *size, lines)?;
+        }
+        if lines.len() >= PIECE {
+            print(job.rt, lines.as_slice())?;
+            lines.clear();
+        }
+    }
+    Ok(())
+}
+
+// Writes the files of a source's entries below a folder.
+fn write_all_files<'a>(
+    job: &Job<'_>,
+    compiler: &mut EntryCompiler<'_>,
+    directory: &str,
+) -> Result<(), Failure<'a>> {
+    let mut held = Vec::new(job.rt.alloc());
+    let are_few = hold_entries(job, compiler, &mut held)?;
+    tell_notes(job)?;
+    if are_few {
+        write_entries(job.rt, directory, held.as_slice())
+    } else {
+        write_again(job, compiler, directory)
+    }
+}
+
+// Compiles all entries, and holds them. Answers whether they are few enough for that.
+fn hold_entries<'a>(
+    job: &Job<'_>,
+    compiler: &mut EntryCompiler<'_>,
+    held: &mut Vec<CompiledEntry>,
+) -> Result<bool, Failure<'a>> {
+    let mut taken = 0usize;
+    for i in 0..job.source.len() {
+        taken = hold_next(job, compiler, i, taken, held)?;
+    }
+    Ok(taken <= MOST_HELD)
+}
+
+// Compiles the next entry, and gives how many bytes are taken with it.
+fn hold_next<'a>(
+    job: &Job<'_>,
+    compiler: &mut EntryCompiler<'_>,
+    index: usize,
+    taken: usize,
+    held: &mut Vec<CompiledEntry>,
+) -> Result<usize, Failure<'a>> {
+    match next_entry(job, compiler, index)? {
+        Some(entry) => hold(entry, taken, held),
+        None => Ok(taken),
+    }
+}
+
+// Holds an entry, or none where they take too many bytes with it.
+fn hold<'a>(
+    entry: CompiledEntry,
+    taken: usize,
+    held: &mut Vec<CompiledEntry>,
+) -> Result<usize, Failure<'a>> {
+    let taken = taken.saturating_add(room_of(&entry));
+    if taken > MOST_HELD {
+        held.clear();
+        return Ok(taken);
+    }
+    match held.push(entry) {
+        Ok(()) => Ok(taken),
+        Err(_) => Err(Failure::NoMemory),
+    }
+}
+
+// About how many bytes a compiled entry takes.
+fn room_of(entry: &CompiledEntry) -> usize {
+    let paths = entry.paths.0.len().saturating_mul(64);
+    entry
+        .bytes
+        .0
+        .len()
+        .saturating_add(paths)
+        .saturating_add(192)
 }
 
 fn write_entries<'a>(
@@ -66,148 +274,46 @@ fn write_entries<'a>(
 
 // Compiles the entries again, and writes the files of each.
 fn write_again<'a>(
-    rt: &HostRuntime,
-    directory: &str,
-    source: &Source,
+    job: &Job<'_>,
     compiler: &mut EntryCompiler<'_>,
+    directory: &str,
 ) -> Result<(), Failure<'a>> {
     compiler.restart();
-    for _ in 0..source.len() {
-        if let Some(entry) = compiler.next_entry(rt.alloc())? {
-            write_files(rt, directory, &entry)?;
-        }
+    for i in 0..job.source.len() {
+        write_next(job, compiler, i, directory)?;
     }
     Ok(())
 }
 
-// Reads a source.
-fn source_of<'a>(rt: &HostRuntime, text: &[u8], verbose: bool) -> Result<Source, Failure<'a>> {
-    match read(rt.alloc(), text) {
-        Ok(source) => Ok(source),
-        Err(SourceFault::TooManyUses) if verbose => {
-            let index = index_of_many_uses(rt.alloc(), text)?;
-            Err(told_at(rt, text, index, SourceFault::TooManyUses.into()))
-        }
-        Err(fault) => Err(TicFault::from(fault).into()),
-    }
-}
-
-// The sizes of all entries' files.
-fn sizes_of<'a>(
-    rt: &HostRuntime,
-    text: &[u8],
-    source: &Source,
-    compiler: &mut EntryCompiler<'_>,
-    verbose: bool,
-) -> Result<Vec<u16>, Failure<'a>> {
-    let mut sizes = Vec::with_capacity(rt.alloc(), source.len())?;
-    for i in 0..source.len() {
-        if let Some(entry) = next_entry(rt, text, compiler, i, verbose)? {
-            sizes.push(u16::try_from(entry.bytes.0.len()).unwrap_or(u16::MAX))?;
-        }
-    }
-    Ok(sizes)
-}
-
-// All entries, compiled; `None` if they are too large to hold.
-fn held_entries<'a>(
-    rt: &HostRuntime,
-    text: &[u8],
-    source: &Source,
-    compiler: &mut EntryCompiler<'_>,
-    verbose: bool,
-) -> Result<Option<Vec<CompiledEntry>>, Failure<'a>> {
-    let mut held = Vec::new(rt.alloc());
-    let mut taken = 0usize;
-    for i in 0..source.len() {
-        if let Some(entry) = next_entry(rt, text, compiler, i, verbose)? {
-            taken = taken.saturating_add(room_of(&entry));
-            if taken <= MOST_HELD {
-                held.push(entry)?;
-            } else {
-                held.clear();
-            }
-        }
-    }
-    Ok(if taken <= MOST_HELD { Some(held) } else { None })
-}
-
-// About how many bytes a compiled entry takes.
-fn room_of(entry: &CompiledEntry) -> usize {
-    let paths = entry.paths.0.len().saturating_mul(64);
-    entry
-        .bytes
-        .0
-        .len()
-        .saturating_add(paths)
-        .saturating_add(192)
-}
-
-// Compiles the next entry, whose index is `index`.
-fn next_entry<'a>(
-    rt: &HostRuntime,
-    text: &[u8],
+fn write_next<'a>(
+    job: &Job<'_>,
     compiler: &mut EntryCompiler<'_>,
     index: usize,
-    verbose: bool,
-) -> Result<Option<CompiledEntry>, Failure<'a>> {
-    match compiler.next_entry(rt.alloc()) {
-        Ok(entry) => Ok(entry),
-        Err(fault) if verbose => Err(told_at(rt, text, Some(index), fault)),
-        Err(fault) => Err(fault.into()),
+    directory: &str,
+) -> Result<(), Failure<'a>> {
+    match next_entry(job, compiler, index)? {
+        Some(entry) => write_files(job.rt, directory, &entry),
+        None => Ok(()),
     }
-}
-
-// Prints on standard error which entry a fault is in, unless memory ran out.
-fn told_at<'a>(
-    rt: &HostRuntime,
-    text: &[u8],
-    index: Option<usize>,
-    fault: TicFault,
-) -> Failure<'a> {
-    if fault != TicFault::NoMemory
-        && let Some(i) = index
-        && let Some(place) = place_of(text, i)
-        && let Ok(line) = entry_line(rt.alloc(), place)
-    {
-        let _ = rt.stderr().write_all(line.as_slice());
-    }
-    fault.into()
 }
 
 // Prints the notes on doubtful fields on standard error.
-fn tell_notes<'a>(rt: &HostRuntime, notes: &[Note], verbose: bool) -> Result<(), Failure<'a>> {
-    let alloc = rt.alloc();
-    let mut lines = Vec::new(alloc);
-    for note in notes {
-        add_note(alloc, note, &mut lines)?;
-        if lines.len() >= PIECE {
-            let _ = rt.stderr().write_all(lines.as_slice());
-            lines.clear();
-        }
-    }
-    let _ = rt.stderr().write_all(lines.as_slice());
-    if verbose {
-        let counts = unknown_lines(alloc, notes)?;
-        let _ = rt.stderr().write_all(counts.as_slice());
-    }
-    Ok(())
+fn tell_notes(job: &Job<'_>) -> Result<(), AllocError> {
+    let mut lines = Vec::new(job.rt.alloc());
+    tell_all(job, job.source.notes(), &mut lines)
 }
 
-fn print_size_lines<'a>(
-    rt: &HostRuntime,
-    source: &Source,
-    sizes: &[u16],
-) -> Result<(), Failure<'a>> {
-    let mut lines = Vec::new(rt.alloc());
-    for i in 0..source.len() {
-        if let Some(size) = sizes.get(i) {
-            add_size(rt.alloc(), source.name(i), usize::from(*size), &mut lines)?;
-        }
+fn tell_all(job: &Job<'_>, notes: &[Note], lines: &mut Vec<u8>) -> Result<(), AllocError> {
+    for note in notes {
+        add_note(job.rt.alloc(), note, lines)?;
         if lines.len() >= PIECE {
-            print(rt, lines.as_slice())?;
-            lines.clear();
+            tell(job.rt, lines);
         }
     }
-    print(rt, lines.as_slice())
+    tell(job.rt, lines);
+    if job.verbose {
+        add_unknown(job.rt.alloc(), notes, lines)?;
+        tell(job.rt, lines);
+    }
+    Ok(())
 }

@@ -7,8 +7,6 @@ use thiserror::Error;
 /// Why the program ends with a status other than 0, with the texts that it prints.
 #[derive(Debug, Drop, Error)]
 pub(crate) enum Failure<'a> {
-    #[error("{0}")]
-    Words(clap::Error),
     #[error("usage error")]
     Usage,
     #[error("tic: cannot read {0}")]
@@ -27,7 +25,7 @@ impl Failure<'_> {
     /// 2 for a usage error, 1 for any other failure.
     pub(crate) fn status(&self) -> u8 {
         match self {
-            Failure::Words(_) | Failure::Usage => 2,
+            Failure::Usage => 2,
             _ => 1,
         }
     }

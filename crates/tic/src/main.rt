@@ -19,16 +19,17 @@ mod places;
 mod report;
 mod words;
 
+use clap::ArgMatches;
 use clap::error::ErrorKind;
-use compiling::{print_sizes, write_all_files};
+use compiling::{Purpose, compile};
 use failure::Failure;
 use input::input_of;
 use output::print;
-use report::left_out_lines;
+use report::add_left_out;
 use std::io::Write;
 use std::process::ExitCode;
 use std::{env, io};
-use terminfo_files::list;
+use terminfo_files::{Listing, list};
 use words::Task;
 
 fn main(rt: HostRuntime) -> ExitCode {
@@ -55,12 +56,29 @@ fn words_given<'a>(rt: &HostRuntime) -> Result<Vec<String>, Failure<'a>> {
 
 // Does what the command line asks for, and returns the status.
 fn perform(rt: &HostRuntime, words: &[String]) -> u8 {
-    let ended = match words::matches(rt.alloc(), words) {
-        Ok(matches) => match words::task_of(&matches) {
-            Some(task) => run(rt, task, words::is_verbose(&matches)),
-            None => Err(Failure::Usage),
-        },
-        Err(error) => answered(rt, error),
+    match words::matches(rt.alloc(), words) {
+        Ok(matches) => perform_task(rt, &matches),
+        Err(error) => answered(rt, &error),
+    }
+}
+
+// Prints the help or the version, if asked for; any other command line that does not parse is a
+// usage error.
+fn answered(rt: &HostRuntime, error: &clap::Error) -> u8 {
+    if error.kind() == ErrorKind::OutOfMemory {
+        return told(rt, &Failure::NoMemory);
+    }
+    match error.print(rt) {
+        _ if error.use_stderr() => 2,
+        Ok(()) => 0,
+        Err(_) => told(rt, &Failure::Output),
+    }
+}
+
+fn perform_task(rt: &HostRuntime, matches: &ArgMatches<'_>) -> u8 {
+    let ended = match words::task_of(matches) {
+        Some(task) => run(rt, task, words::is_verbose(matches)),
+        None => Err(Failure::Usage),
     };
     match ended {
         Ok(()) => 0,
@@ -68,30 +86,26 @@ fn perform(rt: &HostRuntime, words: &[String]) -> u8 {
     }
 }
 
-// Prints the help or the version, if asked for; any other command line that does not parse is a
-// usage error.
-fn answered<'a>(rt: &HostRuntime, error: clap::Error) -> Result<(), Failure<'a>> {
-    if error.kind() == ErrorKind::OutOfMemory {
-        return Err(Failure::NoMemory);
-    }
-    if error.use_stderr() {
-        return Err(Failure::Words(error));
-    }
-    error.print(rt).map_err(|_| Failure::Output)
-}
-
 fn run<'a>(rt: &HostRuntime, task: Task<'a>, verbose: bool) -> Result<(), Failure<'a>> {
     match task {
-        Task::Sizes(file) => print_sizes(rt, file, verbose),
-        Task::Files(directory, file) => write_all_files(rt, directory, file, verbose),
-        Task::Listing(file) => print_listing(rt, &input_of(rt, file)?),
+        Task::Sizes(file) => compile(rt, Purpose::Sizes, file, verbose),
+        Task::Files(directory, file) => compile(rt, Purpose::Files(directory), file, verbose),
+        Task::Listing(file) => print_listing(rt, file),
     }
 }
 
 // Prints a compiled file as source, and reports what is left out.
-fn print_listing<'a>(rt: &HostRuntime, bytes: &[u8]) -> Result<(), Failure<'a>> {
-    let listing = list(rt.alloc(), bytes)?;
-    let left_out = left_out_lines(rt.alloc(), listing.unnamed, listing.skipped)?;
+fn print_listing<'a>(rt: &HostRuntime, file: &'a str) -> Result<(), Failure<'a>> {
+    let bytes = input_of(rt, file)?;
+    match list(rt.alloc(), bytes.as_slice()) {
+        Ok(listing) => print_listed(rt, &listing),
+        Err(fault) => Err(fault.into()),
+    }
+}
+
+fn print_listed<'a>(rt: &HostRuntime, listing: &Listing) -> Result<(), Failure<'a>> {
+    let mut left_out = Vec::new(rt.alloc());
+    add_left_out(rt.alloc(), listing.unnamed, listing.skipped, &mut left_out)?;
     let printed = print(rt, listing.text.0.as_slice());
     let _ = rt.stderr().write_all(left_out.as_slice());
     printed

@@ -20,14 +20,23 @@ pub(crate) fn write_files<'a>(
     entry: &CompiledEntry,
 ) -> Result<(), Failure<'a>> {
     for path in entry.paths.0.as_slice() {
-        let path = below(rt.alloc(), directory, path.0.as_slice())?;
-        match write_file(rt, &path, entry.bytes.0.as_slice()) {
-            Ok(()) => {}
-            Err(error) if error.kind() == ErrorKind::OutOfMemory => return Err(Failure::NoMemory),
-            Err(_) => return Err(Failure::Write(path.into_os_string())),
-        }
+        write_below(rt, directory, path.0.as_slice(), entry.bytes.0.as_slice())?;
     }
     Ok(())
+}
+
+fn write_below<'a>(
+    rt: &HostRuntime,
+    directory: &str,
+    path: &[u8],
+    bytes: &[u8],
+) -> Result<(), Failure<'a>> {
+    let path = below(rt.alloc(), directory, path)?;
+    match write_file(rt, &path, bytes) {
+        Ok(()) => Ok(()),
+        Err(error) if error.kind() == ErrorKind::OutOfMemory => Err(Failure::NoMemory),
+        Err(_) => Err(Failure::Write(path.into_os_string())),
+    }
 }
 
 // A path below a folder; the path of a compiled file is ASCII.

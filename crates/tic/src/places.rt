@@ -1,11 +1,11 @@
 //! Where the entries of a source begin, to report faults that have no line.
 
 use bstr::ByteSlice;
-use std::alloc::{AllocError, Global};
+use std::alloc::Global;
 use ti_source::{SourceFault, read};
 
 /// The line on which an entry begins, counted from 1, and the entry's first reference name.
-#[derive(Clone, Copy, Debug)]
+#[derive(Clone, Copy)]
 pub(crate) struct Place<'a> {
     pub(crate) name: &'a [u8],
     pub(crate) line: u32,
@@ -36,23 +36,24 @@ pub(crate) fn place_of(text: &[u8], index: usize) -> Option<Place<'_>> {
 
 /// The index of the first entry of a source that has more than 32 `use=`. The uses of an entry are
 /// on its own lines, which are read by themselves.
-pub(crate) fn index_of_many_uses(alloc: Global, text: &[u8]) -> Result<Option<usize>, AllocError> {
+pub(crate) fn index_of_many_uses(alloc: Global, text: &[u8]) -> Option<usize> {
     let mut entries = 0usize;
-    let mut own = Vec::new(alloc);
+    let mut own = 0usize;
+    let mut end = 0usize;
     for line in text.lines_with_terminator() {
         if begins_entry(line) {
-            if has_many_uses(alloc, &own) {
-                return Ok(entries.checked_sub(1));
+            if has_many_uses(alloc, text.get(own..end).unwrap_or(&[])) {
+                return entries.checked_sub(1);
             }
-            own.clear();
+            own = end;
             entries = entries.saturating_add(1);
         }
-        own.extend_from_slice(line)?;
+        end = end.saturating_add(line.len());
     }
-    if has_many_uses(alloc, &own) {
-        return Ok(entries.checked_sub(1));
+    if has_many_uses(alloc, text.get(own..).unwrap_or(&[])) {
+        return entries.checked_sub(1);
     }
-    Ok(None)
+    None
 }
 
 fn has_many_uses(alloc: Global, entry: &[u8]) -> bool {

@@ -15,41 +15,74 @@ pub(crate) fn add_note(alloc: Global, note: &Note, lines: &mut Vec<u8>) -> Resul
 pub(crate) fn add_size(
     alloc: Global,
     name: &[u8],
-    size: usize,
+    size: u16,
     lines: &mut Vec<u8>,
 ) -> Result<(), AllocError> {
     let digits = format!(in alloc; " {size}")?;
     add_line(name, digits.as_bytes(), lines)
 }
 
-/// The line that names the entry that a fault is in.
-pub(crate) fn entry_line(alloc: Global, place: Place<'_>) -> Result<Vec<u8>, AllocError> {
-    let mut line = Vec::from_slice(alloc, b"entry ")?;
+/// Adds the line that names the entry that a fault is in.
+pub(crate) fn add_entry(
+    alloc: Global,
+    place: Place<'_>,
+    lines: &mut Vec<u8>,
+) -> Result<(), AllocError> {
     let number = place.line;
+    lines.extend_from_slice(b"entry ")?;
     let behind = format!(in alloc; ", line {number}")?;
-    line.extend_from_slice(place.name)?;
-    add_line(behind.as_bytes(), b"", &mut line)?;
-    Ok(line)
+    add_line(place.name, behind.as_bytes(), lines)
 }
 
-/// The lines about unknown names: first the number of fields with unknown names and the number of
-/// these names, then each name with the number of its fields. The most frequent come first, and
+/// Adds the lines about unknown names: first the number of fields with unknown names and the number
+/// of these names, then each name with the number of its fields. The most frequent come first, and
 /// equally frequent ones are in the order of their bytes. Nothing if no name is unknown.
-pub(crate) fn unknown_lines(alloc: Global, notes: &[Note]) -> Result<Vec<u8>, AllocError> {
+pub(crate) fn add_unknown(
+    alloc: Global,
+    notes: &[Note],
+    lines: &mut Vec<u8>,
+) -> Result<(), AllocError> {
     let names = unknown_names(alloc, notes)?;
-    let counted = counted_names(alloc, &names)?;
-    let mut lines = Vec::new(alloc);
+    let mut counted = Vec::new(alloc);
+    add_counted(&names, &mut counted)?;
+    add_counts(alloc, names.len(), &counted, lines)
+}
+
+// Adds the lines about unknown names that were counted.
+fn add_counts(
+    alloc: Global,
+    fields: usize,
+    counted: &[(usize, &[u8])],
+    lines: &mut Vec<u8>,
+) -> Result<(), AllocError> {
     if counted.is_empty() {
-        return Ok(lines);
+        return Ok(());
     }
-    let (fields, different) = (names.len(), counted.len());
-    let head = format!(in alloc; "unknown: {fields} fields of {different} names")?;
-    add_line(head.as_bytes(), b"", &mut lines)?;
-    for (count, name) in counted.as_slice() {
-        let head = format!(in alloc; "unknown: {count} ")?;
-        add_line(head.as_bytes(), name, &mut lines)?;
+    add_total(alloc, fields, counted.len(), lines)?;
+    for (count, name) in counted {
+        add_name(alloc, *count, name, lines)?;
     }
-    Ok(lines)
+    Ok(())
+}
+
+fn add_total(
+    alloc: Global,
+    fields: usize,
+    names: usize,
+    lines: &mut Vec<u8>,
+) -> Result<(), AllocError> {
+    let line = format!(in alloc; "unknown: {fields} fields of {names} names")?;
+    add_line(line.as_bytes(), b"", lines)
+}
+
+fn add_name(
+    alloc: Global,
+    count: usize,
+    name: &[u8],
+    lines: &mut Vec<u8>,
+) -> Result<(), AllocError> {
+    let head = format!(in alloc; "unknown: {count} ")?;
+    add_line(head.as_bytes(), name, lines)
 }
 
 // The names of the unknown fields, in the order of their bytes.
@@ -64,13 +97,12 @@ fn unknown_names<'a>(alloc: Global, notes: &'a [Note]) -> Result<Vec<&'a [u8]>, 
     Ok(names)
 }
 
-// How often each of these names occurs, the most frequent first. Equal names are neighbours in
+// Adds how often each of these names occurs, the most frequent first. Equal names are neighbours in
 // `names`.
-fn counted_names<'a>(
-    alloc: Global,
+fn add_counted<'a>(
     names: &[&'a [u8]],
-) -> Result<Vec<(usize, &'a [u8])>, AllocError> {
-    let mut counted = Vec::new(alloc);
+    counted: &mut Vec<(usize, &'a [u8])>,
+) -> Result<(), AllocError> {
     let mut count = 0usize;
     for (i, name) in names.iter().enumerate() {
         count = count.saturating_add(1);
@@ -83,26 +115,24 @@ fn counted_names<'a>(
             count = 0;
         }
     }
-    counted.sort_by_key(|run| usize::MAX - run.0)?;
-    Ok(counted)
+    counted.sort_by_key(|run| usize::MAX - run.0)
 }
 
-/// What a listing leaves out: a line for the capabilities without a name and one for the bytes
+/// Adds what a listing leaves out: a line for the capabilities without a name and one for the bytes
 /// after the string table, each only if there are any.
-pub(crate) fn left_out_lines(
+pub(crate) fn add_left_out(
     alloc: Global,
     unnamed: usize,
     skipped: usize,
-) -> Result<Vec<u8>, AllocError> {
-    let mut lines = Vec::new(alloc);
+    lines: &mut Vec<u8>,
+) -> Result<(), AllocError> {
     add_count(
         alloc,
         unnamed,
         "capabilities without a name left out",
-        &mut lines,
+        lines,
     )?;
-    add_count(alloc, skipped, "bytes skipped", &mut lines)?;
-    Ok(lines)
+    add_count(alloc, skipped, "bytes skipped", lines)
 }
 
 // A line for a count, unless it is 0.
