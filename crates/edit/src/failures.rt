@@ -3,32 +3,51 @@
 use crate::saving::ReadFault;
 use curses::{CapFault, NoMemory, OpenFault};
 use std::alloc::{AllocError, AllocFailed};
+use std::fmt::{self, Display, Formatter};
 use thiserror::Error;
 use ti_database::DatabaseFault;
 
 /// Why the program ends with a status other than 0.
 #[derive(Debug, Drop, Error)]
 pub(crate) enum Failure {
-    #[error("out of memory")]
     NoMemory,
-    #[error("{0}")]
     File(ReadFault),
-    #[error("TERM is not set")]
     NoTerm,
-    #[error("{0}")]
     Entry(DatabaseFault),
-    #[error("{0}")]
     Screen(OpenFault),
-    #[error("the terminal takes no output")]
     Output,
-    #[error("the terminal cannot be read")]
     Input,
-    #[error("the input has ended")]
     Ended,
-    #[error("the words or the script are not UTF-8 text")]
     NotText,
-    #[error("line {0}: bad command")]
+    // The line of a script, counted from 1.
     BadLine(u32),
+}
+
+impl Display for Failure {
+    fn fmt<W: fmt::Write>(&self, f: &mut Formatter<W>) -> fmt::Result {
+        match self {
+            Failure::Entry(fault) => fault.fmt(f),
+            Failure::Screen(fault) => fault.fmt(f),
+            Failure::BadLine(number) => write!(f, "line {number}: bad command"),
+            _ => f.write_str(self.words()),
+        }
+    }
+}
+
+impl Failure {
+    // What is said of a failure that is the same each time.
+    fn words(&self) -> &'static str {
+        match self {
+            Failure::NoMemory => "out of memory",
+            Failure::File(fault) => fault.words(),
+            Failure::NoTerm => "TERM is not set",
+            Failure::Output => "the terminal takes no output",
+            Failure::Input => "the terminal cannot be read",
+            Failure::Ended => "the input has ended",
+            Failure::NotText => "the words or the script are not UTF-8 text",
+            Failure::Entry(_) | Failure::Screen(_) | Failure::BadLine(_) => "",
+        }
+    }
 }
 
 impl From<NoMemory> for Failure {

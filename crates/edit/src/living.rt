@@ -30,13 +30,19 @@ pub(crate) struct Around<'a> {
 
 /// Runs the editor on the terminal that standard input and output are, to its end.
 pub(crate) fn run_on_terminal(around: &Around<'_>, editor: &mut Editor) -> Result<(), Failure> {
-    let alloc = around.rt.alloc();
     let mut line = TerminalLine::open(around.rt)?;
-    let Ok(writer) = BufWriter::new(alloc, around.rt.stdout()) else {
-        return Err(Failure::NoMemory);
-    };
-    let mut out = Device::new(writer);
-    own_screen(around, &mut line, &mut out, editor)
+    run_on_line(around, &mut line, editor)
+}
+
+fn run_on_line(
+    around: &Around<'_>,
+    line: &mut TerminalLine,
+    editor: &mut Editor,
+) -> Result<(), Failure> {
+    match BufWriter::new(around.rt.alloc(), around.rt.stdout()) {
+        Ok(writer) => own_screen(around, line, &mut Device::new(writer), editor),
+        Err(_) => Err(Failure::NoMemory),
+    }
 }
 
 // Opens a screen, and runs the editor on it; the screen is closed however that ends.
@@ -46,23 +52,31 @@ fn own_screen<W: Counted>(
     out: &mut W,
     editor: &mut Editor,
 ) -> Result<(), Failure> {
-    let mut screen = match open_screen(around.rt.alloc(), around.entry, line.size()) {
-        Ok(screen) => screen,
-        Err(fault) => return Err(Failure::Screen(fault)),
-    };
-    let ended = live(around, &mut screen, line, out, editor);
+    match open_screen(around.rt.alloc(), around.entry, line.size()) {
+        Ok(mut screen) => live_and_close(around, &mut screen, line, out, editor),
+        Err(fault) => Err(Failure::Screen(fault)),
+    }
+}
+
+fn live_and_close<W: Counted>(
+    around: &Around<'_>,
+    screen: &mut Screen,
+    line: &mut TerminalLine,
+    out: &mut W,
+    editor: &mut Editor,
+) -> Result<(), Failure> {
+    prepare(screen);
+    let ended = live(around, screen, line, out, editor);
     let _ = screen.close(out);
     ended
 }
 
 // A screen of this size, or of the entry's own.
 fn open_screen(alloc: Global, entry: &Entry, size: Option<Size>) -> Result<Screen, OpenFault> {
-    let mut screen = match size {
-        Some(size) => Screen::open_sized(alloc, entry, size)?,
-        None => Screen::open_at_own_size(alloc, entry)?,
-    };
-    prepare(&mut screen);
-    Ok(screen)
+    match size {
+        Some(size) => Screen::open_sized(alloc, entry, size),
+        None => Screen::open_at_own_size(alloc, entry),
+    }
 }
 
 fn live<W: Counted>(
@@ -109,7 +123,10 @@ fn follow_size(around: &Around<'_>, screen: &mut Screen, line: &TerminalLine, ed
         return;
     }
     match open_screen(around.rt.alloc(), around.entry, Some(size)) {
-        Ok(opened) => put(screen, opened),
+        Ok(opened) => {
+            put(screen, opened);
+            prepare(screen);
+        }
         Err(_) => editor.message = Message::NoMemory,
     }
 }

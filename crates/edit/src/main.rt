@@ -23,6 +23,7 @@ mod typing;
 mod view;
 mod words;
 
+use clap::ArgMatches;
 use clap::error::ErrorKind;
 use curses::{Entry, bundled};
 use edit_text::Text;
@@ -33,6 +34,7 @@ use messages::Message;
 use program_input::{InputFault, read_input};
 use saving::{ReadFault, bytes_of, save_beside};
 use scripts::run_script;
+use std::alloc::Global;
 use std::env::VarError;
 use std::process::ExitCode;
 use std::{env, io};
@@ -64,11 +66,15 @@ fn words_given(rt: &HostRuntime) -> Result<Vec<String>, Failure> {
 // Does what the command line asks for, and gives the status.
 fn perform(rt: &HostRuntime, words: &[String]) -> u8 {
     match words::matches(rt.alloc(), words) {
-        Ok(matches) => match words::task_of(&matches) {
-            Some(task) => run(rt, task),
-            None => 2,
-        },
+        Ok(matches) => perform_task(rt, &matches),
         Err(error) => answered(rt, &error),
+    }
+}
+
+fn perform_task(rt: &HostRuntime, matches: &ArgMatches<'_>) -> u8 {
+    match words::task_of(matches) {
+        Some(task) => run(rt, task),
+        None => 2,
     }
 }
 
@@ -85,34 +91,50 @@ fn answered(rt: &HostRuntime, error: &clap::Error) -> u8 {
 }
 
 fn run(rt: &HostRuntime, task: Task<'_>) -> u8 {
-    let ended = match editor_of(rt, task.file) {
-        Ok(mut editor) => edit(rt, task, &mut editor),
-        Err(failure) => Err(failure),
-    };
-    match ended {
+    match edit_file(rt, task) {
         Ok(()) => 0,
         Err(Failure::File(fault)) => {
-            let _ = eprintln!(rt; "edit: {}: {fault}", task.file);
+            let _ = eprintln!(rt; "edit: {}: {}", task.file, fault.words());
             1
         }
         Err(failure) => told(rt, &failure),
     }
 }
 
+fn edit_file(rt: &HostRuntime, task: Task<'_>) -> Result<(), Failure> {
+    let mut editor = editor_of(rt, task.file)?;
+    edit(rt, task, &mut editor)
+}
+
 // An editor of a file, or of an empty text if there is none of this name.
 fn editor_of(rt: &HostRuntime, path: &str) -> Result<Editor, Failure> {
-    let name = Vec::from_slice(rt.alloc(), path.as_bytes())?;
     match bytes_of(rt, path) {
-        Ok(Some(bytes)) => {
-            let text = Text::read(rt.alloc(), &bytes)?;
-            Ok(Editor::new(rt.alloc(), name, text, Message::Nothing))
-        }
-        Ok(None) => {
-            let text = Text::new(rt.alloc())?;
-            Ok(Editor::new(rt.alloc(), name, text, Message::NewFile))
-        }
+        Ok(Some(bytes)) => editor_of_bytes(rt.alloc(), path, &bytes),
+        Ok(None) => new_editor(rt.alloc(), path),
         Err(ReadFault::NoMemory) => Err(Failure::NoMemory),
         Err(fault) => Err(Failure::File(fault)),
+    }
+}
+
+fn editor_of_bytes(alloc: Global, path: &str, bytes: &[u8]) -> Result<Editor, Failure> {
+    let text = Text::read(alloc, bytes)?;
+    editor_of_text(alloc, path, text, Message::Nothing)
+}
+
+fn new_editor(alloc: Global, path: &str) -> Result<Editor, Failure> {
+    let text = Text::new(alloc)?;
+    editor_of_text(alloc, path, text, Message::NewFile)
+}
+
+fn editor_of_text(
+    alloc: Global,
+    path: &str,
+    text: Text,
+    message: Message,
+) -> Result<Editor, Failure> {
+    match Vec::from_slice(alloc, path.as_bytes()) {
+        Ok(name) => Ok(Editor::new(alloc, name, text, message)),
+        Err(_) => Err(Failure::NoMemory),
     }
 }
 
@@ -121,27 +143,39 @@ fn edit(rt: &HostRuntime, task: Task<'_>, editor: &mut Editor) -> Result<(), Fai
     if task.script {
         return edit_by_script(rt, task.file, editor);
     }
-    let entry = entry_of(rt, task.bundled)?;
-    let around = Around {
-        rt,
-        entry: &entry,
-        path: task.file,
-    };
-    let ended = run_on_terminal(&around, editor);
+    let ended = edit_on_terminal(rt, task, editor);
     if ended.is_err() && editor.is_changed() {
         rescue(rt, task.file, editor);
     }
     ended
 }
 
+fn edit_on_terminal(rt: &HostRuntime, task: Task<'_>, editor: &mut Editor) -> Result<(), Failure> {
+    let entry = entry_of(rt, task.bundled)?;
+    let around = Around {
+        rt,
+        entry: &entry,
+        path: task.file,
+    };
+    run_on_terminal(&around, editor)
+}
+
 // Runs the editor on a script from standard input.
 fn edit_by_script(rt: &HostRuntime, path: &str, editor: &mut Editor) -> Result<(), Failure> {
-    let script = match read_input(rt.alloc(), &mut rt.reader()) {
-        Ok(bytes) => bytes,
-        Err(InputFault::Failed) => return Err(Failure::Input),
-        Err(InputFault::NoMemory) => return Err(Failure::NoMemory),
-    };
-    match str::from_utf8(&script) {
+    match read_input(rt.alloc(), &mut rt.reader()) {
+        Ok(bytes) => edit_by_bytes(rt, path, &bytes, editor),
+        Err(InputFault::Failed) => Err(Failure::Input),
+        Err(InputFault::NoMemory) => Err(Failure::NoMemory),
+    }
+}
+
+fn edit_by_bytes(
+    rt: &HostRuntime,
+    path: &str,
+    script: &[u8],
+    editor: &mut Editor,
+) -> Result<(), Failure> {
+    match str::from_utf8(script) {
         Ok(script) => run_script(rt, path, script, editor),
         Err(_) => Err(Failure::NotText),
     }

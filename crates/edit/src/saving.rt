@@ -5,22 +5,29 @@ use program_input::{InputFault, read_input};
 use std::fs::{File, OpenOptions};
 use std::io::{ErrorKind, Write};
 use std::{fs, io};
-use thiserror::Error;
 
 /// How many names are tried for a text that would be lost.
 const MOST_RECOVERED: u32 = 100;
 
 /// Why a file was not opened.
-#[derive(Clone, Copy, Debug, PartialEq, Eq, Error)]
+#[derive(Clone, Copy, Debug, PartialEq, Eq)]
 pub(crate) enum ReadFault {
-    #[error("not a regular file")]
     NotFile,
-    #[error("cannot be opened")]
     Closed,
-    #[error("cannot be read, or has more than 16 MB")]
     Failed,
-    #[error("out of memory")]
     NoMemory,
+}
+
+impl ReadFault {
+    /// What is said of a file that was not opened.
+    pub(crate) fn words(self) -> &'static str {
+        match self {
+            ReadFault::NotFile => "not a regular file",
+            ReadFault::Closed => "cannot be opened",
+            ReadFault::Failed => "cannot be read, or has more than 16 MB",
+            ReadFault::NoMemory => "out of memory",
+        }
+    }
 }
 
 /// Why a text was not saved. The file has what it had.
@@ -74,12 +81,16 @@ pub(crate) fn bytes_of(rt: &HostRuntime, path: &str) -> Result<Option<Vec<u8>>, 
 /// Saves a text: writes a new file, named as the old one with `.new` behind it, which then takes the name of the old
 /// one. A name that is a link stays one. The new file has the old one's permissions.
 pub(crate) fn save(rt: &HostRuntime, path: &str, text: &Text) -> Result<(), SaveFault> {
-    let Ok(bytes) = text.bytes(rt.alloc()) else {
-        return Err(SaveFault::NoMemory);
-    };
+    match text.bytes(rt.alloc()) {
+        Ok(bytes) => save_bytes(rt, path, &bytes),
+        Err(_) => Err(SaveFault::NoMemory),
+    }
+}
+
+fn save_bytes(rt: &HostRuntime, path: &str, bytes: &[u8]) -> Result<(), SaveFault> {
     match fs::canonicalize(rt, path) {
-        Ok(real) => replace(rt, real.as_path().as_str(), &bytes),
-        Err(error) if error.kind() == ErrorKind::NotFound => save_new(rt, path, &bytes),
+        Ok(real) => replace(rt, real.as_path().as_str(), bytes),
+        Err(error) if error.kind() == ErrorKind::NotFound => save_new(rt, path, bytes),
         Err(error) if error.kind() == ErrorKind::OutOfMemory => Err(SaveFault::NoMemory),
         Err(_) => Err(SaveFault::CannotCreate),
     }
@@ -88,12 +99,16 @@ pub(crate) fn save(rt: &HostRuntime, path: &str, text: &Text) -> Result<(), Save
 /// Saves a text that would be lost: beside the file, with `.recovered` behind its name, or `.recovered.1` and so on if that
 /// is there. Gives the name.
 pub(crate) fn save_beside(rt: &HostRuntime, path: &str, text: &Text) -> Result<String, SaveFault> {
-    let Ok(bytes) = text.bytes(rt.alloc()) else {
-        return Err(SaveFault::NoMemory);
-    };
+    match text.bytes(rt.alloc()) {
+        Ok(bytes) => save_bytes_beside(rt, path, &bytes),
+        Err(_) => Err(SaveFault::NoMemory),
+    }
+}
+
+fn save_bytes_beside(rt: &HostRuntime, path: &str, bytes: &[u8]) -> Result<String, SaveFault> {
     for number in 0..MOST_RECOVERED {
         let name = recovered_name(rt, path, number)?;
-        match create(rt, name.as_str(), path, &bytes) {
+        match create(rt, name.as_str(), path, bytes) {
             Ok(()) => return Ok(name),
             Err(SaveFault::IsThere) => {}
             Err(fault) => return Err(fault),
@@ -125,10 +140,13 @@ fn replace(rt: &HostRuntime, path: &str, bytes: &[u8]) -> Result<(), SaveFault> 
     if is_read_only(rt, path) {
         return Err(SaveFault::ReadOnly);
     }
-    let Ok(beside) = format!(in rt.alloc(); "{path}.new") else {
-        return Err(SaveFault::NoMemory);
-    };
-    let beside = beside.as_str();
+    match format!(in rt.alloc(); "{path}.new") {
+        Ok(beside) => replace_by(rt, path, beside.as_str(), bytes),
+        Err(_) => Err(SaveFault::NoMemory),
+    }
+}
+
+fn replace_by(rt: &HostRuntime, path: &str, beside: &str, bytes: &[u8]) -> Result<(), SaveFault> {
     create(rt, beside, path, bytes)?;
     if fs::rename(rt, beside, path).is_err() {
         let _ = fs::remove_file(rt, beside);

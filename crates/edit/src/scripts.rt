@@ -10,7 +10,7 @@ use crate::editor::Editor;
 use crate::failures::Failure;
 use crate::messages::Message;
 use crate::typing::{take_byte, update};
-use curses::{Device, EcmaScreen, Screen, Size, bundled};
+use curses::{Device, EcmaScreen, Entry, Screen, Size, bundled};
 use screen_scripts::print_screen;
 use std::alloc::Global;
 use std::io::Write;
@@ -32,10 +32,9 @@ struct Script<'a> {
     number: u32,
 }
 
-// What a script runs on: a screen, what it sends, and the terminal that is fed with it.
+// What a screen sends, and the terminal that is fed with it.
 #[derive(Drop)]
-struct Stage {
-    screen: Screen,
+struct Shown {
     out: Device<Vec<u8>>,
     terminal: EcmaScreen,
 }
@@ -95,20 +94,29 @@ pub(crate) fn run_script(
         rest: script,
         number: 0,
     };
+    run_lines(rt, path, &mut script, editor)
+}
+
+fn run_lines(
+    rt: &HostRuntime,
+    path: &str,
+    script: &mut Script<'_>,
+    editor: &mut Editor,
+) -> Result<(), Failure> {
     let Some(Line::Size(first)) = script.next_line()? else {
         return Err(Failure::BadLine(1));
     };
     let mut size = Some(first);
     for _ in 0..u32::MAX {
         size = match size {
-            Some(size) => play_at(rt, path, size, &mut script, editor)?,
+            Some(size) => play_at(rt, path, size, script, editor)?,
             None => return Ok(()),
         };
     }
     Ok(())
 }
 
-// Plays lines on a terminal of this size, and gives the size that it is resized to.
+// Plays lines on a terminal of this size that the bundled entry is for, and gives the size that it is resized to.
 fn play_at(
     rt: &HostRuntime,
     path: &str,
@@ -116,26 +124,54 @@ fn play_at(
     script: &mut Script<'_>,
     editor: &mut Editor,
 ) -> Result<Option<Size>, Failure> {
-    let mut stage = stage_of(rt.alloc(), size)?;
-    play(rt, path, &mut stage, script, editor)
+    let entry = bundled(rt.alloc())?;
+    play_with(rt, path, &entry, size, script, editor)
 }
 
-// A terminal of this size, with a screen opened on it.
-fn stage_of(alloc: Global, size: Size) -> Result<Stage, Failure> {
-    let entry = bundled(alloc)?;
-    let mut screen = Screen::open_sized(alloc, &entry, size)?;
-    prepare(&mut screen);
-    Ok(Stage {
-        screen,
-        out: Device::new(Vec::new(alloc)),
-        terminal: EcmaScreen::new(alloc, size)?,
-    })
+// Opens a screen of this entry, and plays on it.
+fn play_with(
+    rt: &HostRuntime,
+    path: &str,
+    entry: &Entry,
+    size: Size,
+    script: &mut Script<'_>,
+    editor: &mut Editor,
+) -> Result<Option<Size>, Failure> {
+    match Screen::open_sized(rt.alloc(), entry, size) {
+        Ok(mut screen) => play_on(rt, path, &mut screen, script, editor),
+        Err(fault) => Err(Failure::Screen(fault)),
+    }
+}
+
+fn play_on(
+    rt: &HostRuntime,
+    path: &str,
+    screen: &mut Screen,
+    script: &mut Script<'_>,
+    editor: &mut Editor,
+) -> Result<Option<Size>, Failure> {
+    prepare(screen);
+    match EcmaScreen::new(rt.alloc(), screen.screen()) {
+        Ok(terminal) => {
+            let out = Device::new(Vec::new(rt.alloc()));
+            play(
+                rt,
+                path,
+                screen,
+                &mut Shown { out, terminal },
+                script,
+                editor,
+            )
+        }
+        Err(_) => Err(Failure::NoMemory),
+    }
 }
 
 fn play(
     rt: &HostRuntime,
     path: &str,
-    stage: &mut Stage,
+    screen: &mut Screen,
+    shown: &mut Shown,
     script: &mut Script<'_>,
     editor: &mut Editor,
 ) -> Result<Option<Size>, Failure> {
@@ -145,45 +181,51 @@ fn play(
         };
         match line {
             Line::Size(size) => return Ok(Some(size)),
-            Line::Type(text) => type_bytes(rt, path, stage, editor, text.as_bytes()),
+            Line::Type(text) => type_bytes(rt, path, screen, editor, text.as_bytes()),
             Line::Bytes(words) => {
-                if !press_bytes(rt, path, stage, editor, words) {
+                if !press_bytes(rt, path, screen, editor, words) {
                     return Err(script.fault());
                 }
             }
             Line::Idle => {
-                let _ = stage.screen.key_idle();
-                answer(rt, path, stage, editor);
+                let _ = screen.key_idle();
+                answer(rt, path, screen, editor);
                 editor.pause();
             }
-            Line::Show => show(rt, stage, editor)?,
+            Line::Show => show(rt, screen, shown, editor)?,
         }
     }
     Ok(None)
 }
 
-fn type_bytes(rt: &HostRuntime, path: &str, stage: &mut Stage, editor: &mut Editor, bytes: &[u8]) {
+fn type_bytes(
+    rt: &HostRuntime,
+    path: &str,
+    screen: &mut Screen,
+    editor: &mut Editor,
+    bytes: &[u8],
+) {
     for &byte in bytes {
-        type_byte(rt, path, stage, editor, byte);
+        type_byte(rt, path, screen, editor, byte);
     }
 }
 
-fn type_byte(rt: &HostRuntime, path: &str, stage: &mut Stage, editor: &mut Editor, byte: u8) {
-    take_byte(&mut stage.screen, editor, byte);
-    answer(rt, path, stage, editor);
+fn type_byte(rt: &HostRuntime, path: &str, screen: &mut Screen, editor: &mut Editor, byte: u8) {
+    take_byte(screen, editor, byte);
+    answer(rt, path, screen, editor);
 }
 
 // Types bytes in hexadecimal; answers whether all are.
 fn press_bytes(
     rt: &HostRuntime,
     path: &str,
-    stage: &mut Stage,
+    screen: &mut Screen,
     editor: &mut Editor,
     words: &str,
 ) -> bool {
     for word in words.split(' ') {
         match u8::from_str_radix(word, 16) {
-            Ok(byte) => type_byte(rt, path, stage, editor, byte),
+            Ok(byte) => type_byte(rt, path, screen, editor, byte),
             Err(_) => return false,
         }
     }
@@ -191,9 +233,9 @@ fn press_bytes(
 }
 
 // Does what keys ask for. A script cannot be suspended, and goes on where the editor would be left.
-fn answer(rt: &HostRuntime, path: &str, stage: &mut Stage, editor: &mut Editor) {
+fn answer(rt: &HostRuntime, path: &str, screen: &mut Screen, editor: &mut Editor) {
     for _ in 0..u32::MAX {
-        match answer_keys(rt, path, &mut stage.screen, editor) {
+        match answer_keys(rt, path, screen, editor) {
             Next::Read => return,
             Next::Suspend => editor.message = Message::CannotSuspend,
             Next::Leave => editor.message = Message::Left,
@@ -202,16 +244,24 @@ fn answer(rt: &HostRuntime, path: &str, stage: &mut Stage, editor: &mut Editor) 
 }
 
 // Brings the terminal to what the editor shows, and prints it.
-fn show(rt: &HostRuntime, stage: &mut Stage, editor: &mut Editor) -> Result<(), Failure> {
-    stage.out.writer.clear();
-    match update(rt.alloc(), &mut stage.screen, editor, &mut stage.out) {
-        Ok(_) => {}
-        Err(_) => return Err(Failure::NoMemory),
+fn show(
+    rt: &HostRuntime,
+    screen: &mut Screen,
+    shown: &mut Shown,
+    editor: &mut Editor,
+) -> Result<(), Failure> {
+    shown.out.writer.clear();
+    if update(rt.alloc(), screen, editor, &mut shown.out).is_err() {
+        return Err(Failure::NoMemory);
     }
-    let mut lines = Vec::new(rt.alloc());
-    if stage.terminal.feed(&stage.out.writer).is_err() {
+    if shown.terminal.feed(&shown.out.writer).is_err() {
         return Err(Failure::Output);
     }
-    print_screen(&stage.terminal, &mut lines)?;
+    print_terminal(rt, &shown.terminal)
+}
+
+fn print_terminal(rt: &HostRuntime, terminal: &EcmaScreen) -> Result<(), Failure> {
+    let mut lines = Vec::new(rt.alloc());
+    print_screen(terminal, &mut lines)?;
     rt.stdout().write_all(&lines).map_err(|_| Failure::Output)
 }

@@ -18,20 +18,26 @@ pub(crate) enum Sequence {
 impl Sequence {
     /// Whether a key belongs to a sequence that is begun, behind its escape.
     pub(crate) fn has(self, key: Key) -> bool {
-        match (self, key) {
-            (Sequence::Escape, Key::Byte(byte)) => byte == b'[' || byte == b'O',
-            (Sequence::Control | Sequence::Single, Key::Byte(byte)) => matches!(byte, 32..=126),
-            _ => false,
+        let Key::Byte(byte) = key else {
+            return false;
+        };
+        match self {
+            Sequence::Outside => false,
+            Sequence::Escape => byte == b'[' || byte == b'O',
+            Sequence::Control | Sequence::Single => matches!(byte, 32..=126),
         }
     }
 
     /// How far it is read after a key.
     pub(crate) fn after(self, key: Key) -> Sequence {
-        match (self, key) {
-            (_, Key::Byte(27)) => Sequence::Escape,
-            (Sequence::Escape, Key::Byte(b'[')) => Sequence::Control,
-            (Sequence::Escape, Key::Byte(b'O')) => Sequence::Single,
-            (Sequence::Control, Key::Byte(32..=63)) => Sequence::Control,
+        let Key::Byte(byte) = key else {
+            return Sequence::Outside;
+        };
+        match self {
+            _ if byte == 27 => Sequence::Escape,
+            Sequence::Escape if byte == b'[' => Sequence::Control,
+            Sequence::Escape if byte == b'O' => Sequence::Single,
+            Sequence::Control if matches!(byte, 32..=63) => Sequence::Control,
             _ => Sequence::Outside,
         }
     }

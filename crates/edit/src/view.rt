@@ -39,7 +39,7 @@ pub(crate) fn printable_length(text: &[u8]) -> usize {
 /// The column, from the line's first, in which the byte behind the first `count` bytes is shown.
 pub(crate) fn column_of(line: &[u8], count: usize) -> usize {
     let mut column = 0usize;
-    for &byte in line.iter().take(count) {
+    for &byte in line.get(..count).unwrap_or(line) {
         column = column.saturating_add(width_of(byte));
     }
     column
