@@ -23,26 +23,32 @@ fn command<'a>(alloc: Global) -> Result<Command<'a>, AllocError> {
     Command::new(alloc, "edit")
         .version("0.1.0")
         .about("Edits a text file on the terminal; run it by run-on-terminal")
-        .arg(
-            Arg::new(alloc, "bundled")
-                .short('b')
-                .long("bundled")
-                .action(ArgAction::SetTrue)
-                .help("Uses the bundled ECMA-48 entry, whatever TERM names"),
-        )?
-        .arg(
-            Arg::new(alloc, "script")
-                .short('s')
-                .long("script")
-                .action(ArgAction::SetTrue)
-                .help("Reads keys from a script, and prints what an emulated terminal shows"),
-        )?
-        .arg(
-            Arg::new(alloc, "file")
-                .required(true)
-                .value_name("FILE")
-                .help("The file to edit"),
-        )
+        .arg(bundled(alloc))?
+        .arg(script(alloc))?
+        .arg(file(alloc))
+}
+
+fn bundled<'a>(alloc: Global) -> Arg<'a> {
+    Arg::new(alloc, "bundled")
+        .short('b')
+        .long("bundled")
+        .action(ArgAction::SetTrue)
+        .help("Uses the bundled ECMA-48 entry, whatever TERM names")
+}
+
+fn script<'a>(alloc: Global) -> Arg<'a> {
+    Arg::new(alloc, "script")
+        .short('s')
+        .long("script")
+        .action(ArgAction::SetTrue)
+        .help("Reads keys from a script, and prints what an emulated terminal shows")
+}
+
+fn file<'a>(alloc: Global) -> Arg<'a> {
+    Arg::new(alloc, "file")
+        .required(true)
+        .value_name("FILE")
+        .help("The file to edit")
 }
 
 /// What a parsed command line asks for.
