@@ -36,7 +36,7 @@ pub fn dump_windows(screen: &Screen, bytes: &mut Buffer) {
 // Adds what a window tells, its cells, and which of its lines are touched.
 fn dump_window(window: &WindowRef<'_>, bytes: &mut Buffer) {
     for name in FIELDS {
-        let _is_one = add_field(window, name, bytes);
+        let _added = add_field(window, name, bytes);
     }
     let (rows, _) = window.size();
     for row in 0..rows {

@@ -33,8 +33,8 @@ pub struct Part {
 impl Part {
     /// Whether a place of the window lies in it.
     pub fn holds(&self, row: u32, column: u32) -> bool {
-        let (below, right) = (row.checked_sub(self.row), column.checked_sub(self.column));
-        is_below(below, self.rows) && is_below(right, self.columns)
+        let (down, across) = (row.checked_sub(self.row), column.checked_sub(self.column));
+        is_below(down, self.rows) && is_below(across, self.columns)
     }
 }
 

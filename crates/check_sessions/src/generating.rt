@@ -45,7 +45,7 @@ impl About {
     }
 }
 
-/// How the writer fails in the next update: most often it does not, or past all that is sent.
+/// How the writer fails in the next update: usually not, or only after the last byte.
 pub fn next_fails(random: &mut Random) -> Fails {
     let most = if random.below(2) == 0 { 60 } else { 700 };
     let behind = random.below(most);

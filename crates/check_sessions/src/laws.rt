@@ -1,4 +1,4 @@
-//! What has to hold of the windows behind any call, whatever it was: a refused call changes nothing that can be seen of
+//! What has to hold of the windows after any call, whatever it was: a refused call changes nothing that can be seen of
 //! them; a window that lies in another holds what that holds there; and only a call that writes on a window changes
 //! cells, those of that window, whose lines it touches.
 
@@ -25,7 +25,7 @@ pub struct Before {
     roots: Vec<Root>,
     cells: Vec<Cell>,
     seen: Buffer,
-    // Room for what is seen behind it.
+    // Room for what is seen after it.
     now: Buffer,
 }
 
@@ -70,7 +70,7 @@ impl Before {
         Ok(())
     }
 
-    /// What is wrong behind a call that was answered so, if anything is.
+    /// What is wrong after a call that was answered so, if anything is.
     pub fn trouble_of(
         &mut self,
         screen: &Screen,

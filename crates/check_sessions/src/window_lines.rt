@@ -25,8 +25,8 @@ pub static FIELDS: [&str; 11] = [
     "leave_ok",
 ];
 
-/// The lines `screen_size`, `count`, `nth INDEX`, `rows W`, `touched W`, `line W R`, `attributes W R` and `pairs W R`, and
-/// `window W FIELD`, `window W is_touched R` and `window W line R`. Tells whether a line is one of them.
+/// The lines `screen_size`, `count`, `nth INDEX`, `rows W`, `touched W`, `line W R`, `attributes W R` and `pairs W R`,
+/// and `window W FIELD`, `window W is_touched R` and `window W line R`. Tells whether a line is one of them.
 pub fn answer_of_windows(
     screen: &Screen,
     word: &str,
@@ -149,19 +149,29 @@ fn add_lent(
     came: &mut Buffer,
 ) -> Result<(), Trouble> {
     match (lent, row) {
-        (Ok(window), Some(row)) => add_lent_row(&window, name, row, came),
+        (Ok(window), Some(row)) => return add_lent_row(&window, name, row, came),
         (Ok(window), None) => return add_field(&window, name, came),
         (Err(fault), _) => add_name(&fault, came),
     }
     Ok(())
 }
 
-fn add_lent_row(window: &WindowRef<'_>, name: &str, row: u32, came: &mut Buffer) {
-    if name == "line" {
-        add_text_of(line_of(window, row), came);
-    } else {
-        add_flag(is_touched(window, row), came);
+fn add_lent_row(
+    window: &WindowRef<'_>,
+    name: &str,
+    row: u32,
+    came: &mut Buffer,
+) -> Result<(), Trouble> {
+    let (rows, _) = window.size();
+    if row >= rows {
+        return Err(Trouble::Bad("no row of the window"));
     }
+    if name == "line" {
+        add_text_of(window.line(row), came);
+    } else {
+        add_flag(window.is_touched(row), came);
+    }
+    Ok(())
 }
 
 /// The cells of a line of a window, none where it has no such line.

@@ -1,9 +1,8 @@
-//! A first program: a greeting in a box, until a key is pressed. A word behind its name asks for the bundled entry.
+//! A first program: a greeting in a box, until a key is pressed. Any argument selects the bundled entry.
 #![tactic(auto)]
 
 use anyhow::Result;
 use curses::{Attrs, Screen, Win, bundled};
-use std::env;
 use terminal_screen::{Event, TerminalScreen};
 
 fn draw(screen: &mut Screen) -> Result<()> {
@@ -14,8 +13,7 @@ fn draw(screen: &mut Screen) -> Result<()> {
     screen.attr_off(Win(0), Attrs::REVERSE)?;
     screen.move_cursor(Win(0), 4, 4)?;
     let _ = screen.add_text(Win(0), b"press a key ")?;
-    screen.noutrefresh(Win(0))?;
-    Ok(())
+    Ok(screen.noutrefresh(Win(0))?)
 }
 
 fn greet(rt: &HostRuntime, terminal: &mut TerminalScreen) -> Result<()> {
@@ -30,11 +28,12 @@ fn greet(rt: &HostRuntime, terminal: &mut TerminalScreen) -> Result<()> {
 }
 
 fn main(rt: HostRuntime) -> Result<()> {
-    let mut terminal = match env::args(&rt)?.count() {
+    let mut terminal = match std::env::args(&rt)?.count() {
         0 | 1 => TerminalScreen::open(&rt)?,
         _ => TerminalScreen::open_entry(&rt, bundled(rt.alloc())?)?,
     };
     let greeted = greet(&rt, &mut terminal);
-    terminal.close()?;
-    greeted
+    let closed = terminal.close();
+    greeted?;
+    Ok(closed?)
 }

@@ -62,20 +62,28 @@ fn shown(alloc: Global, size: Size) -> Result<EcmaScreen> {
     Ok(terminal)
 }
 
-// A program on a screen that is opened: it starts, shows a word in reverse video, and closes.
-fn run(alloc: Global, screen: &mut Screen, out: &mut Device<Vec<u8>>) -> Result<()> {
-    screen.start(out)?;
+// Shows a word in reverse video.
+fn show(alloc: Global, screen: &mut Screen, out: &mut Device<Vec<u8>>) -> Result<()> {
     screen.attr_on(Win(0), Attrs::REVERSE)?;
     let _ = screen.add_text(Win(0), b"Goodbye")?;
     screen.noutrefresh(Win(0))?;
     let _ = screen.doupdate(alloc, out)?;
-    screen.close(out)?;
+    Ok(())
+}
+
+// A program on a screen that is opened: it starts, shows a word, and closes, whatever came of that.
+fn run(alloc: Global, screen: &mut Screen, out: &mut Device<Vec<u8>>) -> Result<()> {
+    screen.start(out)?;
+    let shown = show(alloc, screen, out);
+    let closed = screen.close(out);
+    shown?;
+    closed?;
     Ok(())
 }
 
 // Opens a screen, and runs the program on it.
 fn run_on(alloc: Global, entry: &Entry, size: Size, out: &mut Device<Vec<u8>>) -> Result<()> {
-    let mut screen = Screen::open(alloc, entry, Some(size))?;
+    let mut screen = Screen::open_sized(alloc, entry, size)?;
     run(alloc, &mut screen, out)
 }
 
@@ -114,8 +122,7 @@ fn compare(rt: &HostRuntime, terminal: &EcmaScreen) -> Result<()> {
     for row in 0..terminal.size().rows {
         let text = text_of(rt.alloc(), terminal.row(row))?;
         if text.as_str() != WANTED[row as usize % 5] {
-            println!(rt; "row {row} differs: {text}")?;
-            return Ok(());
+            bail!("row {row} differs: {text}");
         }
     }
     println!(rt; "shown as wanted")?;

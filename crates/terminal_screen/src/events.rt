@@ -7,9 +7,9 @@ use curses::Key;
 pub enum Event {
     /// A key was pressed.
     Key(Key),
-    /// The screen is another one, blank and without windows: the terminal has a new size.
+    /// The terminal has a new size, and the screen is a new one of that size, blank and with its first window alone.
     Resized,
-    /// The terminal was given back and is the program's again: the next update paints all of it.
+    /// The program was suspended, or could not be: nothing is known of what the terminal shows, so update it.
     Continued,
     /// The input has ended, or the program is asked to end.
     Ended,

@@ -19,10 +19,10 @@ pub enum TerminalFault {
     /// An update ended early.
     #[error("{0}")]
     Update(#[from] UpdateFault),
-    /// The terminal could not be given back.
+    /// The opening or the closing text could not be sent.
     #[error("{0}")]
-    Close(#[from] SendFault),
-    /// More bytes wait than keys can be read of.
+    Send(#[from] SendFault),
+    /// Memory ran out for keys.
     #[error("{0}")]
     Keys(#[from] KeyFault),
     /// The keyboard or the clock cannot be read.

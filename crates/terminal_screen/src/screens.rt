@@ -10,11 +10,12 @@ use std::io::{BufWriter, Stdout};
 use terminal_line::{Input, TerminalLine};
 use ti_database::find;
 
-/// The key that asks for suspension: `^Z`, as at a shell's own line.
+// The key that asks for suspension: `^Z`, as at a shell's own line.
 const SUSPEND: Key = Key::Byte(26);
 
-// How many bytes of the keyboard are read at a time.
-const PIECE: usize = 64;
+// How many bytes of the keyboard are read at a time: so few that their keys always have room in the queue, which is empty
+// where the keyboard is read.
+const PIECE: usize = 16;
 
 /// The screen of the terminal that a program runs on, from its opening to its close.
 #[derive(Drop)]
@@ -23,8 +24,8 @@ pub struct TerminalScreen {
     line: TerminalLine,
     screen: Screen,
     out: Device<BufWriter<Stdout>>,
-    // Whether the last thing that was sent is an update that ended well, so that nothing is owed.
-    is_shown: bool,
+    // Whether what was sent last went out whole, so that nothing is owed.
+    is_whole: bool,
 }
 
 impl TerminalScreen {
@@ -37,17 +38,17 @@ impl TerminalScreen {
         TerminalScreen::open_entry(rt, entry)
     }
 
-    /// The same on an entry that the program has, such as the bundled one.
+    /// Like `open`, on an entry that the caller supplies, such as the bundled one.
     pub fn open_entry(rt: &HostRuntime, entry: Entry) -> Result<TerminalScreen, TerminalFault> {
         let line = TerminalLine::open(rt)?;
         let out = device(rt)?;
-        let screen = open_screen(rt.alloc(), &entry, line.size())?;
+        let screen = Screen::open(rt.alloc(), &entry, line.size())?;
         Ok(started(TerminalScreen {
             entry,
             line,
             screen,
             out,
-            is_shown: false,
+            is_whole: false,
         }))
     }
 
@@ -56,22 +57,21 @@ impl TerminalScreen {
         &mut self.screen
     }
 
-    /// Brings the terminal to the virtual screen, by one write.
+    /// Brings the terminal to the virtual screen. It is sent in pieces of 8,192 bytes, most updates in one.
     pub fn update(&mut self, alloc: Global) -> Result<Sent, TerminalFault> {
         let updated = self.screen.doupdate(alloc, &mut self.out);
-        self.is_shown = updated.is_ok();
+        self.is_whole = updated.is_ok();
         match updated {
             Ok(sent) => Ok(sent),
             Err(fault) => Err(TerminalFault::Update(fault)),
         }
     }
 
-    /// Waits for a key, for another size of the terminal, or for the end. `^Z` suspends the program until its user
-    /// continues it, and is a key only where nobody suspends programs.
+    /// Waits for a key, a resize, or the end. `^Z` is no key: it suspends the program until its user continues it.
     pub fn event(&mut self, rt: &HostRuntime) -> Result<Event, TerminalFault> {
         for _ in 0..u64::MAX {
             if let Some(key) = self.screen.key() {
-                return Ok(self.pressed(rt, key));
+                return self.pressed(rt, key);
             }
             if let Some(event) = self.read(rt)? {
                 return Ok(event);
@@ -83,32 +83,46 @@ impl TerminalScreen {
     /// Gives the terminal back: without attributes, with the cursor on its last line, and out of the modes of
     /// full-screen programs.
     pub fn close(&mut self) -> Result<(), TerminalFault> {
-        match self.screen.close(&mut self.out) {
+        let closed = self.screen.close(&mut self.out);
+        self.is_whole = closed.is_ok();
+        match closed {
             Ok(_) => Ok(()),
-            Err(fault) => Err(TerminalFault::Close(fault)),
+            Err(fault) => Err(TerminalFault::Send(fault)),
+        }
+    }
+
+    /// Takes the terminal again after a close. The next update paints all of it.
+    pub fn start(&mut self) -> Result<(), TerminalFault> {
+        let started = self.screen.start(&mut self.out);
+        self.is_whole = started.is_ok();
+        match started {
+            Ok(_) => Ok(()),
+            Err(fault) => Err(TerminalFault::Send(fault)),
         }
     }
 
     // What a key that was pressed means.
-    fn pressed(&mut self, rt: &HostRuntime, key: Key) -> Event {
-        if key == SUSPEND && self.suspend(rt) {
-            Event::Continued
+    fn pressed(&mut self, rt: &HostRuntime, key: Key) -> Result<Event, TerminalFault> {
+        if key == SUSPEND {
+            self.suspend(rt)
         } else {
-            Event::Key(key)
+            Ok(Event::Key(key))
         }
     }
 
-    // Gives the terminal back, and takes it again when the user continues the program. Answers whether it was suspended.
-    fn suspend(&mut self, rt: &HostRuntime) -> bool {
-        self.is_shown = false;
-        let _ = self.screen.close(&mut self.out);
-        let is_suspended = self.line.suspend(rt);
-        let _ = self.screen.start(&mut self.out);
-        is_suspended
+    // Gives the terminal back, and takes it again when the user continues the program, at the size that it has then.
+    fn suspend(&mut self, rt: &HostRuntime) -> Result<Event, TerminalFault> {
+        let _ = self.close();
+        let _ = self.line.suspend(rt);
+        let followed = self.follow_size(rt.alloc());
+        let _ = self.start();
+        match followed? {
+            Some(event) => Ok(event),
+            None => Ok(Event::Continued),
+        }
     }
 
-    // Reads the keyboard once. The size is followed while nothing is typed, since a new screen knows nothing of a key
-    // whose first bytes came, and behind an update that ended well.
+    // Reads the keyboard once.
     fn read(&mut self, rt: &HostRuntime) -> Result<Option<Event>, TerminalFault> {
         let mut piece = [0u8; PIECE];
         match self.line.read(rt, &mut piece) {
@@ -116,7 +130,7 @@ impl TerminalScreen {
                 self.take(&piece[..count])?;
                 Ok(None)
             }
-            Input::Idle => self.idle(rt.alloc()),
+            Input::Idle => self.idle(rt),
             Input::Ended => Ok(Some(Event::Ended)),
             Input::Failed => Err(TerminalFault::Input),
         }
@@ -131,16 +145,25 @@ impl TerminalScreen {
         Ok(())
     }
 
-    // No byte came for a while.
-    fn idle(&mut self, alloc: Global) -> Result<Option<Event>, TerminalFault> {
+    // No byte came for a while. The size is followed where nothing is typed, since a new screen knows nothing of a key
+    // whose first bytes came.
+    fn idle(&mut self, rt: &HostRuntime) -> Result<Option<Event>, TerminalFault> {
         if let Err(fault) = self.screen.key_idle() {
             return Err(TerminalFault::Keys(fault));
         }
+        if let Some(key) = self.screen.key() {
+            return Ok(Some(self.pressed(rt, key)?));
+        }
+        self.follow_size(rt.alloc())
+    }
+
+    // Opens a screen of the terminal's size, if that is another now. What a failed write left of a text is owed by the
+    // old screen alone, which then stays.
+    fn follow_size(&mut self, alloc: Global) -> Result<Option<Event>, TerminalFault> {
         let Some(size) = self.line.size() else {
             return Ok(None);
         };
-        // What a failed write left of a text is owed by this screen alone.
-        if !self.is_shown || size == self.screen.screen() {
+        if !self.is_whole || size == self.screen.screen() {
             return Ok(None);
         }
         match reopen(alloc, &self.entry, size, &mut self.screen) {
@@ -153,7 +176,7 @@ impl TerminalScreen {
 // Starts a screen. What a failed write leaves of the opening text is sent by the first update.
 fn started(opened: TerminalScreen) -> TerminalScreen {
     let mut terminal = opened;
-    let _ = terminal.screen.start(&mut terminal.out);
+    let _ = terminal.start();
     terminal
 }
 
@@ -180,10 +203,6 @@ fn device(rt: &HostRuntime) -> Result<Device<BufWriter<Stdout>>, TerminalFault> 
     }
 }
 
-fn open_screen(alloc: Global, entry: &Entry, size: Option<Size>) -> Result<Screen, OpenFault> {
-    Screen::open(alloc, entry, size)
-}
-
 // Opens a screen of this size in place of another.
 fn reopen(alloc: Global, entry: &Entry, size: Size, screen: &mut Screen) -> Result<(), OpenFault> {
     match Screen::open_sized(alloc, entry, size) {
@@ -195,6 +214,7 @@ fn reopen(alloc: Global, entry: &Entry, size: Size, screen: &mut Screen) -> Resu
     }
 }
 
+// Puts a value in the place of another: proved once, and not again where the other is as large as a screen.
 fn put<T: Drop>(place: &mut T, value: T) {
     *place = value;
 }
