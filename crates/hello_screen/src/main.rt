@@ -6,12 +6,13 @@ use curses::{Attrs, Screen, Win, bundled};
 use terminal_screen::{Event, TerminalScreen};
 
 fn draw(screen: &mut Screen) -> Result<()> {
+    let (rows, columns) = screen.size(Win(0))?;
     screen.border(Win(0), *b"||--++++")?;
-    screen.move_cursor(Win(0), 2, 4)?;
+    screen.move_cursor(Win(0), rows.min(5) / 2, columns.min(9) / 2)?;
     screen.attr_on(Win(0), Attrs::REVERSE)?;
     let _ = screen.add_text(Win(0), b" Hello from Huttavel ")?;
     screen.attr_off(Win(0), Attrs::REVERSE)?;
-    screen.move_cursor(Win(0), 4, 4)?;
+    screen.move_cursor(Win(0), rows.min(8) / 2, columns.min(9) / 2)?;
     let _ = screen.add_text(Win(0), b"press a key ")?;
     Ok(screen.noutrefresh(Win(0))?)
 }
