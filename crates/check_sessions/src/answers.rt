@@ -2,7 +2,7 @@
 
 use check_scripts::answers::{add_cell, add_flag, add_name, add_number, add_place, add_word};
 use check_scripts::buffers::Buffer;
-use curses::{Answer, UpdateFault};
+use curses::{Answer, Report, UpdateFault};
 use scr_windows::{Added, WinFault};
 use std::io::ErrorKind;
 
@@ -23,6 +23,17 @@ pub fn add_answer(answer: &Answer, words: &mut Buffer) {
         }
         Answer::Failed(fault) => add_fault(fault, words),
     }
+}
+
+/// Adds the answers of a session, and tells whether there was memory for all calls.
+pub fn add_answers(report: &Report, answers: &mut Buffer) -> bool {
+    for answer in &report.answers.0 {
+        if ran_out(answer) {
+            return false;
+        }
+        add_answer(answer, answers);
+    }
+    true
 }
 
 /// Whether a call wanted memory and got none.

@@ -1,6 +1,6 @@
 //! A screen whose calls and answers are kept, and the emulated screen that is fed what its updates send.
 
-use crate::answers::{add_answer, ran_out};
+use crate::answers::{add_answer, add_answers, ran_out};
 use crate::bounds::Left;
 use crate::displays::{Display, open_display};
 use crate::ends::{End, add_sent, has_ends};
@@ -343,17 +343,6 @@ impl Recorded {
             && device.failed_puts == self.device.failed_puts
             && device.failed_finishes == self.device.failed_finishes
     }
-}
-
-// Adds the answers of a session, and tells whether there was memory for all calls.
-fn add_answers(report: &Report, answers: &mut Buffer) -> bool {
-    for answer in &report.answers.0 {
-        if ran_out(answer) {
-            return false;
-        }
-        add_answer(answer, answers);
-    }
-    true
 }
 
 // How an update ended.
