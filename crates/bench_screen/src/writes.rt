@@ -7,15 +7,16 @@ use curses::{Counted, Device, Screen};
 use std::alloc::Global;
 use std::io::BufWriter;
 
-// Starts, fills and closes a screen.
+// Starts, fills and closes a screen, also where the update ends early.
 fn paint<W: Counted>(alloc: Global, screen: &mut Screen, out: &mut W) -> Result<()> {
     fill(screen, FIRST, b'x')?;
     screen.noutrefresh(FIRST)?;
     screen.start(out)?;
-    if screen.doupdate(alloc, out).is_err() {
+    let is_whole = screen.doupdate(alloc, out).is_ok();
+    screen.close(out)?;
+    if !is_whole {
         bail!("the update ended early");
     }
-    screen.close(out)?;
     Ok(())
 }
 

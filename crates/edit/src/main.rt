@@ -32,7 +32,7 @@ use failures::Failure;
 use living::{Around, run_on_terminal};
 use messages::Message;
 use program_input::{InputFault, read_input};
-use saving::{ReadFault, bytes_of, save_beside};
+use saving::{ReadFault, SaveFault, bytes_of, save_beside};
 use scripts::run_script;
 use std::alloc::Global;
 use std::env::VarError;
@@ -40,6 +40,9 @@ use std::process::ExitCode;
 use std::{env, io};
 use ti_database::find;
 use words::Task;
+
+/// How often it is tried to save a text that would be lost, where memory runs out.
+const MOST_RESCUES: u32 = 3;
 
 fn main(rt: HostRuntime) -> ExitCode {
     let status = match words_given(&rt) {
@@ -203,7 +206,7 @@ fn entry_named(rt: &HostRuntime, name: &str) -> Result<Entry, Failure> {
 
 // Saves a text that would be lost beside the file, and says where.
 fn rescue(rt: &HostRuntime, path: &str, editor: &Editor) {
-    match save_beside(rt, path, &editor.text) {
+    match rescued(rt, path, editor) {
         Ok(name) => {
             let _ = eprintln!(rt; "edit: the changed text is in {name}");
         }
@@ -211,4 +214,15 @@ fn rescue(rt: &HostRuntime, path: &str, editor: &Editor) {
             let _ = eprintln!(rt; "edit: the changed text is lost: {}", fault.words());
         }
     }
+}
+
+// Saves such a text. The screen's memory is free by now, so where there was none it tries again.
+fn rescued(rt: &HostRuntime, path: &str, editor: &Editor) -> Result<String, SaveFault> {
+    for _ in 1..MOST_RESCUES {
+        match save_beside(rt, path, &editor.text) {
+            Err(SaveFault::NoMemory) => {}
+            saved => return saved,
+        }
+    }
+    save_beside(rt, path, &editor.text)
 }
