@@ -7,9 +7,9 @@ use Rattle.std.proofs.lemmas.List.{append-nil}
 use Rattle.scr_term.specs.Operations.Ecma48.{ecma48_profile}
 use Rattle.scr_plan.specs.Memories.{MemoryView}
 use Rattle.scr_virtual.specs.VirtualViews.{VirtualView}
-use Rattle.screen_commands.specs.Commands.{command_of}
-use Rattle.screen_commands.specs.Lines.{lines_of}
-use Rattle.screen_commands.specs.declared.commands.Command.{Command}
+use Rattle.screen_scripts.specs.Commands.{command_of}
+use Rattle.screen_scripts.specs.Lines.{lines_of}
+use Rattle.screen_scripts.specs.declared.commands.Command.{Command}
 use Rattle.curses.specs.ScreenStates.{ScreenState}
 use Rattle.curses.specs.Sessions.{memory_marked}
 use Rattle.screen_scripts.specs.declared.effects.Effects.{Effects}

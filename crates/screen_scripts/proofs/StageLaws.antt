@@ -18,7 +18,7 @@ use Rattle.scr_plan.specs.MemoryRuns.{MemoryRuns}
 use Rattle.scr_windows.specs.DeskViews.{first_desk}
 use Rattle.scr_virtual.specs.VirtualViews.{blank_virtual}
 use Rattle.curses.specs.ScreenStates.{ScreenState}
-use Rattle.screen_commands.specs.declared.commands.Command.TheVariants.{Size as SizeCommand}
+use Rattle.screen_scripts.specs.declared.commands.Command.TheVariants.{Size as SizeCommand}
 use Rattle.screen_scripts.specs.declared.stages.Stage.{Stage as Playing}
 use Rattle.screen_scripts.specs.Stories.{Outcome, Stage, bundled_description, bundled_keys, first_stage}
 use Rattle.screen_scripts.specs.Running.{IsOpenedOn}

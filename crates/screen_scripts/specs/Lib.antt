@@ -1,3 +1,6 @@
+pub mod Lines
+pub mod Fields
+pub mod Commands
 pub mod Stories
 pub mod Printing
 pub mod Showing

@@ -6,7 +6,7 @@ use Rattle.ti_caps.specs.Bundled.{IsBundled}
 use Rattle.ti_caps.specs.Description.{Description}
 use Rattle.curses.specs.Opening.{IsOpened}
 use Rattle.curses.specs.ScreenStates.{ScreenState}
-use Rattle.screen_commands.specs.declared.commands.Command.{Command}
+use Rattle.screen_scripts.specs.declared.commands.Command.{Command}
 use Rattle.screen_scripts.specs.declared.stages.Stage.{Stage as Playing}
 use Rattle.screen_scripts.specs.Stories.{Outcome, continued}
 use Rattle.screen_scripts.specs.Printing.{GrewByBeginning, refusals_of}

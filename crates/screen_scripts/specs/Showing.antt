@@ -22,8 +22,8 @@ use Rattle.curses.specs.declared.calls.values.Call.{Call}
 use Rattle.curses.specs.Making.{drawn_of}
 use Rattle.curses.specs.ScreenStates.{ScreenState}
 use Rattle.curses.specs.Sessions.{begun_of, marked_by, memory_marked}
-use Rattle.screen_commands.specs.Commands.{command_of}
-use Rattle.screen_commands.specs.declared.commands.Command.{Command}
+use Rattle.screen_scripts.specs.Commands.{command_of}
+use Rattle.screen_scripts.specs.declared.commands.Command.{Command}
 use Rattle.screen_scripts.specs.declared.effects.Effects.{Effects}
 use Rattle.screen_scripts.specs.declared.effects.Note.{Note}
 use Rattle.screen_scripts.specs.declared.effects.Note.TheVariants as notes

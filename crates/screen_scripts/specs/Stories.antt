@@ -19,10 +19,10 @@ use Rattle.curses.specs.declared.answers.Answer.TheVariants as answers
 use Rattle.curses.specs.declared.calls.values.Call.{Call}
 use Rattle.curses.specs.declared.calls.values.Call.TheVariants.{AddText, MoveCursor, Noutrefresh}
 use Rattle.curses.specs.Sessions.{Drawn, first_drawn, is_update, marked_by, screen_call}
-use Rattle.screen_commands.specs.Commands.{command_of}
-use Rattle.screen_commands.specs.Lines.{lines_of}
-use Rattle.screen_commands.specs.declared.commands.Command.{Command}
-use Rattle.screen_commands.specs.declared.commands.Command.TheVariants as commands
+use Rattle.screen_scripts.specs.Commands.{command_of}
+use Rattle.screen_scripts.specs.Lines.{lines_of}
+use Rattle.screen_scripts.specs.declared.commands.Command.{Command}
+use Rattle.screen_scripts.specs.declared.commands.Command.TheVariants as commands
 
 -- ---- events
 

@@ -1,9 +1,14 @@
-//! Running scripts that draw on a screen: what each line does, and what is printed for it.
+//! Scripts that draw on a screen: reading their lines as commands, what each line does, and what is printed for it.
 #![tactic(auto)]
 
+mod commands;
+mod cuts;
 mod effects;
 mod faults;
+mod fields;
+mod line_faults;
 mod making;
+mod numbered;
 mod obeying;
 mod pressing;
 mod printing;
@@ -11,5 +16,8 @@ mod running;
 mod showing;
 mod stages;
 
+pub use commands::{Command, read_command};
+pub use cuts::cut_line;
+pub use line_faults::LineFault;
 pub use printing::print_screen;
 pub use running::{DemoFault, refusals, run};

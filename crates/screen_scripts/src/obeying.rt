@@ -1,6 +1,6 @@
 //! Executing the commands of a script on its screen.
 ghost use Rattle.std.specs.Prelude.{◌≡◌, None, Some, IfOk, IsErrOf};
-ghost use Rattle.screen_commands.specs.declared.commands.Command.{Command};
+ghost use Rattle.screen_scripts.specs.declared.commands.Command.{Command};
 ghost use Rattle.screen_scripts.specs.Stories.{added, continued, shown};
 ghost use Rattle.screen_scripts.specs.Showing.{IsReady, Obeys, ObeysSome, stage_of};
 
@@ -10,7 +10,8 @@ use crate::pressing::{idle, press};
 use curses::{Call, Screen};
 use scr_cells::NoMemory;
 use scr_windows::Win;
-use screen_commands::{Command, LineFault};
+use crate::commands::Command;
+use crate::line_faults::LineFault;
 use std::alloc::Global;
 use ti_caps::Bytes;
 

@@ -8,7 +8,8 @@ use curses::Screen;
 use scr_cells::{NoMemory, Size};
 use scr_plan::memory_runs;
 use scr_term::{EcmaScreen, blank_laws, ecma48_laws};
-use screen_commands::{Command, LineFault};
+use crate::commands::Command;
+use crate::line_faults::LineFault;
 use std::alloc::Global;
 use ti_caps::bundled;
 

@@ -1,6 +1,6 @@
 use Rattle.std.proofs.Common.{◌≡◌, rules, subst, sym}
 use Rattle.scr_cells.specs.PictureViews.{IsSize}
-use Rattle.screen_commands.specs.declared.commands.Command.{Command}
+use Rattle.screen_scripts.specs.declared.commands.Command.{Command}
 use Rattle.screen_scripts.specs.Showing.{IsFirst, Opens}
 use Rattle.screen_scripts.proofs.StageLaws.{opens}
 use Rattle.screen_scripts.proofs.stages.open_stage.Goals as goal

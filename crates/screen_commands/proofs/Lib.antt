@@ -1,4 +1,0 @@
-pub mod CutLaws
-pub mod FieldLaws
-pub mod LineLaws
-pub mod NumberLaws

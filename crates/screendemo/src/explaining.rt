@@ -1,0 +1,152 @@
+//! The lines that explain an update.
+
+use crate::pages::Page;
+use crate::pricing::{joined_price, price_of, scratch_price};
+use crate::scripts::{count_updates, first_size};
+use crate::stages::{Stage, open, run_to_update};
+use scr_cells::{NoMemory, Size};
+use scr_term::{Op, Ops, Profile};
+use screen_scripts::{DemoFault, cut_line};
+use std::alloc::Global;
+
+// The widths of an operation's name and of the number of its bytes.
+const NAME_WIDTH: usize = 16;
+
+const COUNT_WIDTH: usize = 4;
+
+/// Explains the last update of a script: a line for each operation, with characters in a row on one
+/// line, and a last line with the number of all bytes. If the script has no update, there is no
+/// line.
+///
+/// Refused at a bad line of the script, or with `NoMemory`.
+pub fn explanation(alloc: Global, script: &[u8]) -> Result<Vec<u8>, DemoFault> {
+    let mut page = Page::new(alloc);
+    explain(alloc, script, &mut page)?;
+    page.done().map_err(|_| DemoFault::NoMemory)
+}
+
+// Explains the last update of a script, if there is one.
+fn explain(alloc: Global, script: &[u8], page: &mut Page) -> Result<(), DemoFault> {
+    if script.is_empty() {
+        return Ok(());
+    }
+    let (line, lines) = cut_line(script);
+    let size = first_size(alloc, line)?;
+    let updates = count_updates(alloc, lines)?;
+    if updates > 0 {
+        return explain_update(alloc, size, lines, updates, page).map_err(|_| DemoFault::NoMemory);
+    }
+    Ok(())
+}
+
+// Explains the update with this number.
+fn explain_update(
+    alloc: Global,
+    size: Size,
+    lines: &[u8],
+    updates: u32,
+    page: &mut Page,
+) -> Result<(), NoMemory> {
+    let mut stage = open(alloc, size)?;
+    explain_on(alloc, lines, updates, &mut stage, page)
+}
+
+// The same, on a blank stage.
+fn explain_on(
+    alloc: Global,
+    lines: &[u8],
+    updates: u32,
+    stage: &mut Stage,
+    page: &mut Page,
+) -> Result<(), NoMemory> {
+    run_to_update(alloc, lines, updates, stage)?;
+    add_plan(alloc, &stage.profile, &stage.plan, page);
+    add_sums(alloc, stage, page)
+}
+
+// Adds a line for each operation, with characters in a row on one line.
+fn add_plan(alloc: Global, profile: &Profile, plan: &Ops, page: &mut Page) {
+    let mut text = Vec::new(alloc);
+    for op in &plan.0 {
+        add_op(profile, *op, &mut text, page);
+    }
+    add_characters(&mut text, page);
+}
+
+// Adds the line for an operation, after that for the characters before it. A character waits for
+// others, and adds no line.
+fn add_op(profile: &Profile, op: Op, characters: &mut Vec<u8>, page: &mut Page) {
+    if let Op::Put(byte) = op {
+        let pushed = characters.push(byte);
+        page.check(pushed.is_ok());
+    } else {
+        add_characters(characters, page);
+        add_operation(profile, op, characters, page);
+    }
+}
+
+// Adds the line for the waiting characters, if there are any; none wait afterwards.
+fn add_characters(characters: &mut Vec<u8>, page: &mut Page) {
+    let count = characters.len();
+    if count > 0 {
+        let before = page.len();
+        page.add_number(count, 0);
+        page.add(if count == 1 {
+            b" character"
+        } else {
+            b" characters"
+        });
+        add_count(before, count, page);
+        page.add(b"|");
+        page.add(characters);
+        page.add(b"|\n");
+    }
+    characters.clear();
+}
+
+// Adds the line for an operation. `text` is an empty buffer, and is empty again afterwards.
+fn add_operation(profile: &Profile, op: Op, text: &mut Vec<u8>, page: &mut Page) {
+    let before = page.len();
+    page.add_value(&op);
+    if profile.has(op) {
+        let rendered = profile.render(op, text);
+        page.check(rendered.is_ok());
+    }
+    add_count(before, text.len(), page);
+    page.add_spelled(text);
+    page.add(b"\n");
+    text.clear();
+}
+
+// Adds a number of bytes, in its column after a name that begins after `before` bytes.
+fn add_count(before: usize, count: usize, page: &mut Page) {
+    page.add_blanks(page.len(), before.saturating_add(NAME_WIDTH));
+    page.add_number(count, COUNT_WIDTH);
+    page.add(b"  ");
+}
+
+// Adds the number of bytes of the last update of a stage, and of what it is compared with. The
+// terminal executes the joined repaint.
+fn add_sums(alloc: Global, stage: &mut Stage, page: &mut Page) -> Result<(), NoMemory> {
+    let picture = stage.screen.picture();
+    let scratch = scratch_price(alloc, &stage.profile, picture)?;
+    let joined = if stage.is_known {
+        joined_price(alloc, &stage.profile, &mut stage.terminal, picture)?
+    } else {
+        None
+    };
+    add_sum(b"plan ", Some(price_of(&stage.profile, &stage.plan)), page);
+    add_sum(b", joined ", joined, page);
+    add_sum(b", scratch ", scratch, page);
+    page.add(b"\n");
+    Ok(())
+}
+
+// Adds a word and a number.
+fn add_sum(word: &[u8], sum: Option<usize>, page: &mut Page) {
+    page.add(word);
+    match sum {
+        Some(sum) => page.add_number(sum, 0),
+        None => page.add(b"none"),
+    }
+}

@@ -1,0 +1,34 @@
+//! Why the program ends with a status other than 0.
+
+use screen_scripts::DemoFault;
+use thiserror::Error;
+
+/// Why the program ends with a status other than 0.
+#[derive(Debug, Drop, Error)]
+pub enum Failure {
+    /// The command line is not as the usage says.
+    #[error("{0}")]
+    Words(clap::Error),
+    /// A word of the command line is not text.
+    #[error("the words are not all text")]
+    NotText,
+    /// Standard input cannot be read, or is too long.
+    #[error("read failed")]
+    Read,
+    /// The script was not run to its end.
+    #[error("{0}")]
+    Demo(DemoFault),
+    /// Memory ran out.
+    #[error("out of memory")]
+    NoMemory,
+}
+
+impl Failure {
+    /// 2 for a usage error, 1 for any other failure.
+    pub fn status(&self) -> u8 {
+        match self {
+            Failure::Words(_) | Failure::NotText => 2,
+            Failure::Read | Failure::Demo(_) | Failure::NoMemory => 1,
+        }
+    }
+}

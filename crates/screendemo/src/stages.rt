@@ -1,0 +1,165 @@
+//! Running a script up to its last update.
+
+use curses::{Answer, Call, Device, Screen};
+use scr_cells::{NoMemory, Size};
+use scr_term::{Op, Ops, Profile, Terminal};
+use scr_windows::{Win, WinFault};
+use screen_scripts::{Command, cut_line, read_command};
+use std::alloc::Global;
+use ti_caps::{Bytes, bundled};
+
+// The window that exists from the beginning.
+const FIRST: Win = Win(0);
+
+/// A screen on the terminal of the bundled entry, the terminal's profile, and what the last update
+/// sends.
+#[derive(Drop)]
+pub struct Stage {
+    /// The screen.
+    pub screen: Screen,
+    /// The terminal's profile.
+    pub profile: Profile,
+    /// The terminal as the last update finds it.
+    pub terminal: Terminal,
+    /// What the last update sends.
+    pub plan: Ops,
+    /// Whether there is an update before the last, so that what the terminal shows is known.
+    pub is_known: bool,
+}
+
+/// A blank stage. Fails only when memory runs out.
+pub fn open(alloc: Global, size: Size) -> Result<Stage, NoMemory> {
+    let profile = Profile::ecma48(alloc, size).map_err(|_| NoMemory)?;
+    let terminal = Terminal::new(alloc, size)?;
+    let screen = open_screen(alloc, size)?;
+    Ok(Stage {
+        screen,
+        profile,
+        terminal,
+        plan: Ops(Vec::new(alloc)),
+        is_known: false,
+    })
+}
+
+// A screen of this size on the terminal of the bundled entry.
+fn open_screen(alloc: Global, size: Size) -> Result<Screen, NoMemory> {
+    let Ok(entry) = bundled(alloc) else {
+        return Err(NoMemory);
+    };
+    Screen::open(alloc, &entry, Some(size)).map_err(|_| NoMemory)
+}
+
+/// Executes lines up to the update with this number, counted from 1. Fails only when memory runs
+/// out.
+pub fn run_to_update(
+    alloc: Global,
+    lines: &[u8],
+    updates: u32,
+    stage: &mut Stage,
+) -> Result<(), NoMemory> {
+    let mut rest = lines;
+    let mut count: u32 = 0;
+    while !rest.is_empty() {
+        let (line, after) = cut_line(rest);
+        if run_line(alloc, line, stage)? {
+            count = count.saturating_add(1);
+            stage.is_known = count > 1;
+        }
+        if count == updates {
+            break;
+        }
+        rest = after;
+    }
+    Ok(())
+}
+
+// Executes a line, and returns whether it is an update. All lines have been checked before, so only
+// memory can run out.
+fn run_line(alloc: Global, line: &[u8], stage: &mut Stage) -> Result<bool, NoMemory> {
+    match read_command(alloc, line) {
+        Ok(command) => run_command(alloc, command, stage),
+        Err(_) => Err(NoMemory),
+    }
+}
+
+// Executes a command, and returns whether it is an update. Keys change nothing that is shown.
+fn run_command(alloc: Global, command: Command, stage: &mut Stage) -> Result<bool, NoMemory> {
+    match command {
+        Command::Add(row, column, text) => {
+            add(alloc, row, column, text, &mut stage.screen)?;
+            Ok(false)
+        }
+        Command::Show => {
+            make(alloc, &Call::Noutrefresh(FIRST), &mut stage.screen)?;
+            update(alloc, stage)
+        }
+        Command::Make(call) => make_or_update(alloc, &call, stage),
+        Command::Key(_) | Command::Idle | Command::Size(_, _) => Ok(false),
+    }
+}
+
+// Makes a call, and returns whether it is an update.
+fn make_or_update(alloc: Global, call: &Call, stage: &mut Stage) -> Result<bool, NoMemory> {
+    if matches!(call, Call::Doupdate) {
+        return update(alloc, stage);
+    }
+    make(alloc, call, &mut stage.screen)?;
+    Ok(false)
+}
+
+// Moves the cursor of the first window, and adds a text there unless the place is refused.
+fn add(
+    alloc: Global,
+    row: u32,
+    column: u32,
+    text: Bytes,
+    screen: &mut Screen,
+) -> Result<(), NoMemory> {
+    if make(alloc, &Call::MoveCursor(FIRST, row, column), screen)? {
+        make(alloc, &Call::AddText(FIRST, text), screen)?;
+    }
+    Ok(())
+}
+
+// Makes a call that is not an update, and returns whether it was accepted.
+fn make(alloc: Global, call: &Call, screen: &mut Screen) -> Result<bool, NoMemory> {
+    let mut device = Device::new(Vec::new(alloc));
+    match screen.make(alloc, call, &mut device) {
+        Answer::Refused(WinFault::NoMemory) | Answer::Failed(_) => Err(NoMemory),
+        Answer::Refused(_) => Ok(false),
+        _ => Ok(true),
+    }
+}
+
+// Sends the terminal what the previous update sends, and makes another update. Returns true: it is
+// one.
+fn update(alloc: Global, stage: &mut Stage) -> Result<bool, NoMemory> {
+    follow(&stage.profile, &stage.plan, &mut stage.terminal);
+    stage.plan = planned(alloc, &mut stage.screen)?;
+    Ok(true)
+}
+
+// The operations that an update sends.
+fn planned(alloc: Global, screen: &mut Screen) -> Result<Ops, NoMemory> {
+    let mut device = Device::new(Vec::new(alloc));
+    match screen.doupdate(alloc, &mut device) {
+        Ok(sent) => Ok(sent.begun),
+        Err(_) => Err(NoMemory),
+    }
+}
+
+// Executes operations on a terminal.
+fn follow(profile: &Profile, ops: &Ops, terminal: &mut Terminal) {
+    for op in &ops.0 {
+        step(profile, *op, terminal);
+    }
+}
+
+// Executes an operation on a terminal, if it has the profile's size. Each operation of an update is
+// defined.
+fn step(profile: &Profile, op: Op, terminal: &mut Terminal) {
+    let (size, other) = (profile.size(), terminal.size());
+    if size.rows == other.rows && size.columns == other.columns {
+        let _ = terminal.step(profile, op);
+    }
+}
