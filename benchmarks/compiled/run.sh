@@ -10,7 +10,8 @@
 #
 # Wants valgrind, Debian's ncurses-bin and ncurses-term, and the program built:
 # cd crates/tic && rt run -- -c - < ../../examples/tiny.ti
-# Usage: benchmarks/compiled/run.sh [EVERY], from the top of the repository. All entries take some ten minutes on four cores.
+# Usage: benchmarks/compiled/run.sh [EVERY], from the top of the repository. All entries take some ten minutes on four
+# cores.
 set -eu
 cd "$(dirname "$0")/../.."
 ours=$PWD/crates/tic/out/tic

@@ -1,9 +1,10 @@
 #!/bin/sh
-# Counts the processor instructions of a byte from the keyboard: given to a screen (key_byte), and each key taken when it comes (key),
-# beside ncurses' wgetch with keypad() for the same bytes, with 5 keys and with 120.
-# The bytes are letters, texts of keys, and texts whose last byte is another, so that each byte is a key by itself. ncurses has the
-# entry dumb, which has no keys, gets the same keys by define_key(), and reads the bytes from a pipe, without delay; what reading them by
-# read(2) costs is counted by itself and taken away. What the kernel does is not counted on either side.
+# Counts the processor instructions of a byte from the keyboard: given to a screen (key_byte), and each key taken when
+# it comes (key), beside ncurses' wgetch with keypad() for the same bytes, with 5 keys and with 120.
+# The bytes are letters, texts of keys, and texts whose last byte is another, so that each byte is a key by itself.
+# ncurses has the entry dumb, which has no keys, gets the same keys by define_key(), and reads the bytes from a pipe,
+# without delay; what reading them by read(2) costs is counted by itself and taken away. What the kernel does is not
+# counted on either side.
 # It needs valgrind, a C compiler, libncurses-dev, and the program crates/bench_screen, which `rt run` builds.
 # Usage: benchmarks/keys/run.sh PROGRAM, from the top of the repository.
 set -e

@@ -1,11 +1,11 @@
 #!/bin/sh
 # Counts the processor instructions of a refresh, at two sizes.
-# `take`: a window over the whole screen is taken onto the virtual screen (noutrefresh), beside ncurses' wnoutrefresh, with all
-# its lines touched, one line, or none, and with cells that the virtual screen has already or new ones. What the touching costs
-# is counted by itself and taken away on both sides. ncurses has the entry xterm, writes to /dev/null, and gets its size from LINES
-# and COLUMNS; no update comes between its calls either.
-# `update`: a full screen is painted (redrawwin, and doupdate into a new buffer), beside scratch_bytes, which makes the same bytes in one buffer
-# with no screen.
+# `take`: a window over the whole screen is taken onto the virtual screen (noutrefresh), beside ncurses' wnoutrefresh,
+# with all its lines touched, one line, or none, and with cells that the virtual screen has already or new ones. What
+# the touching costs is counted by itself and taken away on both sides. ncurses has the entry xterm, writes to
+# /dev/null, and gets its size from LINES and COLUMNS; no update comes between its calls either.
+# `update`: a full screen is painted (redrawwin, and doupdate into a new buffer), beside scratch_bytes, which makes the
+# same bytes in one buffer with no screen.
 # It needs valgrind, a C compiler, libncurses-dev, and the program crates/bench_screen, which `rt run` builds.
 # Usage: benchmarks/refresh/run.sh PROGRAM, from the top of the repository.
 set -e

@@ -1,8 +1,8 @@
 #!/bin/sh
-# Counts the processor instructions of what terminals cost: one run, one reading and one length of parameter strings, two of
-# them without parameters, beside ncurses' tparm; one admission of the bundled entry; one graphic character that the
-# emulated screen is fed; the operations for one place, a bold character, and their bytes; those that paint a whole screen;
-# and one price of a cursor address.
+# Counts the processor instructions of what terminals cost: one run, one reading and one length of parameter strings,
+# two of them without parameters, beside ncurses' tparm; one admission of the bundled entry; one graphic character that
+# the emulated screen is fed; the operations for one place, a bold character, and their bytes; those that paint a whole
+# screen; and one price of a cursor address.
 # It needs valgrind, a C compiler, libncurses-dev, and the program crates/bench_screen, which `rt run` builds.
 # Usage: benchmarks/terminals/run.sh PROGRAM, from the top of the repository.
 set -e

@@ -1,12 +1,14 @@
 #!/bin/sh
-# Counts the processor instructions of an update (doupdate), and of taking a window (noutrefresh) with it, beside ncurses' doupdate and
-# wnoutrefresh, and the bytes that each sends.
-# Windows over the whole screen are taken in turn: with nothing touched, with one character written, and with one line, a third of the
-# lines or all of them touched where the windows differ in every place. Then the windows are pages of text: a character is typed in the
-# middle and a status line counts it, forty places all over the screen change in three pens, and one page is shown for the other.
-# Both sides make the same calls, have the same entry (the bundled one, compiled by tic), write into memory, and show the screen already
-# when counting begins. What comes before is counted by itself and taken away: the drawing, and for doupdate alone the taking too.
-# It needs valgrind, a C compiler, libncurses-dev, ncurses' tic, and the program crates/bench_screen, which `rt run` builds.
+# Counts the processor instructions of an update (doupdate), and of taking a window (noutrefresh) with it, beside
+# ncurses' doupdate and wnoutrefresh, and the bytes that each sends.
+# Windows over the whole screen are taken in turn: with nothing touched, with one character written, and with one line,
+# a third of the lines or all of them touched where the windows differ in every place. Then the windows are pages of
+# text: a character is typed in the middle and a status line counts it, forty places all over the screen change in three
+# pens, and one page is shown for the other. Both sides make the same calls, have the same entry (the bundled one,
+# compiled by tic), write into memory, and show the screen already when counting begins. What comes before is counted by
+# itself and taken away: the drawing, and for doupdate alone the taking too.
+# It needs valgrind, a C compiler, libncurses-dev, ncurses' tic, and the program crates/bench_screen, which `rt run`
+# builds.
 # Usage: benchmarks/update/run.sh PROGRAM ["ROWS COLUMNS" ..], from the top of the repository.
 set -e
 program="$1 update"

@@ -1,6 +1,6 @@
 #!/bin/sh
-# Counts the calls of write with which a screen is started, painted full and closed, with a BufWriter inside the Device and
-# without one, and the bytes.
+# Counts the calls of write with which a screen is started, painted full and closed, with a BufWriter inside the Device
+# and without one, and the bytes.
 # Needs strace, and the program crates/bench_screen, which `rt run` builds.
 # Usage: benchmarks/writes/run.sh PROGRAM ["ROWS COLUMNS" ..], from the top of the repository.
 set -eu

@@ -37,7 +37,8 @@ impl Change {
         }
     }
 
-    /// Draws what a window holds before any change: a page of text, or one character in all places. Each window has its own.
+    /// Draws what a window holds before any change: a page of text, or one character in all places. Each window has its
+    /// own.
     pub fn prepare(self, alloc: Global, screen: &mut Screen, win: Win) -> Result<()> {
         let is_first = win == FIRST;
         match self {

@@ -1,5 +1,6 @@
-//! Reads keys: `keys text|keys|broken KEYS COUNT` gives a screen whose terminal has so many keys 720 bytes COUNT times, and takes each key
-//! when it comes. The bytes are letters, or the texts of keys, or texts whose last byte is another. The number is made of all keys.
+//! Reads keys: `keys text|keys|broken KEYS COUNT` gives a screen whose terminal has so many keys 720 bytes COUNT times,
+//! and takes each key when it comes. The bytes are letters, or the texts of keys, or texts whose last byte is another.
+//! The number is made of all keys.
 
 use anyhow::{Result, bail};
 use curses::Screen;

@@ -1,6 +1,6 @@
 //! Uses a screen, its windows or its terminal again and again, so that the instructions of one time can be counted:
-//! `bench_screen refresh|update|keys|windows|terminals|writes ..`, whose words are said in the file of each. A number is printed, so that
-//! the work is done. Without words a small case of each is done, but of the writes.
+//! `bench_screen refresh|update|keys|windows|terminals|writes ..`, whose words are said in the file of each. A number
+//! is printed, so that the work is done. Without words a small case of each is done, but of the writes.
 #![tactic(auto)]
 
 mod changes;
@@ -93,7 +93,8 @@ fn numbers_of(words: &[String]) -> Result<[u32; 4]> {
     Ok(numbers)
 }
 
-// Does what the words of the command line say: a benchmark, an action, what it is done to where that is asked for, and numbers.
+// Does what the words of the command line say: a benchmark, an action, what it is done to where that is asked for, and
+// numbers.
 fn measure(rt: &HostRuntime, words: &[String]) -> Result<()> {
     let benchmark = word(words, 1);
     let named = matches!(benchmark, "update" | "terminals");

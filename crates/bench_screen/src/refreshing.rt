@@ -1,6 +1,7 @@
-//! One part of a refresh: `refresh touch|take|take_new ROWS COLUMNS LINES COUNT` touches that many lines of a window over the whole
-//! screen, and takes it onto the virtual screen, which has its cells already or gets new ones; `refresh update|scratch ROWS COLUMNS LINES
-//! COUNT` paints the whole screen, whatever is touched. The number is made of all results.
+//! One part of a refresh: `refresh touch|take|take_new ROWS COLUMNS LINES COUNT` touches that many lines of a window
+//! over the whole screen, and takes it onto the virtual screen, which has its cells already or gets new ones; `refresh
+//! update|scratch ROWS COLUMNS LINES COUNT` paints the whole screen, whatever is touched. The number is made of all
+//! results.
 
 use crate::screens::{FIRST, fill};
 use anyhow::{Result, bail};
@@ -10,7 +11,8 @@ use scr_term::Profile;
 use scr_windows::Win;
 use std::alloc::Global;
 
-// Fills the first window, which is over all of the screen, with a plain character, and a second one over it with another.
+// Fills the first window, which is over all of the screen, with a plain character, and a second one over it with
+// another.
 fn draw(alloc: Global, screen: &mut Screen) -> Result<Win> {
     let second = screen.new_window(alloc, 0, 0, 0, 0)?;
     fill(screen, FIRST, b'x')?;

@@ -1,8 +1,8 @@
-//! Uses a terminal's parameter strings, profile and emulated screen: `terminals read|run|length cup|sgr|clear|status COUNT` reads, runs or
-//! measures a parameter string; `terminals admit|feed|place|paint|scratch|address|price bundled COUNT` makes a profile of the bundled
-//! entry, feeds the emulated screen a cursor address with a line of 79 graphic characters behind it or alone, renders the operations
-//! for one place of a screen, makes the bytes that paint a whole one of 24 rows and 80 columns, renders a cursor address, or asks for
-//! its price. The number is made of all results.
+//! Uses a terminal's parameter strings, profile and emulated screen: `terminals read|run|length cup|sgr|clear|status
+//! COUNT` reads, runs or measures a parameter string; `terminals admit|feed|place|paint|scratch|address|price bundled
+//! COUNT` makes a profile of the bundled entry, feeds the emulated screen a cursor address with a line of 79 graphic
+//! characters behind it or alone, renders the operations for one place of a screen, makes the bytes that paint a whole
+//! one of 24 rows and 80 columns, renders a cursor address, or asks for its price. The number is made of all results.
 
 use anyhow::{Result, anyhow, bail};
 use scr_cells::{Attrs, Picture, Size};
@@ -82,8 +82,8 @@ fn line(alloc: Global, characters: u8) -> Result<Vec<u8>> {
     Ok(line)
 }
 
-// Feeds an emulated screen a cursor address with so many graphic characters behind it again and again, and counts how often
-// that is undefined.
+// Feeds an emulated screen a cursor address with so many graphic characters behind it again and again, and counts how
+// often that is undefined.
 fn feed_again(alloc: Global, characters: u8, count: u32) -> Result<usize> {
     let mut screen = EcmaScreen::new(alloc, size()?)?;
     let line = line(alloc, characters)?;
@@ -132,8 +132,8 @@ fn scratch_again(alloc: Global, count: u32) -> Result<usize> {
     Ok(sum)
 }
 
-// Asks for the price of a cursor address so many times, and adds it up. The row changes: that of one address would be found once,
-// before the loop.
+// Asks for the price of a cursor address so many times, and adds it up. The row changes: that of one address would be
+// found once, before the loop.
 fn price_again(alloc: Global, count: u32) -> Result<usize> {
     let profile = Profile::ecma48(alloc, size()?)?;
     let mut sum = 0usize;

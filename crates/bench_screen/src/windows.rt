@@ -1,5 +1,5 @@
-//! Calls one window call again and again: `windows add|feed|erase|copy|scroll|background ROWS COLUMNS COUNT` on a window of so many
-//! rows and columns. The number is the row of the cursor at the end.
+//! Calls one window call again and again: `windows add|feed|erase|copy|scroll|background ROWS COLUMNS COUNT` on a
+//! window of so many rows and columns. The number is the row of the cursor at the end.
 
 use crate::screens::FIRST;
 use anyhow::{Result, anyhow, bail};

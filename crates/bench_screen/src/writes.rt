@@ -1,5 +1,5 @@
-//! Paints on the standard output: `writes buffered|plain ROWS COLUMNS` starts a screen, fills it with one character and closes it, with a
-//! buffer in front of the standard output or without one, so that the calls of write can be counted.
+//! Paints on the standard output: `writes buffered|plain ROWS COLUMNS` starts a screen, fills it with one character and
+//! closes it, with a buffer in front of the standard output or without one, so that the calls of write can be counted.
 
 use crate::screens::{FIRST, fill};
 use anyhow::{Result, bail};

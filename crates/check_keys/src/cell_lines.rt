@@ -7,8 +7,8 @@ use check_scripts::troubles::Trouble;
 use check_scripts::words::Words;
 use scr_cells::{Attrs, Cell, Look, Size};
 
-/// The lines `new_size R C`, `union A B`, `difference A B`, `contains A B`, `all_attributes`, `new_cell B A`,
-/// `paired B A P`, `new_look B A F G`, `blank_cell`, `blank_look` and `same_look B A F G B A F G`, where a look is a byte,
+/// The lines `new_size R C`, `union A B`, `difference A B`, `contains A B`, `all_attributes`, `new_cell B A`, `paired B
+/// A P`, `new_look B A F G`, `blank_cell`, `blank_look` and `same_look B A F G B A F G`, where a look is a byte,
 /// attributes, a foreground and a background. Tells whether a line is one of them.
 pub fn answer_of_cells(word: &str, words: &mut Words<'_>, came: &mut Buffer) -> bool {
     match word {

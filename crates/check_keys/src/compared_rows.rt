@@ -1,4 +1,5 @@
-//! Rows that agree everywhere, that differ in each place alone, and that differ in two places, by the library and by a plain loop.
+//! Rows that agree everywhere, that differ in each place alone, and that differ in two places, by the library and by a
+//! plain loop.
 
 use crate::differences::new_rows;
 use crate::shown_rows::new_shown_rows;
@@ -21,9 +22,9 @@ pub trait Rows: Sized {
     fn agrees(&self) -> bool;
 }
 
-/// The lines `differences FROM END` and `shown_before FROM END SHOWN`, of which the second has a set of attributes that are
-/// shown: for each length `FROM..=END`, rows that differ nowhere, in each place alone, and in two places. Adds how many such
-/// rows there were, or the first length at which the library and the plain loop do not agree.
+/// The lines `differences FROM END` and `shown_before FROM END SHOWN`, of which the second has a set of attributes that
+/// are shown: for each length `FROM..=END`, rows that differ nowhere, in each place alone, and in two places. Adds how
+/// many such rows there were, or the first length at which the library and the plain loop do not agree.
 pub fn check_rows(
     alloc: Global,
     word: &[u8],

@@ -1,5 +1,5 @@
-//! What the lines of a script work on: nothing, where they are about values; or, behind a line `about keys`, the keys of
-//! terminals, or, behind `about texts`, a text that is edited.
+//! What the lines of a script work on: nothing, where they are about values; or, behind a line `about keys`, the keys
+//! of terminals, or, behind `about texts`, a text that is edited.
 
 use crate::cell_lines::answer_of_cells;
 use crate::compared_rows::{check_rows, is_about_rows};

@@ -79,7 +79,8 @@ fn plain_shown(looks: &[Look], cells: &[Cell], shown: Attrs) -> usize {
     looks.len() / 8 * 8
 }
 
-// Whether a look shows what is seen of a cell, whatever the colours of pairs are. It may have attributes only where all are shown.
+// Whether a look shows what is seen of a cell, whatever the colours of pairs are. It may have attributes only where all
+// are shown.
 fn is_surely_shown(look: Look, cell: Cell, shown: Attrs) -> bool {
     let attrs = cell.attrs();
     let is_told = attrs == Attrs(0) || shown == Attrs::EVERY && Attrs::EVERY.contains(attrs);

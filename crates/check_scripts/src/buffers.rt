@@ -3,8 +3,8 @@
 use crate::troubles::Trouble;
 use std::alloc::Global;
 
-/// Bytes that are written one behind the other: an answer in words, or all that can be seen of a state. Where memory runs out some
-/// are left out, which `done` tells, so that those who write need not ask each time.
+/// Bytes that are written one behind the other: an answer in words, or all that can be seen of a state. Where memory
+/// runs out some are left out, which `done` tells, so that those who write need not ask each time.
 #[derive(Drop)]
 pub struct Buffer {
     bytes: Vec<u8>,

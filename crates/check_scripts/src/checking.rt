@@ -25,8 +25,8 @@ pub trait Stage: Sized {
     fn leaves_all(word: &[u8]) -> bool;
 }
 
-/// Puts a value in the place of another. A function that would drop a large value, as a screen, takes long to prove; this one is proved once
-/// for all values.
+/// Puts a value in the place of another. A function that would drop a large value, as a screen, takes long to prove;
+/// this one is proved once for all values.
 pub fn put<T: Drop>(place: &mut T, value: T) {
     *place = value;
 }

@@ -1,5 +1,5 @@
-//! Scripts of calls, each with the answer or the state that is wanted: their words and texts, and the checker that makes
-//! each call and compares.
+//! Scripts of calls, each with the answer or the state that is wanted: their words and texts, and the checker that
+//! makes each call and compares.
 #![tactic(auto)]
 
 pub mod answers;

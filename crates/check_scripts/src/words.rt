@@ -4,8 +4,8 @@ use crate::buffers::Buffer;
 use crate::texts::read_text;
 use crate::troubles::Trouble;
 
-/// What is left of a line, and the first trouble with what was taken of it. A word that is not what it is taken as is taken as 0, and
-/// those who take words need not ask each time.
+/// What is left of a line, and the first trouble with what was taken of it. A word that is not what it is taken as is
+/// taken as 0, and those who take words need not ask each time.
 #[derive(Clone, Copy)]
 pub struct Words<'a> {
     rest: &'a [u8],

@@ -9,8 +9,8 @@ use std::alloc::Global;
 use ti_caps::{CapFault, Entry, Kind, Slot, bundled, find_name, name_of};
 
 /// The lines `entry TEXT`, `bundled`, `flag NAME`, `number NAME N`, `string NAME TEXT` and `absent NAME`, which make an
-/// entry and have it say something, and `admit` and `admit R C`, which make a profile of it. Tells whether a line is one
-/// of them.
+/// entry and have it say something, and `admit` and `admit R C`, which make a profile of it. Tells whether a line is
+/// one of them.
 pub fn answer_of_entry(
     alloc: Global,
     entry: &mut Option<Entry>,

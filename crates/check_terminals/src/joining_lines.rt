@@ -12,8 +12,8 @@ use scr_cells::{NoMemory, Picture};
 use scr_term::{Ops, Profile, Terminal};
 use std::alloc::Global;
 
-/// The lines `joined`, the operations that bring the terminal to the picture, and `joined_count`, how many they are and how many bytes
-/// they have. The terminal does them. Tells whether a line is one of them.
+/// The lines `joined`, the operations that bring the terminal to the picture, and `joined_count`, how many they are and
+/// how many bytes they have. The terminal does them. Tells whether a line is one of them.
 pub fn answer_of_joining(
     alloc: Global,
     terminal: &mut Option<Terminal>,
@@ -66,7 +66,8 @@ pub fn add_joined(profile: &Profile, ops: &Ops, is_each: bool, came: &mut Buffer
     }
 }
 
-// Adds how many operations there are, and how many bytes in all. No memory is asked for, since a terminal may have done them.
+// Adds how many operations there are, and how many bytes in all. No memory is asked for, since a terminal may have done
+// them.
 fn add_count(profile: &Profile, ops: &Ops, came: &mut Buffer) {
     let mut bytes: usize = 0;
     for op in &ops.0 {

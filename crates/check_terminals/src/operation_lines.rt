@@ -7,8 +7,8 @@ use check_scripts::words::Words;
 use scr_cells::Attrs;
 use scr_term::Op;
 
-/// Reads an operation: `home`, `move R C`, `column C`, `line R`, `up N`, `down N`, `left N`, `right N`, `return`, `clear`,
-/// `erase_line`, `erase_below`, `erase_chars N`, `reset`, `enter A`, `set A`, `fore N`, `back N` or `put B`.
+/// Reads an operation: `home`, `move R C`, `column C`, `line R`, `up N`, `down N`, `left N`, `right N`, `return`,
+/// `clear`, `erase_line`, `erase_below`, `erase_chars N`, `reset`, `enter A`, `set A`, `fore N`, `back N` or `put B`.
 pub fn read_op(words: &mut Words<'_>) -> Option<Op> {
     let word = str::from_utf8(words.next()).unwrap_or("");
     Some(match word {

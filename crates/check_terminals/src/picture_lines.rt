@@ -7,9 +7,9 @@ use check_scripts::words::Words;
 use scr_cells::{Cell, NoMemory, Picture};
 use std::alloc::Global;
 
-/// The lines `picture R C`, `put R C B A P`, `put_row R C B A P`, `fill R C E B A P`, `wish R C`, `wish none`, `wished`, `picture_size`,
-/// `picture_rows`, `picture_at R C`, `pair P` and `set_pair P F G`, where a foreground and a background are set. `fill` puts a cell in
-/// the columns from C up to E. Tells whether a line is one of them.
+/// The lines `picture R C`, `put R C B A P`, `put_row R C B A P`, `fill R C E B A P`, `wish R C`, `wish none`,
+/// `wished`, `picture_size`, `picture_rows`, `picture_at R C`, `pair P` and `set_pair P F G`, where a foreground and a
+/// background are set. `fill` puts a cell in the columns from C up to E. Tells whether a line is one of them.
 pub fn answer_of_picture(
     alloc: Global,
     picture: &mut Option<Picture>,

@@ -1,4 +1,5 @@
-//! Lines about what is remembered of a terminal, and the plain repaint, which paints each place that differs from that by itself.
+//! Lines about what is remembered of a terminal, and the plain repaint, which paints each place that differs from that
+//! by itself.
 
 use crate::emulated_lines::add_spot;
 use crate::joining_lines::add_joined;
@@ -15,9 +16,9 @@ use scr_plan::{Memory, plain};
 use scr_term::Profile;
 use std::alloc::Global;
 
-/// The lines `memory R C`, a terminal of this size of which nothing is known, `follow OP`, `disturb FIRST N`, `known`, `plain`, the operations
-/// that bring it to the picture, `plain_count`, how many they are and how many bytes they have, and `plain_texts`, the
-/// bytes of each and how many there are. Tells whether a line is one of them.
+/// The lines `memory R C`, a terminal of this size of which nothing is known, `follow OP`, `disturb FIRST N`, `known`,
+/// `plain`, the operations that bring it to the picture, `plain_count`, how many they are and how many bytes they have,
+/// and `plain_texts`, the bytes of each and how many there are. Tells whether a line is one of them.
 pub fn answer_of_plain(
     alloc: Global,
     memory: &mut Option<Memory>,
@@ -125,7 +126,8 @@ fn add_plain(
     Ok(())
 }
 
-/// Adds which rows are known and what they show, where the cursor is and what is written with, as far as these are known.
+/// Adds which rows are known and what they show, where the cursor is and what is written with, as far as these are
+/// known.
 pub fn dump_memory(memory: &Memory, bytes: &mut Buffer) {
     for row in 0..memory.size().rows {
         match memory.row(row) {

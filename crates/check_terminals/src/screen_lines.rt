@@ -12,8 +12,8 @@ use scr_term::EcmaScreen;
 use screen_scripts::print_screen;
 use std::alloc::Global;
 
-/// The lines `screen R C`, `feed TEXT`, `screen_size`, `shown R C`, `spot`, `rendition`, `colours`, `marked`, `printed`,
-/// `state`, `cuts TEXT` and `undefined_after TEXT TEXT`. Tells whether a line is one of them.
+/// The lines `screen R C`, `feed TEXT`, `screen_size`, `shown R C`, `spot`, `rendition`, `colours`, `marked`,
+/// `printed`, `state`, `cuts TEXT` and `undefined_after TEXT TEXT`. Tells whether a line is one of them.
 pub fn answer_of_screen(
     alloc: Global,
     screen: &mut Option<EcmaScreen>,
@@ -52,8 +52,8 @@ fn answer_of_made(
     true
 }
 
-/// Adds the lines of a screen, the attributes that are on, the colours that are set where one is not the default, and whether
-/// it waits for the rest of a sequence.
+/// Adds the lines of a screen, the attributes that are on, the colours that are set where one is not the default, and
+/// whether it waits for the rest of a sequence.
 pub fn print_state(screen: &EcmaScreen, text: &mut Buffer) {
     let printed = print_screen(screen, text.vector());
     text.check(printed.is_ok());

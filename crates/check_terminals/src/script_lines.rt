@@ -11,8 +11,8 @@ use std::alloc::Global;
 use std::io;
 use std::io::{ErrorKind, Write};
 
-/// The lines `run TEXT`, `run_raw TEXT`, `refusals TEXT`, `run_writing N TEXT`, `run_stuck N TEXT`, `run_flushing TEXT` and
-/// `feed_run TEXT`, where the text is a script. Tells whether a line is one of them.
+/// The lines `run TEXT`, `run_raw TEXT`, `refusals TEXT`, `run_writing N TEXT`, `run_stuck N TEXT`, `run_flushing TEXT`
+/// and `feed_run TEXT`, where the text is a script. Tells whether a line is one of them.
 pub fn answer_of_script(
     alloc: Global,
     screen: &mut Option<EcmaScreen>,

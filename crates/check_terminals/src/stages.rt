@@ -1,5 +1,5 @@
-//! What the lines of a script work on: one entry, one profile, one terminal, what is remembered of one, one picture and one screen,
-//! each from the line that makes it on.
+//! What the lines of a script work on: one entry, one profile, one terminal, what is remembered of one, one picture and
+//! one screen, each from the line that makes it on.
 
 use crate::changed_texts::answer_of_changed_texts;
 use crate::dumps::{dump_entry, dump_picture, dump_profile};

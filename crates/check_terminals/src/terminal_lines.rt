@@ -12,8 +12,8 @@ use scr_cells::{NoMemory, Size};
 use scr_term::{Op, Profile};
 use std::alloc::Global;
 
-/// The lines `profile R C`, `profile_size`, `shows`, `shows_colours`, `longest`, `has OP`, `cost OP` and `render OP`. Tells whether a
-/// line is one of them.
+/// The lines `profile R C`, `profile_size`, `shows`, `shows_colours`, `longest`, `has OP`, `cost OP` and `render OP`.
+/// Tells whether a line is one of them.
 pub fn answer_of_terminal(
     alloc: Global,
     profile: &mut Option<Profile>,

@@ -7,8 +7,8 @@ use curses::{OpenFault, closing_text, opening_text};
 use std::alloc::Global;
 use ti_caps::{Bytes, Entry};
 
-/// The lines `opening_text` and `closing_text`, the bytes that an entry has for them, or why it has none. Tells whether a line is one of
-/// them.
+/// The lines `opening_text` and `closing_text`, the bytes that an entry has for them, or why it has none. Tells whether
+/// a line is one of them.
 pub fn answer_of_texts(
     alloc: Global,
     entry: &Option<Entry>,

@@ -76,8 +76,9 @@ pub fn add_refusal<F: Display>(fault: &F, came: &mut Buffer) {
     }
 }
 
-/// Adds an entry: its names, each flag by its name, each number behind its name, and each text behind its name, each kind by
-/// position. A capability without a name has its kind and its position, as `Flag 40`, `Number 40 0` and `Text 271 "x"`.
+/// Adds an entry: its names, each flag by its name, each number behind its name, and each text behind its name, each
+/// kind by position. A capability without a name has its kind and its position, as `Flag 40`, `Number 40 0` and `Text
+/// 271 "x"`.
 pub fn add_entry(entry: &Entry, came: &mut Buffer) {
     add_text(entry.names(), came);
     for position in 0..64u16 {

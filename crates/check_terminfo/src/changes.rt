@@ -112,7 +112,8 @@ fn set_each(
     add_size(count, came);
 }
 
-// Sets each byte of a file in turn. What is read of the file is written as a file, of which the same is read and written.
+// Sets each byte of a file in turn. What is read of the file is written as a file, of which the same is read and
+// written.
 fn set_everywhere(alloc: Global, file: &mut [u8], byte: u8) -> Result<(), Trouble> {
     for index in 0..file.len() {
         let old = set(file, index, byte);

@@ -81,7 +81,8 @@ fn add_printed(alloc: Global, entry: &Entry, came: &mut Buffer) {
     }
 }
 
-// The lines `set-flag N yes`, `set-number N NUMBER` and `set-text N TEXT`; without a last word a capability becomes absent.
+// The lines `set-flag N yes`, `set-number N NUMBER` and `set-text N TEXT`; without a last word a capability becomes
+// absent.
 fn set(entry: &mut Entry, word: &str, words: &mut Words<'_>, text: &mut Buffer, came: &mut Buffer) {
     let slot = read_slot(words);
     let done = match word {

@@ -1,5 +1,5 @@
-//! Sources, compiled files and parameter strings that are changed at random: each is refused by name, or what is read of
-//! it agrees with what else the libraries say of it.
+//! Sources, compiled files and parameter strings that are changed at random: each is refused by name, or what is read
+//! of it agrees with what else the libraries say of it.
 
 mod files;
 mod mutants;
@@ -15,9 +15,9 @@ use check_scripts::words::Words;
 use mutants::Mutants;
 use std::alloc::Global;
 
-/// The lines `mutated-sources SEED COUNT READ REFUSED TEXT..`, `mutated-files ..` and `mutated-programs ..`: `Ok` where so many texts,
-/// made of these by changes at random, agree, and at least READ of them are read and REFUSED refused; else how many were,
-/// or what is wrong with which text. Tells whether a line is one of them.
+/// The lines `mutated-sources SEED COUNT READ REFUSED TEXT..`, `mutated-files ..` and `mutated-programs ..`: `Ok` where
+/// so many texts, made of these by changes at random, agree, and at least READ of them are read and REFUSED refused;
+/// else how many were, or what is wrong with which text. Tells whether a line is one of them.
 pub fn answer_of_mutants(
     alloc: Global,
     word: &str,

@@ -13,8 +13,8 @@ use ti_param::{ParamFault, Program, RunFault, Vars, strip_padding};
 // What stands in a text before a program writes to it.
 const BEFORE: &[u8] = b"before ";
 
-/// The lines `padding TEXT`, `read-program TEXT`, `measure TEXT` and `cuts TEXT..`, which leave all as it is. Tells whether a line
-/// is one of them.
+/// The lines `padding TEXT`, `read-program TEXT`, `measure TEXT` and `cuts TEXT..`, which leave all as it is. Tells
+/// whether a line is one of them.
 pub fn answer_of_programs(
     alloc: Global,
     word: &str,
@@ -98,8 +98,9 @@ fn add_written(
     Ok(())
 }
 
-/// Runs a program behind a text, in place of what is in the buffer; the text stays, and the program writes as many bytes as `length`
-/// says, and `bound` at most. Where there are but two parameters, and no variable is set, it writes the same for two parameters alone.
+/// Runs a program behind a text, in place of what is in the buffer; the text stays, and the program writes as many
+/// bytes as `length` says, and `bound` at most. Where there are but two parameters, and no variable is set, it writes
+/// the same for two parameters alone.
 pub fn write(
     program: &Program,
     params: [i32; 9],

@@ -166,7 +166,8 @@ fn compile_all(alloc: Global, source: &Source, words: &mut Words<'_>, came: &mut
     }
 }
 
-// Adds what the next entry is compiled to. A compiler that was refused memory is where it was: it gives the same entry then.
+// Adds what the next entry is compiled to. A compiler that was refused memory is where it was: it gives the same entry
+// then.
 fn compile_next(alloc: Global, compiler: &mut EntryCompiler<'_>, came: &mut Buffer) {
     let from = came.bytes().len();
     add_next(&compiler.next_entry(alloc), came);
@@ -192,7 +193,8 @@ fn add_compiled_entry(entry: &CompiledEntry, came: &mut Buffer) {
     add_text(&entry.bytes.0, came);
 }
 
-/// The lines `string TEXT`, `decimal TEXT` and `compile SOURCE`, which leave all as it is. Tells whether a line is one of them.
+/// The lines `string TEXT`, `decimal TEXT` and `compile SOURCE`, which leave all as it is. Tells whether a line is one
+/// of them.
 pub fn answer_of_meaning(
     alloc: Global,
     word: &str,

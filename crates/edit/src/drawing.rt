@@ -160,8 +160,8 @@ fn draw_status(screen: &mut Screen, editor: &Editor, row: u32, columns: usize) -
     low(end)
 }
 
-// Draws what is said of the last key and the file's name, or else the name and where the cursor is. A star behind the name
-// says that the text was changed.
+// Draws what is said of the last key and the file's name, or else the name and where the cursor is. A star behind the
+// name says that the text was changed.
 fn draw_state(screen: &mut Screen, editor: &Editor, room: &mut Room) {
     if !editor.message.is_empty() {
         draw_piece(screen, editor.message.beginning().as_bytes(), room);

@@ -1,5 +1,5 @@
-//! The editor on a real terminal: it updates the screen and reads the keyboard in turn, follows the terminal's size, and
-//! gives the terminal back when it ends or is suspended.
+//! The editor on a real terminal: it updates the screen and reads the keyboard in turn, follows the terminal's size,
+//! and gives the terminal back when it ends or is suspended.
 
 use crate::answering::{Next, answer_keys};
 use crate::drawing::prepare;
@@ -135,8 +135,9 @@ fn put<T: Drop>(place: &mut T, value: T) {
     *place = value;
 }
 
-// Reads the keyboard once, and presses the keys that came. Follows the terminal's size while nothing is typed, since a new
-// screen knows nothing of a key whose first bytes came, and only where nothing is owed. Answers whether the editor goes on.
+// Reads the keyboard once, and presses the keys that came. Follows the terminal's size while nothing is typed, since a
+// new screen knows nothing of a key whose first bytes came, and only where nothing is owed. Answers whether the editor
+// goes on.
 fn turn<W: Counted>(
     around: &Around<'_>,
     screen: &mut Screen,

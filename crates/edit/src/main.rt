@@ -2,8 +2,8 @@
 //!
 //! `run-on-terminal edit FILE` opens FILE on the terminal that `TERM` names, with its entry from the machine's terminfo
 //! database; with `--bundled` the bundled entry is used. Every byte of a file is kept: one outside the printable
-//! characters is shown as `^X` or `\ooo`. `^S` saves, `^Q` leaves, `^F` and `^N` find, `^U` undoes, `^V` inserts the next
-//! byte as it is, `^L` paints anew, `^Z` suspends.
+//! characters is shown as `^X` or `\ooo`. `^S` saves, `^Q` leaves, `^F` and `^N` find, `^U` undoes, `^V` inserts the
+//! next byte as it is, `^L` paints anew, `^Z` suspends.
 //!
 //! With `--script` the keys come from a script on standard input, and what an emulated terminal shows is printed. The
 //! status is 0, 1 for a fault and 2 for a usage error.

@@ -96,8 +96,8 @@ fn save_bytes(rt: &HostRuntime, path: &str, bytes: &[u8]) -> Result<(), SaveFaul
     }
 }
 
-/// Saves a text that would be lost: beside the file, with `.recovered` behind its name, or `.recovered.1` and so on if that
-/// is there. Gives the name.
+/// Saves a text that would be lost: beside the file, with `.recovered` behind its name, or `.recovered.1` and so on if
+/// that is there. Gives the name.
 pub(crate) fn save_beside(rt: &HostRuntime, path: &str, text: &Text) -> Result<String, SaveFault> {
     match text.bytes(rt.alloc()) {
         Ok(bytes) => save_bytes_beside(rt, path, &bytes),
@@ -181,8 +181,8 @@ fn create(rt: &HostRuntime, path: &str, other: &str, bytes: &[u8]) -> Result<(),
     Ok(())
 }
 
-// Gives a file the permissions of another that is there, before it has anything to read, and writes bytes to it and through
-// to its disk.
+// Gives a file the permissions of another that is there, before it has anything to read, and writes bytes to it and
+// through to its disk.
 fn fill(rt: &HostRuntime, file: &mut File, other: &str, bytes: &[u8]) -> io::Result<()> {
     if let Ok(metadata) = fs::metadata(rt, other) {
         file.set_permissions(metadata.permissions())?;

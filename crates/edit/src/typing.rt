@@ -14,7 +14,8 @@ pub(crate) fn take_byte(screen: &mut Screen, editor: &mut Editor, byte: u8) {
     }
 }
 
-/// Presses the keys that wait, up to the first that asks for something: `Nothing` where none does, and no key waits then.
+/// Presses the keys that wait, up to the first that asks for something: `Nothing` where none does, and no key waits
+/// then.
 pub(crate) fn press_keys(screen: &mut Screen, editor: &mut Editor) -> Request {
     let page = text_rows(screen.screen()) as usize;
     for _ in 0..u32::MAX {

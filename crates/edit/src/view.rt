@@ -59,8 +59,8 @@ pub(crate) fn bytes_before(line: &[u8], column: usize) -> usize {
     count
 }
 
-/// The first column of a line that its row shows so that the cursor's column is within the row: 0, or a multiple of half
-/// a row for a cursor that is further to the right.
+/// The first column of a line that its row shows so that the cursor's column is within the row: 0, or a multiple of
+/// half a row for a cursor that is further to the right.
 pub(crate) fn first_shown(cursor: usize, columns: usize) -> usize {
     let half = columns / 2;
     if cursor < columns || half == 0 {

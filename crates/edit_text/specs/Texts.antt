@@ -42,6 +42,7 @@ edited text place lines =
       version = next text.version;
     }
 
--- what undoing the last edit answers and leaves: the lines before it, one edit less, and where it was made; nothing without one
+-- what undoing the last edit answers and leaves: the lines before it, one edit less, and where it was made; nothing
+-- without one
 abbrev pub IsUndone : View → Option Place → View → Type 0
 IsUndone old place new = MatchOption place ((old.past ≡ []) × (new ≡ old)) (λ p. (old.past ≡ record { place = p; lines = new.lines } ∷ new.past) × (new.version ≡ next old.version))

@@ -144,8 +144,8 @@ impl Lines {
         }
     }
 
-    // Deletes at a place that is not the end of the lines, and gives the edit that this was. Fails only when memory runs
-    // out.
+    // Deletes at a place that is not the end of the lines, and gives the edit that this was. Fails only when memory
+    // runs out.
     pub(crate) fn delete(&mut self, place: Place) -> Result<Edit, NoMemory>
         requires line { place.line < length self.old }
         requires column { place.column ≤ length (line_at self.old place.line) }

@@ -103,8 +103,8 @@ impl Text {
 
     /// Inserts a byte at a place. The place behind it is in the next column.
     ///
-    /// Refused with `OutsideText` if the place is outside the text, then with `LineFeed` if the byte is a line feed, then
-    /// with `NoMemory`.
+    /// Refused with `OutsideText` if the place is outside the text, then with `LineFeed` if the byte is a line feed,
+    /// then with `NoMemory`.
     pub fn insert(&mut self, place: Place, byte: u8) -> Result<(), EditFault>
         ensures refused { IsRefusedBy result (insert_refusal self.old.lines place byte) }
         ensures ok { IfOk result (λ _. self.new ≡ edited self.old place (inserted self.old.lines place byte)) }
@@ -135,8 +135,8 @@ impl Text {
         Ok(())
     }
 
-    /// Deletes the byte at a place, or at the end of a line its line feed: the next line is joined to it. Answers whether
-    /// there was anything to delete; at the very end of the text there is not, and nothing changes.
+    /// Deletes the byte at a place, or at the end of a line its line feed: the next line is joined to it. Answers
+    /// whether there was anything to delete; at the very end of the text there is not, and nothing changes.
     ///
     /// Refused with `OutsideText` if the place is outside the text, then with `NoMemory`.
     pub fn delete(&mut self, place: Place) -> Result<bool, EditFault>
@@ -173,8 +173,8 @@ impl Text {
         Ok(Some(edit.place()))
     }
 
-    /// The first place at which these bytes stand within a line: the places from `from` on are tried first, line by line,
-    /// and then those before it. `None` if they stand nowhere, and for no bytes.
+    /// The first place at which these bytes stand within a line: the places from `from` on are tried first, line by
+    /// line, and then those before it. `None` if they stand nowhere, and for no bytes.
     pub fn find(&self, from: Place, bytes: &[u8]) -> Option<Place>
         ensures { IsFound self.now.lines from bytes.now result }
     {

@@ -1,6 +1,6 @@
-//! Runs a script that draws on a screen, and prints what a terminal shows of it. With `-r` it writes the terminal's bytes
-//! instead. With `-e` it explains the script's last update: each operation that is sent with the bytes of its text, and how
-//! many bytes these are, beside those of the joined repaint and of painting from scratch.
+//! Runs a script that draws on a screen, and prints what a terminal shows of it. With `-r` it writes the terminal's
+//! bytes instead. With `-e` it explains the script's last update: each operation that is sent with the bytes of its
+//! text, and how many bytes these are, beside those of the joined repaint and of painting from scratch.
 #![tactic(auto)]
 
 mod explaining;

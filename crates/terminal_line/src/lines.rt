@@ -36,8 +36,8 @@ impl TerminalLine {
         Ok(line)
     }
 
-    /// The terminal's size as of the last read or suspension; `None` if nothing says what it is. A terminal of more than
-    /// 500 rows or columns is used at 500.
+    /// The terminal's size as of the last read or suspension; `None` if nothing says what it is. A terminal of more
+    /// than 500 rows or columns is used at 500.
     pub fn size(&self) -> Option<Size> {
         self.size
     }
@@ -45,11 +45,11 @@ impl TerminalLine {
     /// Reads a piece of the keyboard's bytes by one read of the standard input, and looks once whether the size has
     /// changed.
     ///
-    /// Idle if nothing came while the read waited, or a signal ended it. Ended if the program is asked to end, at once if
-    /// it was asked before, else if no byte came; and if the input has ended. How that is told from silence: three empty
-    /// reads in a row came back within 20 milliseconds, while a line in raw mode lets each wait for a tenth of a second.
-    /// So a program whose input is a file gets Idle twice first. Failed if the piece is empty, the read fails or the
-    /// clock cannot be read.
+    /// Idle if nothing came while the read waited, or a signal ended it. Ended if the program is asked to end, at once
+    /// if it was asked before, else if no byte came; and if the input has ended. How that is told from silence: three
+    /// empty reads in a row came back within 20 milliseconds, while a line in raw mode lets each wait for a tenth of a
+    /// second. So a program whose input is a file gets Idle twice first. Failed if the piece is empty, the read fails
+    /// or the clock cannot be read.
     /// POSIX, read(); General Terminal Interface, 'Non-Canonical Mode Input Processing', case C.
     pub fn read<R: io::Input + Files + Clock>(&mut self, rt: &R, piece: &mut [u8]) -> Input
         ensures { IsWithin piece.new result }

@@ -13,8 +13,8 @@ use ti_database::find;
 // The key that asks for suspension: `^Z`, as at a shell's own line.
 const SUSPEND: Key = Key::Byte(26);
 
-// How many bytes of the keyboard are read at a time: so few that their keys always have room in the queue, which is empty
-// where the keyboard is read.
+// How many bytes of the keyboard are read at a time: so few that their keys always have room in the queue, which is
+// empty where the keyboard is read.
 const PIECE: usize = 16;
 
 /// The screen of the terminal that a program runs on, from its opening to its close.

@@ -50,9 +50,9 @@ pub enum Compared {
     Differs,
 }
 
-/// The line `generated COUNT SEED reader` or `.. screen`: so many events, most often bytes of the texts of keys. In every other hundred
-/// no key is taken. Each event has to be answered as by the plain decoder. Adds `agrees`, and `full` where some event
-/// found too many keys that waited; or the number of the first event that differs.
+/// The line `generated COUNT SEED reader` or `.. screen`: so many events, most often bytes of the texts of keys. In
+/// every other hundred no key is taken. Each event has to be answered as by the plain decoder. Adds `agrees`, and
+/// `full` where some event found too many keys that waited; or the number of the first event that differs.
 pub fn check_generated(
     alloc: Global,
     entry: &Entry,

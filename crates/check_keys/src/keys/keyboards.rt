@@ -67,8 +67,8 @@ fn open(
     }
 }
 
-/// Opens a keyboard in place of another, and tells whether it was opened. A function that owns a keyboard takes long to prove, so there
-/// is this one alone.
+/// Opens a keyboard in place of another, and tells whether it was opened. A function that owns a keyboard takes long to
+/// prove, so there is this one alone.
 pub fn open_into(
     alloc: Global,
     entry: &Entry,

@@ -22,10 +22,11 @@ struct Typed {
     came: usize,
 }
 
-/// The line `pieces COUNT SEED reader` or `.. screen`: so many bytes in pieces, most often of the texts of keys. Behind a piece comes an
-/// idle, or some or all keys are taken that wait, or nothing happens. A byte that finds no room is given again once all keys are taken.
-/// Each byte, idle and taking has to be answered as by the plain decoder. Adds `agrees`, how many bytes the keys have that came, and `full`
-/// where some byte found no room; or how many bytes were left at the first difference.
+/// The line `pieces COUNT SEED reader` or `.. screen`: so many bytes in pieces, most often of the texts of keys. Behind
+/// a piece comes an idle, or some or all keys are taken that wait, or nothing happens. A byte that finds no room is
+/// given again once all keys are taken. Each byte, idle and taking has to be answered as by the plain decoder. Adds
+/// `agrees`, how many bytes the keys have that came, and `full` where some byte found no room; or how many bytes were
+/// left at the first difference.
 pub fn check_pieces(
     alloc: Global,
     entry: &Entry,

@@ -1,4 +1,5 @@
-//! A plain decoder of keys, which looks at each key of the terminal: the longest text that some bytes begin with, or else a byte.
+//! A plain decoder of keys, which looks at each key of the terminal: the longest text that some bytes begin with, or
+//! else a byte.
 
 use crate::keys::entries::key_text;
 use check_scripts::troubles::Trouble;

@@ -10,8 +10,9 @@ use scr_keys::Key;
 use std::alloc::Global;
 use ti_caps::Entry;
 
-/// The line `cuts reader` or `cuts screen`: the texts of all keys one behind another, with an idle at one place and at the end. The
-/// keys that come are those of both parts, by the plain decoder. Adds `agrees`, or the first place where that is not so.
+/// The line `cuts reader` or `cuts screen`: the texts of all keys one behind another, with an idle at one place and at
+/// the end. The keys that come are those of both parts, by the plain decoder. Adds `agrees`, or the first place where
+/// that is not so.
 pub fn check_cuts(
     alloc: Global,
     entry: &Entry,

@@ -8,9 +8,9 @@ use terminfo_files::{Listing, TicFault, list};
 use ti_binary::{BinFault, EncFault, decode, encode};
 use ti_caps::{Entry, Slot};
 
-/// Whether bytes are read as a compiled file. Where they are, the bytes that are not left over are the same file, and are
-/// truncated without the last of them; its entry is written and read as the same; and it is listed as source of that
-/// entry.
+/// Whether bytes are read as a compiled file. Where they are, the bytes that are not left over are the same file, and
+/// are truncated without the last of them; its entry is written and read as the same; and it is listed as source of
+/// that entry.
 pub fn is_read(alloc: Global, bytes: &[u8]) -> Result<bool, Trouble> {
     compare(alloc, bytes, &decode(alloc, bytes), &list(alloc, bytes))
 }

@@ -8,9 +8,9 @@ use ti_binary::encode;
 use ti_caps::{Bytes, Entry, first_name};
 use ti_source::{Printed, Resolver, Source, SourceFault, print, read, resolve};
 
-/// Whether a text is read as a source. Where it is, a resolver of all its names and one of each name alone give the same;
-/// each entry that resolves is read again as it is printed; and it is compiled to the file of its resolved entry, after
-/// the entry before it and with the whole source, up to the first fault.
+/// Whether a text is read as a source. Where it is, a resolver of all its names and one of each name alone give the
+/// same; each entry that resolves is read again as it is printed; and it is compiled to the file of its resolved entry,
+/// after the entry before it and with the whole source, up to the first fault.
 pub fn is_read(alloc: Global, text: &[u8]) -> Result<bool, Trouble> {
     compare(alloc, &read(alloc, text), &compile(alloc, text))
 }
@@ -165,8 +165,8 @@ fn file_of(alloc: Global, resolved: &Result<Entry, SourceFault>) -> Result<Bytes
     }
 }
 
-// The next entry is compiled to the file that is wanted. Its fault is the one that is wanted, or that of a name that no file
-// can have.
+// The next entry is compiled to the file that is wanted. Its fault is the one that is wanted, or that of a name that no
+// file can have.
 fn compare_compiled(
     came: &Result<Option<CompiledEntry>, TicFault>,
     wanted: &Result<Bytes, TicFault>,
