@@ -21,10 +21,10 @@ impl Stage for TextStage {
     }
 
     fn answer(&mut self, words: &mut Words<'_>, came: &mut Buffer) {
-        let (alloc, word) = (self.alloc, words.next());
+        let (alloc, word) = (self.alloc, words.name());
         match word {
-            b"new" => make(Text::new(alloc), &mut self.text, came),
-            b"read" => {
+            "new" => make(Text::new(alloc), &mut self.text, came),
+            "read" => {
                 let mut bytes = Buffer::new(alloc);
                 words.text(&mut bytes);
                 make(Text::read(alloc, bytes.bytes()), &mut self.text, came);
@@ -73,19 +73,19 @@ fn dump_text(text: &Text, bytes: &mut Buffer) {
 fn answer_of_text(
     alloc: Global,
     text: &mut Text,
-    word: &[u8],
+    word: &str,
     words: &mut Words<'_>,
     came: &mut Buffer,
 ) {
     match word {
-        b"insert" => {
+        "insert" => {
             let place = place(words);
             add_edit(text.insert(place, words.byte()), came);
         }
-        b"split" => add_edit(text.split(place(words)), came),
-        b"delete" => add_deleted(text.delete(place(words)), came),
-        b"undo" => add_undone(text.undo(), came),
-        b"bytes" => add_bytes(text.bytes(alloc), came),
+        "split" => add_edit(text.split(place(words)), came),
+        "delete" => add_deleted(text.delete(place(words)), came),
+        "undo" => add_undone(text.undo(), came),
+        "bytes" => add_bytes(text.bytes(alloc), came),
         _ => answer_of_question(alloc, text, word, words, came),
     }
 }
@@ -94,17 +94,17 @@ fn answer_of_text(
 fn answer_of_question(
     alloc: Global,
     text: &Text,
-    word: &[u8],
+    word: &str,
     words: &mut Words<'_>,
     came: &mut Buffer,
 ) {
     match word {
-        b"lines" => add_size(text.line_count(), came),
-        b"line" => add_line(text.line(words.number() as usize), came),
-        b"length" => add_size(text.line_length(words.number() as usize), came),
-        b"inside" => add_flag(text.is_inside(place(words)), came),
-        b"find" => find(alloc, text, words, came),
-        b"version" => add_number(i64::try_from(text.version()).unwrap_or(i64::MAX), came),
+        "lines" => add_size(text.line_count(), came),
+        "line" => add_line(text.line(words.number() as usize), came),
+        "length" => add_size(text.line_length(words.number() as usize), came),
+        "inside" => add_flag(text.is_inside(place(words)), came),
+        "find" => find(alloc, text, words, came),
+        "version" => add_number(i64::try_from(text.version()).unwrap_or(i64::MAX), came),
         _ => words.fail(Trouble::Bad("no such line")),
     }
 }

@@ -73,8 +73,8 @@ fn answer_of_values(alloc: Global, words: &mut Words<'_>, came: &mut Buffer) {
 }
 
 // What lines about keys work on, if this kind is `keys`.
-fn keys_of(alloc: Global, kind: &[u8]) -> Option<KeyStage> {
-    if kind == b"keys".as_slice() {
+fn keys_of(alloc: Global, kind: &str) -> Option<KeyStage> {
+    if kind == "keys" {
         Some(KeyStage::new(alloc))
     } else {
         None
@@ -82,8 +82,8 @@ fn keys_of(alloc: Global, kind: &[u8]) -> Option<KeyStage> {
 }
 
 // What lines about texts work on, if this kind is `texts`.
-fn texts_of(alloc: Global, kind: &[u8]) -> Option<TextStage> {
-    if kind == b"texts".as_slice() {
+fn texts_of(alloc: Global, kind: &str) -> Option<TextStage> {
+    if kind == "texts" {
         Some(TextStage::new(alloc))
     } else {
         None
@@ -93,8 +93,8 @@ fn texts_of(alloc: Global, kind: &[u8]) -> Option<TextStage> {
 impl KindStage {
     // The line `about values`, `about keys` or `about texts`: nothing is there yet for the lines behind it.
     fn begin(&mut self, words: &mut Words<'_>, came: &mut Buffer) {
-        let kind = words.next();
-        if !matches!(kind, b"values" | b"keys" | b"texts") {
+        let kind = words.name();
+        if !matches!(kind, "values" | "keys" | "texts") {
             words.fail(Trouble::Bad("no such kind of lines"));
         }
         put(&mut self.keys, keys_of(self.alloc, kind));

@@ -135,9 +135,9 @@ impl<'a, S: Stage + Drop> Checker<'a, S> {
         self.came.clear();
         self.wanted.clear();
         self.stage.answer(&mut words, &mut self.came);
-        match words.next() {
-            b"" => {}
-            b"=" => add_wanted(&mut words, &mut self.text, &mut self.wanted),
+        match words.name() {
+            "" => {}
+            "=" => add_wanted(&mut words, &mut self.text, &mut self.wanted),
             _ => words.fail(Trouble::Bad("too many arguments")),
         }
         words.check(self.came.done());

@@ -48,10 +48,20 @@ impl<'a> Words<'a> {
         word
     }
 
+    /// The next word as a text, empty where it is none.
+    pub fn name(&mut self) -> &'a str {
+        str::from_utf8(self.next()).unwrap_or("")
+    }
+
     /// The word that follows, which stays.
     pub fn peek(&self) -> &'a [u8] {
         let (word, _) = cut_word(after_blanks(self.rest));
         word
+    }
+
+    /// Whether no word is left before what is wanted of the line, which a word `=` begins.
+    pub fn is_at_end(&self) -> bool {
+        matches!(str::from_utf8(self.peek()), Ok("" | "="))
     }
 
     /// The next word as a number with a sign.
@@ -80,10 +90,7 @@ impl<'a> Words<'a> {
 
     /// The next word as a number if one comes before a `=`, else 0.
     pub fn number_if_any(&mut self) -> u32 {
-        match self.peek() {
-            b"" | b"=" => 0,
-            _ => self.number(),
-        }
+        if self.is_at_end() { 0 } else { self.number() }
     }
 
     /// The next word as a byte, which may be written as a text of one character.

@@ -27,7 +27,7 @@ pub fn read_entry(alloc: Global, words: &mut Words<'_>) -> Option<Entry> {
 /// Passes the names of a line that are left, since what is wanted of it stands behind them.
 pub fn pass_names(words: &mut Words<'_>) {
     for _ in 0..MOST {
-        if matches!(words.peek(), b"" | b"=") {
+        if words.is_at_end() {
             break;
         }
         let _name = words.next();
@@ -37,7 +37,7 @@ pub fn pass_names(words: &mut Words<'_>) {
 // Changes an entry as a line says, and tells whether there was memory for it.
 fn change_all(alloc: Global, entry: &mut Entry, words: &mut Words<'_>) -> bool {
     for _ in 0..MOST {
-        if matches!(words.peek(), b"" | b"=") {
+        if words.is_at_end() {
             break;
         }
         if change(alloc, entry, words).is_err() {

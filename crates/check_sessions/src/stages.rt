@@ -44,7 +44,7 @@ impl Stage for SessionStage {
     }
 
     fn answer(&mut self, words: &mut Words<'_>, came: &mut Buffer) {
-        let (alloc, word) = (self.alloc, str::from_utf8(words.next()).unwrap_or(""));
+        let (alloc, word) = (self.alloc, words.name());
         let done = match word {
             "screen" => open(alloc, &mut self.opened, words, came),
             "drawn" => open_drawn(alloc, &mut self.opened, words, came),
@@ -185,7 +185,7 @@ fn call_listed(
     words: &mut Words<'_>,
     came: &mut Buffer,
 ) -> Result<(), Trouble> {
-    let word = str::from_utf8(words.next()).unwrap_or("");
+    let word = words.name();
     opened.is_listed = true;
     let done = match word {
         "update_within" => update_within(alloc, opened, words, came),

@@ -133,7 +133,7 @@ fn add_of_each(cells: &[Cell], pairs: bool, came: &mut Buffer) {
 // Adds what a line asks of a window that is lent.
 fn add_asked(screen: &Screen, words: &mut Words<'_>, came: &mut Buffer) {
     let win = Win(words.number());
-    let name = str::from_utf8(words.next()).unwrap_or("");
+    let name = words.name();
     let row = match name {
         "is_touched" | "line" => Some(words.number()),
         _ => None,

@@ -55,9 +55,10 @@ fn admit(
     words: &mut Words<'_>,
     came: &mut Buffer,
 ) {
-    let size = match words.peek() {
-        b"" | b"=" => None,
-        _ => read_size(words),
+    let size = if words.is_at_end() {
+        None
+    } else {
+        read_size(words)
     };
     match entry {
         Some(entry) => add_admission(Profile::admit(alloc, entry, size), profile, came),

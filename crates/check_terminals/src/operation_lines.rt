@@ -10,7 +10,7 @@ use scr_term::Op;
 /// Reads an operation: `home`, `move R C`, `column C`, `line R`, `up N`, `down N`, `left N`, `right N`, `return`,
 /// `clear`, `erase_line`, `erase_below`, `erase_chars N`, `reset`, `enter A`, `set A`, `fore N`, `back N` or `put B`.
 pub fn read_op(words: &mut Words<'_>) -> Option<Op> {
-    let word = str::from_utf8(words.next()).unwrap_or("");
+    let word = words.name();
     Some(match word {
         "reset" => Op::Reset,
         "enter" => Op::Enter(Attrs(words.byte())),

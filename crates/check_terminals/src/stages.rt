@@ -54,7 +54,7 @@ impl Stage for TerminalStage {
     }
 
     fn answer(&mut self, words: &mut Words<'_>, came: &mut Buffer) {
-        let word = str::from_utf8(words.next()).unwrap_or("");
+        let word = words.name();
         if !self.answer_of_profiles(word, words, came) && !self.answer_of_shown(word, words, came) {
             words.fail(Trouble::Bad("no such call, or nothing that it is about"));
         }

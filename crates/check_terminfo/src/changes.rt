@@ -2,7 +2,6 @@
 
 use crate::answers::add_size;
 use crate::files::add_decoded;
-use crate::reading::is_end;
 use check_scripts::answers::add_word;
 use check_scripts::buffers::Buffer;
 use check_scripts::troubles::Trouble;
@@ -26,7 +25,7 @@ pub fn decode_changed(
     text.extend(file);
     words.check(text.done());
     for _ in 0..u32::MAX {
-        if is_end(words) {
+        if words.is_at_end() {
             break;
         }
         let (index, byte) = (words.number() as usize, words.byte());
@@ -99,7 +98,7 @@ fn set_each(
 ) {
     let mut count = 0usize;
     for _ in 0..u32::MAX {
-        if is_end(words) {
+        if words.is_at_end() {
             break;
         }
         text.clear();

@@ -2,7 +2,6 @@
 
 use crate::answers::add_size;
 use crate::programs::write;
-use crate::reading::is_end;
 use check_scripts::answers::{add_text, add_word};
 use check_scripts::buffers::Buffer;
 use check_scripts::troubles::Trouble;
@@ -13,7 +12,7 @@ use ti_param::{ParamFault, Program, RunFault, Vars};
 /// The line `cuts TEXT..`: `Ok` where all texts agree, else those that do not, and where they are cut then.
 pub fn check_cuts(alloc: Global, words: &mut Words<'_>, text: &mut Buffer, came: &mut Buffer) {
     for _ in 0..u32::MAX {
-        if is_end(words) {
+        if words.is_at_end() {
             break;
         }
         words.text(text);

@@ -1,7 +1,6 @@
 //! Lines about finding entries by the names of terminals.
 
 use crate::answers::{add_entry, add_refusal};
-use crate::reading::is_end;
 use check_scripts::answers::{add_text, add_word};
 use check_scripts::buffers::Buffer;
 use check_scripts::words::Words;
@@ -13,7 +12,7 @@ use ti_database::{FilePath, MemoryFiles, Variables, find_in, paths};
 pub fn store(alloc: Global, store: &mut MemoryFiles, words: &mut Words<'_>, came: &mut Buffer) {
     store.0.clear();
     for _ in 0..u32::MAX {
-        if is_end(words) {
+        if words.is_at_end() {
             break;
         }
         store_file(alloc, store, words, came);
@@ -85,7 +84,7 @@ fn look_up(
 fn read_variables(alloc: Global, words: &mut Words<'_>, came: &mut Buffer) -> Variables {
     let line = *words;
     for _ in 0..u32::MAX {
-        if is_end(words) {
+        if words.is_at_end() {
             break;
         }
         let _variable = words.next();
@@ -109,7 +108,7 @@ fn variable(alloc: Global, line: Words<'_>, name: &[u8], came: &mut Buffer) -> O
 fn value_of<'a>(line: Words<'a>, name: &[u8]) -> Option<&'a [u8]> {
     let mut words = line;
     for _ in 0..u32::MAX {
-        if is_end(&words) {
+        if words.is_at_end() {
             break;
         }
         let value = words.next().strip_prefix(name);

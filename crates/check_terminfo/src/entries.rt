@@ -3,7 +3,7 @@
 use crate::answers::{
     add_done, add_entry, add_number_if_any, add_refusal, add_size, add_text_if_any, keep,
 };
-use crate::reading::{is_end, read_slot};
+use crate::reading::read_slot;
 use check_scripts::answers::{add_flag, add_text, add_word};
 use check_scripts::buffers::Buffer;
 use check_scripts::troubles::Trouble;
@@ -88,7 +88,7 @@ fn set(entry: &mut Entry, word: &str, words: &mut Words<'_>, text: &mut Buffer, 
     let done = match word {
         "set-flag" => entry.set_flag(slot, words.next() == b"yes".as_slice()),
         "set-number" => set_number(entry, slot, words),
-        _ if is_end(words) => entry.set_text(slot, None),
+        _ if words.is_at_end() => entry.set_text(slot, None),
         _ => {
             words.text(text);
             entry.set_text(slot, Some(text.bytes()))
@@ -99,7 +99,7 @@ fn set(entry: &mut Entry, word: &str, words: &mut Words<'_>, text: &mut Buffer, 
 
 // Sets a number, at most 32,767, or takes it away.
 fn set_number(entry: &mut Entry, slot: Slot, words: &mut Words<'_>) -> Result<(), CapFault> {
-    if is_end(words) {
+    if words.is_at_end() {
         return entry.set_number(slot, None);
     }
     let number = u16::try_from(words.number()).unwrap_or(u16::MAX);

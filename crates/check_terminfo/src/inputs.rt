@@ -1,7 +1,6 @@
 //! Lines about reading an input, of readers that fail.
 
 use crate::answers::{add_refusal, add_size};
-use crate::reading::is_end;
 use check_scripts::answers::add_text;
 use check_scripts::buffers::Buffer;
 use check_scripts::troubles::Trouble;
@@ -87,13 +86,13 @@ fn read_text(alloc: Global, text: &[u8], came: &mut Buffer) {
 
 // Reads how many reads come before one that is `interrupted` or `broken`, if there is one.
 fn read_fault(words: &mut Words<'_>) -> Option<(u32, ErrorKind)> {
-    if is_end(words) {
+    if words.is_at_end() {
         return None;
     }
     let before = words.number();
-    match words.next() {
-        b"interrupted" => Some((before, ErrorKind::Interrupted)),
-        b"broken" => Some((before, ErrorKind::BrokenPipe)),
+    match words.name() {
+        "interrupted" => Some((before, ErrorKind::Interrupted)),
+        "broken" => Some((before, ErrorKind::BrokenPipe)),
         _ => {
             words.fail(Trouble::Bad("no such fault"));
             None

@@ -7,7 +7,6 @@ mod programs;
 mod sources;
 
 use crate::database::read_bytes;
-use crate::reading::is_end;
 use check_scripts::answers::{add_number, add_text, add_word};
 use check_scripts::buffers::Buffer;
 use check_scripts::troubles::Trouble;
@@ -47,7 +46,7 @@ fn check_mutants(alloc: Global, word: &str, words: &mut Words<'_>, came: &mut Bu
 fn read_pool(alloc: Global, words: &mut Words<'_>, came: &mut Buffer) -> Vec<Vec<u8>> {
     let mut pool = Vec::new(alloc);
     for _ in 0..u32::MAX {
-        if is_end(words) {
+        if words.is_at_end() {
             break;
         }
         let pushed = pool.push(read_bytes(alloc, words));

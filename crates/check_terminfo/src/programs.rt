@@ -2,7 +2,6 @@
 
 use crate::answers::{add_refusal, add_size};
 use crate::cuts::check_cuts;
-use crate::reading::is_end;
 use check_scripts::answers::{add_text, add_word};
 use check_scripts::buffers::Buffer;
 use check_scripts::troubles::Trouble;
@@ -78,7 +77,7 @@ pub fn run(
 fn read_params(words: &mut Words<'_>) -> [i32; 9] {
     let mut params = [0; 9];
     for param in params.iter_mut() {
-        if !is_end(words) {
+        if !words.is_at_end() {
             *param = i32::try_from(words.integer()).unwrap_or(0);
         }
     }

@@ -4,7 +4,6 @@ use crate::answers::{
     add_entry, add_entry_if_any, add_note, add_notes, add_number_if_any, add_refusal, add_size,
     add_text_if_any, is_taken_back, keep,
 };
-use crate::reading::is_end;
 use check_scripts::answers::{add_text, add_word};
 use check_scripts::buffers::Buffer;
 use check_scripts::troubles::Trouble;
@@ -99,7 +98,7 @@ fn resolve_all(
 ) {
     let mut resolver = Resolver::new(source);
     for _ in 0..u32::MAX {
-        if is_end(words) {
+        if words.is_at_end() {
             break;
         }
         words.text(text);
@@ -155,12 +154,12 @@ fn resolve_name(
 fn compile_all(alloc: Global, source: &Source, words: &mut Words<'_>, came: &mut Buffer) {
     let mut compiler = EntryCompiler::new(source);
     for _ in 0..u32::MAX {
-        if is_end(words) {
+        if words.is_at_end() {
             break;
         }
-        match words.next() {
-            b"next" => compile_next(alloc, &mut compiler, came),
-            b"restart" => compiler.restart(),
+        match words.name() {
+            "next" => compile_next(alloc, &mut compiler, came),
+            "restart" => compiler.restart(),
             _ => words.fail(Trouble::Bad("no such step")),
         }
     }

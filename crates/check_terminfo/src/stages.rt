@@ -108,7 +108,7 @@ impl Stage for TerminfoStage {
     }
 
     fn answer(&mut self, words: &mut Words<'_>, came: &mut Buffer) {
-        let word = str::from_utf8(words.next()).unwrap_or("");
+        let word = words.name();
         if !self.is_answered(word, words, came)
             && !answer_of_values(self.alloc, word, words, &mut self.text, came)
         {

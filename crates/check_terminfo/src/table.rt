@@ -1,6 +1,6 @@
 //! Lines about the table of capabilities and about names.
 
-use crate::reading::{is_end, read_slot};
+use crate::reading::read_slot;
 use check_scripts::answers::{add_flag, add_name, add_number, add_text, add_word};
 use check_scripts::buffers::Buffer;
 use check_scripts::troubles::Trouble;
@@ -57,7 +57,7 @@ fn answer_of_kind(word: &str, words: &mut Words<'_>, came: &mut Buffer) {
 fn add_names_from(kind: Kind, first: u16, words: &mut Words<'_>, came: &mut Buffer) {
     let mut position = first;
     for _ in 0..u16::MAX {
-        if is_end(words) {
+        if words.is_at_end() {
             break;
         }
         let name = words.next();
@@ -81,7 +81,7 @@ fn count_named(kind: Kind, came: &mut Buffer) {
 }
 
 fn read_kind(words: &mut Words<'_>) -> Kind {
-    match str::from_utf8(words.next()).unwrap_or("") {
+    match words.name() {
         "Flag" => Kind::Flag,
         "Number" => Kind::Number,
         "Text" => Kind::Text,

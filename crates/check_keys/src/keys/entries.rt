@@ -8,8 +8,8 @@ use std::alloc::Global;
 use ti_caps::{CapFault, Entry, Kind, MOST_TEXTS, Slot, bundled, find_name, name_of};
 
 /// The line `entry`, an entry without texts, or `bundled`.
-pub fn make_entry(alloc: Global, entry: &mut Option<Entry>, word: &[u8], came: &mut Buffer) {
-    let made = if word == b"bundled".as_slice() {
+pub fn make_entry(alloc: Global, entry: &mut Option<Entry>, word: &str, came: &mut Buffer) {
+    let made = if word == "bundled" {
         bundled(alloc)
     } else {
         Entry::new(alloc, b"keys")
@@ -30,12 +30,11 @@ pub fn set_text(alloc: Global, entry: &mut Entry, words: &mut Words<'_>, came: &
         return;
     };
     let mut text = Buffer::new(alloc);
-    let set = match words.peek() {
-        b"" | b"=" => entry.set_text(slot, None),
-        _ => {
-            words.text(&mut text);
-            entry.set_text(slot, Some(text.bytes()))
-        }
+    let set = if words.is_at_end() {
+        entry.set_text(slot, None)
+    } else {
+        words.text(&mut text);
+        entry.set_text(slot, Some(text.bytes()))
     };
     match set {
         Ok(()) => add_word("Ok", came),

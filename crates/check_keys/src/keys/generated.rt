@@ -61,7 +61,7 @@ pub fn check_generated(
     came: &mut Buffer,
 ) -> Result<(), Trouble> {
     let (count, seed) = (words.number(), words.number());
-    if !open_into(alloc, entry, words.next(), keyboard, came)? {
+    if !open_into(alloc, entry, words.name(), keyboard, came)? {
         return Ok(());
     }
     match keyboard {

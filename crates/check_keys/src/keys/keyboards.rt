@@ -50,12 +50,12 @@ impl Keyboard {
 fn open(
     alloc: Global,
     entry: &Entry,
-    word: &[u8],
+    word: &str,
     came: &mut Buffer,
 ) -> Result<Option<Keyboard>, Trouble> {
     let opened = match word {
-        b"reader" => open_reader(alloc, entry),
-        b"screen" => open_screen(alloc, entry),
+        "reader" => open_reader(alloc, entry),
+        "screen" => open_screen(alloc, entry),
         _ => return Err(Trouble::Bad("neither reader nor screen")),
     };
     match opened {
@@ -72,7 +72,7 @@ fn open(
 pub fn open_into(
     alloc: Global,
     entry: &Entry,
-    word: &[u8],
+    word: &str,
     keyboard: &mut Option<Keyboard>,
     came: &mut Buffer,
 ) -> Result<bool, Trouble> {

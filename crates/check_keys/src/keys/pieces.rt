@@ -35,7 +35,7 @@ pub fn check_pieces(
     came: &mut Buffer,
 ) -> Result<(), Trouble> {
     let (count, seed) = (words.number(), words.number());
-    if !open_into(alloc, entry, words.next(), keyboard, came)? {
+    if !open_into(alloc, entry, words.name(), keyboard, came)? {
         return Ok(());
     }
     let mut plain = PlainReader::new(alloc, PlainKeys::of(alloc, entry)?);

@@ -36,17 +36,17 @@ impl Stage for KeyStage {
     }
 
     fn answer(&mut self, words: &mut Words<'_>, came: &mut Buffer) {
-        let (alloc, word) = (self.alloc, words.next());
+        let (alloc, word) = (self.alloc, words.name());
         match word {
-            b"entry" | b"bundled" => make_entry(alloc, &mut self.entry, word, came),
-            b"beside" => match &self.entry {
+            "entry" | "bundled" => make_entry(alloc, &mut self.entry, word, came),
+            "beside" => match &self.entry {
                 Some(entry) => {
-                    let opened = open_into(alloc, entry, words.next(), &mut self.beside, came);
+                    let opened = open_into(alloc, entry, words.name(), &mut self.beside, came);
                     words.check(add_opened(opened, came));
                 }
                 None => words.fail(Trouble::Bad("no entry")),
             },
-            b"text" | b"reader" | b"screen" | b"cuts" | b"generated" | b"pieces" =>
+            "text" | "reader" | "screen" | "cuts" | "generated" | "pieces" =>
                 match &mut self.entry {
                     Some(entry) => {
                         answer_of_entry(alloc, entry, &mut self.keyboard, word, words, came);
@@ -68,7 +68,7 @@ impl Stage for KeyStage {
     }
 
     fn leaves_all(word: &[u8]) -> bool {
-        matches!(word, b"cuts" | b"generated" | b"pieces")
+        matches!(str::from_utf8(word), Ok("cuts" | "generated" | "pieces"))
     }
 }
 
@@ -78,18 +78,18 @@ fn answer_of_entry(
     alloc: Global,
     entry: &mut Entry,
     keyboard: &mut Option<Keyboard>,
-    word: &[u8],
+    word: &str,
     words: &mut Words<'_>,
     came: &mut Buffer,
 ) {
     let done = match word {
-        b"text" => {
+        "text" => {
             set_text(alloc, entry, words, came);
             Ok(())
         }
-        b"cuts" => check_cuts(alloc, entry, keyboard, words, came),
-        b"generated" => check_generated(alloc, entry, keyboard, words, came),
-        b"pieces" => check_pieces(alloc, entry, keyboard, words, came),
+        "cuts" => check_cuts(alloc, entry, keyboard, words, came),
+        "generated" => check_generated(alloc, entry, keyboard, words, came),
+        "pieces" => check_pieces(alloc, entry, keyboard, words, came),
         _ => add_opened(open_into(alloc, entry, word, keyboard, came), came),
     };
     words.check(done);
@@ -107,19 +107,19 @@ fn add_opened(opened: Result<bool, Trouble>, came: &mut Buffer) -> Result<(), Tr
 fn answer_of_keyboard(
     alloc: Global,
     keyboard: &mut Keyboard,
-    word: &[u8],
+    word: &str,
     words: &mut Words<'_>,
     came: &mut Buffer,
 ) {
     match word {
-        b"byte" => add_came(keyboard.byte(words.byte()), came),
-        b"bytes" => {
+        "byte" => add_came(keyboard.byte(words.byte()), came),
+        "bytes" => {
             let mut text = Buffer::new(alloc);
             words.text(&mut text);
             add_came(give(keyboard, text.bytes()), came);
         }
-        b"idle" => add_came(keyboard.idle(), came),
-        b"keys" => words.check(add_keys(alloc, keyboard, came)),
+        "idle" => add_came(keyboard.idle(), came),
+        "keys" => words.check(add_keys(alloc, keyboard, came)),
         _ => words.fail(Trouble::Bad("no such line")),
     }
 }

@@ -20,7 +20,7 @@ pub fn check_cuts(
     words: &mut Words<'_>,
     came: &mut Buffer,
 ) -> Result<(), Trouble> {
-    if !open_into(alloc, entry, words.next(), keyboard, came)? {
+    if !open_into(alloc, entry, words.name(), keyboard, came)? {
         return Ok(());
     }
     let bad_cut = match keyboard {
