@@ -1,7 +1,8 @@
 //! Sizes of terminals as text.
 ghost use Rattle.std.specs.Prelude.{◌≡◌, ℕ, ◌<◌, ◌^◌, Some, IsSomeAnd};
 ghost use Rattle.std.specs.Fmt.{decimal};
-ghost use Rattle.terminal_line.specs.Sizes.{size_line, IsCapped};
+ghost use Rattle.terminal_line.specs.Sizes.{size_line, end_line, size_of, IsCapped};
+ghost use Rattle.terminal_line.specs.declared.sizes.Told.TheVariants as Told;
 
 use scr_cells::Size;
 
@@ -17,14 +18,28 @@ pub(crate) enum Told {
 }
 
 /// What a text says that the file `size` has: `ROWS COLUMNS` and a line feed, or `end` and a line feed.
-pub(crate) fn told_by(text: &[u8]) -> Told {
+pub(crate) fn told_by(text: &[u8]) -> Told
+    ensures size { (rows columns : ℕ) → rows < 2 ^ 32 → columns < 2 ^ 32 → text.now ≡ size_line rows columns → IsCapped rows columns (size_of result) }
+    ensures end { text.now ≡ end_line → result ≡ Told.End }
+{
     match str::from_utf8(text) {
-        Ok("end\n") => Told::End,
-        Ok(text) => match size_told(text) {
-            Some(size) => Told::Size(size),
-            None => Told::Nothing,
-        },
+        Ok(line) => told_in(line),
         Err(_) => Told::Nothing,
+    }
+}
+
+// The same of a line.
+#[tactic(auto, unfolding(crate::specs::Sizes::size_of))]
+fn told_in(line: &str) -> Told
+    ensures size { (rows columns : ℕ) → rows < 2 ^ 32 → columns < 2 ^ 32 → line.now ≡ size_line rows columns → IsCapped rows columns (size_of result) }
+    ensures end { line.now ≡ end_line → result ≡ Told.End }
+{
+    if line == "end\n" {
+        return Told::End;
+    }
+    match size_told(line) {
+        Some(size) => Told::Size(size),
+        None => Told::Nothing,
     }
 }
 
