@@ -2,8 +2,9 @@
 
 use check_scripts::answers::{add_cell, add_flag, add_name, add_number, add_place, add_word};
 use check_scripts::buffers::Buffer;
-use curses::{Answer, Report, UpdateFault};
+use curses::UpdateFault;
 use scr_windows::{Added, WinFault};
+use screen_sessions::{Answer, Report};
 use std::io::ErrorKind;
 
 /// Adds what a call answered: `Ok` or what it gives, an update `Ok` and the number of its bytes; or why it was refused.

@@ -4,9 +4,9 @@ use check_scripts::answers::read_parts;
 use check_scripts::buffers::Buffer;
 use check_scripts::troubles::Trouble;
 use check_scripts::words::Words;
-use curses::Call;
 use scr_cells::{Attrs, Cell};
 use scr_windows::Win;
+use screen_sessions::Call;
 use std::alloc::Global;
 use ti_caps::Bytes;
 

@@ -2,9 +2,9 @@
 
 use check_scripts::random::Random;
 use check_scripts::troubles::Trouble;
-use curses::Call;
 use scr_cells::{Attrs, Size};
 use scr_windows::Win;
+use screen_sessions::Call;
 use std::alloc::Global;
 use ti_caps::Bytes;
 

@@ -6,9 +6,10 @@ use crate::recorded::Recorded;
 use check_scripts::buffers::Buffer;
 use check_scripts::random::Random;
 use check_scripts::troubles::Trouble;
-use curses::{Call, Screen};
+use curses::Screen;
 use scr_cells::{Attrs, Size};
 use scr_windows::Win;
+use screen_sessions::Call;
 use std::alloc::Global;
 use ti_caps::Bytes;
 

@@ -3,8 +3,9 @@
 use crate::recorded::Recorded;
 use crate::shown::shows;
 use check_scripts::troubles::Trouble;
-use curses::{Answer, Failure, UpdateFault};
+use curses::UpdateFault;
 use scr_term::{EcmaScreen, Op, Profile};
+use screen_sessions::{Answer, Failure};
 use std::alloc::Global;
 use std::io::ErrorKind;
 

@@ -11,9 +11,10 @@ use check_scripts::buffers::Buffer;
 use check_scripts::random::Random;
 use check_scripts::troubles::Trouble;
 use check_scripts::words::Words;
-use curses::{Answer, Device, Failure, Faulty, Report, UpdateFault};
+use curses::{Device, UpdateFault};
 use scr_cells::Size;
 use scr_term::Op;
+use screen_sessions::{Answer, Failure, Faulty, Report};
 use std::alloc::Global;
 use std::io::ErrorKind;
 

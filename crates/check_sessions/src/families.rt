@@ -2,8 +2,9 @@
 
 use crate::window_lines::line_of;
 use check_scripts::troubles::Trouble;
-use curses::{Answer, Call, Screen};
+use curses::Screen;
 use scr_windows::Win;
+use screen_sessions::{Answer, Call};
 use std::alloc::Global;
 
 // Where a window lies in its parent.

@@ -13,9 +13,9 @@ use check_scripts::buffers::Buffer;
 use check_scripts::random::Random;
 use check_scripts::troubles::Trouble;
 use check_scripts::words::Words;
-use curses::{Answer, Call};
 use scr_cells::Size;
 use scr_windows::Win;
+use screen_sessions::{Answer, Call};
 use std::alloc::Global;
 use std::io::Write;
 

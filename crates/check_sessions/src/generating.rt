@@ -3,9 +3,10 @@
 use crate::writers::Fails;
 use check_scripts::random::Random;
 use check_scripts::troubles::Trouble;
-use curses::{Call, Screen};
+use curses::Screen;
 use scr_cells::{Attrs, Cell};
 use scr_windows::Win;
+use screen_sessions::Call;
 use std::alloc::Global;
 use ti_caps::Bytes;
 

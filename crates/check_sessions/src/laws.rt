@@ -7,9 +7,10 @@ use crate::families::{Families, Part};
 use crate::window_lines::{is_touched, line_of};
 use check_scripts::buffers::{Buffer, are_same};
 use check_scripts::troubles::Trouble;
-use curses::{Answer, Call, Screen};
+use curses::Screen;
 use scr_cells::Cell;
 use scr_windows::{Win, WindowRef};
+use screen_sessions::{Answer, Call};
 use std::alloc::Global;
 
 // A window without a parent, and where among the cells its own begin.

@@ -1,11 +1,12 @@
 //! A call that is made by a list of it alone.
 
 use check_scripts::troubles::Trouble;
-use curses::{Answer, Call, Counted, Report, Screen, UpdateFault};
+use curses::{Counted, Screen, UpdateFault};
 use scr_cells::NoMemory;
+use screen_sessions::{Answer, Call, Report, make_calls};
 use std::alloc::Global;
 
-/// Makes a call on a screen by a list of it alone (`Screen::make_all`), and gives it back with what it answers: want of
+/// Makes a call on a screen by a list of it alone (`make_calls`), and gives it back with what it answers: want of
 /// memory for the list's answers is answered as that of an update is.
 pub fn make_listed<W: Counted>(
     alloc: Global,
@@ -15,7 +16,7 @@ pub fn make_listed<W: Counted>(
 ) -> Result<(Call, Answer), Trouble> {
     let mut calls = Vec::new(alloc);
     calls.push(call)?;
-    let answer = answer_of(screen.make_all(alloc, &calls, out));
+    let answer = answer_of(make_calls(alloc, screen, &calls, out));
     calls
         .pop()
         .zip(answer)

@@ -11,9 +11,10 @@ use check_scripts::answers::add_word;
 use check_scripts::buffers::{Buffer, are_same};
 use check_scripts::checking::put;
 use check_scripts::troubles::Trouble;
-use curses::{Answer, Call, Counted, Device, OpenFault, Report, Screen, UpdateFault, session};
+use curses::{Counted, Device, OpenFault, Screen, UpdateFault};
 use scr_cells::Size;
 use scr_term::{EcmaScreen, Op, Ops, Profile};
+use screen_sessions::{Answer, Call, Report, make_call, session};
 use std::alloc::Global;
 use ti_caps::{Entry, bundled};
 
@@ -280,7 +281,7 @@ impl Recorded {
             self.keep(call, &answer, came)?;
             return Ok(answer);
         }
-        let answer = self.screen.make(self.alloc, &call, &mut self.device);
+        let answer = make_call(self.alloc, &mut self.screen, &call, &mut self.device);
         self.keep(call, &answer, came)?;
         Ok(answer)
     }

@@ -4,8 +4,9 @@ use crate::entries::read_entry;
 use check_scripts::answers::{add_name, add_word, read_size};
 use check_scripts::buffers::Buffer;
 use check_scripts::words::Words;
-use curses::{Device, OpenFault, Screen, session};
+use curses::{Device, OpenFault, Screen};
 use scr_cells::Size;
+use screen_sessions::session;
 use std::alloc::Global;
 use ti_caps::Entry;
 

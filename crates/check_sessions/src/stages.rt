@@ -17,8 +17,8 @@ use check_scripts::buffers::{Buffer, are_same};
 use check_scripts::checking::Stage;
 use check_scripts::troubles::Trouble;
 use check_scripts::words::Words;
-use curses::Call;
 use scr_windows::Win;
+use screen_sessions::Call;
 use std::alloc::Global;
 use ti_caps::Bytes;
 

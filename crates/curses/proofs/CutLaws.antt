@@ -22,10 +22,6 @@ appends_more (Some a) None new x y h k = absurd h
 appends_more (Some a) (Some b) None x y h k = absurd k
 appends_more (Some a) (Some b) (Some c) x y h k = k ∙ ap (λ t. t ++ y) h ∙ append_assoc a x y
 
-pub appends_none : (old : Option (List ℕ)) → Appends old old []
-appends_none None = tt
-appends_none (Some a) = sym (append-nil a)
-
 pub appends_kept : (old between new : Option (List ℕ)) (x : List ℕ) → Appends old between x → Keeps between new → Appends old new x
 appends_kept None between new x h k = tt
 appends_kept (Some a) None new x h k = absurd h
@@ -68,10 +64,6 @@ appended_alone result old new byte nothing succeeds is =
     is ∙ ap (λ b. if b then old ++ byte ∷ [] else old) succeeds ∙ ap (λ t. t ++ byte ∷ []) nothing
 
 -- ---- several texts
-
--- nothing was sent
-pub cut_none : (owed : List ℕ) (old : Option (List ℕ)) → IsCut owed [] old old 0 owed
-cut_none owed old = record { taken = []; writer = appends_none old; bytes = refl; whole = append-nil owed }
 
 -- what was sent first, and then
 pub cuts_join : (owed between rest x y : List ℕ) (old mid new : Option (List ℕ)) (n m : ℕ) → IsCut owed x old mid n between → IsCut between y mid new m rest
@@ -125,19 +117,6 @@ pub nothing_left : (profile : ProfileView) (owed : List ℕ) (ops : List Op) (re
 nothing_left profile owed [] rest none = omega (arith, ap length none)
 nothing_left profile owed (op ∷ []) rest none = omega (arith, ap length none)
 nothing_left profile owed (op ∷ next ∷ ops) rest none = nothing_left profile owed (next ∷ ops) rest none
-
--- where an operation was begun, what was owed before it does not matter
-whatever_was_owed : (profile : ProfileView) (a b : List ℕ) (op : Op) (ops : List Op) (rest : List ℕ) → IsOfOneText profile a (op ∷ ops) rest → IsOfOneText profile b (op ∷ ops) rest
-whatever_was_owed profile a b op [] rest few = few
-whatever_was_owed profile a b op (next ∷ ops) rest few = whatever_was_owed profile a b next ops rest few
-
--- operations were begun, and then others
-pub one_behind : (profile : ProfileView) (first owed : List ℕ) (begun more : List Op) (rest : List ℕ) → IsOfOneText profile first begun owed → IsOfOneText profile owed more rest → IsOfOneText profile first (begun ++ more) rest
-one_behind profile first owed [] [] rest before few = omega (arith, before, few)
-one_behind profile first owed [] (m ∷ more) rest before few = whatever_was_owed profile owed first m more rest few
-one_behind profile first owed (op ∷ []) [] rest before few = omega (arith, before, few)
-one_behind profile first owed (op ∷ []) (m ∷ more) rest before few = whatever_was_owed profile owed first m more rest few
-one_behind profile first owed (op ∷ next ∷ begun) more rest before few = one_behind profile first owed (next ∷ begun) more rest before few
 
 -- ---- counts
 

@@ -1,7 +1,5 @@
 pub mod CutLaws
-pub mod MakingLaws
-pub mod MarkLaws
-pub mod SessionLaws
+pub mod RememberedLaws
 pub mod StartingLaws
 pub mod TextLaws
 pub mod UpdateLaws

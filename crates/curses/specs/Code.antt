@@ -1,4 +1,3 @@
 -- Words of private functions.
 pub mod Openings
-pub mod Progress
 pub mod Texts

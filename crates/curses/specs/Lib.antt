@@ -1,15 +1,11 @@
 -- The definitions that the contracts of this crate cite.
-pub mod Calls
 pub mod Code
 pub mod Cuts
-pub mod Faulty
 pub mod Forwarding
 pub mod Keyboard
-pub mod Making
 pub mod Opening
 pub mod Refreshing
 pub mod ScreenStates
-pub mod Sessions
 pub mod Starting
 pub mod Texts
 pub mod Updates

@@ -4,7 +4,6 @@
 mod adding;
 mod borders;
 mod copying;
-mod dispatch;
 mod erasing;
 mod making;
 mod moving;
@@ -15,6 +14,3 @@ mod settings;
 mod subwindows;
 mod syncing;
 mod touching;
-mod values;
-
-pub use values::Call;

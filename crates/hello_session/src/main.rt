@@ -4,9 +4,8 @@
 #![tactic(auto)]
 
 use anyhow::{Context, Result, bail};
-use curses::{
-    Attrs, Bytes, Call, Device, EcmaScreen, Entry, Look, Screen, Size, Spot, Win, bundled, session,
-};
+use curses::{Attrs, Bytes, Device, EcmaScreen, Entry, Look, Screen, Size, Spot, Win, bundled};
+use screen_sessions::{Call, session};
 use std::alloc::Global;
 
 // The rows that the terminal is to show, with a star where reverse video begins and where it ends.

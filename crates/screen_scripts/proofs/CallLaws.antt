@@ -1,8 +1,8 @@
 -- Which calls are updates.
 use Rattle.std.proofs.Common.{◌≡◌, false, refl}
-use Rattle.curses.specs.declared.calls.values.Call.{Call}
-use Rattle.curses.specs.declared.calls.values.Call.TheVariants.{NewWindow, NewPad, Derive, Sub, SubPad, Copy, Overlay, Overwrite, Delete, MoveWindow, MoveDerived, TouchWindow, Untouch, TouchLines, SyncUp, SyncDown, AddByte, AddText, InsertByte, LineAcross, LineDown, Border, ClearToEol, ClearToBottom, Erase, Clear, DeleteByte, InsertDeleteLines, Scroll, ChangeBackground, MoveCursor, SetRegion, ScrollOk, ClearOk, LeaveOk, AttrOn, AttrOff, AttrSet, ColorSet, SetBackground, CellAt, Cursor, Size, Origin, LineTouched, WindowTouched, RedrawWindow, RedrawLines, SetPair, Noutrefresh, PadNoutrefresh, Doupdate}
-use Rattle.curses.specs.Sessions.{is_update}
+use Rattle.screen_sessions.specs.declared.calls.Call.{Call}
+use Rattle.screen_sessions.specs.declared.calls.Call.TheVariants.{NewWindow, NewPad, Derive, Sub, SubPad, Copy, Overlay, Overwrite, Delete, MoveWindow, MoveDerived, TouchWindow, Untouch, TouchLines, SyncUp, SyncDown, AddByte, AddText, InsertByte, LineAcross, LineDown, Border, ClearToEol, ClearToBottom, Erase, Clear, DeleteByte, InsertDeleteLines, Scroll, ChangeBackground, MoveCursor, SetRegion, ScrollOk, ClearOk, LeaveOk, AttrOn, AttrOff, AttrSet, ColorSet, SetBackground, CellAt, Cursor, Size, Origin, LineTouched, WindowTouched, RedrawWindow, RedrawLines, SetPair, Noutrefresh, PadNoutrefresh, Doupdate}
+use Rattle.screen_sessions.specs.Sessions.{is_update}
 
 pub not_update : (call : Call) → (call ≡ Doupdate → ⊥) → is_update call ≡ false
 not_update (NewWindow a b c d) other = refl

@@ -13,14 +13,14 @@ use Rattle.scr_plan.specs.Memories.{Agrees, MemoryView}
 use Rattle.scr_plan.specs.MemoryRuns.{MemoryRuns}
 use Rattle.scr_windows.specs.declared.faults.WinFault.{WinFault}
 use Rattle.scr_windows.specs.declared.faults.WinFault.TheVariants as faults
-use Rattle.curses.specs.declared.answers.Answer.{Answer}
-use Rattle.curses.specs.declared.answers.Answer.TheVariants.{Nothing, Refused, Sent, Made, Added, Seen, Pair, Touched, Failed}
-use Rattle.curses.specs.declared.calls.values.Call.{Call}
-use Rattle.curses.specs.declared.calls.values.Call.TheVariants.{AddText, MoveCursor, Noutrefresh}
+use Rattle.screen_sessions.specs.declared.answers.Answer.{Answer}
+use Rattle.screen_sessions.specs.declared.answers.Answer.TheVariants.{Nothing, Refused, Sent, Made, Added, Seen, Pair, Touched, Failed}
+use Rattle.screen_sessions.specs.declared.calls.Call.{Call}
+use Rattle.screen_sessions.specs.declared.calls.Call.TheVariants.{AddText, MoveCursor, Noutrefresh}
 use Rattle.curses.specs.declared.faults.Sent.{Sent as SentView}
-use Rattle.curses.specs.Making.{IsMade, drawn_of}
+use Rattle.screen_sessions.specs.Making.{IsMade, drawn_of}
 use Rattle.curses.specs.ScreenStates.{ScreenState}
-use Rattle.curses.specs.Sessions.{Drawn, RightAnswer, begun_of, count_of, is_update, left_by, marked_by, memory_marked, memory_updated, ran_out, screen_call}
+use Rattle.screen_sessions.specs.Sessions.{Drawn, RightAnswer, begun_of, count_of, is_update, left_by, marked_by, memory_marked, memory_updated, ran_out, screen_call}
 use Rattle.curses.specs.Updates.{IsSent, IsShown}
 use Rattle.curses.specs.Writers.{WriterView}
 use Rattle.screen_scripts.specs.declared.effects.Effects.{Effects}

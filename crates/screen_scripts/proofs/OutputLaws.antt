@@ -19,7 +19,7 @@ use Rattle.scr_term.specs.Ecma.Screens.{ScreenView, IsScreen, IsFed}
 use Rattle.scr_plan.specs.Memories.{Agrees, MemoryView, all_followed, disturbed, unknown}
 use Rattle.scr_plan.specs.Scratch.{RunsToShow}
 use Rattle.scr_virtual.specs.VirtualViews.{VirtualView}
-use Rattle.curses.specs.Sessions.{memory_marked}
+use Rattle.screen_sessions.specs.Sessions.{memory_marked}
 use Rattle.screen_scripts.specs.declared.effects.Note.{Note}
 use Rattle.screen_scripts.specs.declared.effects.Note.TheVariants.{Refused, NotTaken, Pressed}
 use Rattle.screen_scripts.specs.declared.stages.Stage.{Stage as Playing}

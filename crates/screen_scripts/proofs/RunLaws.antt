@@ -11,7 +11,7 @@ use Rattle.screen_scripts.specs.Commands.{command_of}
 use Rattle.screen_scripts.specs.Lines.{lines_of}
 use Rattle.screen_scripts.specs.declared.commands.Command.{Command}
 use Rattle.curses.specs.ScreenStates.{ScreenState}
-use Rattle.curses.specs.Sessions.{memory_marked}
+use Rattle.screen_sessions.specs.Sessions.{memory_marked}
 use Rattle.screen_scripts.specs.declared.effects.Effects.{Effects}
 use Rattle.screen_scripts.specs.declared.stages.Stage.{Stage as Playing}
 use Rattle.screen_scripts.specs.Stories.{Event, Outcome, Stage, Story, continued, line_outcome, next_number, opened, outcome_of, size_in, size_on, story_from, story_of, story_on}

@@ -3,8 +3,8 @@ use Rattle.std.specs.Prelude.{ℕ, nat_le, false, List, [], ◌∷◌, Option, S
 use Rattle.std.specs.Str.{bytes_eq}
 use Rattle.scr_cells.specs.declared.attributes.Attrs.{Attrs}
 use Rattle.scr_windows.specs.declared.faults.Win.{Win}
-use Rattle.curses.specs.declared.calls.values.Call.{Call}
-use Rattle.curses.specs.declared.calls.values.Call.TheVariants.{NewWindow, NewPad, Derive, Sub, SubPad, Copy, Overlay, Overwrite, Delete, TouchWindow, Untouch, AddByte, AddText, Erase, Clear, Scroll, ChangeBackground, MoveCursor, ScrollOk, AttrSet, ColorSet, SetPair, Noutrefresh, PadNoutrefresh, Doupdate}
+use Rattle.screen_sessions.specs.declared.calls.Call.{Call}
+use Rattle.screen_sessions.specs.declared.calls.Call.TheVariants.{NewWindow, NewPad, Derive, Sub, SubPad, Copy, Overlay, Overwrite, Delete, TouchWindow, Untouch, AddByte, AddText, Erase, Clear, Scroll, ChangeBackground, MoveCursor, ScrollOk, AttrSet, ColorSet, SetPair, Noutrefresh, PadNoutrefresh, Doupdate}
 use Rattle.screen_scripts.specs.declared.commands.Command.{Command}
 use Rattle.screen_scripts.specs.declared.commands.Command.TheVariants.{Size, Add, Show, Make, Key, Idle}
 use Rattle.screen_scripts.specs.Fields.{cut, numbers, number_and_text, integer, setting, background, hexadecimal_bytes}

@@ -16,12 +16,12 @@ use Rattle.scr_plan.specs.Scratch.{RunsToShow}
 use Rattle.scr_virtual.specs.VirtualViews.{VirtualView}
 use Rattle.scr_windows.specs.declared.faults.WinFault.{WinFault}
 use Rattle.scr_windows.specs.declared.faults.WinFault.TheVariants as faults
-use Rattle.curses.specs.declared.answers.Answer.{Answer}
-use Rattle.curses.specs.declared.answers.Answer.TheVariants as answers
-use Rattle.curses.specs.declared.calls.values.Call.{Call}
-use Rattle.curses.specs.Making.{drawn_of}
+use Rattle.screen_sessions.specs.declared.answers.Answer.{Answer}
+use Rattle.screen_sessions.specs.declared.answers.Answer.TheVariants as answers
+use Rattle.screen_sessions.specs.declared.calls.Call.{Call}
+use Rattle.screen_sessions.specs.Making.{drawn_of}
 use Rattle.curses.specs.ScreenStates.{ScreenState}
-use Rattle.curses.specs.Sessions.{begun_of, marked_by, memory_marked}
+use Rattle.screen_sessions.specs.Sessions.{begun_of, marked_by, memory_marked}
 use Rattle.screen_scripts.specs.Commands.{command_of}
 use Rattle.screen_scripts.specs.declared.commands.Command.{Command}
 use Rattle.screen_scripts.specs.declared.effects.Effects.{Effects}

@@ -14,11 +14,11 @@ use Rattle.scr_windows.specs.declared.faults.WinFault.{WinFault}
 use Rattle.scr_windows.specs.declared.faults.WinFault.TheVariants as faults
 use Rattle.ti_caps.specs.Bundled.{bundled_names, bundled_texts, listed}
 use Rattle.ti_caps.specs.Description.{Description, bare}
-use Rattle.curses.specs.declared.answers.Answer.{Answer}
-use Rattle.curses.specs.declared.answers.Answer.TheVariants as answers
-use Rattle.curses.specs.declared.calls.values.Call.{Call}
-use Rattle.curses.specs.declared.calls.values.Call.TheVariants.{AddText, MoveCursor, Noutrefresh}
-use Rattle.curses.specs.Sessions.{Drawn, first_drawn, is_update, marked_by, screen_call}
+use Rattle.screen_sessions.specs.declared.answers.Answer.{Answer}
+use Rattle.screen_sessions.specs.declared.answers.Answer.TheVariants as answers
+use Rattle.screen_sessions.specs.declared.calls.Call.{Call}
+use Rattle.screen_sessions.specs.declared.calls.Call.TheVariants.{AddText, MoveCursor, Noutrefresh}
+use Rattle.screen_sessions.specs.Sessions.{Drawn, first_drawn, is_update, marked_by, screen_call}
 use Rattle.screen_scripts.specs.Commands.{command_of}
 use Rattle.screen_scripts.specs.Lines.{lines_of}
 use Rattle.screen_scripts.specs.declared.commands.Command.{Command}

@@ -8,8 +8,8 @@ use crate::fields::{
     background, copied, cut_field, hexadecimal_bytes, integer, number_and_text, setting,
 };
 use crate::numbered::numbered_command;
-use curses::Call;
 use scr_windows::Win;
+use screen_sessions::Call;
 use std::alloc::Global;
 use ti_caps::Bytes;
 

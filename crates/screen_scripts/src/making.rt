@@ -1,15 +1,16 @@
 //! Making the calls of a script on its screen.
 ghost use Rattle.std.specs.Prelude.{◌≡◌, false, IfOk};
-ghost use Rattle.curses.specs.Sessions.{is_update as is_update_of};
+ghost use Rattle.screen_sessions.specs.Sessions.{is_update as is_update_of};
 ghost use Rattle.screen_scripts.specs.Stories.{made, updated};
 ghost use Rattle.screen_scripts.specs.Showing.{IsQuiet, IsReady, IsRefusalOf, Obeys, Updates, stage_of};
 
 use crate::effects::Effects;
-use curses::{Answer, Call, Device, Screen};
+use curses::{Device, Screen};
 use scr_cells::NoMemory;
 use scr_plan::memory_runs;
 use scr_term::ecma48_laws;
 use scr_windows::WinFault;
+use screen_sessions::{Answer, Call, make_call};
 use std::alloc::Global;
 
 /// Makes any call, also an update. Fails only when memory runs out.
@@ -36,7 +37,7 @@ pub fn make_quietly(
     ensures { IfOk result (λ fault. IsQuiet screen.old screen.new call.now fault) }
 {
     let mut device = Device::new(Vec::new(alloc));
-    let answer = screen.make(alloc, call, &mut device);
+    let answer = make_call(alloc, screen, call, &mut device);
     refusal(answer)
 }
 

@@ -6,9 +6,9 @@ ghost use Rattle.screen_scripts.specs.Commands.{attributes, meaning, numbered as
 
 use crate::Command;
 use crate::fields::numbers;
-use curses::Call;
 use scr_cells::Attrs;
 use scr_windows::Win;
+use screen_sessions::Call;
 
 /// The command of a word with the numbers of the text that follows it, if any.
 pub(crate) fn numbered_command(word: &[u8], text: Option<&[u8]>) -> Option<Command>

@@ -7,11 +7,12 @@ ghost use Rattle.screen_scripts.specs.Showing.{IsReady, Obeys, ObeysSome, stage_
 use crate::effects::Effects;
 use crate::making::{make, make_quietly, update_bytes};
 use crate::pressing::{idle, press};
-use curses::{Call, Screen};
+use curses::Screen;
 use scr_cells::NoMemory;
 use scr_windows::Win;
 use crate::commands::Command;
 use crate::line_faults::LineFault;
+use screen_sessions::Call;
 use std::alloc::Global;
 use ti_caps::Bytes;
 

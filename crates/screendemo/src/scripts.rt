@@ -1,9 +1,9 @@
 //! Checking a script before it is run: its bad lines, the size of its screen, and its number of
 //! updates.
 
-use curses::Call;
 use scr_cells::Size;
 use screen_scripts::{Command, DemoFault, LineFault, cut_line, read_command};
+use screen_sessions::Call;
 use std::alloc::Global;
 
 /// The size of the screen, from the script's first line.

@@ -1,10 +1,11 @@
 //! Running a script up to its last update.
 
-use curses::{Answer, Call, Device, Screen};
+use curses::{Device, Screen};
 use scr_cells::{NoMemory, Size};
 use scr_term::{Op, Ops, Profile, Terminal};
 use scr_windows::{Win, WinFault};
 use screen_scripts::{Command, cut_line, read_command};
+use screen_sessions::{Answer, Call, make_call};
 use std::alloc::Global;
 use ti_caps::{Bytes, bundled};
 
@@ -124,7 +125,7 @@ fn add(
 // Makes a call that is not an update, and returns whether it was accepted.
 fn make(alloc: Global, call: &Call, screen: &mut Screen) -> Result<bool, NoMemory> {
     let mut device = Device::new(Vec::new(alloc));
-    match screen.make(alloc, call, &mut device) {
+    match make_call(alloc, screen, call, &mut device) {
         Answer::Refused(WinFault::NoMemory) | Answer::Failed(_) => Err(NoMemory),
         Answer::Refused(_) => Ok(false),
         _ => Ok(true),

@@ -1,7 +1,7 @@
 use Rattle.std.proofs.Common.{subst, sym}
 use Rattle.scr_plan.specs.Plans.{IsPlan}
 use Rattle.curses.specs.ScreenStates.{IsRemembered}
-use Rattle.curses.proofs.MakingLaws.{remembers_followed}
+use Rattle.curses.proofs.RememberedLaws.{remembers_followed}
 use Rattle.curses.proofs.screens.Screen.follow.Goals as goal
 
 pub invariant_of-self : goal.invariant_of-self

@@ -1,6 +1,6 @@
 use Rattle.std.proofs.Common.{ap, subst, sym}
 use Rattle.curses.specs.ScreenStates.{IsRemembered}
-use Rattle.curses.proofs.MakingLaws.{remembers_at_first}
+use Rattle.curses.proofs.RememberedLaws.{remembers_at_first}
 use Rattle.curses.proofs.screens.Screen.on.Goals as goal
 
 pub invariant_of-result : goal.invariant_of-result

@@ -1,7 +1,7 @@
 use Rattle.std.proofs.Common.{ap, subst, sym, ◌∙◌, rules}
 use Rattle.scr_virtual.specs.Laws.{HoldsChanges}
 use Rattle.curses.specs.ScreenStates.{IsRemembered}
-use Rattle.curses.proofs.MakingLaws.{remembers_disturbed, remembers_held}
+use Rattle.curses.proofs.RememberedLaws.{remembers_disturbed, remembers_held}
 use Rattle.curses.proofs.screens.Screen.redraw_lines.Goals as goal
 
 pub invariant_of-self : goal.invariant_of-self

@@ -1,6 +1,6 @@
 use Rattle.std.proofs.Common.{ap, subst, sym, ◌∙◌}
 use Rattle.scr_virtual.specs.Laws.{HoldsChanges}
-use Rattle.curses.proofs.MakingLaws.{remembers_held}
+use Rattle.curses.proofs.RememberedLaws.{remembers_held}
 use Rattle.curses.proofs.screens.Screen.set_pair.Goals as goal
 
 pub invariant_of-self : goal.invariant_of-self

@@ -1,0 +1,77 @@
+-- What a screen remembers of its terminal goes on to hold.
+use Rattle.std.proofs.Common.{◌≡◌, ℕ, ◌+◌, leb, ltb, ◌&&◌, refl, sym, ◌∙◌, List}
+use Rattle.scr_term.specs.declared.operations.operation.Op.{Op}
+use Rattle.scr_term.specs.Operations.Laws.{BlankLaws}
+use Rattle.scr_term.specs.Operations.Profiles.{ProfileView, IsProfile, abilities}
+use Rattle.scr_term.specs.Operations.States.{TerminalState, blank_state}
+use Rattle.scr_cells.specs.PictureViews.{IsPicture}
+use Rattle.scr_plan.specs.Memories.{Agrees, MemoryLaws, MemoryView, all_followed, disturbed, forgotten, unknown}
+use Rattle.scr_plan.specs.MemoryRuns.{MemoryRuns}
+use Rattle.scr_plan.specs.Plans.{IsPlan, UpToDateLaws}
+use Rattle.scr_plan.specs.Scratch.{Fits}
+use Rattle.scr_virtual.specs.Laws.{HoldsChanges}
+use Rattle.scr_virtual.specs.VirtualViews.{VirtualView, settled}
+use Rattle.curses.specs.ScreenStates.{IsRemembered}
+
+-- another virtual screen, whose ranges hold what has changed
+pub remembers_held : UpToDateLaws → (profile : ProfileView) (memory : MemoryView) (old new : VirtualView) → IsRemembered profile memory old → HoldsChanges old new
+    → new.picture.rows ≡ old.picture.rows → new.picture.columns ≡ old.picture.columns → IsRemembered profile memory new
+remembers_held laws profile memory old new is changes rows columns = record {
+  fits = record { rows = rows ∙ is.fits.rows; columns = columns ∙ is.fits.columns };
+  size = record { rows = is.size.rows ∙ sym rows; columns = is.size.columns ∙ sym columns; known_rows = is.size.known_rows ∙ sym rows };
+  agrees = is.agrees;
+  same = laws.holds profile memory old new changes rows columns is.same;
+}
+
+-- a state that agrees goes on to agree where less is remembered
+disturbed_agrees : MemoryLaws → (profile : ProfileView) (memory : MemoryView) (first n : ℕ) (state : TerminalState) → Agrees (abilities profile) memory state → Agrees (abilities profile) (disturbed first n memory) state
+disturbed_agrees memories profile memory first n state agrees =
+    memories.others (abilities profile) (λ r. leb first r && ltb r (first + n)) memory (disturbed first n memory) state state agrees (record { state = agrees.is_state; same = λ r kept. refl })
+    (memories.marks memory first n)
+
+-- less is remembered, since others wrote
+pub remembers_disturbed : UpToDateLaws → MemoryLaws → (profile : ProfileView) (memory : MemoryView) (virtual : VirtualView) (first n : ℕ) → IsRemembered profile memory virtual
+    → IsRemembered profile (disturbed first n memory) virtual
+remembers_disturbed laws memories profile memory virtual first n is =
+    let agrees = disturbed_agrees memories profile memory first n memory.state is.agrees in
+    record {
+      fits = is.fits;
+      size = record { rows = is.size.rows; columns = is.size.columns; known_rows = agrees.high ∙ sym is.fits.rows };
+      agrees = agrees;
+      same = laws.disturbs profile memory virtual first n is.same;
+    }
+
+-- or nothing is
+pub remembers_nothing : UpToDateLaws → MemoryLaws → (profile : ProfileView) (memory : MemoryView) (virtual : VirtualView) → IsRemembered profile memory virtual → IsRemembered profile (forgotten memory) virtual
+remembers_nothing laws memories profile memory virtual is =
+    let agrees = memories.forgets (abilities profile) memory memory.state memory.state is.agrees is.agrees.is_state in
+    record {
+      fits = is.fits;
+      size = record { rows = is.size.rows; columns = is.size.columns; known_rows = agrees.high ∙ sym is.fits.rows };
+      agrees = agrees;
+      same = laws.forgets profile memory virtual;
+    }
+
+-- a plan was sent
+pub remembers_followed : UpToDateLaws → MemoryRuns → (profile : ProfileView) → IsProfile profile → (memory : MemoryView) (virtual : VirtualView) (ops : List Op) → IsPicture virtual.picture → IsRemembered profile memory virtual
+    → IsPlan profile memory virtual ops → IsRemembered profile (all_followed profile ops memory) (settled virtual)
+remembers_followed laws runs profile p memory virtual ops k is plan =
+    let agrees = laws.agrees profile p memory virtual ops is.agrees plan in
+    record {
+      fits = is.fits;
+      size = record { rows = runs.rows profile memory ops ∙ is.size.rows; columns = runs.columns profile memory ops ∙ is.size.columns; known_rows = agrees.high ∙ sym is.fits.rows };
+      agrees = agrees;
+      same = laws.follows profile memory virtual ops is.agrees k plan;
+    }
+
+-- at first
+pub remembers_at_first : UpToDateLaws → MemoryRuns → BlankLaws → (profile : ProfileView) → IsProfile profile → (virtual : VirtualView) → Fits profile virtual.picture
+    → IsRemembered profile (unknown profile.rows profile.columns) virtual
+remembers_at_first laws runs blanks profile p virtual fits =
+    let agrees = runs.at_first profile p (blank_state profile.rows profile.columns) (blanks.state profile p) in
+    record {
+      fits = fits;
+      size = record { rows = sym fits.rows; columns = sym fits.columns; known_rows = agrees.high ∙ sym fits.rows };
+      agrees = agrees;
+      same = laws.at_first profile profile.rows profile.columns virtual;
+    }

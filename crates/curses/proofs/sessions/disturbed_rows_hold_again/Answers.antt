@@ -1,5 +1,0 @@
-use Rattle.curses.proofs.MarkLaws.{holds_again}
-use Rattle.curses.proofs.sessions.disturbed_rows_hold_again.Goals as goal
-
-pub returns : goal.returns
-returns c = holds_again c.memory_laws.ensures

@@ -1,0 +1,4 @@
+pub mod MakingLaws
+pub mod MarkLaws
+pub mod SessionLaws
+pub mod TakenLaws

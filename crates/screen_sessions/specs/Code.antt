@@ -1,0 +1,2 @@
+-- Words of private functions.
+pub mod Progress

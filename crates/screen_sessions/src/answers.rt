@@ -1,0 +1,91 @@
+//! What calls answer, as values.
+ghost use Rattle.std.specs.Prelude.{◌≡◌};
+ghost use Rattle.screen_sessions.specs.Calls.{answered};
+ghost use Rattle.screen_sessions.specs.declared.answers.Answer.TheVariants as answers;
+
+use curses::{Sent, UpdateFault};
+use scr_cells::Cell;
+use scr_windows::{Added, Win, WinFault};
+
+/// What a call answered.
+#[derive(Debug, Drop)]
+pub enum Answer {
+    /// The call was made, and has no result.
+    Nothing,
+    /// The number of the window that was made.
+    Made(Win),
+    /// Bytes were added: whether the cursor could go on each time.
+    Added(Added),
+    /// The cell at that place.
+    Seen(Cell),
+    /// A row and a column, or the numbers of rows and columns.
+    Pair(u32, u32),
+    /// Whether the line, or any line, is touched.
+    Touched(bool),
+    /// The call was refused and changed nothing.
+    Refused(WinFault),
+    /// The update ended well. This is what it sent.
+    Sent(Sent),
+    /// The update ended early.
+    Failed(UpdateFault),
+}
+
+/// The answer of a call that has no result.
+pub(crate) fn done_answer(came: Result<(), WinFault>) -> Answer
+    ensures { result ≡ answered (λ _. answers.Nothing) came }
+{
+    match came {
+        Ok(()) => Answer::Nothing,
+        Err(fault) => Answer::Refused(fault),
+    }
+}
+
+/// The answer of a call that makes a window.
+pub(crate) fn made_answer(came: Result<Win, WinFault>) -> Answer
+    ensures { result ≡ answered (λ win. answers.Made win) came }
+{
+    match came {
+        Ok(win) => Answer::Made(win),
+        Err(fault) => Answer::Refused(fault),
+    }
+}
+
+/// The answer of a call that adds bytes.
+pub(crate) fn added_answer(came: Result<Added, WinFault>) -> Answer
+    ensures { result ≡ answered (λ all. answers.Added all) came }
+{
+    match came {
+        Ok(all) => Answer::Added(all),
+        Err(fault) => Answer::Refused(fault),
+    }
+}
+
+/// The answer of a call that reads a cell.
+pub(crate) fn seen_answer(came: Result<Cell, WinFault>) -> Answer
+    ensures { result ≡ answered (λ cell. answers.Seen cell) came }
+{
+    match came {
+        Ok(cell) => Answer::Seen(cell),
+        Err(fault) => Answer::Refused(fault),
+    }
+}
+
+/// The answer of a call that gives a row and a column, or the numbers of rows and columns.
+pub(crate) fn pair_answer(came: Result<(u32, u32), WinFault>) -> Answer
+    ensures { result ≡ answered (λ pair. answers.Pair pair.0 pair.1) came }
+{
+    match came {
+        Ok(pair) => Answer::Pair(pair.0, pair.1),
+        Err(fault) => Answer::Refused(fault),
+    }
+}
+
+/// The answer of a call that says whether lines are touched.
+pub(crate) fn touched_answer(came: Result<bool, WinFault>) -> Answer
+    ensures { result ≡ answered (λ touched. answers.Touched touched) came }
+{
+    match came {
+        Ok(touched) => Answer::Touched(touched),
+        Err(fault) => Answer::Refused(fault),
+    }
+}

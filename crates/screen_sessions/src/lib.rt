@@ -1,0 +1,14 @@
+//! Sessions: calls on a screen as values, lists of them with their answers, and a writer for tests that fails when it is
+//! told to.
+#![tactic(auto)]
+
+mod answers;
+mod calls;
+mod dispatch;
+mod faulty;
+mod sessions;
+
+pub use answers::Answer;
+pub use calls::Call;
+pub use faulty::{Failure, Faulty};
+pub use sessions::{Answers, Report, disturbed_rows_hold_again, make_call, make_calls, session};
