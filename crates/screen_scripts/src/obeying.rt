@@ -4,14 +4,14 @@ ghost use Rattle.screen_scripts.specs.declared.commands.Command.{Command};
 ghost use Rattle.screen_scripts.specs.Stories.{added, continued, shown};
 ghost use Rattle.screen_scripts.specs.Showing.{IsReady, Obeys, ObeysSome, stage_of};
 
+use crate::commands::Command;
 use crate::effects::Effects;
+use crate::line_faults::LineFault;
 use crate::making::{make, make_quietly, update_bytes};
 use crate::pressing::{idle, press};
 use curses::Screen;
 use scr_cells::NoMemory;
 use scr_windows::Win;
-use crate::commands::Command;
-use crate::line_faults::LineFault;
 use screen_sessions::Call;
 use std::alloc::Global;
 use ti_caps::Bytes;

@@ -7,14 +7,14 @@ ghost use Rattle.screen_scripts.specs.Printing.{Begins, GrewByBeginning, Writes,
 ghost use Rattle.screen_scripts.specs.Showing.{AddsRefusals, CommandWrites, IsReady, IsReadyStage, LineWrites, stage_of, stages_of};
 ghost use Rattle.screen_scripts.specs.Running.{BeginsLine, CommandRefuses, LineWritten, OpensOn};
 
+use crate::commands::{Command, read_command};
+use crate::cuts::cut_line;
+use crate::line_faults::LineFault;
 use crate::obeying::obey;
 use crate::showing::{effects_text, print_refusals};
 use crate::stages::{Stage, open_stage};
 use curses::Screen;
 use scr_cells::NoMemory;
-use crate::commands::{Command, read_command};
-use crate::cuts::cut_line;
-use crate::line_faults::LineFault;
 use std::alloc::Global;
 use std::io::{ErrorKind, Write};
 use thiserror::Error;

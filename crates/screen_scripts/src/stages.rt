@@ -4,12 +4,12 @@ ghost use Rattle.screen_scripts.specs.Stories.{opened};
 ghost use Rattle.screen_scripts.specs.Showing.{IsFirst, IsReadyStage, Opens};
 ghost use Rattle.screen_scripts.specs.Running.{IsOpenedOn};
 
+use crate::commands::Command;
+use crate::line_faults::LineFault;
 use curses::Screen;
 use scr_cells::{NoMemory, Size};
 use scr_plan::memory_runs;
 use scr_term::{EcmaScreen, blank_laws, ecma48_laws};
-use crate::commands::Command;
-use crate::line_faults::LineFault;
 use std::alloc::Global;
 use ti_caps::bundled;
 

@@ -18,7 +18,7 @@ use screen_scripts::{DemoFault, refusals, run};
 use std::io;
 use std::io::Write;
 use std::process::ExitCode;
-use words::{Task, task};
+use words::{Task, asked};
 
 // The script on the standard input.
 fn script(rt: &HostRuntime) -> Result<Vec<u8>, Failure> {
@@ -30,7 +30,7 @@ fn script(rt: &HostRuntime) -> Result<Vec<u8>, Failure> {
 }
 
 fn demonstrate(rt: &HostRuntime) -> Result<(), Failure> {
-    let Some(task) = task(rt)? else {
+    let Some(task) = asked(rt)? else {
         return Ok(());
     };
     let script = script(rt)?;

@@ -20,9 +20,9 @@ pub enum Task {
 }
 
 /// What the command line asks for; `None` if that is the help or the version, which is printed.
-pub fn task(rt: &HostRuntime) -> Result<Option<Task>, Failure> {
+pub fn asked(rt: &HostRuntime) -> Result<Option<Task>, Failure> {
     let words = words(rt)?;
-    match task_of(rt.alloc(), words.as_slice()) {
+    match task_in(rt.alloc(), words.as_slice()) {
         Ok(task) => Ok(Some(task)),
         Err(error) if error.kind() == ErrorKind::OutOfMemory => Err(Failure::NoMemory),
         Err(error) if error.use_stderr() => Err(Failure::Words(error)),
@@ -50,7 +50,7 @@ fn command<'a>(alloc: Global) -> Result<Command<'a>, AllocError> {
         .arg(explain)
 }
 
-fn task_of(alloc: Global, words: &[String]) -> Result<Task, clap::Error> {
+fn task_in(alloc: Global, words: &[String]) -> Result<Task, clap::Error> {
     let matches = command(alloc)?.try_get_matches_from(words)?;
     if matches.get_flag("explain") {
         Ok(Task::Explain)
