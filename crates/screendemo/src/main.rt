@@ -14,7 +14,7 @@ mod words;
 use explaining::explanation;
 use failures::Failure;
 use program_input::{InputFault, read_input};
-use screen_scripts::{DemoFault, refusals, run};
+pub use screen_scripts::{DemoFault, refusals, run};
 use std::io;
 use std::io::Write;
 use std::process::ExitCode;
