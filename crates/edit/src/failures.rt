@@ -14,7 +14,7 @@ pub(crate) enum Failure {
     File(ReadFault),
     NoTerm,
     Entry(DatabaseFault),
-    Screen(OpenFault),
+    Screen(#[from] OpenFault),
     Output,
     Input,
     Ended,
@@ -71,11 +71,5 @@ impl<T: Drop> From<AllocFailed<T>> for Failure {
 impl From<CapFault> for Failure {
     fn from(_: CapFault) -> Failure {
         Failure::NoMemory
-    }
-}
-
-impl From<OpenFault> for Failure {
-    fn from(fault: OpenFault) -> Failure {
-        Failure::Screen(fault)
     }
 }
