@@ -19,15 +19,15 @@
  *     huttavel_close(&screen);
  *
  * ANSWERS. Each call that gives a uint32_t gives HUTTAVEL_OK, which is 0, or another of `enum huttavel_fault`. A call
- * that is refused changes nothing, and writes nothing through the pointers that it was given. Where several refusals hold, the first of
- * these is given: HUTTAVEL_CLOSED; HUTTAVEL_BAD_LENGTH; then those that the call names, in that order.
- * HUTTAVEL_NO_MEMORY is an ordinary refusal too: nothing is lost by it.
+ * that is refused changes nothing, and writes nothing through the pointers that it was given, unless it says otherwise.
+ * Where several refusals hold, the first of these is given: HUTTAVEL_CLOSED; HUTTAVEL_BAD_LENGTH; then those that the
+ * call names, in that order. HUTTAVEL_NO_MEMORY is an ordinary refusal too: nothing is lost by it.
  *
- * WHAT A PROGRAM KEEPS TO. A handle that is all zero bytes is closed. A handle is changed by these calls alone, and
- * lies at one place while it is open: of two copies of an open handle only one is used, and closed. One call at a time uses
- * a handle, and all of its calls come from one thread, none of them from a signal handler. A handle may be NULL, and so
- * may each pointer for a result. A pointer to bytes may be NULL if their number is 0. No two pointers of a call point
- * into the same memory. What is NULL otherwise, closed, or a number of no window is refused.
+ * WHAT A PROGRAM KEEPS TO. A handle that is all zero bytes is closed. A handle is changed by these calls alone. Of two
+ * copies of an open handle only one is used from then on, and closed. One call at a time uses a handle, and all of its
+ * calls come from one thread, none of them from a signal handler. A handle may be NULL, and so may each pointer for a
+ * result. A pointer to bytes may be NULL if their number is 0. No two pointers of a call point into the same memory.
+ * What is NULL otherwise, closed, or a number of no window is refused.
  *
  * PLACES. Rows and columns are counted from 0, from the window's first place unless the call says otherwise. Both
  * corners of a rectangle are inside it. A window is a number: 0 is the first one, over the whole screen. Bytes are
