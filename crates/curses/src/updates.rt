@@ -87,8 +87,10 @@ impl Screen {
         self.wanted.settle();
     }
 
-    // Nothing is known of the terminal any more.
-    pub(crate) fn forget(&mut self)
+    /// Forgets what is known of what the terminal shows, so the next update repaints everything: for a program that
+    /// writes the bytes itself, and whose write failed. Windows, virtual screen, requested repaints and what is owed
+    /// stay as they were.
+    pub fn forget(&mut self)
         ensures { self.new ≡ record self.old { memory = forgotten self.old.memory } }
     {
         memory_laws();

@@ -1,0 +1,114 @@
+/* The calls of huttavel.h on a whole screen: null pointers and closed handles are refused, and the rest is done by the
+ * proved library.
+ */
+#include "held.h"
+
+/* Stands for no bytes. */
+static const uint8_t no_bytes[1] = {0};
+
+uint32_t huttavel_open(huttavel *handle, const uint8_t *entry, size_t length, uint32_t rows, uint32_t columns,
+                       huttavel_capability *which)
+{
+    reply came;
+
+    if (handle == NULL)
+        return HUTTAVEL_CLOSED;
+    if (!is_piece(entry, length))
+        return HUTTAVEL_BAD_LENGTH;
+    came = huttavel_held_open(handle, length == 0 ? no_bytes : entry, length, rows, columns);
+    if (came.fault >= HUTTAVEL_UNSUITABLE && which != NULL) {
+        which->kind = came.first;
+        which->position = came.second;
+    }
+    return came.fault;
+}
+
+uint32_t huttavel_open_bundled(huttavel *handle, uint32_t rows, uint32_t columns)
+{
+    return handle == NULL ? HUTTAVEL_CLOSED : huttavel_held_open_bundled(handle, rows, columns).fault;
+}
+
+uint32_t huttavel_close(huttavel *handle)
+{
+    return handle == NULL ? HUTTAVEL_CLOSED : huttavel_held_close(handle);
+}
+
+bool huttavel_is_open(const huttavel *handle)
+{
+    return !is_closed(handle);
+}
+
+uint32_t huttavel_start(huttavel *handle)
+{
+    return handle == NULL ? HUTTAVEL_CLOSED : huttavel_held_start(handle);
+}
+
+uint32_t huttavel_finish(huttavel *handle)
+{
+    return handle == NULL ? HUTTAVEL_CLOSED : huttavel_held_finish(handle);
+}
+
+uint32_t huttavel_doupdate(huttavel *handle)
+{
+    return handle == NULL ? HUTTAVEL_CLOSED : huttavel_held_doupdate(handle);
+}
+
+uint32_t huttavel_failed(huttavel *handle)
+{
+    return handle == NULL ? HUTTAVEL_CLOSED : huttavel_held_failed(handle);
+}
+
+uint32_t huttavel_key_idle(huttavel *handle)
+{
+    return handle == NULL ? HUTTAVEL_CLOSED : huttavel_held_key_idle(handle);
+}
+
+uint32_t huttavel_took(huttavel *handle, size_t count)
+{
+    return handle == NULL ? HUTTAVEL_CLOSED : huttavel_held_took(handle, count);
+}
+
+size_t huttavel_waiting(huttavel *handle)
+{
+    return handle == NULL ? 0 : huttavel_held_waiting(handle);
+}
+
+size_t huttavel_bytes(huttavel *handle, uint8_t *bytes, size_t room)
+{
+    if (is_closed(handle) || bytes == NULL || room == 0)
+        return 0;
+    return huttavel_held_bytes(handle, bytes, room > PTRDIFF_MAX ? PTRDIFF_MAX : room);
+}
+
+uint32_t huttavel_key_bytes(huttavel *handle, const uint8_t *bytes, size_t length, size_t *taken)
+{
+    uint32_t fault = HUTTAVEL_OK;
+    size_t count = 0;
+
+    if (is_closed(handle))
+        return HUTTAVEL_CLOSED;
+    if (!is_piece(bytes, length))
+        return HUTTAVEL_BAD_LENGTH;
+    while (fault == HUTTAVEL_OK && count < length) {
+        fault = huttavel_held_key_byte(handle, bytes[count]);
+        if (fault == HUTTAVEL_OK)
+            count++;
+    }
+    if (taken != NULL)
+        *taken = count;
+    return fault;
+}
+
+uint32_t huttavel_next_key(huttavel *handle, huttavel_key *key)
+{
+    reply came;
+
+    if (is_closed(handle))
+        return HUTTAVEL_CLOSED;
+    came = huttavel_held_next_key(handle);
+    if (came.fault == HUTTAVEL_OK && key != NULL) {
+        key->kind = came.first;
+        key->code = came.second;
+    }
+    return came.fault;
+}

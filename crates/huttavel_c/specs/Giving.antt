@@ -1,0 +1,21 @@
+-- Cells that C gives by three numbers.
+use Rattle.std.specs.Prelude.{ℕ, Result, Ok, Err, nat_le, if◌then◌else◌}
+use Rattle.scr_cells.specs.CellViews.{CellView, is_character}
+use Rattle.scr_windows.specs.DeskViews.{DeskView}
+use Rattle.scr_windows.specs.declared.faults.WinFault.{WinFault}
+use Rattle.huttavel_c.specs.Replies.{done_number}
+
+-- The cell of a byte, attributes and a colour pair, or why there is none.
+abbrev pub cell_given : ℕ → ℕ → ℕ → Result CellView ℕ
+cell_given byte attrs pair =
+    if is_character byte then (if nat_le pair 63 then Ok (record { byte = byte; attrs = attrs; pair = pair }) else Err 23)
+    else Err 15
+
+-- A call on the windows with that cell: its answer as a number. Without a cell no window changes.
+abbrev pub with_given : (CellView → DeskView × Result (Unit {0}) WinFault) → DeskView → Result CellView ℕ → DeskView × ℕ
+with_given call desk (Ok cell) = ((call cell).0, done_number (call cell).1)
+with_given call desk (Err fault) = (desk, fault)
+
+-- An answer that is shown as it is.
+abbrev pub unchanged : {A : Type 0} → A → A
+unchanged answer = answer

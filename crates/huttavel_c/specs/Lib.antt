@@ -1,0 +1,10 @@
+pub mod Asking
+pub mod Giving
+pub mod Holding
+pub mod Lending
+pub mod Numbers
+pub mod Opening
+pub mod Pressing
+pub mod Replies
+pub mod Sending
+pub mod Showing

@@ -1,0 +1,104 @@
+-- Opening and closing a handle.
+use Rattle.std.specs.Prelude.{ℕ, ◌≡◌, ◌⊎◌, [], List, Option, Some, None, Result, Ok, Err, MatchResult, MatchOption}
+use Rattle.scr_cells.specs.PictureViews.{IsSize}
+use Rattle.scr_cells.specs.declared.sizes.Size.{Size}
+use Rattle.scr_term.specs.declared.operations.profile_faults.ProfileFault.{ProfileFault}
+use Rattle.scr_term.specs.declared.operations.profile_faults.ProfileFault.TheVariants as profiles
+use Rattle.ti_binary.specs.declared.faults.BinFault.{BinFault}
+use Rattle.ti_binary.specs.declared.faults.BinFault.TheVariants as files
+use Rattle.ti_caps.specs.Bundles.{IsBundled}
+use Rattle.ti_caps.specs.Description.{Description}
+use Rattle.ti_caps.specs.declared.table.Kind.{Kind}
+use Rattle.ti_caps.specs.declared.table.Kind.TheVariants.{Flag, Number, Text}
+use Rattle.ti_caps.specs.declared.table.Slot.{Slot}
+use Rattle.ti_database.specs.Search.{IsEntry, entry_refusal}
+use Rattle.curses.specs.Opening.{IsOpened, IsUnopened}
+use Rattle.curses.specs.declared.faults.OpenFault.{OpenFault}
+use Rattle.curses.specs.declared.faults.OpenFault.TheVariants.{KeyTooLong, NoMemory, Profile}
+use Rattle.huttavel_c.specs.Numbers.{binary_number, profile_number}
+use Rattle.huttavel_c.specs.Replies.{refused}
+use Rattle.huttavel_c.specs.Sending.{waiting}
+use Rattle.huttavel_c.specs.declared.answers.Reply.{Reply}
+use Rattle.huttavel_c.specs.declared.sessions.Session.{Session}
+
+-- The number of a kind of capabilities.
+abbrev pub kind_number : Kind → ℕ
+kind_number Flag = 0
+kind_number Number = 1
+kind_number Text = 2
+
+-- A fault about a capability: its kind and position.
+abbrev pub about : ℕ → Kind × Slot → Reply
+about fault capability = record { fault = fault; first = kind_number capability.0; second = capability.1.0; third = 0 }
+
+-- A fault of an entry.
+abbrev pub profile_reply : ProfileFault → Reply
+profile_reply (profiles.Unsuitable capability) = about 50 capability
+profile_reply profiles.AutoMargin = refused 51
+profile_reply (profiles.Missing capability) = about 52 capability
+profile_reply profiles.NoSize = refused 53
+profile_reply profiles.BadSize = refused 54
+profile_reply (profiles.BadString capability) = about 55 capability
+profile_reply (profiles.LongString capability) = about 56 capability
+profile_reply profiles.NoMemory = refused 4
+
+-- A fault of opening a screen.
+abbrev pub open_reply : OpenFault → Reply
+open_reply (Profile fault) = profile_reply fault
+open_reply (KeyTooLong slot) = about 57 (Text, slot)
+open_reply NoMemory = refused 4
+
+-- The size that is given: 0 rows and 0 columns stand for the entry's own.
+abbrev pub IsSizeGiven : ℕ → ℕ → Option Size → Type 0
+IsSizeGiven rows columns None = (rows ≡ 0) × (columns ≡ 0)
+IsSizeGiven rows columns (Some size) = (size.rows ≡ rows) × (size.columns ≡ columns)
+
+-- No screen has this size.
+abbrev pub IsNoSize : ℕ → ℕ → Reply → Type 0
+IsNoSize rows columns reply = (reply ≡ refused 54) × (IsSize rows columns → ⊥)
+
+-- The bytes are no compiled entry, or memory ran out.
+abbrev pub IsNoEntry : List ℕ → Reply → Type 0
+IsNoEntry bytes reply = (fault : BinFault) × ((fault ≡ files.NoMemory) ⊎ (entry_refusal bytes ≡ Some fault)) × (reply ≡ refused (binary_number fault))
+
+-- A screen just opened on the terminal of an entry, for which no bytes wait.
+abbrev pub IsOpenedOn : Description → Option Size → Session → Type 0
+IsOpenedOn entry size session = IsOpened entry size session.screen × (waiting session ≡ [])
+
+-- None was opened.
+abbrev pub IsUnopenedOn : Description → Option Size → Reply → Type 0
+IsUnopenedOn entry size reply = (fault : OpenFault) × IsUnopened entry size fault × (reply ≡ open_reply fault)
+
+-- A screen just opened on the terminal of an entry that is known so, of the size that is given.
+pub record IsOpenedFrom (IsKnown : Description → Type 0) (rows columns : ℕ) (session : Session) : Type 0 where
+  pub entry : Description
+  pub size : Option Size
+  pub known : IsKnown entry
+  pub given : IsSizeGiven rows columns size
+  pub opened : IsOpenedOn entry size session
+
+-- The entry makes no screen of that size.
+pub record IsUnopenedFrom (IsKnown : Description → Type 0) (rows columns : ℕ) (reply : Reply) : Type 0 where
+  pub entry : Description
+  pub size : Option Size
+  pub known : IsKnown entry
+  pub given : IsSizeGiven rows columns size
+  pub unopened : IsUnopenedOn entry size reply
+
+-- Why none was opened: no screen has the size, there is no entry, or it makes no screen.
+abbrev pub IsClosedFrom : (Description → Type 0) → (Reply → Type 0) → ℕ → ℕ → Reply → Type 0
+IsClosedFrom IsKnown IsNone rows columns reply = IsNoSize rows columns reply ⊎ (IsNone reply ⊎ IsUnopenedFrom IsKnown rows columns reply)
+
+-- Memory ran out.
+abbrev pub IsNoMemory : Reply → Type 0
+IsNoMemory reply = reply ≡ refused 4
+
+-- A handle that is open stays as it is. Into a closed one a session goes, or it stays closed.
+abbrev pub Opens : (Session → Type 0) → (Reply → Type 0) → Option Session → Option Session → Reply → Type 0
+Opens IsMade IsNotMade (Some old) new reply = (new ≡ Some old) × (reply ≡ refused 2)
+Opens IsMade IsNotMade None new reply = MatchOption new (IsNotMade reply) (λ session. IsMade session × (reply ≡ refused 0))
+
+-- The number that closing gives.
+abbrev pub close_number : Option Session → ℕ
+close_number None = 1
+close_number (Some session) = 0

@@ -1,0 +1,130 @@
+//! What a function of the C library gives: a fault's number, or it and up to three numbers.
+ghost use Rattle.std.specs.Prelude.{◌≡◌, ℕ};
+ghost use Rattle.huttavel_c.specs.Replies.{added_reply, done_number, made_reply, pair_reply, refused, seen_reply, touched_reply, with_cell, with_one, with_two};
+
+use crate::faults::window_number;
+use curses::{Added, Cell, Win, WinFault};
+
+/// A fault's number, 0 if there is none, and what the call gives. A number that the call does not give is 0, and all
+/// three are 0 if it was refused.
+#[repr(C)]
+#[derive(Clone, Copy)]
+pub struct Reply {
+    /// The fault's number.
+    pub fault: u32,
+    /// The first number.
+    pub first: u32,
+    /// The second number.
+    pub second: u32,
+    /// The third number.
+    pub third: u32,
+}
+
+/// A refusal.
+pub(crate) fn refused(fault: u32) -> Reply
+    ensures { result ≡ refused fault }
+{
+    Reply {
+        fault,
+        first: 0,
+        second: 0,
+        third: 0,
+    }
+}
+
+/// One number.
+pub(crate) fn one(first: u32) -> Reply
+    ensures { result ≡ with_one first }
+{
+    Reply {
+        fault: 0,
+        first,
+        second: 0,
+        third: 0,
+    }
+}
+
+/// Two numbers.
+pub(crate) fn two(pair: (u32, u32)) -> Reply
+    ensures { result ≡ with_two pair }
+{
+    Reply {
+        fault: 0,
+        first: pair.0,
+        second: pair.1,
+        third: 0,
+    }
+}
+
+/// The byte, the attributes and the pair of a cell.
+pub(crate) fn three(cell: Cell) -> Reply
+    ensures { result ≡ with_cell cell }
+{
+    Reply {
+        fault: 0,
+        first: u32::from(cell.byte()),
+        second: u32::from(cell.attrs().0),
+        third: cell.pair(),
+    }
+}
+
+/// The answer of a call that has no result.
+pub(crate) fn done(came: Result<(), WinFault>) -> u32
+    ensures { result ≡ done_number came }
+{
+    match came {
+        Ok(()) => 0,
+        Err(fault) => window_number(fault),
+    }
+}
+
+/// The answer of a call that makes a window: its number.
+pub(crate) fn made(came: Result<Win, WinFault>) -> Reply
+    ensures { result ≡ made_reply came }
+{
+    match came {
+        Ok(win) => one(win.0),
+        Err(fault) => refused(window_number(fault)),
+    }
+}
+
+/// The answer of a call that adds bytes: 1 if the cursor stayed.
+pub(crate) fn added(came: Result<Added, WinFault>) -> Reply
+    ensures { result ≡ added_reply came }
+{
+    match came {
+        Ok(Added::Done) => one(0),
+        Ok(Added::Stayed) => one(1),
+        Err(fault) => refused(window_number(fault)),
+    }
+}
+
+/// The answer of a call that gives two numbers.
+pub(crate) fn pair(came: Result<(u32, u32), WinFault>) -> Reply
+    ensures { result ≡ pair_reply came }
+{
+    match came {
+        Ok(numbers) => two(numbers),
+        Err(fault) => refused(window_number(fault)),
+    }
+}
+
+/// The answer of a call that reads a cell.
+pub(crate) fn seen(came: Result<Cell, WinFault>) -> Reply
+    ensures { result ≡ seen_reply came }
+{
+    match came {
+        Ok(cell) => three(cell),
+        Err(fault) => refused(window_number(fault)),
+    }
+}
+
+/// The answer of a call that says whether lines are touched: 1 if they are.
+pub(crate) fn touched(came: Result<bool, WinFault>) -> Reply
+    ensures { result ≡ touched_reply came }
+{
+    match came {
+        Ok(touched) => one(u32::from(touched)),
+        Err(fault) => refused(window_number(fault)),
+    }
+}

@@ -1,0 +1,103 @@
+//! Reading sizes, cursors, cells and touched lines. Each is the call of a screen that it names, on the screen that the handle holds.
+ghost use Rattle.scr_windows.specs.Calls.Reading.{cell_at_answer, cursor_answer, line_touched_answer, origin_answer, size_answer, window_touched_answer};
+ghost use Rattle.huttavel_c.specs.Asking.{Asked, reading};
+ghost use Rattle.huttavel_c.specs.Replies.{pair_reply, refused, seen_reply, touched_reply};
+
+use crate::answers::{Reply, pair, refused, seen, touched};
+use crate::faults::CLOSED;
+use crate::handles::Handle;
+use curses::Win;
+use std::alloc::Global;
+
+/// `Screen::size`.
+#[unsafe(no_mangle)]
+pub extern "C" fn huttavel_held_size(alloc: Global, handle: &mut Handle, window: u32) -> Reply
+    ensures { Asked (λ screen. reading screen (size_answer screen.desk window)) pair_reply (refused 1) handle.old.held.value handle.new.held.value result }
+{
+    let Some(session) = handle.take(alloc) else {
+        return refused(CLOSED);
+    };
+    let came = session.screen.size(Win(window));
+    handle.put(session);
+    pair(came)
+}
+
+/// `Screen::cursor`.
+#[unsafe(no_mangle)]
+pub extern "C" fn huttavel_held_cursor(alloc: Global, handle: &mut Handle, window: u32) -> Reply
+    ensures { Asked (λ screen. reading screen (cursor_answer screen.desk window)) pair_reply (refused 1) handle.old.held.value handle.new.held.value result }
+{
+    let Some(session) = handle.take(alloc) else {
+        return refused(CLOSED);
+    };
+    let came = session.screen.cursor(Win(window));
+    handle.put(session);
+    pair(came)
+}
+
+/// `Screen::origin`.
+#[unsafe(no_mangle)]
+pub extern "C" fn huttavel_held_origin(alloc: Global, handle: &mut Handle, window: u32) -> Reply
+    ensures { Asked (λ screen. reading screen (origin_answer screen.desk window)) pair_reply (refused 1) handle.old.held.value handle.new.held.value result }
+{
+    let Some(session) = handle.take(alloc) else {
+        return refused(CLOSED);
+    };
+    let came = session.screen.origin(Win(window));
+    handle.put(session);
+    pair(came)
+}
+
+/// `Screen::cell_at`.
+#[unsafe(no_mangle)]
+pub extern "C" fn huttavel_held_cell_at(
+    alloc: Global,
+    handle: &mut Handle,
+    window: u32,
+    row: u32,
+    column: u32,
+) -> Reply
+    ensures { Asked (λ screen. reading screen (cell_at_answer screen.desk window row column)) seen_reply (refused 1) handle.old.held.value handle.new.held.value result }
+{
+    let Some(session) = handle.take(alloc) else {
+        return refused(CLOSED);
+    };
+    let came = session.screen.cell_at(Win(window), row, column);
+    handle.put(session);
+    seen(came)
+}
+
+/// `Screen::line_touched`.
+#[unsafe(no_mangle)]
+pub extern "C" fn huttavel_held_line_touched(
+    alloc: Global,
+    handle: &mut Handle,
+    window: u32,
+    row: u32,
+) -> Reply
+    ensures { Asked (λ screen. reading screen (line_touched_answer screen.desk window row)) touched_reply (refused 1) handle.old.held.value handle.new.held.value result }
+{
+    let Some(session) = handle.take(alloc) else {
+        return refused(CLOSED);
+    };
+    let came = session.screen.line_touched(Win(window), row);
+    handle.put(session);
+    touched(came)
+}
+
+/// `Screen::window_touched`.
+#[unsafe(no_mangle)]
+pub extern "C" fn huttavel_held_window_touched(
+    alloc: Global,
+    handle: &mut Handle,
+    window: u32,
+) -> Reply
+    ensures { Asked (λ screen. reading screen (window_touched_answer screen.desk window)) touched_reply (refused 1) handle.old.held.value handle.new.held.value result }
+{
+    let Some(session) = handle.take(alloc) else {
+        return refused(CLOSED);
+    };
+    let came = session.screen.window_touched(Win(window));
+    handle.put(session);
+    touched(came)
+}

@@ -1,0 +1,74 @@
+//! Handles: what a C program has of a screen.
+ghost use Rattle.std.specs.Prelude.{◌≡◌, None, Some};
+ghost use Rattle.std.specs.Option.{is_some, option_map};
+
+use crate::held::Held;
+use crate::sessions::Session;
+use std::alloc::Global;
+use std::mem::replace;
+
+/// A handle: closed, or open and holding a screen. In C it is the struct `huttavel`; all zero bytes are a closed one.
+#[repr(C)]
+#[derive(Drop)]
+pub struct Handle {
+    held: Held,
+    is_open: bool,
+    ghost says: { is_open ≡ is_some held.value },
+}
+
+impl Handle {
+    // A closed handle.
+    fn closed() -> Handle
+        ensures { result.held.value ≡ None }
+    {
+        Handle {
+            held: Held::none(),
+            is_open: false,
+        }
+    }
+
+    // A handle that holds this.
+    fn of(session: Box<Session>) -> Handle
+        ensures { result.held.value ≡ Some session.value }
+    {
+        Handle {
+            held: Held::of(session),
+            is_open: true,
+        }
+    }
+
+    // What a handle holds.
+    fn into_held(self, alloc: Global) -> Option<Box<Session>>
+        ensures { self.held.value ≡ option_map (λ held. held.value) result }
+    {
+        let Handle { held, is_open } = self;
+        if is_open {
+            Some(held.into_box(alloc))
+        } else {
+            None
+        }
+    }
+
+    /// Whether the handle holds something.
+    pub(crate) fn is_open(&self) -> bool
+        ensures { result ≡ is_some self.now.held.value }
+    {
+        self.is_open
+    }
+
+    /// Takes what the handle holds, and leaves it closed.
+    pub(crate) fn take(&mut self, alloc: Global) -> Option<Box<Session>>
+        ensures held { self.old.held.value ≡ option_map (λ held. held.value) result }
+        ensures closed { self.new.held.value ≡ None }
+    {
+        replace(self, Handle::closed()).into_held(alloc)
+    }
+
+    /// Puts this into a closed handle.
+    pub(crate) fn put(&mut self, session: Box<Session>)
+        requires { self.old.held.value ≡ None }
+        ensures { self.new.held.value ≡ Some session.value }
+    {
+        *self = Handle::of(session);
+    }
+}

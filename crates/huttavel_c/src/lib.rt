@@ -1,0 +1,17 @@
+//! The C library: each function of `include/huttavel.h` on a handle that is there. The functions of `c/huttavel.c` call
+//! these, once they have refused null pointers.
+#![tactic(auto)]
+
+mod answers;
+mod calls;
+mod faults;
+mod handles;
+mod held;
+mod keys;
+mod opening;
+mod parts;
+mod sending;
+mod sessions;
+
+pub use answers::Reply;
+pub use handles::Handle;

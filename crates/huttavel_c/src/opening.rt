@@ -1,0 +1,213 @@
+//! Opening and closing.
+ghost use Rattle.std.specs.Prelude.{◌≡◌, IfErr, IfOk, None, Some, []};
+ghost use Rattle.ti_caps.specs.Bundles.{IsBundled};
+ghost use Rattle.ti_database.specs.Search.{IsEntry};
+ghost use Rattle.huttavel_c.specs.Opening.{IsClosedFrom, IsNoEntry, IsNoMemory, IsNoSize, IsOpenedFrom, IsOpenedOn, IsSizeGiven, IsUnopenedOn, Opens, about, close_number, kind_number, open_reply, profile_reply};
+ghost use Rattle.huttavel_c.specs.Replies.{refused};
+ghost use Rattle.huttavel_c.specs.Sending.{waiting};
+ghost use Rattle.huttavel_c.specs.Replies.{refused};
+
+use crate::answers::{Reply, refused};
+use crate::faults::{
+    BAD_SIZE, CLOSED, IS_OPEN, KEY_TOO_LONG, NO_MEMORY, binary_number, profile_number,
+};
+use crate::handles::Handle;
+use crate::sessions::Session;
+use curses::{Device, Entry, Kind, OpenFault, ProfileFault, Screen, Size, Slot, bundled};
+use std::alloc::Global;
+use ti_database::read_entry;
+
+// The size that is given: 0 rows and 0 columns stand for the entry's own. Refused with BAD_SIZE.
+fn size_given(rows: u32, columns: u32) -> Result<Option<Size>, Reply>
+    ensures ok { IfOk result (IsSizeGiven rows columns) }
+    ensures err { IfErr result (IsNoSize rows columns) }
+{
+    if rows == 0 && columns == 0 {
+        return Ok(None);
+    }
+    match Size::new(rows, columns) {
+        Some(size) => Ok(Some(size)),
+        None => Err(refused(BAD_SIZE)),
+    }
+}
+
+// The entry of a compiled file, in either format.
+fn entry_of(alloc: Global, bytes: &[u8]) -> Result<Entry, Reply>
+    ensures ok { IfOk result (IsEntry bytes.now) }
+    ensures err { IfErr result (IsNoEntry bytes.now) }
+{
+    match read_entry(alloc, bytes) {
+        Ok(entry) => Ok(entry),
+        Err(fault) => Err(refused(binary_number(fault))),
+    }
+}
+
+// The bundled entry.
+fn bundled_entry(alloc: Global) -> Result<Entry, Reply>
+    ensures ok { IfOk result IsBundled }
+    ensures err { IfErr result IsNoMemory }
+{
+    match bundled(alloc) {
+        Ok(entry) => Ok(entry),
+        Err(_) => Err(refused(NO_MEMORY)),
+    }
+}
+
+// The number of a kind.
+fn kind_number(kind: Kind) -> u32
+    ensures { result ≡ kind_number kind }
+{
+    match kind {
+        Kind::Flag => 0,
+        Kind::Number => 1,
+        Kind::Text => 2,
+    }
+}
+
+// A fault about a capability.
+fn about(fault: u32, capability: (Kind, Slot)) -> Reply
+    ensures { result ≡ about fault capability }
+{
+    Reply {
+        fault,
+        first: kind_number(capability.0),
+        second: u32::from(capability.1.0),
+        third: 0,
+    }
+}
+
+// A fault of an entry.
+fn profile_reply(fault: ProfileFault) -> Reply
+    ensures { result ≡ profile_reply fault }
+{
+    let number = profile_number(fault);
+    match fault {
+        ProfileFault::Unsuitable(capability)
+        | ProfileFault::Missing(capability)
+        | ProfileFault::BadString(capability)
+        | ProfileFault::LongString(capability) => about(number, capability),
+        _ => refused(number),
+    }
+}
+
+// A fault of opening a screen.
+fn open_reply(fault: OpenFault) -> Reply
+    ensures { result ≡ open_reply fault }
+{
+    match fault {
+        OpenFault::Profile(fault) => profile_reply(fault),
+        OpenFault::KeyTooLong(slot) => about(KEY_TOO_LONG, (Kind::Text, slot)),
+        OpenFault::NoMemory => refused(NO_MEMORY),
+    }
+}
+
+// A session on a screen, for which no bytes wait.
+fn session_on(alloc: Global, screen: Screen) -> Result<Box<Session>, Reply>
+    ensures screen { IfOk result (λ session. session.value.screen ≡ screen) }
+    ensures waiting { IfOk result (λ session. waiting session.value ≡ []) }
+    ensures err { IfErr result IsNoMemory }
+{
+    let session = Session {
+        screen,
+        out: Device::new(Vec::new(alloc)),
+    };
+    match Box::new(alloc, session) {
+        Ok(session) => Ok(session),
+        Err(_) => Err(refused(NO_MEMORY)),
+    }
+}
+
+// A session on the terminal of an entry.
+fn opened_on(alloc: Global, entry: &Entry, size: Option<Size>) -> Result<Box<Session>, Reply>
+    ensures ok { IfOk result (λ session. IsOpenedOn entry.now size session.value) }
+    ensures err { IfErr result (IsUnopenedOn entry.now size) }
+{
+    match Screen::open(alloc, entry, size) {
+        Ok(screen) => session_on(alloc, screen),
+        Err(fault) => Err(open_reply(fault)),
+    }
+}
+
+// A session on the terminal of a compiled entry.
+fn opened(alloc: Global, bytes: &[u8], rows: u32, columns: u32) -> Result<Box<Session>, Reply>
+    ensures ok { IfOk result (λ session. IsOpenedFrom (IsEntry bytes.now) rows columns session.value) }
+    ensures err { IfErr result (IsClosedFrom (IsEntry bytes.now) (IsNoEntry bytes.now) rows columns) }
+{
+    let size = size_given(rows, columns)?;
+    let entry = entry_of(alloc, bytes)?;
+    opened_on(alloc, &entry, size)
+}
+
+// A session on the terminal of the bundled entry.
+fn opened_bundled(alloc: Global, rows: u32, columns: u32) -> Result<Box<Session>, Reply>
+    ensures ok { IfOk result (λ session. IsOpenedFrom IsBundled rows columns session.value) }
+    ensures err { IfErr result (IsClosedFrom IsBundled IsNoMemory rows columns) }
+{
+    let size = size_given(rows, columns)?;
+    let entry = bundled_entry(alloc)?;
+    opened_on(alloc, &entry, size)
+}
+
+// Puts what was opened into a closed handle.
+fn keep(handle: &mut Handle, opened: Result<Box<Session>, Reply>) -> Reply
+    requires { handle.old.held.value ≡ None }
+    ensures ok { IfOk opened (λ session. (handle.new.held.value ≡ Some session.value) × (result ≡ refused 0)) }
+    ensures err { IfErr opened (λ reply. (handle.new.held.value ≡ None) × (result ≡ reply)) }
+{
+    match opened {
+        Ok(session) => {
+            handle.put(session);
+            refused(0)
+        }
+        Err(reply) => reply,
+    }
+}
+
+/// Opens a screen on the terminal of a compiled entry, with 16-bit or 32-bit numbers; 0 rows and 0 columns stand for the
+/// entry's own size. Gives the fault's number and, if it is about a capability, its kind, 0 for a flag, 1 for a number
+/// and 2 for a text, and its position in the table.
+///
+/// Refused: IS_OPEN; BAD_SIZE; the faults of a compiled entry; those of `Screen::open`; NO_MEMORY.
+#[unsafe(no_mangle)]
+pub extern "C" fn huttavel_held_open(
+    alloc: Global,
+    handle: &mut Handle,
+    entry: &[u8],
+    rows: u32,
+    columns: u32,
+) -> Reply
+    ensures { Opens (IsOpenedFrom (IsEntry entry.now) rows columns) (IsClosedFrom (IsEntry entry.now) (IsNoEntry entry.now) rows columns) handle.old.held.value handle.new.held.value result }
+{
+    if handle.is_open() {
+        return refused(IS_OPEN);
+    }
+    keep(handle, opened(alloc, entry, rows, columns))
+}
+
+/// Opens a screen on the terminal of the bundled entry. Refused: IS_OPEN; BAD_SIZE; NO_MEMORY.
+#[unsafe(no_mangle)]
+pub extern "C" fn huttavel_held_open_bundled(
+    alloc: Global,
+    handle: &mut Handle,
+    rows: u32,
+    columns: u32,
+) -> Reply
+    ensures { Opens (IsOpenedFrom IsBundled rows columns) (IsClosedFrom IsBundled IsNoMemory rows columns) handle.old.held.value handle.new.held.value result }
+{
+    if handle.is_open() {
+        return refused(IS_OPEN);
+    }
+    keep(handle, opened_bundled(alloc, rows, columns))
+}
+
+/// Closes a handle and frees what it held; bytes that wait are lost.
+#[unsafe(no_mangle)]
+pub extern "C" fn huttavel_held_close(alloc: Global, handle: &mut Handle) -> u32
+    ensures closed { handle.new.held.value ≡ None }
+    ensures answer { result ≡ close_number handle.old.held.value }
+{
+    let Some(_session) = handle.take(alloc) else {
+        return CLOSED;
+    };
+    0
+}

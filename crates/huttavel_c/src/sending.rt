@@ -1,0 +1,173 @@
+//! Starts, updates and finishes: the bytes that they make wait until the terminal has taken them.
+ghost use Rattle.std.specs.Prelude.{◌≡◌, ◌++◌, ◌≤◌, [], drop, length, min, take};
+ghost use Rattle.huttavel_c.specs.Asking.{Asked};
+ghost use Rattle.huttavel_c.specs.Giving.{unchanged};
+ghost use Rattle.huttavel_c.specs.Sending.{Copies, Finishes, Makes, Starts, Takes, Updates, Waits, forgetting, sent_number};
+
+use crate::faults::{CLOSED, NOT_WAITING, send_number, update_number};
+use crate::handles::Handle;
+use crate::sessions::Session;
+use curses::SendFault;
+use std::alloc::Global;
+
+impl Session {
+    // The opening text, which waits.
+    fn start(&mut self) -> u32
+        ensures { Starts self.old self.new result }
+    {
+        sent(self.screen.start(&mut self.out))
+    }
+
+    // The closing text, which waits.
+    fn finish(&mut self) -> u32
+        ensures { Finishes self.old self.new result }
+    {
+        sent(self.screen.close(&mut self.out))
+    }
+
+    // An update, whose bytes wait.
+    fn update(&mut self, alloc: Global) -> u32
+        ensures { Updates self.old self.new result }
+    {
+        match self.screen.doupdate(alloc, &mut self.out) {
+            Ok(_) => 0,
+            Err(fault) => update_number(&fault),
+        }
+    }
+
+    // The terminal took bytes.
+    fn took(&mut self, count: usize) -> u32
+        ensures { Takes count self.old self.new result }
+    {
+        let waiting = self.out.writer.len();
+        if count > waiting {
+            return NOT_WAITING;
+        }
+        drop_front(&mut self.out.writer, count);
+        0
+    }
+}
+
+// The answer of a start or a finish.
+fn sent(came: Result<u64, SendFault>) -> u32
+    ensures { result ≡ sent_number came }
+{
+    match came {
+        Ok(_) => 0,
+        Err(fault) => send_number(fault),
+    }
+}
+
+// Drops bytes from the front.
+fn drop_front(waiting: &mut Vec<u8>, count: usize)
+    requires { count ≤ length waiting.old.items }
+    ensures { waiting.new.items ≡ drop count waiting.old.items }
+{
+    let rest = waiting.len() - count;
+    waiting.copy_within(count.., 0);
+    waiting.truncate(rest);
+}
+
+// Copies as many bytes as both have.
+fn copy_front(waiting: &[u8], bytes: &mut [u8]) -> usize
+    ensures count { result ≡ min (length waiting.now) (length bytes.old) }
+    ensures bytes { bytes.new ≡ take result waiting.now ++ drop result bytes.old }
+{
+    let count = waiting.len().min(bytes.len());
+    bytes[..count].copy_from_slice(&waiting[..count]);
+    count
+}
+
+/// `Screen::start`: its bytes wait. Refused: WRITE_FAILED if memory ran out for them; what was made of them waits, and
+/// the next call that makes bytes goes on.
+#[unsafe(no_mangle)]
+pub extern "C" fn huttavel_held_start(alloc: Global, handle: &mut Handle) -> u32
+    ensures { Makes Starts 1 handle.old.held.value handle.new.held.value result }
+{
+    let Some(mut session) = handle.take(alloc) else {
+        return CLOSED;
+    };
+    let answer = session.start();
+    handle.put(session);
+    answer
+}
+
+/// `Screen::close`: its bytes wait. Refused as `huttavel_held_start` is.
+#[unsafe(no_mangle)]
+pub extern "C" fn huttavel_held_finish(alloc: Global, handle: &mut Handle) -> u32
+    ensures { Makes Finishes 1 handle.old.held.value handle.new.held.value result }
+{
+    let Some(mut session) = handle.take(alloc) else {
+        return CLOSED;
+    };
+    let answer = session.finish();
+    handle.put(session);
+    answer
+}
+
+/// `Screen::doupdate`: its bytes wait. Refused: NO_MEMORY if memory ran out before the first byte was made, and nothing
+/// changes; WRITE_FAILED as in `huttavel_held_start`.
+#[unsafe(no_mangle)]
+pub extern "C" fn huttavel_held_doupdate(alloc: Global, handle: &mut Handle) -> u32
+    ensures { Makes Updates 1 handle.old.held.value handle.new.held.value result }
+{
+    let Some(mut session) = handle.take(alloc) else {
+        return CLOSED;
+    };
+    let answer = session.update(alloc);
+    handle.put(session);
+    answer
+}
+
+/// How many bytes wait; 0 of a closed handle.
+#[unsafe(no_mangle)]
+pub extern "C" fn huttavel_held_waiting(alloc: Global, handle: &mut Handle) -> usize
+    ensures { Makes Waits 0 handle.old.held.value handle.new.held.value result }
+{
+    let Some(session) = handle.take(alloc) else {
+        return 0;
+    };
+    let count = session.out.writer.len();
+    handle.put(session);
+    count
+}
+
+/// Copies bytes that wait, from the first on, as many as there is room for, and gives how many. They go on waiting. 0 of
+/// a closed handle.
+#[unsafe(no_mangle)]
+pub extern "C" fn huttavel_held_bytes(alloc: Global, handle: &mut Handle, bytes: &mut [u8]) -> usize
+    ensures { Makes (Copies bytes.old bytes.new) 0 handle.old.held.value handle.new.held.value result }
+{
+    let Some(session) = handle.take(alloc) else {
+        return 0;
+    };
+    let count = copy_front(&session.out.writer, bytes);
+    handle.put(session);
+    count
+}
+
+/// The terminal took this many of the bytes that wait. Refused: NOT_WAITING if fewer wait.
+#[unsafe(no_mangle)]
+pub extern "C" fn huttavel_held_took(alloc: Global, handle: &mut Handle, count: usize) -> u32
+    ensures { Makes (Takes count) 1 handle.old.held.value handle.new.held.value result }
+{
+    let Some(mut session) = handle.take(alloc) else {
+        return CLOSED;
+    };
+    let answer = session.took(count);
+    handle.put(session);
+    answer
+}
+
+/// A write failed, or others wrote to the terminal: nothing is known of what it shows. Bytes that wait go on waiting.
+#[unsafe(no_mangle)]
+pub extern "C" fn huttavel_held_failed(alloc: Global, handle: &mut Handle) -> u32
+    ensures { Asked forgetting unchanged 1 handle.old.held.value handle.new.held.value result }
+{
+    let Some(mut session) = handle.take(alloc) else {
+        return CLOSED;
+    };
+    session.screen.forget();
+    handle.put(session);
+    0
+}
