@@ -6,7 +6,7 @@ use Rattle.scr_term.specs.declared.operations.profile_faults.ProfileFault.{Profi
 use Rattle.scr_term.specs.declared.operations.profile_faults.ProfileFault.TheVariants as profiles
 use Rattle.ti_binary.specs.declared.faults.BinFault.{BinFault}
 use Rattle.ti_binary.specs.declared.faults.BinFault.TheVariants as files
-use Rattle.ti_caps.specs.Bundles.{IsBundled}
+use Rattle.ti_caps.specs.Bundled.{IsBundled}
 use Rattle.ti_caps.specs.Description.{Description}
 use Rattle.ti_caps.specs.declared.table.Kind.{Kind}
 use Rattle.ti_caps.specs.declared.table.Kind.TheVariants.{Flag, Number, Text}

@@ -1,5 +1,7 @@
 //! A session in memory of its own, as C can hold it: by its address.
 ghost use Rattle.std.specs.Prelude.{◌≡◌, Option, Some, None, IsSome};
+ghost use Rattle.std.specs.Coded.{coded_option};
+ghost use Rattle.huttavel_c.specs.contracts.sessions.Session as the_session;
 ghost use Rattle.huttavel_c.specs.declared.sessions.Session.{Session};
 
 use crate::parts::Parts;
@@ -12,7 +14,7 @@ use std::ptr::null_mut;
 #[derive(Drop)]
 pub struct Held {
     at: *mut u8,
-    ghost value: { Option Session },
+    ghost value: { Option Session } by { coded_option the_session.the_row.coded },
 }
 
 impl Model for Held {

@@ -1,6 +1,6 @@
 //! Opening and closing.
 ghost use Rattle.std.specs.Prelude.{◌≡◌, IfErr, IfOk, None, Some, []};
-ghost use Rattle.ti_caps.specs.Bundles.{IsBundled};
+ghost use Rattle.ti_caps.specs.Bundled.{IsBundled};
 ghost use Rattle.ti_database.specs.Search.{IsEntry};
 ghost use Rattle.huttavel_c.specs.Opening.{IsClosedFrom, IsNoEntry, IsNoMemory, IsNoSize, IsOpenedFrom, IsOpenedOn, IsSizeGiven, IsUnopenedOn, Opens, about, close_number, kind_number, open_reply, profile_reply};
 ghost use Rattle.huttavel_c.specs.Replies.{refused};
