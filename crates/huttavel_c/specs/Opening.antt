@@ -1,21 +1,20 @@
 -- Opening and closing a handle.
-use Rattle.std.specs.Prelude.{ℕ, ◌≡◌, ◌⊎◌, [], List, Option, Some, None, Result, Ok, Err, MatchResult, MatchOption}
+use Rattle.std.specs.Prelude.{ℕ, ◌≡◌, ◌⊎◌, [], List, Option, Some, None, MatchOption}
 use Rattle.scr_cells.specs.PictureViews.{IsSize}
 use Rattle.scr_cells.specs.declared.sizes.Size.{Size}
 use Rattle.scr_term.specs.declared.operations.profile_faults.ProfileFault.{ProfileFault}
 use Rattle.scr_term.specs.declared.operations.profile_faults.ProfileFault.TheVariants as profiles
 use Rattle.ti_binary.specs.declared.faults.BinFault.{BinFault}
 use Rattle.ti_binary.specs.declared.faults.BinFault.TheVariants as files
-use Rattle.ti_caps.specs.Bundled.{IsBundled}
 use Rattle.ti_caps.specs.Description.{Description}
 use Rattle.ti_caps.specs.declared.table.Kind.{Kind}
 use Rattle.ti_caps.specs.declared.table.Kind.TheVariants.{Flag, Number, Text}
 use Rattle.ti_caps.specs.declared.table.Slot.{Slot}
-use Rattle.ti_database.specs.Search.{IsEntry, entry_refusal}
+use Rattle.ti_database.specs.Search.{entry_refusal}
 use Rattle.curses.specs.Opening.{IsOpened, IsUnopened}
 use Rattle.curses.specs.declared.faults.OpenFault.{OpenFault}
 use Rattle.curses.specs.declared.faults.OpenFault.TheVariants.{KeyTooLong, NoMemory, Profile}
-use Rattle.huttavel_c.specs.Numbers.{binary_number, profile_number}
+use Rattle.huttavel_c.specs.Numbers.{binary_number}
 use Rattle.huttavel_c.specs.Replies.{refused}
 use Rattle.huttavel_c.specs.Sending.{waiting}
 use Rattle.huttavel_c.specs.declared.answers.Reply.{Reply}

@@ -10,6 +10,7 @@ use std::alloc::Global;
 use std::marker::Model;
 use std::ptr::null_mut;
 
+/// A session, or nothing, by its address. It owns the session.
 #[repr(C)]
 #[derive(Drop)]
 pub struct Held {

@@ -32,7 +32,7 @@ fn pressed(key: Option<Key>) -> Reply
     }
 }
 
-/// `Screen::key_byte`. Refused: QUEUE_FULL.
+/// Reads a byte of the keyboard, by `Screen::key_byte`. Refused: CLOSED; QUEUE_FULL, and the byte is not taken.
 #[unsafe(no_mangle)]
 pub extern "C" fn huttavel_held_key_byte(alloc: Global, handle: &mut Handle, byte: u8) -> u32
     ensures { Asked (λ screen. on_keys screen (byte_read screen.keys byte)) read_number 1 handle.old.held.value handle.new.held.value result }
@@ -45,7 +45,8 @@ pub extern "C" fn huttavel_held_key_byte(alloc: Global, handle: &mut Handle, byt
     read(came)
 }
 
-/// `Screen::key_idle`. Refused: QUEUE_FULL.
+/// Says that no byte came for a while: those that wait become the keys that they are, by `Screen::key_idle`. Refused:
+/// CLOSED; QUEUE_FULL.
 #[unsafe(no_mangle)]
 pub extern "C" fn huttavel_held_key_idle(alloc: Global, handle: &mut Handle) -> u32
     ensures { Asked (λ screen. on_keys screen (idle_read screen.keys)) read_number 1 handle.old.held.value handle.new.held.value result }
@@ -58,8 +59,8 @@ pub extern "C" fn huttavel_held_key_idle(alloc: Global, handle: &mut Handle) -> 
     read(came)
 }
 
-/// `Screen::key`: the key's kind, 0 for a byte and 1 for a key of the entry, and the byte or the position of the key's
-/// text. Refused: NO_KEY.
+/// Takes the first key of the queue, by `Screen::key`: its kind, 0 for a byte and 1 for a key of the entry, and the
+/// byte or the position of the key's text. Refused: CLOSED; NO_KEY.
 #[unsafe(no_mangle)]
 pub extern "C" fn huttavel_held_next_key(alloc: Global, handle: &mut Handle) -> Reply
     ensures { Asked (λ screen. on_keys screen (key_taken screen.keys)) key_reply (refused 1) handle.old.held.value handle.new.held.value result }

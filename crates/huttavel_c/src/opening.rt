@@ -163,9 +163,9 @@ fn keep(handle: &mut Handle, opened: Result<Box<Session>, Reply>) -> Reply
     }
 }
 
-/// Opens a screen on the terminal of a compiled entry, with 16-bit or 32-bit numbers; 0 rows and 0 columns stand for the
-/// entry's own size. Gives the fault's number and, if it is about a capability, its kind, 0 for a flag, 1 for a number
-/// and 2 for a text, and its position in the table.
+/// Opens a screen on the terminal of a compiled entry, with 16-bit or 32-bit numbers; 0 rows and 0 columns stand for
+/// the entry's own size. Gives the fault's number and, if it is about a capability, its kind, 0 for a flag, 1 for a
+/// number and 2 for a text, and its position in the table.
 ///
 /// Refused: IS_OPEN; BAD_SIZE; the faults of a compiled entry; those of `Screen::open`; NO_MEMORY.
 #[unsafe(no_mangle)]

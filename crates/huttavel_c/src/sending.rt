@@ -78,8 +78,8 @@ fn copy_front(waiting: &[u8], bytes: &mut [u8]) -> usize
     count
 }
 
-/// `Screen::start`: its bytes wait. Refused: WRITE_FAILED if memory ran out for them; what was made of them waits, and
-/// the next call that makes bytes goes on.
+/// Makes the bytes of `Screen::start`, which wait. Refused: CLOSED; WRITE_FAILED if memory ran out for them: those that
+/// were made wait, and the next call that makes bytes begins with the rest of the text that was cut.
 #[unsafe(no_mangle)]
 pub extern "C" fn huttavel_held_start(alloc: Global, handle: &mut Handle) -> u32
     ensures { Makes Starts 1 handle.old.held.value handle.new.held.value result }
@@ -92,7 +92,7 @@ pub extern "C" fn huttavel_held_start(alloc: Global, handle: &mut Handle) -> u32
     answer
 }
 
-/// `Screen::close`: its bytes wait. Refused as `huttavel_held_start` is.
+/// Makes the bytes of `Screen::close`, which wait. Refused as `huttavel_held_start` is.
 #[unsafe(no_mangle)]
 pub extern "C" fn huttavel_held_finish(alloc: Global, handle: &mut Handle) -> u32
     ensures { Makes Finishes 1 handle.old.held.value handle.new.held.value result }
@@ -105,8 +105,8 @@ pub extern "C" fn huttavel_held_finish(alloc: Global, handle: &mut Handle) -> u3
     answer
 }
 
-/// `Screen::doupdate`: its bytes wait. Refused: NO_MEMORY if memory ran out before the first byte was made, and nothing
-/// changes; WRITE_FAILED as in `huttavel_held_start`.
+/// Makes the bytes of `Screen::doupdate`, which wait. Refused: CLOSED; NO_MEMORY if memory ran out before the first
+/// byte was made, and nothing changes; WRITE_FAILED as in `huttavel_held_start`.
 #[unsafe(no_mangle)]
 pub extern "C" fn huttavel_held_doupdate(alloc: Global, handle: &mut Handle) -> u32
     ensures { Makes Updates 1 handle.old.held.value handle.new.held.value result }
@@ -132,8 +132,8 @@ pub extern "C" fn huttavel_held_waiting(alloc: Global, handle: &mut Handle) -> u
     count
 }
 
-/// Copies bytes that wait, from the first on, as many as there is room for, and gives how many. They go on waiting. 0 of
-/// a closed handle.
+/// Copies bytes that wait, from the first on, as many as there is room for, and gives how many. They go on waiting.
+/// 0 of a closed handle.
 #[unsafe(no_mangle)]
 pub extern "C" fn huttavel_held_bytes(alloc: Global, handle: &mut Handle, bytes: &mut [u8]) -> usize
     ensures { Makes (Copies bytes.old bytes.new) 0 handle.old.held.value handle.new.held.value result }
@@ -146,7 +146,7 @@ pub extern "C" fn huttavel_held_bytes(alloc: Global, handle: &mut Handle, bytes:
     count
 }
 
-/// The terminal took this many of the bytes that wait. Refused: NOT_WAITING if fewer wait.
+/// The terminal took this many of the bytes that wait. Refused: CLOSED; NOT_WAITING if fewer wait.
 #[unsafe(no_mangle)]
 pub extern "C" fn huttavel_held_took(alloc: Global, handle: &mut Handle, count: usize) -> u32
     ensures { Makes (Takes count) 1 handle.old.held.value handle.new.held.value result }
@@ -160,6 +160,7 @@ pub extern "C" fn huttavel_held_took(alloc: Global, handle: &mut Handle, count: 
 }
 
 /// A write failed, or others wrote to the terminal: nothing is known of what it shows. Bytes that wait go on waiting.
+/// Refused: CLOSED.
 #[unsafe(no_mangle)]
 pub extern "C" fn huttavel_held_failed(alloc: Global, handle: &mut Handle) -> u32
     ensures { Asked forgetting unchanged 1 handle.old.held.value handle.new.held.value result }

@@ -46,7 +46,9 @@ fn change(screen: &mut Screen, window: u32, given: Result<Cell, u32>) -> u32
     }
 }
 
-/// `Screen::set_background`. Refused before that: NOT_ASCII if the byte is not 32 to 126; BAD_PAIR for a pair above 63.
+/// Sets the background of a window and changes no cell, by `Screen::set_background`. The cell is given by its byte, its
+/// attributes as bits, and its colour pair. Refused: CLOSED; NOT_ASCII if the byte is not 32 to 126; BAD_PAIR for a
+/// pair above 63; NO_WINDOW.
 #[unsafe(no_mangle)]
 pub extern "C" fn huttavel_held_set_background(
     alloc: Global,
@@ -66,7 +68,8 @@ pub extern "C" fn huttavel_held_set_background(
     answer
 }
 
-/// `Screen::change_background`. Refused as by `huttavel_held_set_background`.
+/// Sets the background of a window and replaces the old one in every cell, by `Screen::change_background`. Refused as
+/// by `huttavel_held_set_background`.
 #[unsafe(no_mangle)]
 pub extern "C" fn huttavel_held_change_background(
     alloc: Global,

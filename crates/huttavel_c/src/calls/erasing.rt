@@ -1,4 +1,6 @@
-//! Erasing, scrolling and backgrounds. Each is the call of a screen that it names, on the screen that the handle holds.
+//! Erasing, scrolling and backgrounds.
+//!
+//! Each is the call of `curses::Screen` that it names, on the screen that the handle holds.
 ghost use Rattle.scr_windows.specs.Calls.Erasing.{clear_to_eol_call, clear_to_bottom_call, erase_call, clear_call};
 ghost use Rattle.scr_windows.specs.Calls.Scrolling.{delete_byte_call, insert_delete_lines_call, scroll_call};
 ghost use Rattle.huttavel_c.specs.Asking.{Asked, on_windows};
@@ -10,7 +12,7 @@ use crate::handles::Handle;
 use curses::Win;
 use std::alloc::Global;
 
-/// `Screen::clear_to_eol`.
+/// Erases from the cursor to the line's end, by `Screen::clear_to_eol`. Refused: CLOSED; NO_WINDOW.
 #[unsafe(no_mangle)]
 pub extern "C" fn huttavel_held_clear_to_eol(alloc: Global, handle: &mut Handle, window: u32) -> u32
     ensures { Asked (λ screen. on_windows screen (clear_to_eol_call screen.desk window)) done_number 1 handle.old.held.value handle.new.held.value result }
@@ -23,7 +25,7 @@ pub extern "C" fn huttavel_held_clear_to_eol(alloc: Global, handle: &mut Handle,
     done(came)
 }
 
-/// `Screen::clear_to_bottom`.
+/// Erases from the cursor to the window's end, by `Screen::clear_to_bottom`. Refused: CLOSED; NO_WINDOW.
 #[unsafe(no_mangle)]
 pub extern "C" fn huttavel_held_clear_to_bottom(
     alloc: Global,
@@ -40,7 +42,7 @@ pub extern "C" fn huttavel_held_clear_to_bottom(
     done(came)
 }
 
-/// `Screen::erase`.
+/// Erases a window, by `Screen::erase`. Refused: CLOSED; NO_WINDOW.
 #[unsafe(no_mangle)]
 pub extern "C" fn huttavel_held_erase(alloc: Global, handle: &mut Handle, window: u32) -> u32
     ensures { Asked (λ screen. on_windows screen (erase_call screen.desk window)) done_number 1 handle.old.held.value handle.new.held.value result }
@@ -53,7 +55,7 @@ pub extern "C" fn huttavel_held_erase(alloc: Global, handle: &mut Handle, window
     done(came)
 }
 
-/// `Screen::clear`.
+/// Erases a window; the next update with it repaints the whole screen, by `Screen::clear`. Refused: CLOSED; NO_WINDOW.
 #[unsafe(no_mangle)]
 pub extern "C" fn huttavel_held_clear(alloc: Global, handle: &mut Handle, window: u32) -> u32
     ensures { Asked (λ screen. on_windows screen (clear_call screen.desk window)) done_number 1 handle.old.held.value handle.new.held.value result }
@@ -66,7 +68,7 @@ pub extern "C" fn huttavel_held_clear(alloc: Global, handle: &mut Handle, window
     done(came)
 }
 
-/// `Screen::delete_byte`.
+/// Deletes the byte at the cursor, by `Screen::delete_byte`. Refused: CLOSED; NO_WINDOW.
 #[unsafe(no_mangle)]
 pub extern "C" fn huttavel_held_delete_byte(alloc: Global, handle: &mut Handle, window: u32) -> u32
     ensures { Asked (λ screen. on_windows screen (delete_byte_call screen.desk window)) done_number 1 handle.old.held.value handle.new.held.value result }
@@ -79,7 +81,8 @@ pub extern "C" fn huttavel_held_delete_byte(alloc: Global, handle: &mut Handle, 
     done(came)
 }
 
-/// `Screen::insert_delete_lines`.
+/// Inserts `n` lines at the cursor's row, or deletes `-n`, by `Screen::insert_delete_lines`. Refused: CLOSED;
+/// NO_WINDOW.
 #[unsafe(no_mangle)]
 pub extern "C" fn huttavel_held_insert_delete_lines(
     alloc: Global,
@@ -97,7 +100,8 @@ pub extern "C" fn huttavel_held_insert_delete_lines(
     done(came)
 }
 
-/// `Screen::scroll`.
+/// Moves the lines of the scrolling region up by `n`, or down by `-n`, by `Screen::scroll`. Refused: CLOSED; NO_WINDOW;
+/// NO_SCROLL.
 #[unsafe(no_mangle)]
 pub extern "C" fn huttavel_held_scroll(
     alloc: Global,

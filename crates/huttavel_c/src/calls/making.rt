@@ -1,4 +1,6 @@
-//! Making, deleting and moving windows. Each is the call of a screen that it names, on the screen that the handle holds.
+//! Making, deleting and moving windows.
+//!
+//! Each is the call of `curses::Screen` that it names, on the screen that the handle holds.
 ghost use Rattle.scr_windows.specs.Calls.Making.{new_window_call, new_pad_call};
 ghost use Rattle.scr_windows.specs.Calls.Moving.{move_window_call, move_derived_call};
 ghost use Rattle.scr_windows.specs.Calls.Removing.{delete_call};
@@ -12,7 +14,8 @@ use crate::handles::Handle;
 use curses::Win;
 use std::alloc::Global;
 
-/// `Screen::new_window`.
+/// Makes a blank window at a row and a column of the screen, and gives its number; 0 rows or columns reach to the
+/// screen's end, by `Screen::new_window`. Refused: CLOSED; OFF_SCREEN; TOO_MANY; NO_MEMORY.
 #[unsafe(no_mangle)]
 pub extern "C" fn huttavel_held_new_window(
     alloc: Global,
@@ -32,7 +35,8 @@ pub extern "C" fn huttavel_held_new_window(
     made(came)
 }
 
-/// `Screen::new_pad`.
+/// Makes a blank pad of so many rows and columns, and gives its number, by `Screen::new_pad`. Refused: CLOSED;
+/// OUT_OF_WINDOW; TOO_BIG; TOO_MANY; NO_MEMORY.
 #[unsafe(no_mangle)]
 pub extern "C" fn huttavel_held_new_pad(
     alloc: Global,
@@ -50,7 +54,8 @@ pub extern "C" fn huttavel_held_new_pad(
     made(came)
 }
 
-/// `Screen::derive`.
+/// Makes a subwindow at a row and a column of a window, and gives its number; 0 rows or columns reach to the window's
+/// end, by `Screen::derive`. Refused: CLOSED; NO_WINDOW; IS_PAD; NOT_IN_PARENT; TOO_MANY; NO_MEMORY.
 #[unsafe(no_mangle)]
 pub extern "C" fn huttavel_held_derive(
     alloc: Global,
@@ -73,7 +78,8 @@ pub extern "C" fn huttavel_held_derive(
     made(came)
 }
 
-/// `Screen::sub`.
+/// Makes a subwindow at a row and a column of the screen, and gives its number, by `Screen::sub`. Refused: CLOSED;
+/// NO_WINDOW; IS_PAD; NOT_IN_PARENT; TOO_MANY; NO_MEMORY.
 #[unsafe(no_mangle)]
 pub extern "C" fn huttavel_held_sub(
     alloc: Global,
@@ -96,7 +102,8 @@ pub extern "C" fn huttavel_held_sub(
     made(came)
 }
 
-/// `Screen::sub_pad`.
+/// Makes a subwindow of a pad at a row and a column of it, and gives its number, by `Screen::sub_pad`. Refused: CLOSED;
+/// NO_WINDOW; NOT_PAD; NOT_IN_PARENT; TOO_MANY; NO_MEMORY.
 #[unsafe(no_mangle)]
 pub extern "C" fn huttavel_held_sub_pad(
     alloc: Global,
@@ -119,7 +126,7 @@ pub extern "C" fn huttavel_held_sub_pad(
     made(came)
 }
 
-/// `Screen::delete`.
+/// Deletes a window, by `Screen::delete`. Refused: CLOSED; NO_WINDOW; HAS_CHILDREN.
 #[unsafe(no_mangle)]
 pub extern "C" fn huttavel_held_delete(alloc: Global, handle: &mut Handle, window: u32) -> u32
     ensures { Asked (λ screen. on_windows screen (delete_call screen.desk window)) done_number 1 handle.old.held.value handle.new.held.value result }
@@ -132,7 +139,8 @@ pub extern "C" fn huttavel_held_delete(alloc: Global, handle: &mut Handle, windo
     done(came)
 }
 
-/// `Screen::move_window`.
+/// Moves a window to a row and a column of the screen, by `Screen::move_window`. Refused: CLOSED; NO_WINDOW; IS_PAD;
+/// IS_SUB; OFF_SCREEN.
 #[unsafe(no_mangle)]
 pub extern "C" fn huttavel_held_move_window(
     alloc: Global,
@@ -151,7 +159,8 @@ pub extern "C" fn huttavel_held_move_window(
     done(came)
 }
 
-/// `Screen::move_derived`.
+/// Moves a subwindow to a row and a column of its parent's cells, by `Screen::move_derived`. Refused: CLOSED;
+/// NO_WINDOW; IS_PAD; NOT_IN_PARENT.
 #[unsafe(no_mangle)]
 pub extern "C" fn huttavel_held_move_derived(
     alloc: Global,

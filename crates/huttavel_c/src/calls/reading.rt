@@ -1,4 +1,6 @@
-//! Reading sizes, cursors, cells and touched lines. Each is the call of a screen that it names, on the screen that the handle holds.
+//! Reading sizes, cursors, cells and touched lines.
+//!
+//! Each is the call of `curses::Screen` that it names, on the screen that the handle holds.
 ghost use Rattle.scr_windows.specs.Calls.Reading.{cell_at_answer, cursor_answer, line_touched_answer, origin_answer, size_answer, window_touched_answer};
 ghost use Rattle.huttavel_c.specs.Asking.{Asked, reading};
 ghost use Rattle.huttavel_c.specs.Replies.{pair_reply, refused, seen_reply, touched_reply};
@@ -9,7 +11,7 @@ use crate::handles::Handle;
 use curses::Win;
 use std::alloc::Global;
 
-/// `Screen::size`.
+/// A window's numbers of rows and columns, by `Screen::size`. Refused: CLOSED; NO_WINDOW.
 #[unsafe(no_mangle)]
 pub extern "C" fn huttavel_held_size(alloc: Global, handle: &mut Handle, window: u32) -> Reply
     ensures { Asked (λ screen. reading screen (size_answer screen.desk window)) pair_reply (refused 1) handle.old.held.value handle.new.held.value result }
@@ -22,7 +24,7 @@ pub extern "C" fn huttavel_held_size(alloc: Global, handle: &mut Handle, window:
     pair(came)
 }
 
-/// `Screen::cursor`.
+/// The row and the column of a window's cursor, by `Screen::cursor`. Refused: CLOSED; NO_WINDOW.
 #[unsafe(no_mangle)]
 pub extern "C" fn huttavel_held_cursor(alloc: Global, handle: &mut Handle, window: u32) -> Reply
     ensures { Asked (λ screen. reading screen (cursor_answer screen.desk window)) pair_reply (refused 1) handle.old.held.value handle.new.held.value result }
@@ -35,7 +37,8 @@ pub extern "C" fn huttavel_held_cursor(alloc: Global, handle: &mut Handle, windo
     pair(came)
 }
 
-/// `Screen::origin`.
+/// The row and the column of the screen where a window's first place is, by `Screen::origin`. Refused: CLOSED;
+/// NO_WINDOW; IS_PAD.
 #[unsafe(no_mangle)]
 pub extern "C" fn huttavel_held_origin(alloc: Global, handle: &mut Handle, window: u32) -> Reply
     ensures { Asked (λ screen. reading screen (origin_answer screen.desk window)) pair_reply (refused 1) handle.old.held.value handle.new.held.value result }
@@ -48,7 +51,8 @@ pub extern "C" fn huttavel_held_origin(alloc: Global, handle: &mut Handle, windo
     pair(came)
 }
 
-/// `Screen::cell_at`.
+/// The byte, attributes and colour pair of the cell at a place of a window, by `Screen::cell_at`. Refused: CLOSED;
+/// NO_WINDOW; OUT_OF_WINDOW.
 #[unsafe(no_mangle)]
 pub extern "C" fn huttavel_held_cell_at(
     alloc: Global,
@@ -67,7 +71,7 @@ pub extern "C" fn huttavel_held_cell_at(
     seen(came)
 }
 
-/// `Screen::line_touched`.
+/// 1 if a line of a window is touched, else 0, by `Screen::line_touched`. Refused: CLOSED; NO_WINDOW; OUT_OF_WINDOW.
 #[unsafe(no_mangle)]
 pub extern "C" fn huttavel_held_line_touched(
     alloc: Global,
@@ -85,7 +89,7 @@ pub extern "C" fn huttavel_held_line_touched(
     touched(came)
 }
 
-/// `Screen::window_touched`.
+/// 1 if any line of a window is touched, else 0, by `Screen::window_touched`. Refused: CLOSED; NO_WINDOW.
 #[unsafe(no_mangle)]
 pub extern "C" fn huttavel_held_window_touched(
     alloc: Global,

@@ -1,4 +1,6 @@
-//! The virtual screen. Each is the call of a screen that it names, on the screen that the handle holds.
+//! The virtual screen.
+//!
+//! Each is the call of `curses::Screen` that it names, on the screen that the handle holds.
 ghost use Rattle.scr_virtual.specs.Pairs.{set_pair_call};
 ghost use Rattle.scr_virtual.specs.Taking.{take_pad_call, take_window_call};
 ghost use Rattle.curses.specs.Refreshing.{lines_disturbed, redraw_lines_call, redraw_window_call, window_disturbed};
@@ -11,7 +13,7 @@ use crate::handles::Handle;
 use curses::Win;
 use std::alloc::Global;
 
-/// `Screen::noutrefresh`.
+/// Takes a window onto the virtual screen, by `Screen::noutrefresh`. Refused: CLOSED; NO_WINDOW; IS_PAD.
 #[unsafe(no_mangle)]
 pub extern "C" fn huttavel_held_noutrefresh(alloc: Global, handle: &mut Handle, window: u32) -> u32
     ensures { Asked (λ screen. on_both screen (take_window_call screen.virtual screen.desk window)) done_number 1 handle.old.held.value handle.new.held.value result }
@@ -24,7 +26,8 @@ pub extern "C" fn huttavel_held_noutrefresh(alloc: Global, handle: &mut Handle, 
     done(came)
 }
 
-/// `Screen::pad_noutrefresh`.
+/// Takes a part of a pad, from a row and a column on, onto a rectangle of the screen, by `Screen::pad_noutrefresh`.
+/// Refused: CLOSED; NO_WINDOW; NOT_PAD; OFF_SCREEN; OUT_OF_WINDOW.
 #[unsafe(no_mangle)]
 pub extern "C" fn huttavel_held_pad_noutrefresh(
     alloc: Global,
@@ -49,7 +52,7 @@ pub extern "C" fn huttavel_held_pad_noutrefresh(
     done(came)
 }
 
-/// `Screen::set_pair`.
+/// Sets the colours, 0 to 7, of a pair, 1 to 63, by `Screen::set_pair`. Refused: CLOSED; BAD_PAIR; BAD_COLOUR.
 #[unsafe(no_mangle)]
 pub extern "C" fn huttavel_held_set_pair(
     alloc: Global,
@@ -68,7 +71,8 @@ pub extern "C" fn huttavel_held_set_pair(
     done(came)
 }
 
-/// `Screen::redraw_window`.
+/// Says that others wrote on the rows of the screen where a window is, by `Screen::redraw_window`. Refused: CLOSED;
+/// NO_WINDOW; IS_PAD.
 #[unsafe(no_mangle)]
 pub extern "C" fn huttavel_held_redraw_window(
     alloc: Global,
@@ -85,7 +89,8 @@ pub extern "C" fn huttavel_held_redraw_window(
     done(came)
 }
 
-/// `Screen::redraw_lines`.
+/// Says that others wrote on the rows where `n` of a window's lines are, from line `first` on, by
+/// `Screen::redraw_lines`. Refused: CLOSED; NO_WINDOW; IS_PAD; OUT_OF_WINDOW.
 #[unsafe(no_mangle)]
 pub extern "C" fn huttavel_held_redraw_lines(
     alloc: Global,

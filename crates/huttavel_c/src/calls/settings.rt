@@ -1,4 +1,6 @@
-//! Settings of windows. Each is the call of a screen that it names, on the screen that the handle holds.
+//! Settings of windows.
+//!
+//! Each is the call of `curses::Screen` that it names, on the screen that the handle holds.
 ghost use Rattle.scr_windows.specs.Calls.Settings.{move_cursor_call, set_region_call, scroll_ok_call, clear_ok_call, leave_ok_call, attr_on_call, attr_off_call, attr_set_call, color_set_call};
 ghost use Rattle.huttavel_c.specs.Asking.{Asked, on_windows};
 ghost use Rattle.huttavel_c.specs.Replies.{done_number};
@@ -9,7 +11,8 @@ use crate::handles::Handle;
 use curses::{Attrs, Win};
 use std::alloc::Global;
 
-/// `Screen::move_cursor`.
+/// Moves the cursor of a window to a row and a column of it, by `Screen::move_cursor`. Refused: CLOSED; NO_WINDOW;
+/// OUT_OF_WINDOW.
 #[unsafe(no_mangle)]
 pub extern "C" fn huttavel_held_move_cursor(
     alloc: Global,
@@ -28,7 +31,8 @@ pub extern "C" fn huttavel_held_move_cursor(
     done(came)
 }
 
-/// `Screen::set_region`.
+/// Sets the first and the last row of the scrolling region, by `Screen::set_region`. Refused: CLOSED; NO_WINDOW;
+/// BAD_REGION.
 #[unsafe(no_mangle)]
 pub extern "C" fn huttavel_held_set_region(
     alloc: Global,
@@ -47,7 +51,7 @@ pub extern "C" fn huttavel_held_set_region(
     done(came)
 }
 
-/// `Screen::scroll_ok`.
+/// Sets whether the scrolling region may scroll, by `Screen::scroll_ok`. Refused: CLOSED; NO_WINDOW.
 #[unsafe(no_mangle)]
 pub extern "C" fn huttavel_held_scroll_ok(
     alloc: Global,
@@ -65,7 +69,8 @@ pub extern "C" fn huttavel_held_scroll_ok(
     done(came)
 }
 
-/// `Screen::clear_ok`.
+/// Sets whether the next update with a window repaints the whole screen, by `Screen::clear_ok`. Refused: CLOSED;
+/// NO_WINDOW.
 #[unsafe(no_mangle)]
 pub extern "C" fn huttavel_held_clear_ok(
     alloc: Global,
@@ -83,7 +88,8 @@ pub extern "C" fn huttavel_held_clear_ok(
     done(came)
 }
 
-/// `Screen::leave_ok`.
+/// Sets whether the terminal's cursor may stay where an update leaves it, by `Screen::leave_ok`. Refused: CLOSED;
+/// NO_WINDOW.
 #[unsafe(no_mangle)]
 pub extern "C" fn huttavel_held_leave_ok(
     alloc: Global,
@@ -101,7 +107,7 @@ pub extern "C" fn huttavel_held_leave_ok(
     done(came)
 }
 
-/// `Screen::attr_on`.
+/// Adds attributes, as bits, to those that bytes are written with, by `Screen::attr_on`. Refused: CLOSED; NO_WINDOW.
 #[unsafe(no_mangle)]
 pub extern "C" fn huttavel_held_attr_on(
     alloc: Global,
@@ -119,7 +125,8 @@ pub extern "C" fn huttavel_held_attr_on(
     done(came)
 }
 
-/// `Screen::attr_off`.
+/// Removes attributes, as bits, from those that bytes are written with, by `Screen::attr_off`. Refused: CLOSED;
+/// NO_WINDOW.
 #[unsafe(no_mangle)]
 pub extern "C" fn huttavel_held_attr_off(
     alloc: Global,
@@ -137,7 +144,7 @@ pub extern "C" fn huttavel_held_attr_off(
     done(came)
 }
 
-/// `Screen::attr_set`.
+/// Replaces the attributes, as bits, that bytes are written with, by `Screen::attr_set`. Refused: CLOSED; NO_WINDOW.
 #[unsafe(no_mangle)]
 pub extern "C" fn huttavel_held_attr_set(
     alloc: Global,
@@ -155,7 +162,8 @@ pub extern "C" fn huttavel_held_attr_set(
     done(came)
 }
 
-/// `Screen::color_set`.
+/// Sets the colour pair, 0 to 63, that bytes are written with, by `Screen::color_set`. Refused: CLOSED; NO_WINDOW;
+/// BAD_PAIR.
 #[unsafe(no_mangle)]
 pub extern "C" fn huttavel_held_color_set(
     alloc: Global,

@@ -1,4 +1,6 @@
-//! Touched lines, and copying from one window to another. Each is the call of a screen that it names, on the screen that the handle holds.
+//! Touched lines, and copying from one window to another.
+//!
+//! Each is the call of `curses::Screen` that it names, on the screen that the handle holds.
 ghost use Rattle.std.specs.Prelude.{true, false};
 ghost use Rattle.scr_windows.specs.Calls.Copying.{copy_call, overlay_call};
 ghost use Rattle.scr_windows.specs.Calls.Syncing.{sync_up_call, sync_down_call};
@@ -12,7 +14,7 @@ use crate::handles::Handle;
 use curses::Win;
 use std::alloc::Global;
 
-/// `Screen::touch_window`.
+/// Touches all lines of a window, by `Screen::touch_window`. Refused: CLOSED; NO_WINDOW.
 #[unsafe(no_mangle)]
 pub extern "C" fn huttavel_held_touch_window(alloc: Global, handle: &mut Handle, window: u32) -> u32
     ensures { Asked (λ screen. on_windows screen (touch_all_call screen.desk window true)) done_number 1 handle.old.held.value handle.new.held.value result }
@@ -25,7 +27,7 @@ pub extern "C" fn huttavel_held_touch_window(alloc: Global, handle: &mut Handle,
     done(came)
 }
 
-/// `Screen::untouch`.
+/// Makes all lines of a window untouched, by `Screen::untouch`. Refused: CLOSED; NO_WINDOW.
 #[unsafe(no_mangle)]
 pub extern "C" fn huttavel_held_untouch(alloc: Global, handle: &mut Handle, window: u32) -> u32
     ensures { Asked (λ screen. on_windows screen (touch_all_call screen.desk window false)) done_number 1 handle.old.held.value handle.new.held.value result }
@@ -38,7 +40,8 @@ pub extern "C" fn huttavel_held_untouch(alloc: Global, handle: &mut Handle, wind
     done(came)
 }
 
-/// `Screen::touch_lines`.
+/// Makes `n` lines from line `first` on touched, or untouched, by `Screen::touch_lines`. Refused: CLOSED; NO_WINDOW;
+/// OUT_OF_WINDOW.
 #[unsafe(no_mangle)]
 pub extern "C" fn huttavel_held_touch_lines(
     alloc: Global,
@@ -58,7 +61,8 @@ pub extern "C" fn huttavel_held_touch_lines(
     done(came)
 }
 
-/// `Screen::sync_up`.
+/// Touches the lines of all ancestors that share cells with a window's touched lines, by `Screen::sync_up`. Refused:
+/// CLOSED; NO_WINDOW.
 #[unsafe(no_mangle)]
 pub extern "C" fn huttavel_held_sync_up(alloc: Global, handle: &mut Handle, window: u32) -> u32
     ensures { Asked (λ screen. on_windows screen (sync_up_call screen.desk window)) done_number 1 handle.old.held.value handle.new.held.value result }
@@ -71,7 +75,8 @@ pub extern "C" fn huttavel_held_sync_up(alloc: Global, handle: &mut Handle, wind
     done(came)
 }
 
-/// `Screen::sync_down`.
+/// Touches the lines of a window that share cells with its ancestors' touched lines, by `Screen::sync_down`. Refused:
+/// CLOSED; NO_WINDOW.
 #[unsafe(no_mangle)]
 pub extern "C" fn huttavel_held_sync_down(alloc: Global, handle: &mut Handle, window: u32) -> u32
     ensures { Asked (λ screen. on_windows screen (sync_down_call screen.desk window)) done_number 1 handle.old.held.value handle.new.held.value result }
@@ -84,7 +89,8 @@ pub extern "C" fn huttavel_held_sync_down(alloc: Global, handle: &mut Handle, wi
     done(came)
 }
 
-/// `Screen::copy`.
+/// Copies cells of the source, from a row and a column on, to a rectangle of the target; with `overlay` all but blanks,
+/// by `Screen::copy`. Refused: CLOSED; NO_WINDOW; OUT_OF_WINDOW; NO_MEMORY.
 #[unsafe(no_mangle)]
 pub extern "C" fn huttavel_held_copy(
     alloc: Global,
@@ -120,7 +126,8 @@ pub extern "C" fn huttavel_held_copy(
     done(came)
 }
 
-/// `Screen::overlay`.
+/// Copies all but blanks where two windows cover the same part of the screen, by `Screen::overlay`. Refused: CLOSED;
+/// NO_WINDOW; IS_PAD; NO_MEMORY.
 #[unsafe(no_mangle)]
 pub extern "C" fn huttavel_held_overlay(
     alloc: Global,
@@ -138,7 +145,8 @@ pub extern "C" fn huttavel_held_overlay(
     done(came)
 }
 
-/// `Screen::overwrite`.
+/// Copies all cells where two windows cover the same part of the screen, by `Screen::overwrite`. Refused: CLOSED;
+/// NO_WINDOW; IS_PAD; NO_MEMORY.
 #[unsafe(no_mangle)]
 pub extern "C" fn huttavel_held_overwrite(
     alloc: Global,

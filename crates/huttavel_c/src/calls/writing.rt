@@ -1,4 +1,6 @@
-//! Writing bytes, lines and borders. Each is the call of a screen that it names, on the screen that the handle holds.
+//! Writing bytes, lines and borders.
+//!
+//! Each is the call of `curses::Screen` that it names, on the screen that the handle holds.
 ghost use Rattle.std.specs.Prelude.{[], ◌∷◌};
 ghost use Rattle.scr_windows.specs.Calls.Adding.{add_byte_call, add_text_call, insert_byte_call, line_across_call, line_down_call};
 ghost use Rattle.scr_windows.specs.Calls.Borders.{border_call};
@@ -11,7 +13,8 @@ use crate::handles::Handle;
 use curses::{Attrs, Win};
 use std::alloc::Global;
 
-/// `Screen::add_byte`.
+/// Adds a byte at the cursor, with attributes as bits; gives 1 if a next line was needed and there was none, else 0, by
+/// `Screen::add_byte`. Refused: CLOSED; NO_WINDOW; NOT_ASCII.
 #[unsafe(no_mangle)]
 pub extern "C" fn huttavel_held_add_byte(
     alloc: Global,
@@ -30,7 +33,8 @@ pub extern "C" fn huttavel_held_add_byte(
     added(came)
 }
 
-/// `Screen::add_text`.
+/// Adds the bytes of a text; gives 1 if a next line was needed and there was none, else 0, by `Screen::add_text`.
+/// Refused: CLOSED; NO_WINDOW; NOT_ASCII.
 #[unsafe(no_mangle)]
 pub extern "C" fn huttavel_held_add_text(
     alloc: Global,
@@ -48,7 +52,8 @@ pub extern "C" fn huttavel_held_add_text(
     added(came)
 }
 
-/// `Screen::insert_byte`.
+/// Inserts a byte 32 to 126 at the cursor, with attributes as bits, by `Screen::insert_byte`. Refused: CLOSED;
+/// NO_WINDOW; NOT_ASCII.
 #[unsafe(no_mangle)]
 pub extern "C" fn huttavel_held_insert_byte(
     alloc: Global,
@@ -67,7 +72,8 @@ pub extern "C" fn huttavel_held_insert_byte(
     done(came)
 }
 
-/// `Screen::line_across`.
+/// Writes a byte 32 to 126 in `n` places from the cursor to the right, by `Screen::line_across`. Refused: CLOSED;
+/// NO_WINDOW; NOT_ASCII.
 #[unsafe(no_mangle)]
 pub extern "C" fn huttavel_held_line_across(
     alloc: Global,
@@ -86,7 +92,8 @@ pub extern "C" fn huttavel_held_line_across(
     done(came)
 }
 
-/// `Screen::line_down`.
+/// Writes a byte 32 to 126 in `n` places from the cursor down, by `Screen::line_down`. Refused: CLOSED; NO_WINDOW;
+/// NOT_ASCII.
 #[unsafe(no_mangle)]
 pub extern "C" fn huttavel_held_line_down(
     alloc: Global,
@@ -105,7 +112,8 @@ pub extern "C" fn huttavel_held_line_down(
     done(came)
 }
 
-/// `Screen::border`.
+/// Writes bytes 32 to 126 along the edges and in the corners, by `Screen::border`. Refused: CLOSED; NO_WINDOW;
+/// NOT_ASCII.
 #[unsafe(no_mangle)]
 pub extern "C" fn huttavel_held_border(
     alloc: Global,

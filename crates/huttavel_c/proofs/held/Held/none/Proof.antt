@@ -1,11 +1,10 @@
 -- `none` makes a null pointer, which owns nothing.
-use Rattle.std.proofs.Common.{◌≡◌, List, [], ◌∷◌, refl, lit<}
+use Rattle.std.proofs.Common.{◌≡◌, [], ◌∷◌, refl, lit<}
 use mir.Syntax.{Fn}
 use mir.Val.{Val}
 use base.Logic.{SProp, emp}
 use base.Fml.{ftrue}
-use prog.Wp.{WpFn}
-use types.Kit.{‵, raw, ◌⊛◌, ◌$◌, ◌∵◌, !, qed, by, move, keep, drop, split, use0, fjoin}
+use types.Kit.{‵, raw, ◌⊛◌, ◌$◌, ◌∵◌, !, qed, by, move, keep, drop, split, use0}
 use types.Run.{lit, of_opd, no_more, and_then, returns, enter}
 use types.ByLocal.{alloc_all, pass_all, free_all, look_at, get, sets}
 use types.Part.{agg}

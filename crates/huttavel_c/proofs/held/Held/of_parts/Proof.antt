@@ -1,19 +1,18 @@
 -- `of_parts` keeps the address, and owns what the parts owned.
-use Rattle.std.proofs.Common.{◌≡◌, ℕ, List, [], ◌∷◌, ◌++◌, refl, sym, subst}
+use Rattle.std.proofs.Common.{◌≡◌, List, [], ◌∷◌, ◌++◌, refl, sym, subst}
 use mir.Syntax.{Fn}
 use mir.Val.{Val}
 use base.Logic.{SProp, ent, emp, id⊢}
-use base.Fml.{ftrue, fex}
+use base.Fml.{ftrue}
 use prog.Wp.{WpFn}
-use types.Kit.{‵, raw, ◌⊛◌, ◌$◌, ◌∵◌, !, qed, by, move, keep, drop, split, use0, fsplit, fjoin, fpack, suffices}
+use types.Kit.{‵, raw, ◌⊛◌, ◌$◌, ◌∵◌, !, qed, by, move, keep, split, use0, fsplit, fjoin, fpack, suffices}
 use types.Run.{stop, fld, of_opd, no_more, and_then, returns, enter}
 use types.ByLocal.{alloc_all, pass_all, free_all, look_at, get, get_in, sets}
 use types.Part.{agg, sub, whole}
 use contract.Monad.{fact, fact_i}
 use contract.Running.{tables}
-use denote.Exit.{yes}
 use denote.RattleType.{RattleType, owns}
-use denote.RawPtr.{Ptr, block_ptr}
+use denote.RawPtr.{block_ptr}
 use denote.Signature.{types_at, plain}
 use denote.Steps.{nothing}
 use denote.Triple.Entry.{alive}

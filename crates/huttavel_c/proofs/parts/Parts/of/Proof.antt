@@ -18,7 +18,7 @@ use denote.Signature.{types_at, plain}
 use denote.Builtin.{RawPtr}
 use denote.RawPtr.{Ptr, block_ptr, ptr_val}
 use denote.Steps.{nothing, only, heard}
-use denote.Param.{param, layout, bounded}
+use denote.Param.{param, bounded}
 use denote.Param.Laws.{param_laws}
 use denote.Struct.Tuple.{Tuple}
 use denote.Triple.Spec.{triple_of}
@@ -30,7 +30,7 @@ use Rattle.std.proofs.BoxSteps.Steps.{box_out, box_in}
 use Rattle.std.proofs.raw_atomic.Walks.{proved_at, leaves}
 use Rattle.std.specs.contracts.boxed.Box.into_raw_with_allocator as opening
 use Rattle.std.proofs.boxed.Box.into_raw_with_allocator.Met.{met}
-use Rattle.huttavel_c.proofs.Shapes.{calls_frame, two, two_typed, Pieces, owned, placed, parts_in}
+use Rattle.huttavel_c.proofs.Shapes.{calls_frame, two, two_typed, owned, placed, parts_in}
 use Rattle.huttavel_c.specs.contracts.parts.Parts.of.{ended, clauses}
 use Rattle.huttavel_c.specs.contracts.parts.Parts.of.Key.{name as #self}
 use Rattle.huttavel_c.proofs.parts.Parts.of.Statement.{statement}
