@@ -1,7 +1,8 @@
 /* The calls on the windows of a screen. Included by huttavel.h, which says what holds for all of them.
  *
  * Each may answer HUTTAVEL_CLOSED, and each that is given a window HUTTAVEL_NO_WINDOW; further refusals are named in
- * their order.
+ * their order, without HUTTAVEL_ in front. The names with (), such as newwin(), are those of X/Open Curses
+ * Issue 7.
  */
 #ifndef HUTTAVEL_WINDOWS_H
 #define HUTTAVEL_WINDOWS_H
@@ -13,7 +14,7 @@
 /* ---- Making, moving and deleting windows. Those that make one give its number. */
 
 /* A blank window at a row and a column of the screen; 0 rows or columns reach to the screen's end. Refused: OFF_SCREEN,
- * TOO_MANY, NO_MEMORY. X/Open Curses Issue 7, newwin(). */
+ * TOO_MANY, NO_MEMORY. newwin(). */
 uint32_t huttavel_new_window(huttavel *handle, uint32_t rows, uint32_t columns, uint32_t row, uint32_t column,
                              uint32_t *made);
 
