@@ -1,5 +1,5 @@
 //! Starts, updates and finishes: the bytes that they make wait until the terminal has taken them.
-ghost use Rattle.std.specs.Prelude.{◌≡◌, ◌++◌, ◌≤◌, [], drop, length, min, take};
+ghost use Rattle.std.specs.Prelude.{◌≡◌, ◌++◌, ◌≤◌, None, drop, length, min, take};
 ghost use Rattle.huttavel_c.specs.Asking.{Asked};
 ghost use Rattle.huttavel_c.specs.Giving.{unchanged};
 ghost use Rattle.huttavel_c.specs.Sending.{Copies, Finishes, Makes, Starts, Takes, Updates, Waits, forgetting, sent_number};
@@ -136,7 +136,8 @@ pub extern "C" fn huttavel_held_waiting(alloc: Global, handle: &mut Handle) -> u
 /// 0 of a closed handle.
 #[unsafe(no_mangle)]
 pub extern "C" fn huttavel_held_bytes(alloc: Global, handle: &mut Handle, bytes: &mut [u8]) -> usize
-    ensures { Makes (Copies bytes.old bytes.new) 0 handle.old.held.value handle.new.held.value result }
+    ensures copied { Makes (Copies bytes.old bytes.new) 0 handle.old.held.value handle.new.held.value result }
+    ensures closed { handle.old.held.value ≡ None → bytes.new ≡ bytes.old }
 {
     let Some(session) = handle.take(alloc) else {
         return 0;
