@@ -14,8 +14,8 @@
  *     huttavel_add_text(&screen, 0, (const uint8_t *)"hello", 5, NULL);
  *     huttavel_noutrefresh(&screen, 0);
  *     huttavel_doupdate(&screen);
- *     while ((count = huttavel_bytes(&screen, bytes, sizeof bytes)) > 0)
- *         huttavel_took(&screen, fwrite(bytes, 1, count, stdout));
+ *     while ((count = huttavel_bytes(&screen, bytes, sizeof bytes)) > 0 && fwrite(bytes, 1, count, stdout) == count)
+ *         huttavel_took(&screen, count);
  *     huttavel_close(&screen);
  *
  * ANSWERS. Each call that gives a uint32_t gives HUTTAVEL_OK, which is 0, or another of `enum huttavel_fault`. A call
