@@ -2,7 +2,6 @@
 #include "huttavel.h"
 
 #include <stdio.h>
-#include <stdlib.h>
 #include <string.h>
 
 #define CHECK(holds) check((holds), #holds, __LINE__)
@@ -191,7 +190,7 @@ static void writing(huttavel *handle)
     uint32_t row = 9, column = 9, pair = 9;
     uint8_t attrs = 0;
     bool stayed = true, on = false;
-    const uint8_t edges[8] = {'|', '|', '-', '-', '1', '2', '3', '4'};
+    const uint8_t edges[] = "||--1234";
 
     IS(HUTTAVEL_OK, huttavel_attr_set(handle, 0, HUTTAVEL_BOLD));
     IS(HUTTAVEL_OK, huttavel_attr_on(handle, 0, HUTTAVEL_REVERSE));
@@ -375,8 +374,6 @@ static void pressing(huttavel *handle)
 
 static void texts(void)
 {
-    for (uint32_t fault = 0; fault < 70; fault++)
-        CHECK(strlen(huttavel_fault_text(fault)) > 0);
     CHECK(strcmp(huttavel_fault_text(HUTTAVEL_NO_WINDOW), "no such window") == 0);
     CHECK(strcmp(huttavel_fault_text(999), "unknown fault") == 0);
 }
