@@ -1,0 +1,38 @@
+/* curses.h over huttavel.h: one unit, in parts that lie in the folder `curses`, from the lowest to the highest. */
+#define _XOPEN_SOURCE 700
+#define _DEFAULT_SOURCE
+
+#include "curses.h"
+
+#include <errno.h>
+#include <limits.h>
+#include <poll.h>
+#include <signal.h>
+#include <stdint.h>
+#include <stdlib.h>
+#include <string.h>
+#include <sys/ioctl.h>
+#include <termios.h>
+#include <time.h>
+#include <unistd.h>
+
+#include "huttavel.h"
+
+#include "curses/screens.h"
+
+#include "curses/entries.c"
+#include "curses/output.c"
+#include "curses/line.c"
+#include "curses/signals.c"
+#include "curses/windows.c"
+#include "curses/settings.c"
+#include "curses/refreshing.c"
+#include "curses/adding.c"
+#include "curses/erasing.c"
+#include "curses/reading.c"
+#include "curses/opening.c"
+#include "curses/resizing.c"
+#include "curses/keyboard.c"
+#include "curses/keys.c"
+#include "curses/texts.c"
+#include "curses/forms.c"

@@ -1,0 +1,200 @@
+/* Calls that write characters: with a byte, a text, lines and borders. */
+
+int wmove(WINDOW *window, int row, int column)
+{
+    if (!window)
+        return ERR;
+    if (huttavel_move_cursor(handle_of(window), window->number, (uint32_t)row, (uint32_t)column) != HUTTAVEL_OK)
+        return ERR;
+    window->has_moved = true;
+    return OK;
+}
+
+/* Makes a call on a window while bytes are written with a character's pair, if it has one; then with the window's. */
+#define WITH_PAIR(window, character, fault, call)                                                            \
+    do {                                                                                                     \
+        uint32_t pair = pair_of(character);                                                                  \
+        bool is_other = pair != 0 && pair != (window)->pair;                                                 \
+                                                                                                             \
+        if (is_other)                                                                                        \
+            huttavel_color_set(handle_of(window), (window)->number, pair);                                   \
+        (fault) = (call);                                                                                    \
+        if (is_other)                                                                                        \
+            huttavel_color_set(handle_of(window), (window)->number, (window)->pair);                         \
+    } while (0)
+
+int waddch(WINDOW *window, const chtype character)
+{
+    bool stayed = false;
+    uint32_t fault;
+
+    if (!window)
+        return ERR;
+    WITH_PAIR(window, character, fault,
+              huttavel_add_byte(handle_of(window), window->number, byte_of(character), attrs_of(character), &stayed));
+    return stayed ? ERR : answer(fault);
+}
+
+int wechochar(WINDOW *window, const chtype character)
+{
+    return waddch(window, character) == ERR ? ERR : wrefresh(window);
+}
+
+/* How many characters of a text lie side by side before the end of the window's line, its last place left out. */
+static size_t side_by_side(const WINDOW *window, const char *text, size_t length)
+{
+    int room = window->columns - 1 - getcurx(window);
+    size_t most = room > 0 ? (size_t)room : 0, count = 0;
+
+    while (count < most && count < length && text[count] >= ' ' && text[count] <= '~')
+        count++;
+    return count;
+}
+
+/* Adds the bytes of a text up to the first that is refused or finds no next line. */
+static int add_bytes(WINDOW *window, const char *text, size_t length)
+{
+    while (length > 0) {
+        size_t count = side_by_side(window, text, length);
+
+        if (count > 0) {
+            if (huttavel_add_text(handle_of(window), window->number, (const uint8_t *)text, count, NULL) != HUTTAVEL_OK)
+                return ERR;
+        } else {
+            if (waddch(window, (unsigned char)*text) == ERR)
+                return ERR;
+            count = 1;
+        }
+        text += count;
+        length -= count;
+    }
+    return OK;
+}
+
+/* The length of a text, at most `most` if that is not negative. */
+static size_t length_of(const char *text, int most)
+{
+    size_t length = 0;
+
+    while ((most < 0 || length < (size_t)most) && text[length])
+        length++;
+    return length;
+}
+
+int waddnstr(WINDOW *window, const char *text, int most)
+{
+    return window && text ? add_bytes(window, text, length_of(text, most)) : ERR;
+}
+
+int waddstr(WINDOW *window, const char *text)
+{
+    return waddnstr(window, text, -1);
+}
+
+int winsch(WINDOW *window, chtype character)
+{
+    uint32_t fault;
+
+    if (!window)
+        return ERR;
+    WITH_PAIR(window, character, fault,
+              huttavel_insert_byte(handle_of(window), window->number, byte_of(character), attrs_of(character)));
+    return answer(fault);
+}
+
+int winsnstr(WINDOW *window, const char *text, int most)
+{
+    size_t length;
+
+    if (!window || !text)
+        return ERR;
+    for (length = length_of(text, most); length > 0; length--)
+        if (winsch(window, (unsigned char)text[length - 1]) == ERR)
+            return ERR;
+    return OK;
+}
+
+int winsstr(WINDOW *window, const char *text)
+{
+    return winsnstr(window, text, -1);
+}
+
+/* Draws a line of a character, with its attributes and pair besides those of the window. */
+static int draw_line(uint32_t (*draw)(huttavel *, uint32_t, uint8_t, uint32_t), WINDOW *window, chtype character,
+                     int count)
+{
+    uint8_t before = window->attrs;
+    uint32_t fault;
+
+    set_pen(window, before | attrs_of(character), window->pair);
+    WITH_PAIR(window, character, fault, draw(handle_of(window), window->number, byte_of(character), (uint32_t)count));
+    set_pen(window, before, window->pair);
+    return answer(fault);
+}
+
+/* A character that may be left out. */
+static chtype or_default(chtype character, chtype otherwise)
+{
+    return byte_of(character) ? character : otherwise | character;
+}
+
+int whline(WINDOW *window, chtype character, int count)
+{
+    return window && count > 0 ? draw_line(huttavel_line_across, window, or_default(character, ACS_HLINE), count) : ERR;
+}
+
+int wvline(WINDOW *window, chtype character, int count)
+{
+    return window && count > 0 ? draw_line(huttavel_line_down, window, or_default(character, ACS_VLINE), count) : ERR;
+}
+
+/* Draws a border piece by piece, each with its attributes. The cursor stays. */
+static int draw_border(WINDOW *window, const chtype pieces[8])
+{
+    int row = getcury(window), column = getcurx(window), n;
+    const int last_row = window->rows - 1, last_column = window->columns - 1;
+    const struct {
+        int row, column, count;
+        uint32_t (*draw)(huttavel *, uint32_t, uint8_t, uint32_t);
+    } lines[8] = {{0, 0, window->rows, huttavel_line_down},
+                  {0, last_column, window->rows, huttavel_line_down},
+                  {0, 0, window->columns, huttavel_line_across},
+                  {last_row, 0, window->columns, huttavel_line_across},
+                  {0, 0, 1, huttavel_line_across},
+                  {0, last_column, 1, huttavel_line_across},
+                  {last_row, 0, 1, huttavel_line_across},
+                  {last_row, last_column, 1, huttavel_line_across}};
+
+    for (n = 0; n < 8; n++) {
+        huttavel_move_cursor(handle_of(window), window->number, (uint32_t)lines[n].row, (uint32_t)lines[n].column);
+        if (draw_line(lines[n].draw, window, pieces[n], lines[n].count) == ERR)
+            break;
+    }
+    huttavel_move_cursor(handle_of(window), window->number, (uint32_t)row, (uint32_t)column);
+    return n == 8 ? OK : ERR;
+}
+
+int wborder(WINDOW *window, chtype left, chtype right, chtype top, chtype bottom, chtype top_left, chtype top_right,
+            chtype bottom_left, chtype bottom_right)
+{
+    const chtype pieces[8] = {or_default(left, ACS_VLINE),        or_default(right, ACS_VLINE),
+                              or_default(top, ACS_HLINE),         or_default(bottom, ACS_HLINE),
+                              or_default(top_left, ACS_ULCORNER), or_default(top_right, ACS_URCORNER),
+                              or_default(bottom_left, ACS_LLCORNER), or_default(bottom_right, ACS_LRCORNER)};
+    uint8_t bytes[8];
+    chtype all = 0;
+    int n;
+
+    if (!window || is_shown(window))
+        return ERR;
+    for (n = 0; n < 8; n++) {
+        bytes[n] = byte_of(pieces[n]);
+        all |= pieces[n] & A_ATTRIBUTES;
+    }
+    return all ? draw_border(window, pieces) : answer(huttavel_border(handle_of(window), window->number, bytes));
+}
+
+int box(WINDOW *window, chtype vertical, chtype horizontal)
+{
+    return wborder(window, vertical, vertical, horizontal, horizontal, 0, 0, 0, 0);
+}

@@ -1,0 +1,149 @@
+/* The compiled entry of a terminal's name: where it lies, and what the shim itself reads of it (terminfo(5), 'Fetching
+   Compiled Descriptions'; term(5)). */
+
+/* The positions of the strings that are sent here and by no update, and of those that has_ic() and has_il() ask for. */
+enum {
+    BELL = 1,
+    CHANGE_REGION = 3,
+    CURSOR_INVISIBLE = 13,
+    CURSOR_NORMAL = 16,
+    CURSOR_VISIBLE = 20,
+    ENTER_INSERT = 31,
+    EXIT_INSERT = 42,
+    FLASH = 45,
+    INSERT_CHARACTER = 52,
+    INSERT_LINE = 53,
+    INSERT_CHARACTERS = 108
+};
+
+/* The size of a file of an entry that is not read to its end. */
+#define LONGEST_ENTRY 32769
+
+#define SYSTEM_FOLDERS "/etc/terminfo:/lib/terminfo:/usr/share/terminfo"
+
+/* Reads a file whole. NULL bytes if it cannot be read, or memory runs out. */
+static struct text read_file(const char *path)
+{
+    struct text text = {NULL, 0};
+    FILE *file = fopen(path, "rb");
+
+    if (!file)
+        return text;
+    text.bytes = malloc(LONGEST_ENTRY);
+    if (text.bytes)
+        text.length = fread(text.bytes, 1, LONGEST_ENTRY, file);
+    if (text.bytes && ferror(file)) {
+        free(text.bytes);
+        text.bytes = NULL;
+    }
+    fclose(file);
+    return text;
+}
+
+/* Reads the entry of a name in a folder, where it lies below its first letter or the letter's code. */
+static struct text read_in(const char *folder, size_t length, const char *name)
+{
+    struct text text = {NULL, 0};
+    size_t room = length + strlen(name) + 8;
+    char *path = malloc(room);
+
+    if (!path)
+        return text;
+    snprintf(path, room, "%.*s/%c/%s", (int)length, folder, name[0], name);
+    text = read_file(path);
+    if (!text.bytes) {
+        snprintf(path, room, "%.*s/%02x/%s", (int)length, folder, (unsigned char)name[0], name);
+        text = read_file(path);
+    }
+    free(path);
+    return text;
+}
+
+/* Reads the entry of a name in the first of these folders that has one, between colons. An empty one stands for the
+   system's. */
+static struct text read_among(const char *folders, const char *name)
+{
+    struct text text = {NULL, 0};
+
+    while (!text.bytes) {
+        size_t length = strcspn(folders, ":");
+
+        text = length ? read_in(folders, length, name) : read_among(SYSTEM_FOLDERS, name);
+        if (!folders[length])
+            break;
+        folders += length + 1;
+    }
+    return text;
+}
+
+/* Whether a name can be that of an entry. */
+static bool is_terminal_name(const char *name)
+{
+    if (!*name || !strcmp(name, ".") || !strcmp(name, ".."))
+        return false;
+    for (; *name; name++)
+        if (*name <= ' ' || *name > '~' || *name == '/')
+            return false;
+    return true;
+}
+
+/* Finds and reads the entry of a terminal's name. NULL bytes if there is none. */
+static struct text find_entry(const char *name)
+{
+    struct text text = {NULL, 0};
+    const char *given = getenv("TERMINFO"), *home = getenv("HOME"), *listed = getenv("TERMINFO_DIRS");
+
+    if (!is_terminal_name(name))
+        return text;
+    if (given && *given)
+        text = read_in(given, strlen(given), name);
+    if (!text.bytes && home && *home) {
+        char *folder = malloc(strlen(home) + sizeof "/.terminfo");
+
+        if (folder) {
+            strcpy(folder, home);
+            strcat(folder, "/.terminfo");
+            text = read_in(folder, strlen(folder), name);
+            free(folder);
+        }
+    }
+    if (!text.bytes && listed && *listed)
+        text = read_among(listed, name);
+    return text.bytes ? text : read_among(SYSTEM_FOLDERS, name);
+}
+
+/* A number of 16 bits of an entry; 0xffff past its end. */
+static unsigned short_at(const struct text *entry, size_t place)
+{
+    if (place + 2 > entry->length)
+        return 0xffff;
+    return entry->bytes[place] | (unsigned)entry->bytes[place + 1] << 8;
+}
+
+/* The string at a position of an entry that huttavel_open() has read, or NULL. */
+static const char *string_of(const SCREEN *screen, unsigned position)
+{
+    const struct text *entry = &screen->entry;
+    size_t numbers = short_at(entry, 0) == 0x021e ? 4 : 2;
+    size_t names = short_at(entry, 2), flags = short_at(entry, 4), count = short_at(entry, 8);
+    size_t offsets = 12 + names + flags + (names + flags) % 2 + numbers * short_at(entry, 6);
+    size_t begin = position < count ? short_at(entry, offsets + 2 * position) : 0xffff;
+
+    return begin < 0xfffe ? (const char *)entry->bytes + offsets + 2 * count + begin : NULL;
+}
+
+/* The last of an entry's names, which describes the terminal, in memory of its own. */
+static char *description_of(const struct text *entry)
+{
+    size_t length = short_at(entry, 2);
+    char *description = calloc(length + 1, 1);
+    char *bar;
+
+    if (!description || 12 + length > entry->length)
+        return description;
+    memcpy(description, entry->bytes + 12, length);
+    bar = strrchr(description, '|');
+    if (bar)
+        memmove(description, bar + 1, strlen(bar));
+    return description;
+}

@@ -1,0 +1,55 @@
+/* Calls that erase, delete, insert lines and scroll. */
+
+int werase(WINDOW *window)
+{
+    if (window)
+        window->has_moved = true;
+    return answer(huttavel_erase(handle_of(window), number_of(window)));
+}
+
+int wclear(WINDOW *window)
+{
+    if (window)
+        window->has_moved = true;
+    return answer(huttavel_clear(handle_of(window), number_of(window)));
+}
+
+int wclrtoeol(WINDOW *window)
+{
+    return answer(huttavel_clear_to_eol(handle_of(window), number_of(window)));
+}
+
+int wclrtobot(WINDOW *window)
+{
+    return answer(huttavel_clear_to_bottom(handle_of(window), number_of(window)));
+}
+
+int wdelch(WINDOW *window)
+{
+    return answer(huttavel_delete_byte(handle_of(window), number_of(window)));
+}
+
+int winsdelln(WINDOW *window, int count)
+{
+    return answer(huttavel_insert_delete_lines(handle_of(window), number_of(window), count));
+}
+
+int winsertln(WINDOW *window)
+{
+    return winsdelln(window, 1);
+}
+
+int wdeleteln(WINDOW *window)
+{
+    return winsdelln(window, -1);
+}
+
+int wscrl(WINDOW *window, int count)
+{
+    return answer(huttavel_scroll(handle_of(window), number_of(window), count));
+}
+
+int scroll(WINDOW *window)
+{
+    return wscrl(window, 1);
+}

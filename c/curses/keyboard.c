@@ -1,0 +1,163 @@
+/* The keyboard: bytes are read one at a time, so that what a program reads by itself stays in the line. */
+
+/* The key of a capability's position. */
+static int key_of(uint32_t position)
+{
+    if (position >= HUTTAVEL_KEY_F11 && position <= HUTTAVEL_KEY_F63)
+        return KEY_F(11 + (int)(position - HUTTAVEL_KEY_F11));
+    if (position == HUTTAVEL_KEY_F0 || position == HUTTAVEL_KEY_F1)
+        return KEY_F((int)(position - HUTTAVEL_KEY_F0));
+    if (position == HUTTAVEL_KEY_F10)
+        return KEY_F(10);
+    if (position >= HUTTAVEL_KEY_F2 && position <= HUTTAVEL_KEY_F9)
+        return KEY_F(2 + (int)(position - HUTTAVEL_KEY_F2));
+    return KEY_MIN + (int)position;
+}
+
+/* Takes a key that was read; ERR if there is none. */
+static int queued_key(SCREEN *screen)
+{
+    huttavel_key key;
+
+    if (huttavel_next_key(&screen->handle, &key) != HUTTAVEL_OK)
+        return ERR;
+    return key.kind == HUTTAVEL_KEY_NAMED ? key_of(key.code) : (int)key.code;
+}
+
+/* The shorter of two times to wait; -1 is for ever. */
+static int shorter(int one, int other)
+{
+    if (one < 0 || other < 0)
+        return one < 0 ? other : one;
+    return one < other ? one : other;
+}
+
+/* How long there is to wait until a time. */
+static int left_until(long long end)
+{
+    long long left = end - now();
+
+    return left <= 0 ? 0 : left > INT_MAX ? INT_MAX : (int)left;
+}
+
+/* Waits for a byte of the keyboard: 1 if there may be one, 0 if not in time, -1 if a signal came. */
+static int wait_for_byte(const SCREEN *screen, int milliseconds)
+{
+    struct pollfd asked;
+
+    asked.fd = screen->input;
+    asked.events = POLLIN;
+    asked.revents = 0;
+    return poll(&asked, 1, milliseconds);
+}
+
+/* Gives a byte to the keys of the screen. */
+static void decide(SCREEN *screen, uint8_t byte)
+{
+    huttavel_key_bytes(&screen->handle, &byte, 1, NULL);
+    screen->is_undecided = true;
+    screen->decided_at = now() + ESCDELAY;
+}
+
+/* What others did to the terminal meanwhile: a new size is a key, and a terminal that was given back is repainted. */
+static int news(SCREEN *screen)
+{
+    if (screen->is_resized && resize(screen))
+        return KEY_RESIZE;
+    if (screen->is_disturbed && !screen->has_ended)
+        update(screen);
+    return ERR;
+}
+
+/* Waits for a byte as long as `end` says, -1 for ever, and reads it. A byte without keypad() is a key at once;
+   otherwise it is given to the keys. ERR at the end of the input, or in time; KEY_MAX to go on. */
+static int read_byte(WINDOW *window, long long end)
+{
+    SCREEN *screen = window->screen;
+    bool is_short = screen->is_undecided && !window->is_untimed;
+    int wait = end < 0 ? -1 : left_until(end);
+    int found = wait_for_byte(screen, is_short ? shorter(wait, left_until(screen->decided_at)) : wait);
+    uint8_t byte;
+    ssize_t count;
+
+    if (found < 0)
+        return errno == EINTR ? KEY_MAX : ERR;
+    if (found == 0) {
+        if (is_short && left_until(screen->decided_at) == 0) {
+            huttavel_key_idle(&screen->handle);
+            screen->is_undecided = false;
+            return KEY_MAX;
+        }
+        return end >= 0 && left_until(end) == 0 ? ERR : KEY_MAX;
+    }
+    count = read(screen->input, &byte, 1);
+    if (count < 0 && (errno == EINTR || errno == EAGAIN))
+        return KEY_MAX;
+    if (count <= 0)
+        return ERR;
+    if (!window->is_keypad)
+        return byte;
+    decide(screen, byte);
+    return KEY_MAX;
+}
+
+/* The next key, waited for as the window says. */
+static int next_key(WINDOW *window)
+{
+    SCREEN *screen = window->screen;
+    int wait = screen->half_delay ? 100 * screen->half_delay : window->delay;
+    long long end = wait < 0 ? -1 : now() + wait;
+
+    for (;;) {
+        int key = news(screen);
+
+        if (key == ERR)
+            key = queued_key(screen);
+        if (key == ERR)
+            key = read_byte(window, end);
+        else
+            return key;
+        if (key != KEY_MAX)
+            return key;
+    }
+}
+
+int wgetch(WINDOW *window)
+{
+    SCREEN *screen;
+    int key;
+
+    if (!window || is_shown(window))
+        return ERR;
+    screen = window->screen;
+    if (!window->is_pad && (window->has_moved || is_wintouched(window)))
+        wrefresh(window);
+    key = screen->pushed_count ? screen->pushed[--screen->pushed_count] : next_key(window);
+    if (key == '\r' && screen->is_newline)
+        key = '\n';
+    if (screen->is_echo && !window->is_pad && key >= 0 && key < KEY_MIN)
+        wechochar(window, (chtype)key);
+    return key;
+}
+
+int ungetch(int key)
+{
+    if (!current || current->pushed_count == PUSHED)
+        return ERR;
+    current->pushed[current->pushed_count++] = key;
+    return OK;
+}
+
+int flushinp(void)
+{
+    if (!current)
+        return ERR;
+    if (current->is_terminal)
+        tcflush(current->input, TCIFLUSH);
+    current->pushed_count = 0;
+    huttavel_key_idle(&current->handle);
+    while (queued_key(current) != ERR)
+        ;
+    current->is_undecided = false;
+    return OK;
+}

@@ -1,0 +1,55 @@
+/* Names of keys and characters. */
+
+char *unctrl(chtype character)
+{
+    static char text[5];
+    uint8_t byte = byte_of(character);
+    const char *meta_prefix = byte >= 128 ? "M-" : "";
+
+    byte &= 127;
+    if (byte < ' ' || byte == 127)
+        snprintf(text, sizeof text, "%s^%c", meta_prefix, byte ^ 64);
+    else
+        snprintf(text, sizeof text, "%s%c", meta_prefix, byte);
+    return text;
+}
+
+/* The names of the keys that have a capability, but function keys. */
+static const struct {
+    int key;
+    const char *name;
+} key_names[] = {
+#define NAMED(name) {name, #name}
+    NAMED(KEY_BACKSPACE), NAMED(KEY_CATAB),  NAMED(KEY_CLEAR),   NAMED(KEY_CTAB),     NAMED(KEY_DC),
+    NAMED(KEY_DL),        NAMED(KEY_DOWN),   NAMED(KEY_EIC),     NAMED(KEY_EOL),      NAMED(KEY_EOS),
+    NAMED(KEY_HOME),      NAMED(KEY_IC),     NAMED(KEY_IL),      NAMED(KEY_LEFT),     NAMED(KEY_LL),
+    NAMED(KEY_NPAGE),     NAMED(KEY_PPAGE),  NAMED(KEY_RIGHT),   NAMED(KEY_SF),       NAMED(KEY_SR),
+    NAMED(KEY_STAB),      NAMED(KEY_UP),     NAMED(KEY_A1),      NAMED(KEY_A3),       NAMED(KEY_B2),
+    NAMED(KEY_C1),        NAMED(KEY_C3),     NAMED(KEY_BTAB),    NAMED(KEY_BEG),      NAMED(KEY_CANCEL),
+    NAMED(KEY_CLOSE),     NAMED(KEY_COMMAND), NAMED(KEY_COPY),   NAMED(KEY_CREATE),   NAMED(KEY_END),
+    NAMED(KEY_ENTER),     NAMED(KEY_EXIT),   NAMED(KEY_FIND),    NAMED(KEY_HELP),     NAMED(KEY_MARK),
+    NAMED(KEY_MESSAGE),   NAMED(KEY_MOVE),   NAMED(KEY_NEXT),    NAMED(KEY_OPEN),     NAMED(KEY_OPTIONS),
+    NAMED(KEY_PREVIOUS),  NAMED(KEY_PRINT),  NAMED(KEY_REDO),    NAMED(KEY_REFERENCE), NAMED(KEY_REFRESH),
+    NAMED(KEY_REPLACE),   NAMED(KEY_RESTART), NAMED(KEY_RESUME), NAMED(KEY_SAVE),     NAMED(KEY_SUSPEND),
+    NAMED(KEY_UNDO),      NAMED(KEY_BREAK),  NAMED(KEY_SRESET),  NAMED(KEY_RESET),    NAMED(KEY_RESIZE),
+#undef NAMED
+};
+
+char *keyname(int key)
+{
+    static char text[20];
+    size_t n;
+
+    if (key >= 0 && key < KEY_MIN)
+        return unctrl((chtype)key);
+    if (key >= KEY_F0 && key <= KEY_F(63)) {
+        snprintf(text, sizeof text, "KEY_F(%d)", key - KEY_F0);
+        return text;
+    }
+    for (n = 0; n < COUNT(key_names); n++)
+        if (key_names[n].key == key) {
+            snprintf(text, sizeof text, "%s", key_names[n].name);
+            return text;
+        }
+    return NULL;
+}

@@ -1,0 +1,192 @@
+/* The modes of the terminal's line (POSIX, 'General Terminal Interface'). */
+
+/* Sets the line to modes, and keeps them as those of the program if they were taken. */
+static int set_program(SCREEN *screen, const struct termios *modes)
+{
+    if (!screen || (screen->is_terminal && tcsetattr(screen->input, TCSADRAIN, modes) < 0))
+        return ERR;
+    screen->program = *modes;
+    return OK;
+}
+
+/* Sets and clears local modes, and input modes, of the program's line. */
+static int change_modes(tcflag_t on, tcflag_t off, tcflag_t input_on, tcflag_t input_off)
+{
+    struct termios modes;
+
+    if (!current)
+        return ERR;
+    modes = current->program;
+    modes.c_lflag = (modes.c_lflag | on) & ~off;
+    modes.c_iflag = (modes.c_iflag | input_on) & ~input_off;
+    modes.c_cc[VMIN] = 1;
+    modes.c_cc[VTIME] = 0;
+    return set_program(current, &modes);
+}
+
+/* The modes that a program begins with: it echoes by itself, and a line feed is what it sends. */
+static int begin_modes(SCREEN *screen)
+{
+    struct termios modes = screen->shell;
+
+    modes.c_lflag &= ~(tcflag_t)(ECHO | ECHONL);
+    modes.c_iflag &= ~(tcflag_t)(ICRNL | INLCR | IGNCR);
+    modes.c_oflag &= ~(tcflag_t)ONLCR;
+    screen->is_echo = true;
+    screen->is_newline = true;
+    return set_program(screen, &modes);
+}
+
+int cbreak(void)
+{
+    if (current)
+        current->half_delay = 0;
+    return change_modes(ISIG, ICANON, 0, 0);
+}
+
+int nocbreak(void)
+{
+    if (current)
+        current->half_delay = 0;
+    return change_modes(ICANON, 0, 0, 0);
+}
+
+int raw(void)
+{
+    return change_modes(0, ICANON | ISIG | IEXTEN, 0, IXON | BRKINT | PARMRK);
+}
+
+int noraw(void)
+{
+    return change_modes(ICANON | ISIG | IEXTEN, 0, IXON | BRKINT, 0);
+}
+
+int halfdelay(int tenths)
+{
+    if (tenths < 1 || tenths > 255 || cbreak() == ERR)
+        return ERR;
+    current->half_delay = tenths;
+    return OK;
+}
+
+/* Whether interrupts drop what waits in the line. */
+int intrflush(WINDOW *window, bool on)
+{
+    (void)window;
+    return on ? change_modes(0, NOFLSH, 0, 0) : change_modes(NOFLSH, 0, 0, 0);
+}
+
+void qiflush(void)
+{
+    intrflush(NULL, true);
+}
+
+void noqiflush(void)
+{
+    intrflush(NULL, false);
+}
+
+/* Whether bytes have eight bits. */
+int meta(WINDOW *window, bool on)
+{
+    (void)window;
+    return on ? change_modes(0, 0, 0, ISTRIP) : change_modes(0, 0, ISTRIP, 0);
+}
+
+/* Accepted: no update waits for what is typed. */
+int typeahead(int descriptor)
+{
+    (void)descriptor;
+    return current ? OK : ERR;
+}
+
+int echo(void)
+{
+    if (!current)
+        return ERR;
+    current->is_echo = true;
+    return OK;
+}
+
+int noecho(void)
+{
+    if (!current)
+        return ERR;
+    current->is_echo = false;
+    return OK;
+}
+
+/* Whether getch() gives a return as a line feed. */
+int nl(void)
+{
+    if (!current)
+        return ERR;
+    current->is_newline = true;
+    return OK;
+}
+
+int nonl(void)
+{
+    if (!current)
+        return ERR;
+    current->is_newline = false;
+    return OK;
+}
+
+int def_prog_mode(void)
+{
+    return current && current->is_terminal && tcgetattr(current->input, &current->program) == 0 ? OK : ERR;
+}
+
+int def_shell_mode(void)
+{
+    return current && current->is_terminal && tcgetattr(current->input, &current->shell) == 0 ? OK : ERR;
+}
+
+int reset_prog_mode(void)
+{
+    return current && tcsetattr(current->input, TCSADRAIN, &current->program) == 0 ? OK : ERR;
+}
+
+int reset_shell_mode(void)
+{
+    return current && tcsetattr(current->input, TCSADRAIN, &current->shell) == 0 ? OK : ERR;
+}
+
+int savetty(void)
+{
+    return current && tcgetattr(current->input, &current->saved) == 0 ? OK : ERR;
+}
+
+int resetty(void)
+{
+    return current && current->saved.c_cflag ? set_program(current, &current->saved) : ERR;
+}
+
+char erasechar(void)
+{
+    return current ? (char)current->shell.c_cc[VERASE] : ERR;
+}
+
+char killchar(void)
+{
+    return current ? (char)current->shell.c_cc[VKILL] : ERR;
+}
+
+int baudrate(void)
+{
+    static const struct {
+        speed_t speed;
+        int bauds;
+    } speeds[] = {{B50, 50},     {B75, 75},     {B110, 110},   {B134, 134},     {B150, 150},    {B200, 200},
+                  {B300, 300},   {B600, 600},   {B1200, 1200}, {B1800, 1800},   {B2400, 2400},  {B4800, 4800},
+                  {B9600, 9600}, {B19200, 19200}, {B38400, 38400}, {B57600, 57600}, {B115200, 115200}};
+    size_t n;
+
+    if (!current || !current->is_terminal)
+        return ERR;
+    for (n = 0; n < sizeof speeds / sizeof *speeds; n++)
+        if (speeds[n].speed == cfgetospeed(&current->shell))
+            return speeds[n].bauds;
+    return 115200;
+}

@@ -1,0 +1,148 @@
+/* What is written to the terminal. */
+
+int napms(int milliseconds)
+{
+    struct timespec rest;
+
+    if (milliseconds <= 0)
+        return OK;
+    rest.tv_sec = milliseconds / 1000;
+    rest.tv_nsec = milliseconds % 1000 * 1000000L;
+    while (nanosleep(&rest, &rest) < 0 && errno == EINTR)
+        ;
+    return OK;
+}
+
+int delay_output(int milliseconds)
+{
+    return napms(milliseconds);
+}
+
+/* Waits until a descriptor takes bytes. */
+static void wait_for_room(int descriptor)
+{
+    struct pollfd asked;
+
+    asked.fd = descriptor;
+    asked.events = POLLOUT;
+    asked.revents = 0;
+    poll(&asked, 1, -1);
+}
+
+/* Writes at most so many bytes: how many were taken, 0 if none could be now, -1 if none can be. */
+static ssize_t write_some(int descriptor, const uint8_t *bytes, size_t count)
+{
+    ssize_t taken = write(descriptor, bytes, count);
+
+    if (taken >= 0)
+        return taken;
+    if (errno == EAGAIN || errno == EWOULDBLOCK)
+        wait_for_room(descriptor);
+    else if (errno != EINTR)
+        return -1;
+    return 0;
+}
+
+/* Writes all of some bytes that no update made. */
+static int write_all(int descriptor, const uint8_t *bytes, size_t count)
+{
+    while (count > 0) {
+        ssize_t taken = write_some(descriptor, bytes, count);
+
+        if (taken < 0)
+            return ERR;
+        bytes += taken;
+        count -= (size_t)taken;
+    }
+    return OK;
+}
+
+/* Makes room for this many of the bytes that wait. Where there is no memory, those that fit are written at a time. */
+static void make_room(struct text *text, size_t count)
+{
+    uint8_t *larger;
+
+    if (count <= text->length)
+        return;
+    larger = realloc(text->bytes, count);
+    if (larger) {
+        text->bytes = larger;
+        text->length = count;
+    }
+}
+
+/* Writes the bytes that wait, in one call if the terminal takes them all. ERR if a write failed: they go on waiting. */
+static int write_waiting(SCREEN *screen)
+{
+    struct text *text = &screen->waiting;
+    size_t count;
+
+    make_room(text, huttavel_waiting(&screen->handle));
+    while ((count = huttavel_bytes(&screen->handle, text->bytes, text->length)) > 0) {
+        ssize_t taken = write_some(screen->output, text->bytes, count);
+
+        if (taken < 0) {
+            huttavel_failed(&screen->handle);
+            return ERR;
+        }
+        huttavel_took(&screen->handle, (size_t)taken);
+    }
+    return huttavel_waiting(&screen->handle) ? ERR : OK;
+}
+
+/* Writes a string of the entry behind all that waits. Its padding, `$<5>`, is time that passes: terminfo(5), 'Delays
+   and Padding'. ERR without a string. */
+static int write_string(SCREEN *screen, const char *text)
+{
+    if (!text || write_waiting(screen) == ERR)
+        return ERR;
+    while (*text) {
+        const char *end = strstr(text, "$<");
+        size_t length = end ? (size_t)(end - text) : strlen(text);
+
+        if (write_all(screen->output, (const uint8_t *)text, length) == ERR)
+            return ERR;
+        text += length;
+        if (end) {
+            napms(atoi(end + 2));
+            end = strchr(end, '>');
+            text = end ? end + 1 : text + strlen(text);
+        }
+    }
+    return OK;
+}
+
+int beep(void)
+{
+    const char *text = current ? string_of(current, BELL) : NULL;
+
+    return current ? write_string(current, text ? text : string_of(current, FLASH)) : ERR;
+}
+
+int flash(void)
+{
+    const char *text = current ? string_of(current, FLASH) : NULL;
+
+    return current ? write_string(current, text ? text : string_of(current, BELL)) : ERR;
+}
+
+/* The string that makes the cursor that visible, or NULL. */
+static const char *visibility_string(const SCREEN *screen, int visibility)
+{
+    static const unsigned positions[] = {CURSOR_INVISIBLE, CURSOR_NORMAL, CURSOR_VISIBLE};
+
+    return string_of(screen, positions[visibility]);
+}
+
+int curs_set(int visibility)
+{
+    int before;
+
+    if (!current || visibility < 0 || visibility > 2 || !visibility_string(current, visibility))
+        return ERR;
+    before = current->visibility;
+    if (visibility != before && write_string(current, visibility_string(current, visibility)) == ERR)
+        return ERR;
+    current->visibility = visibility;
+    return before;
+}

@@ -1,0 +1,201 @@
+/* Updates, and which lines they take. */
+
+/* A window over the whole screen that nothing is written on: it moves the terminal's cursor, and names all rows. */
+static WINDOW *whole_window(SCREEN *screen)
+{
+    WINDOW *window = screen->whole;
+
+    if (window)
+        return window;
+    window = spare_window(screen);
+    if (!window)
+        return NULL;
+    if (huttavel_new_window(&screen->handle, 0, 0, 0, 0, &window->number) != HUTTAVEL_OK) {
+        free(window);
+        return NULL;
+    }
+    read_window(window);
+    screen->whole = window;
+    return window;
+}
+
+/* Takes the terminal for updates again, after endwin(). */
+static void resume(SCREEN *screen)
+{
+    if (!screen->has_ended)
+        return;
+    screen->has_ended = 0;
+    enter_terminal(screen);
+    screen->is_disturbed = 0;
+    huttavel_failed(&screen->handle);
+}
+
+/* Brings the terminal to the virtual screen. No signal's handler runs while the update is made, so that one which draws
+   finds the handle in order. */
+static int update(SCREEN *screen)
+{
+    sigset_t all, before;
+    uint32_t fault;
+
+    resume(screen);
+    if (write_waiting(screen) == ERR)
+        return ERR;
+    if (screen->is_disturbed) {
+        screen->is_disturbed = 0;
+        huttavel_failed(&screen->handle);
+    }
+    sigfillset(&all);
+    sigprocmask(SIG_SETMASK, &all, &before);
+    fault = huttavel_doupdate(&screen->handle);
+    sigprocmask(SIG_SETMASK, &before, NULL);
+    if (write_waiting(screen) == ERR)
+        return ERR;
+    return answer(fault);
+}
+
+int doupdate(void)
+{
+    return current ? update(current) : ERR;
+}
+
+/* Takes a window. Of curscr all rows are repainted. */
+int wnoutrefresh(WINDOW *window)
+{
+    if (!window)
+        return ERR;
+    if (is_shown(window)) {
+        window->screen->is_disturbed = 1;
+        return OK;
+    }
+    window->has_moved = false;
+    return answer(huttavel_noutrefresh(handle_of(window), window->number));
+}
+
+int wrefresh(WINDOW *window)
+{
+    if (wnoutrefresh(window) == ERR)
+        return ERR;
+    return update(window->screen);
+}
+
+/* Takes a part of a pad. What does not lie in the pad is left out, and places before its first count as the first. */
+int pnoutrefresh(WINDOW *pad, int row, int column, int top, int left, int bottom, int right)
+{
+    if (!pad || !pad->is_pad)
+        return ERR;
+    row = row < 0 ? 0 : row;
+    column = column < 0 ? 0 : column;
+    top = top < 0 ? 0 : top;
+    left = left < 0 ? 0 : left;
+    if (row >= pad->rows || column >= pad->columns)
+        return ERR;
+    if (bottom - top > pad->rows - 1 - row)
+        bottom = top + pad->rows - 1 - row;
+    if (right - left > pad->columns - 1 - column)
+        right = left + pad->columns - 1 - column;
+    return answer(huttavel_pad_noutrefresh(handle_of(pad), pad->number, (uint32_t)row, (uint32_t)column, (uint32_t)top,
+                                           (uint32_t)left, (uint32_t)bottom, (uint32_t)right));
+}
+
+int prefresh(WINDOW *pad, int row, int column, int top, int left, int bottom, int right)
+{
+    if (pnoutrefresh(pad, row, column, top, left, bottom, right) == ERR)
+        return ERR;
+    return update(pad->screen);
+}
+
+/* Moves the terminal's cursor now. The place where it was is known, so the first two numbers are not looked at; what
+   was taken and not sent yet goes first. */
+int mvcur(int old_row, int old_column, int row, int column)
+{
+    WINDOW *window = current ? whole_window(current) : NULL;
+
+    (void)old_row;
+    (void)old_column;
+    if (!window || wmove(window, row, column) == ERR || untouchwin(window) == ERR)
+        return ERR;
+    return wrefresh(window);
+}
+
+int redrawwin(WINDOW *window)
+{
+    if (is_shown(window))
+        return wnoutrefresh(window);
+    return answer(huttavel_redraw_window(handle_of(window), number_of(window)));
+}
+
+/* How many of `count` lines from a line on there are; as many as were given where the first is none. */
+static uint32_t lines_from(const WINDOW *window, int first, int count)
+{
+    if (window && first >= 0 && first < window->rows && count > window->rows - first)
+        count = window->rows - first;
+    return (uint32_t)count;
+}
+
+int wredrawln(WINDOW *window, int first, int count)
+{
+    return answer(huttavel_redraw_lines(handle_of(window), number_of(window), (uint32_t)first,
+                                        lines_from(window, first, count)));
+}
+
+int touchwin(WINDOW *window)
+{
+    if (is_shown(window))
+        return wnoutrefresh(window);
+    return answer(huttavel_touch_window(handle_of(window), number_of(window)));
+}
+
+int untouchwin(WINDOW *window)
+{
+    return answer(huttavel_untouch(handle_of(window), number_of(window)));
+}
+
+int wtouchln(WINDOW *window, int first, int count, int changed)
+{
+    return answer(huttavel_touch_lines(handle_of(window), number_of(window), (uint32_t)first,
+                                       lines_from(window, first, count), changed != 0));
+}
+
+int touchline(WINDOW *window, int first, int count)
+{
+    return wtouchln(window, first, count, true);
+}
+
+bool is_linetouched(WINDOW *window, int row)
+{
+    bool touched = false;
+
+    huttavel_line_touched(handle_of(window), number_of(window), (uint32_t)row, &touched);
+    return touched;
+}
+
+bool is_wintouched(WINDOW *window)
+{
+    bool touched = false;
+
+    huttavel_window_touched(handle_of(window), number_of(window), &touched);
+    return touched;
+}
+
+int overlay(const WINDOW *source, WINDOW *target)
+{
+    if (!source || !target || source->screen != target->screen)
+        return ERR;
+    return answer(huttavel_overlay(handle_of(source), source->number, target->number));
+}
+
+int overwrite(const WINDOW *source, WINDOW *target)
+{
+    if (!source || !target || source->screen != target->screen)
+        return ERR;
+    return answer(huttavel_overwrite(handle_of(source), source->number, target->number));
+}
+
+int copywin(const WINDOW *source, WINDOW *target, int row, int column, int top, int left, int bottom, int right,
+            int overlaid)
+{
+    if (!source || !target || source->screen != target->screen)
+        return ERR;
+    return answer(huttavel_copy(handle_of(source), source->number, target->number, (uint32_t)row, (uint32_t)column,
+                                (uint32_t)top, (uint32_t)left, (uint32_t)bottom, (uint32_t)right, overlaid != 0));
+}

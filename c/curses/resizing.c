@@ -1,0 +1,218 @@
+/* A new size of the terminal: a handle of that size with the same windows. */
+
+/* Where a window lies along one direction, and how long it is there. */
+struct span {
+    int begin, length;
+};
+
+/* The span of a window in what holds it, whose length was `before` and is `after`: all of it goes on being all of it;
+   otherwise it is moved, and cut off if it is too long. */
+static struct span fitted(struct span span, int before, int after)
+{
+    if (span.begin == 0 && span.length == before)
+        span.length = after;
+    if (span.length > after)
+        span.length = after;
+    if (span.begin + span.length > after)
+        span.begin = after - span.length;
+    return span;
+}
+
+/* What a window is to be in the other handle. */
+struct plan {
+    struct span rows, columns;
+};
+
+static struct plan plan_of(const WINDOW *window, const struct plan *parent, int rows, int columns)
+{
+    struct plan plan = {{0, window->rows}, {0, window->columns}};
+
+    if (window->parent) {
+        plan.rows.begin = window->parent_row;
+        plan.columns.begin = window->parent_column;
+        plan.rows = fitted(plan.rows, window->parent->rows, parent->rows.length);
+        plan.columns = fitted(plan.columns, window->parent->columns, parent->columns.length);
+    } else if (!window->is_pad) {
+        plan.rows.begin = getbegy(window);
+        plan.columns.begin = getbegx(window);
+        plan.rows = fitted(plan.rows, window->screen->rows, rows);
+        plan.columns = fitted(plan.columns, window->screen->columns, columns);
+    }
+    return plan;
+}
+
+/* Copies the cells of a window that has cells of its own. */
+static void copy_cells(WINDOW *window, huttavel *to, uint32_t number, const struct plan *plan)
+{
+    huttavel_cell cell;
+    int row, column;
+
+    for (row = 0; row < window->rows && row < plan->rows.length; row++)
+        for (column = 0; column < window->columns && column < plan->columns.length; column++) {
+            if (!cell_at(window, row, column, &cell) || (cell.byte == ' ' && !cell.attrs && !cell.pair))
+                continue;
+            huttavel_move_cursor(to, number, (uint32_t)row, (uint32_t)column);
+            huttavel_color_set(to, number, cell.pair);
+            huttavel_add_byte(to, number, cell.byte, cell.attrs, NULL);
+        }
+}
+
+/* Copies what a window has besides cells, and touches it. */
+static void copy_settings(WINDOW *window, huttavel *to, uint32_t number, const struct plan *plan)
+{
+    huttavel *from = handle_of(window);
+    huttavel_cell background = {' ', 0, 0};
+    uint32_t row = 0, column = 0, top = 0, bottom = 0;
+    bool is_on = false;
+
+    huttavel_background(from, window->number, &background);
+    huttavel_set_background(to, number, background.byte, background.attrs, background.pair);
+    huttavel_attr_set(to, number, window->attrs);
+    huttavel_color_set(to, number, window->pair);
+    huttavel_is_scroll_ok(from, window->number, &is_on);
+    huttavel_scroll_ok(to, number, is_on);
+    huttavel_is_leave_ok(from, window->number, &is_on);
+    huttavel_leave_ok(to, number, is_on);
+    huttavel_region(from, window->number, &top, &bottom);
+    if (bottom + 1 < (uint32_t)window->rows || top > 0)
+        huttavel_set_region(to, number, top, bottom);
+    huttavel_cursor(from, window->number, &row, &column);
+    if (row >= (uint32_t)plan->rows.length)
+        row = (uint32_t)plan->rows.length - 1;
+    if (column >= (uint32_t)plan->columns.length)
+        column = (uint32_t)plan->columns.length - 1;
+    huttavel_move_cursor(to, number, row, column);
+    huttavel_touch_window(to, number);
+}
+
+/* Makes a window in the other handle: a fault, or its number there. */
+static uint32_t make_again(const WINDOW *window, huttavel *to, uint32_t parent, const struct plan *plan, uint32_t *made)
+{
+    uint32_t rows = (uint32_t)plan->rows.length, columns = (uint32_t)plan->columns.length;
+    uint32_t row = (uint32_t)plan->rows.begin, column = (uint32_t)plan->columns.begin;
+
+    if (window->number == 0) {
+        *made = 0;
+        return HUTTAVEL_OK;
+    }
+    if (window->parent)
+        return (window->is_pad ? huttavel_sub_pad : huttavel_derive)(to, parent, rows, columns, row, column, made);
+    if (window->is_pad)
+        return huttavel_new_pad(to, rows, columns, made);
+    return huttavel_new_window(to, rows, columns, row, column, made);
+}
+
+/* The numbers and plans of a screen's windows in the other handle, in the order of the list. */
+struct again {
+    uint32_t number;
+    struct plan plan;
+};
+
+/* Where a window is in the list of its screen. */
+static size_t index_of(const WINDOW *window)
+{
+    const WINDOW *each;
+    size_t index = 0;
+
+    for (each = window->screen->windows; each != window; each = each->next)
+        index++;
+    return index;
+}
+
+/* Whether the window that a handle begins with still exists. */
+static bool has_first(const SCREEN *screen)
+{
+    const WINDOW *window;
+
+    for (window = screen->windows; window; window = window->next)
+        if (window->number == 0)
+            return true;
+    return false;
+}
+
+/* Makes all windows in the other handle, cells before subwindows. */
+static uint32_t make_all_again(SCREEN *screen, huttavel *to, struct again *all, int rows, int columns)
+{
+    WINDOW *window;
+    size_t index = 0;
+
+    for (window = screen->windows; window; window = window->next, index++) {
+        const struct again *parent = window->parent ? &all[index_of(window->parent)] : NULL;
+        uint32_t fault;
+
+        all[index].plan = plan_of(window, parent ? &parent->plan : NULL, rows, columns);
+        fault = make_again(window, to, parent ? parent->number : 0, &all[index].plan, &all[index].number);
+        if (fault != HUTTAVEL_OK)
+            return fault;
+        if (!window->parent)
+            copy_cells(window, to, all[index].number, &all[index].plan);
+    }
+    index = 0;
+    for (window = screen->windows; window; window = window->next, index++)
+        copy_settings(window, to, all[index].number, &all[index].plan);
+    return has_first(screen) ? HUTTAVEL_OK : huttavel_delete(to, 0);
+}
+
+/* Copies the colours of all pairs. */
+static void copy_pairs(SCREEN *screen, huttavel *to)
+{
+    uint32_t pair, foreground, background;
+
+    for (pair = 1; pair < 64; pair++)
+        if (huttavel_pair_colours(&screen->handle, pair, &foreground, &background) == HUTTAVEL_OK)
+            huttavel_set_pair(to, pair, foreground, background);
+}
+
+/* Puts the other handle in the screen's place. */
+static void take_over(SCREEN *screen, huttavel to, const struct again *all, int rows, int columns)
+{
+    WINDOW *window;
+    size_t index = 0;
+
+    huttavel_close(&screen->handle);
+    screen->handle = to;
+    screen->rows = screen->shown->rows = rows;
+    screen->columns = screen->shown->columns = columns;
+    for (window = screen->windows; window; window = window->next, index++) {
+        window->number = all[index].number;
+        window->parent_row = window->parent ? all[index].plan.rows.begin : -1;
+        window->parent_column = window->parent ? all[index].plan.columns.begin : -1;
+        read_window(window);
+    }
+    free(screen->whole);
+    screen->whole = NULL;
+    make_ends(screen, (uint32_t)rows, (uint32_t)columns);
+    if (screen == current) {
+        LINES = rows;
+        COLS = columns;
+    }
+}
+
+/* Gives a screen the size that its terminal has now. False if that is the size it has, or memory runs out. */
+static bool resize(SCREEN *screen)
+{
+    huttavel to = HUTTAVEL_CLOSED_HANDLE;
+    uint32_t rows, columns;
+    size_t count = 0;
+    const WINDOW *window;
+    struct again *all;
+    bool is_made;
+
+    screen->is_resized = 0;
+    ask_size(screen, &rows, &columns);
+    if (!rows || ((int)rows == screen->rows && (int)columns == screen->columns))
+        return false;
+    for (window = screen->windows; window; window = window->next)
+        count++;
+    all = calloc(count + 1, sizeof *all);
+    is_made = all && write_waiting(screen) == OK && open_handle(screen, &to, rows, columns) == HUTTAVEL_OK &&
+              make_all_again(screen, &to, all, (int)rows, (int)columns) == HUTTAVEL_OK;
+    if (is_made) {
+        copy_pairs(screen, &to);
+        take_over(screen, to, all, (int)rows, (int)columns);
+    } else {
+        huttavel_close(&to);
+    }
+    free(all);
+    return is_made;
+}

@@ -1,0 +1,102 @@
+/* What a screen and a window of curses.h are, and what every part needs of them. */
+
+/* The number of no window of a handle: that of curscr. */
+#define NO_NUMBER UINT32_MAX
+
+/* How many keys ungetch() keeps. */
+#define PUSHED 64
+
+/* The greatest number of rows and columns of a screen. */
+#define LARGEST 500
+
+/* Bytes of memory, and how many of them there are. */
+struct text {
+    uint8_t *bytes;
+    size_t length;
+};
+
+struct huttavel_curses_window {
+    SCREEN *screen;
+    WINDOW *next;              /* in the order in which they were made */
+    WINDOW *parent;            /* NULL of a window of its own */
+    uint32_t number;           /* of the handle */
+    int rows, columns;
+    int parent_row, parent_column; /* where it begins in its parent; -1 without one */
+    uint8_t attrs;             /* what bytes are written with */
+    uint32_t pair;
+    bool is_pad;
+    bool has_moved;            /* the cursor was moved since the window was taken last */
+    bool is_keypad;
+    bool is_untimed;           /* notimeout() */
+    int delay;                 /* how long getch() waits: milliseconds, or -1 */
+};
+
+struct huttavel_curses_screen {
+    huttavel handle;
+    SCREEN *next;
+    struct text entry;         /* the compiled file */
+    char *name, *description;  /* termname(), longname() */
+    int input, output;         /* descriptors */
+    WINDOW *windows;           /* all but curscr, the first made first */
+    WINDOW *standard, *shown;  /* stdscr and curscr */
+    WINDOW *whole;             /* a window over the whole screen that nothing is written on, or NULL */
+    int rows, columns;
+    int colors, pairs;         /* COLORS, COLOR_PAIRS: 0 before start_color() */
+    struct termios shell, program, saved;
+    bool is_terminal;          /* whether `shell` could be read */
+    bool is_echo, is_newline;  /* echo(), nl() */
+    int half_delay;            /* halfdelay(), in tenths of a second; 0 without */
+    int visibility;            /* curs_set() */
+    int pushed[PUSHED];        /* ungetch() */
+    int pushed_count;
+    bool is_undecided;         /* bytes of the keyboard may wait for more, until `decided_at` */
+    long long decided_at;
+    struct text waiting;       /* where bytes are copied that wait */
+    /* What signal handlers read: the texts at the two ends, made before they are needed. */
+    struct text opening, closing;
+    volatile sig_atomic_t has_ended;      /* endwin() was called, and no update since */
+    volatile sig_atomic_t is_disturbed;   /* others had the terminal: the next update repaints all of it */
+    volatile sig_atomic_t is_resized;     /* the size may have changed */
+};
+
+WINDOW *stdscr, *curscr;
+int LINES, COLS, COLORS, COLOR_PAIRS, ESCDELAY = 100;
+
+/* The screen that calls without a window are about. */
+static SCREEN *current;
+
+/* All screens, the last made first. */
+static SCREEN *screens;
+
+/* OK, or ERR for a refusal. */
+static int answer(uint32_t fault)
+{
+    return fault == HUTTAVEL_OK ? OK : ERR;
+}
+
+/* The handle that a window is of; NULL, which each call refuses, without a window. */
+static huttavel *handle_of(const WINDOW *window)
+{
+    return window ? &window->screen->handle : NULL;
+}
+
+/* The number of a window; one that each call refuses, without a window. */
+static uint32_t number_of(const WINDOW *window)
+{
+    return window ? window->number : NO_NUMBER;
+}
+
+/* Whether a window is curscr. */
+static bool is_shown(const WINDOW *window)
+{
+    return window && window == window->screen->shown;
+}
+
+/* Now, in milliseconds. */
+static long long now(void)
+{
+    struct timespec time;
+
+    clock_gettime(CLOCK_MONOTONIC, &time);
+    return (long long)time.tv_sec * 1000 + time.tv_nsec / 1000000;
+}

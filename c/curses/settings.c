@@ -1,0 +1,260 @@
+/* Settings of windows: how they are updated and scrolled, what bytes are written with, backgrounds, colours. */
+
+/* The parts of a chtype. */
+static uint8_t byte_of(chtype character)
+{
+    return (uint8_t)(character & A_CHARTEXT);
+}
+
+static uint8_t attrs_of(chtype character)
+{
+    return (uint8_t)(character >> 8 & 0x7f);
+}
+
+static uint32_t pair_of(chtype character)
+{
+    return (uint32_t)PAIR_NUMBER(character);
+}
+
+/* A cell as a chtype. */
+static chtype character_of(huttavel_cell cell)
+{
+    return (chtype)cell.byte | (chtype)cell.attrs << 8 | (chtype)cell.pair << 16;
+}
+
+int clearok(WINDOW *window, bool on)
+{
+    if (is_shown(window)) {
+        window->screen->is_disturbed = on;
+        return OK;
+    }
+    return answer(huttavel_clear_ok(handle_of(window), number_of(window), on));
+}
+
+int idlok(WINDOW *window, bool on)
+{
+    (void)on;
+    return window ? OK : ERR;
+}
+
+void idcok(WINDOW *window, bool on)
+{
+    (void)window;
+    (void)on;
+}
+
+int leaveok(WINDOW *window, bool on)
+{
+    return answer(huttavel_leave_ok(handle_of(window), number_of(window), on));
+}
+
+int scrollok(WINDOW *window, bool on)
+{
+    return answer(huttavel_scroll_ok(handle_of(window), number_of(window), on));
+}
+
+int wsetscrreg(WINDOW *window, int top, int bottom)
+{
+    return answer(huttavel_set_region(handle_of(window), number_of(window), (uint32_t)top, (uint32_t)bottom));
+}
+
+int keypad(WINDOW *window, bool on)
+{
+    if (!window)
+        return ERR;
+    window->is_keypad = on;
+    return OK;
+}
+
+int nodelay(WINDOW *window, bool on)
+{
+    if (!window)
+        return ERR;
+    window->delay = on ? 0 : -1;
+    return OK;
+}
+
+int notimeout(WINDOW *window, bool on)
+{
+    if (!window)
+        return ERR;
+    window->is_untimed = on;
+    return OK;
+}
+
+void wtimeout(WINDOW *window, int milliseconds)
+{
+    if (window)
+        window->delay = milliseconds < 0 ? -1 : milliseconds;
+}
+
+void timeout(int milliseconds)
+{
+    wtimeout(stdscr, milliseconds);
+}
+
+/* Sets what bytes are written with, and keeps it. */
+static int set_pen(WINDOW *window, uint8_t attrs, uint32_t pair)
+{
+    if (!window)
+        return ERR;
+    if (pair != window->pair) {
+        if (huttavel_color_set(handle_of(window), window->number, pair) != HUTTAVEL_OK)
+            return ERR;
+        window->pair = pair;
+    }
+    if (attrs != window->attrs) {
+        if (huttavel_attr_set(handle_of(window), window->number, attrs) != HUTTAVEL_OK)
+            return ERR;
+        window->attrs = attrs;
+    }
+    return OK;
+}
+
+int wattr_on(WINDOW *window, attr_t attrs, void *options)
+{
+    uint32_t pair = pair_of(attrs);
+
+    (void)options;
+    return window ? set_pen(window, window->attrs | attrs_of(attrs), pair ? pair : window->pair) : ERR;
+}
+
+int wattr_off(WINDOW *window, attr_t attrs, void *options)
+{
+    (void)options;
+    if (!window)
+        return ERR;
+    return set_pen(window, (uint8_t)(window->attrs & ~attrs_of(attrs)), pair_of(attrs) ? 0 : window->pair);
+}
+
+int wattr_set(WINDOW *window, attr_t attrs, short pair, void *options)
+{
+    (void)options;
+    return pair < 0 ? ERR : set_pen(window, attrs_of(attrs), (uint32_t)pair);
+}
+
+int wattr_get(WINDOW *window, attr_t *attrs, short *pair, void *options)
+{
+    (void)options;
+    if (!window)
+        return ERR;
+    if (attrs)
+        *attrs = (attr_t)window->attrs << 8 | COLOR_PAIR(window->pair);
+    if (pair)
+        *pair = (short)window->pair;
+    return OK;
+}
+
+int wattron(WINDOW *window, int attrs)
+{
+    return wattr_on(window, (attr_t)attrs, NULL);
+}
+
+int wattroff(WINDOW *window, int attrs)
+{
+    return wattr_off(window, (attr_t)attrs, NULL);
+}
+
+int wattrset(WINDOW *window, int attrs)
+{
+    return wattr_set(window, (attr_t)attrs, (short)PAIR_NUMBER(attrs), NULL);
+}
+
+int wcolor_set(WINDOW *window, short pair, void *options)
+{
+    (void)options;
+    return window && pair >= 0 ? set_pen(window, window->attrs, (uint32_t)pair) : ERR;
+}
+
+int wstandout(WINDOW *window)
+{
+    return wattr_on(window, A_STANDOUT, NULL);
+}
+
+int wstandend(WINDOW *window)
+{
+    return wattr_set(window, A_NORMAL, 0, NULL);
+}
+
+/* Sets a background by one of the two calls. A background without a byte is blank. */
+static int set_background(uint32_t (*set)(huttavel *, uint32_t, uint8_t, uint8_t, uint32_t), WINDOW *window,
+                          chtype background)
+{
+    uint8_t byte = byte_of(background) ? byte_of(background) : ' ';
+
+    return answer(set(handle_of(window), number_of(window), byte, attrs_of(background), pair_of(background)));
+}
+
+int wbkgd(WINDOW *window, chtype background)
+{
+    return set_background(huttavel_change_background, window, background);
+}
+
+void wbkgdset(WINDOW *window, chtype background)
+{
+    set_background(huttavel_set_background, window, background);
+}
+
+chtype getbkgd(WINDOW *window)
+{
+    huttavel_cell cell;
+
+    if (huttavel_background(handle_of(window), number_of(window), &cell) != HUTTAVEL_OK)
+        return (chtype)ERR;
+    return character_of(cell);
+}
+
+bool has_colors(void)
+{
+    bool colours = false;
+
+    return current && huttavel_has_colours(&current->handle, &colours) == HUTTAVEL_OK && colours;
+}
+
+bool can_change_color(void)
+{
+    return false;
+}
+
+int start_color(void)
+{
+    if (!has_colors())
+        return ERR;
+    COLORS = current->colors = 8;
+    COLOR_PAIRS = current->pairs = 64;
+    return OK;
+}
+
+int init_pair(short pair, short foreground, short background)
+{
+    if (!current || pair < 0 || foreground < 0 || background < 0)
+        return ERR;
+    return answer(huttavel_set_pair(&current->handle, (uint32_t)pair, (uint32_t)foreground, (uint32_t)background));
+}
+
+int pair_content(short pair, short *foreground, short *background)
+{
+    uint32_t first = 0, second = 0;
+
+    if (!current || pair < 0 || huttavel_pair_colours(&current->handle, (uint32_t)pair, &first, &second) != HUTTAVEL_OK)
+        return ERR;
+    if (foreground)
+        *foreground = (short)first;
+    if (background)
+        *background = (short)second;
+    return OK;
+}
+
+chtype termattrs(void)
+{
+    uint8_t attrs = 0;
+
+    if (!current || huttavel_shown_attrs(&current->handle, &attrs) != HUTTAVEL_OK)
+        return A_NORMAL;
+    return (chtype)attrs << 8;
+}
+
+attr_t term_attrs(void)
+{
+    return termattrs();
+}

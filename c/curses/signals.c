@@ -1,0 +1,137 @@
+/* Signals that end, stop or continue the program, and those of a new size. A handler makes no call on a handle: it
+   writes texts that were made before, and leaves a mark for the next call. */
+
+/* The signals that end a program, and the others that are caught. */
+static const int ending[] = {SIGHUP, SIGINT, SIGQUIT, SIGTERM};
+
+#define COUNT(array) (sizeof(array) / sizeof *(array))
+
+/* Whether stop_program() is under way, so that SIGCONT is no news. */
+static volatile sig_atomic_t is_stopping;
+
+/* Writes bytes from a handler. What a terminal does not take is lost. */
+static void write_marked(int descriptor, const uint8_t *bytes, size_t count)
+{
+    while (count > 0) {
+        ssize_t taken = write(descriptor, bytes, count);
+
+        if (taken < 0 && errno != EINTR)
+            return;
+        if (taken > 0) {
+            bytes += taken;
+            count -= (size_t)taken;
+        }
+    }
+}
+
+/* Writes the text that makes the cursor that visible. */
+static void write_visibility(const SCREEN *screen, int visibility)
+{
+    const char *text = visibility_string(screen, visibility);
+
+    if (text)
+        write_marked(screen->output, (const uint8_t *)text, strlen(text));
+}
+
+/* Gives the terminal back as the shell had it. */
+static void leave_terminal(const SCREEN *screen)
+{
+    if (screen->visibility != 1)
+        write_visibility(screen, 1);
+    write_marked(screen->output, screen->closing.bytes, screen->closing.length);
+    if (screen->is_terminal)
+        tcsetattr(screen->input, TCSADRAIN, &screen->shell);
+}
+
+/* Takes the terminal again. What it shows is repainted by the next update, or by a call that waits for a key. */
+static void enter_terminal(SCREEN *screen)
+{
+    if (screen->is_terminal)
+        tcsetattr(screen->input, TCSADRAIN, &screen->program);
+    write_marked(screen->output, screen->opening.bytes, screen->opening.length);
+    if (screen->visibility != 1)
+        write_visibility(screen, screen->visibility);
+    screen->is_disturbed = 1;
+    screen->is_resized = 1;
+}
+
+/* Leaves all terminals that are in use, and lets the signal do what it does without a handler. */
+static void end_program(int number)
+{
+    SCREEN *screen;
+
+    for (screen = screens; screen; screen = screen->next)
+        if (!screen->has_ended)
+            leave_terminal(screen);
+    signal(number, SIG_DFL);
+    raise(number);
+}
+
+static void stop_program(int number)
+{
+    int error = errno;
+    SCREEN *screen = current;
+    struct sigaction action, ours;
+    sigset_t stops, before;
+
+    if (screen && !screen->has_ended)
+        leave_terminal(screen);
+    is_stopping = 1;
+    memset(&action, 0, sizeof action);
+    action.sa_handler = SIG_DFL;
+    sigaction(number, &action, &ours);
+    raise(number);
+    sigemptyset(&stops);
+    sigaddset(&stops, number);
+    sigprocmask(SIG_UNBLOCK, &stops, &before);
+    sigprocmask(SIG_SETMASK, &before, NULL);
+    sigaction(number, &ours, NULL);
+    is_stopping = 0;
+    if (screen && !screen->has_ended)
+        enter_terminal(screen);
+    errno = error;
+}
+
+static void continue_program(int number)
+{
+    int error = errno;
+
+    (void)number;
+    if (!is_stopping && current && !current->has_ended)
+        enter_terminal(current);
+    errno = error;
+}
+
+static void change_size(int number)
+{
+    SCREEN *screen;
+
+    (void)number;
+    for (screen = screens; screen; screen = screen->next)
+        screen->is_resized = 1;
+}
+
+/* Handles a signal, unless the program does already or ignores it. */
+static void handle(int number, void (*handler)(int))
+{
+    struct sigaction action;
+
+    if (sigaction(number, NULL, &action) < 0 || action.sa_handler != SIG_DFL)
+        return;
+    memset(&action, 0, sizeof action);
+    action.sa_handler = handler;
+    action.sa_flags = SA_RESTART;
+    sigaction(number, &action, NULL);
+}
+
+/* Handles the signals that a screen has to know of. */
+static void handle_signals(void)
+{
+    size_t n;
+
+    for (n = 0; n < COUNT(ending); n++)
+        handle(ending[n], end_program);
+    handle(SIGTSTP, stop_program);
+    handle(SIGCONT, continue_program);
+    handle(SIGWINCH, change_size);
+}

@@ -1,0 +1,166 @@
+/* Formatted texts, and lines that are typed. */
+
+int vw_printw(WINDOW *window, const char *format, va_list values)
+{
+    char text[512], *larger;
+    va_list again;
+    int length, sent;
+
+    va_copy(again, values);
+    length = vsnprintf(text, sizeof text, format, values);
+    if (length < 0 || (size_t)length < sizeof text) {
+        va_end(again);
+        return length < 0 ? ERR : waddstr(window, text);
+    }
+    larger = malloc((size_t)length + 1);
+    if (larger)
+        vsnprintf(larger, (size_t)length + 1, format, again);
+    va_end(again);
+    sent = larger ? waddstr(window, larger) : ERR;
+    free(larger);
+    return sent;
+}
+
+int vwprintw(WINDOW *window, const char *format, va_list values)
+{
+    return vw_printw(window, format, values);
+}
+
+/* A call of the two that take a va_list with the values behind `last`. */
+#define WITH_VALUES(call, window, format)                                                                    \
+    va_list values;                                                                                          \
+    int done;                                                                                                \
+                                                                                                             \
+    va_start(values, format);                                                                                \
+    done = call(window, format, values);                                                                     \
+    va_end(values);                                                                                          \
+    return done
+
+int printw(const char *format, ...)
+{
+    WITH_VALUES(vw_printw, stdscr, format);
+}
+
+int wprintw(WINDOW *window, const char *format, ...)
+{
+    WITH_VALUES(vw_printw, window, format);
+}
+
+int mvprintw(int row, int column, const char *format, ...)
+{
+    WITH_VALUES(wmove(stdscr, row, column) == ERR ? ERR : vw_printw, stdscr, format);
+}
+
+int mvwprintw(WINDOW *window, int row, int column, const char *format, ...)
+{
+    WITH_VALUES(wmove(window, row, column) == ERR ? ERR : vw_printw, window, format);
+}
+
+int vw_scanw(WINDOW *window, const char *format, va_list values)
+{
+    char text[1024];
+
+    if (wgetnstr(window, text, (int)sizeof text - 1) == ERR)
+        return ERR;
+    return vsscanf(text, format, values);
+}
+
+int vwscanw(WINDOW *window, const char *format, va_list values)
+{
+    return vw_scanw(window, format, values);
+}
+
+int scanw(const char *format, ...)
+{
+    WITH_VALUES(vw_scanw, stdscr, format);
+}
+
+int wscanw(WINDOW *window, const char *format, ...)
+{
+    WITH_VALUES(vw_scanw, window, format);
+}
+
+int mvscanw(int row, int column, const char *format, ...)
+{
+    WITH_VALUES(wmove(stdscr, row, column) == ERR ? ERR : vw_scanw, stdscr, format);
+}
+
+int mvwscanw(WINDOW *window, int row, int column, const char *format, ...)
+{
+    WITH_VALUES(wmove(window, row, column) == ERR ? ERR : vw_scanw, window, format);
+}
+
+/* Takes the last byte of a typed line away, and what is shown of it. */
+static int drop_last(WINDOW *window, const char *line, int length, int row, int column, bool is_shown_too)
+{
+    int n;
+
+    if (length == 0)
+        return 0;
+    if (!is_shown_too)
+        return length - 1;
+    wmove(window, row, column);
+    for (n = 0; n < length - 1; n++)
+        waddch(window, (unsigned char)line[n]);
+    wclrtoeol(window);
+    return length - 1;
+}
+
+/* Reads a line with echo() off, and shows it if it was on. */
+static int read_line(WINDOW *window, char *line, int most, bool is_echoed)
+{
+    int row = getcury(window), column = getcurx(window), length = 0;
+
+    for (;;) {
+        int key = wgetch(window);
+
+        if (key == ERR || key == '\n' || key == '\r' || key == KEY_ENTER) {
+            line[length] = '\0';
+            if (is_echoed && wmove(window, row + 1, 0) == OK)
+                wrefresh(window);
+            return key == ERR ? ERR : OK;
+        }
+        if (key == KEY_BACKSPACE || key == KEY_LEFT || key == (unsigned char)erasechar() || key == '\b') {
+            length = drop_last(window, line, length, row, column, is_echoed);
+        } else if (key == (unsigned char)killchar()) {
+            while (length > 0)
+                length = drop_last(window, line, length, row, column, is_echoed);
+        } else if (key == KEY_RESIZE) {
+            continue;
+        } else if (key < KEY_MIN && length < most) {
+            line[length++] = (char)key;
+            if (is_echoed)
+                waddch(window, (chtype)key);
+        } else {
+            beep();
+        }
+        if (is_echoed)
+            wrefresh(window);
+    }
+}
+
+int wgetnstr(WINDOW *window, char *text, int most)
+{
+    SCREEN *screen = window ? window->screen : NULL;
+    struct termios before;
+    bool is_echo;
+    int done;
+
+    if (!window || !text || is_shown(window))
+        return ERR;
+    before = screen->program;
+    is_echo = screen->is_echo;
+    screen->is_echo = false;
+    if (screen == current && before.c_lflag & ICANON)
+        change_modes(0, ICANON, 0, 0);
+    done = read_line(window, text, most < 0 ? INT_MAX : most, is_echo);
+    if (screen == current && before.c_lflag & ICANON)
+        set_program(screen, &before);
+    screen->is_echo = is_echo;
+    return done;
+}
+
+int wgetstr(WINDOW *window, char *text)
+{
+    return wgetnstr(window, text, -1);
+}

@@ -1,0 +1,237 @@
+/* Making, moving and deleting windows, and their places. */
+
+/* Reads from the handle what is kept beside it of a window: its size, and what bytes are written with. */
+static void read_window(WINDOW *window)
+{
+    uint32_t rows = 0, columns = 0;
+
+    huttavel_size(handle_of(window), window->number, &rows, &columns);
+    huttavel_written_attrs(handle_of(window), window->number, &window->attrs, &window->pair);
+    window->rows = (int)rows;
+    window->columns = (int)columns;
+}
+
+/* Memory for a window, not of the list yet; NULL if memory runs out. */
+static WINDOW *spare_window(SCREEN *screen)
+{
+    WINDOW *window = calloc(1, sizeof *window);
+
+    if (!window)
+        return NULL;
+    window->screen = screen;
+    window->number = NO_NUMBER;
+    window->parent_row = window->parent_column = -1;
+    window->delay = -1;
+    return window;
+}
+
+/* A window behind the others of its screen, if one was made of that number; otherwise its memory is freed. */
+static WINDOW *kept_window(WINDOW *window, uint32_t fault)
+{
+    WINDOW **end = &window->screen->windows;
+
+    if (fault != HUTTAVEL_OK) {
+        free(window);
+        return NULL;
+    }
+    while (*end)
+        end = &(*end)->next;
+    *end = window;
+    read_window(window);
+    return window;
+}
+
+WINDOW *newwin(int rows, int columns, int row, int column)
+{
+    WINDOW *window;
+
+    if (!current || rows < 0 || columns < 0 || row < 0 || column < 0)
+        return NULL;
+    window = spare_window(current);
+    if (!window)
+        return NULL;
+    return kept_window(window, huttavel_new_window(&current->handle, (uint32_t)rows, (uint32_t)columns, (uint32_t)row,
+                                                   (uint32_t)column, &window->number));
+}
+
+WINDOW *newpad(int rows, int columns)
+{
+    WINDOW *pad;
+
+    if (!current || rows <= 0 || columns <= 0)
+        return NULL;
+    pad = spare_window(current);
+    if (!pad)
+        return NULL;
+    pad->is_pad = true;
+    return kept_window(pad, huttavel_new_pad(&current->handle, (uint32_t)rows, (uint32_t)columns, &pad->number));
+}
+
+/* A subwindow at a row and a column of its parent. */
+static WINDOW *sub_window(WINDOW *parent, int rows, int columns, int row, int column)
+{
+    WINDOW *window;
+    uint32_t fault;
+
+    if (!parent || is_shown(parent) || rows < 0 || columns < 0 || row < 0 || column < 0)
+        return NULL;
+    window = spare_window(parent->screen);
+    if (!window)
+        return NULL;
+    window->parent = parent;
+    window->parent_row = row;
+    window->parent_column = column;
+    window->is_pad = parent->is_pad;
+    fault = (parent->is_pad ? huttavel_sub_pad : huttavel_derive)(handle_of(parent), parent->number, (uint32_t)rows,
+                                                                  (uint32_t)columns, (uint32_t)row, (uint32_t)column,
+                                                                  &window->number);
+    return kept_window(window, fault);
+}
+
+WINDOW *derwin(WINDOW *window, int rows, int columns, int row, int column)
+{
+    return sub_window(window, rows, columns, row, column);
+}
+
+WINDOW *subwin(WINDOW *window, int rows, int columns, int row, int column)
+{
+    if (!window || window->is_pad)
+        return NULL;
+    return sub_window(window, rows, columns, row - getbegy(window), column - getbegx(window));
+}
+
+WINDOW *subpad(WINDOW *window, int rows, int columns, int row, int column)
+{
+    return window && window->is_pad ? sub_window(window, rows, columns, row, column) : NULL;
+}
+
+int delwin(WINDOW *window)
+{
+    WINDOW **place;
+
+    if (!window || is_shown(window) || huttavel_delete(handle_of(window), window->number) != HUTTAVEL_OK)
+        return ERR;
+    for (place = &window->screen->windows; *place != window; place = &(*place)->next)
+        ;
+    *place = window->next;
+    if (window->screen->standard == window)
+        window->screen->standard = NULL;
+    free(window);
+    return OK;
+}
+
+int mvwin(WINDOW *window, int row, int column)
+{
+    return answer(huttavel_move_window(handle_of(window), number_of(window), (uint32_t)row, (uint32_t)column));
+}
+
+int mvderwin(WINDOW *window, int row, int column)
+{
+    uint32_t fault = huttavel_move_derived(handle_of(window), number_of(window), (uint32_t)row, (uint32_t)column);
+
+    if (fault == HUTTAVEL_OK) {
+        window->parent_row = row;
+        window->parent_column = column;
+    }
+    return answer(fault);
+}
+
+/* One of a window's two numbers, or ERR. */
+static int number_read(uint32_t (*read)(huttavel *, uint32_t, uint32_t *, uint32_t *), const WINDOW *window,
+                       bool is_second)
+{
+    uint32_t first = 0, second = 0;
+
+    if (read(handle_of(window), number_of(window), &first, &second) != HUTTAVEL_OK)
+        return ERR;
+    return (int)(is_second ? second : first);
+}
+
+int getcury(const WINDOW *window)
+{
+    return number_read(huttavel_cursor, window, false);
+}
+
+int getcurx(const WINDOW *window)
+{
+    return number_read(huttavel_cursor, window, true);
+}
+
+int getbegy(const WINDOW *window)
+{
+    return is_shown(window) ? 0 : number_read(huttavel_origin, window, false);
+}
+
+int getbegx(const WINDOW *window)
+{
+    return is_shown(window) ? 0 : number_read(huttavel_origin, window, true);
+}
+
+int getmaxy(const WINDOW *window)
+{
+    return window ? window->rows : ERR;
+}
+
+int getmaxx(const WINDOW *window)
+{
+    return window ? window->columns : ERR;
+}
+
+int getpary(const WINDOW *window)
+{
+    return window ? window->parent_row : ERR;
+}
+
+int getparx(const WINDOW *window)
+{
+    return window ? window->parent_column : ERR;
+}
+
+void wsyncup(WINDOW *window)
+{
+    huttavel_sync_up(handle_of(window), number_of(window));
+}
+
+void wsyncdown(WINDOW *window)
+{
+    huttavel_sync_down(handle_of(window), number_of(window));
+}
+
+void wcursyncup(WINDOW *window)
+{
+    for (; window && window->parent; window = window->parent)
+        wmove(window->parent, getcury(window) + window->parent_row, getcurx(window) + window->parent_column);
+}
+
+WINDOW *dupwin(WINDOW *window)
+{
+    WINDOW *copy;
+    huttavel_cell background;
+    uint32_t top = 0, bottom = 0;
+    bool is_on = false;
+
+    if (!window || is_shown(window))
+        return NULL;
+    copy = window->is_pad ? newpad(window->rows, window->columns)
+                          : newwin(window->rows, window->columns, getbegy(window), getbegx(window));
+    if (!copy)
+        return NULL;
+    if (copywin(window, copy, 0, 0, 0, 0, window->rows - 1, window->columns - 1, false) == ERR) {
+        delwin(copy);
+        return NULL;
+    }
+    huttavel_background(handle_of(window), window->number, &background);
+    huttavel_set_background(handle_of(copy), copy->number, background.byte, background.attrs, background.pair);
+    wattr_set(copy, (attr_t)window->attrs << 8, (short)window->pair, NULL);
+    huttavel_region(handle_of(window), window->number, &top, &bottom);
+    huttavel_set_region(handle_of(copy), copy->number, top, bottom);
+    huttavel_is_scroll_ok(handle_of(window), window->number, &is_on);
+    scrollok(copy, is_on);
+    huttavel_is_leave_ok(handle_of(window), window->number, &is_on);
+    leaveok(copy, is_on);
+    wmove(copy, getcury(window), getcurx(window));
+    copy->is_keypad = window->is_keypad;
+    copy->is_untimed = window->is_untimed;
+    copy->delay = window->delay;
+    return copy;
+}

@@ -1,0 +1,136 @@
+/* The codes of curses.h: attributes, colours, stand-ins for line drawing, and keys. Included by curses.h alone. */
+#ifndef HUTTAVEL_CURSES_CODES_H
+#define HUTTAVEL_CURSES_CODES_H
+
+/* A chtype is one unsigned int: the byte in bits 0 to 7, the attributes in 8 to 14, the colour pair in 16 to 21. */
+#define A_NORMAL 0x000000u
+#define A_STANDOUT 0x000100u
+#define A_UNDERLINE 0x000200u
+#define A_REVERSE 0x000400u
+#define A_BLINK 0x000800u
+#define A_DIM 0x001000u
+#define A_BOLD 0x002000u
+#define A_INVIS 0x004000u
+#define A_CHARTEXT 0x0000ffu
+#define A_COLOR 0x3f0000u
+#define A_ATTRIBUTES 0xffffff00u
+
+#define WA_NORMAL A_NORMAL
+#define WA_ATTRIBUTES A_ATTRIBUTES
+#define WA_STANDOUT A_STANDOUT
+#define WA_UNDERLINE A_UNDERLINE
+#define WA_REVERSE A_REVERSE
+#define WA_BLINK A_BLINK
+#define WA_DIM A_DIM
+#define WA_BOLD A_BOLD
+#define WA_INVIS A_INVIS
+
+#define COLOR_BLACK 0
+#define COLOR_RED 1
+#define COLOR_GREEN 2
+#define COLOR_YELLOW 3
+#define COLOR_BLUE 4
+#define COLOR_MAGENTA 5
+#define COLOR_CYAN 6
+#define COLOR_WHITE 7
+
+/* Pairs are 0 to 63. Pair 0 is the terminal's own colours. */
+#define COLOR_PAIR(n) (((chtype)(n) & 63u) << 16)
+#define PAIR_NUMBER(a) ((int)(((chtype)(a) & A_COLOR) >> 16))
+
+/* There is no alternate character set: these are the stand-ins of X/Open Curses Issue 7, 'Line Graphics'. */
+#define ACS_ULCORNER ((chtype)'+')
+#define ACS_LLCORNER ((chtype)'+')
+#define ACS_URCORNER ((chtype)'+')
+#define ACS_LRCORNER ((chtype)'+')
+#define ACS_RTEE ((chtype)'+')
+#define ACS_LTEE ((chtype)'+')
+#define ACS_BTEE ((chtype)'+')
+#define ACS_TTEE ((chtype)'+')
+#define ACS_HLINE ((chtype)'-')
+#define ACS_VLINE ((chtype)'|')
+#define ACS_PLUS ((chtype)'+')
+#define ACS_S1 ((chtype)'-')
+#define ACS_S9 ((chtype)'_')
+#define ACS_DIAMOND ((chtype)'+')
+#define ACS_CKBOARD ((chtype)':')
+#define ACS_DEGREE ((chtype)'\'')
+#define ACS_PLMINUS ((chtype)'#')
+#define ACS_BULLET ((chtype)'o')
+#define ACS_LARROW ((chtype)'<')
+#define ACS_RARROW ((chtype)'>')
+#define ACS_DARROW ((chtype)'v')
+#define ACS_UARROW ((chtype)'^')
+#define ACS_BOARD ((chtype)'#')
+#define ACS_LANTERN ((chtype)'#')
+#define ACS_BLOCK ((chtype)'#')
+
+/* A key is KEY_MIN and the position of its capability among the strings of a compiled entry, as term(5) orders them;
+   function keys are in a row of their own. KEY_BREAK, KEY_SRESET and KEY_RESET have no capability, and never come. */
+#define KEY_MIN 0x100
+#define KEY_BACKSPACE (KEY_MIN + 55)
+#define KEY_CATAB (KEY_MIN + 56)
+#define KEY_CLEAR (KEY_MIN + 57)
+#define KEY_CTAB (KEY_MIN + 58)
+#define KEY_DC (KEY_MIN + 59)
+#define KEY_DL (KEY_MIN + 60)
+#define KEY_DOWN (KEY_MIN + 61)
+#define KEY_EIC (KEY_MIN + 62)
+#define KEY_EOL (KEY_MIN + 63)
+#define KEY_EOS (KEY_MIN + 64)
+#define KEY_HOME (KEY_MIN + 76)
+#define KEY_IC (KEY_MIN + 77)
+#define KEY_IL (KEY_MIN + 78)
+#define KEY_LEFT (KEY_MIN + 79)
+#define KEY_LL (KEY_MIN + 80)
+#define KEY_NPAGE (KEY_MIN + 81)
+#define KEY_PPAGE (KEY_MIN + 82)
+#define KEY_RIGHT (KEY_MIN + 83)
+#define KEY_SF (KEY_MIN + 84)
+#define KEY_SR (KEY_MIN + 85)
+#define KEY_STAB (KEY_MIN + 86)
+#define KEY_UP (KEY_MIN + 87)
+#define KEY_A1 (KEY_MIN + 139)
+#define KEY_A3 (KEY_MIN + 140)
+#define KEY_B2 (KEY_MIN + 141)
+#define KEY_C1 (KEY_MIN + 142)
+#define KEY_C3 (KEY_MIN + 143)
+#define KEY_BTAB (KEY_MIN + 148)
+#define KEY_BEG (KEY_MIN + 158)
+#define KEY_CANCEL (KEY_MIN + 159)
+#define KEY_CLOSE (KEY_MIN + 160)
+#define KEY_COMMAND (KEY_MIN + 161)
+#define KEY_COPY (KEY_MIN + 162)
+#define KEY_CREATE (KEY_MIN + 163)
+#define KEY_END (KEY_MIN + 164)
+#define KEY_ENTER (KEY_MIN + 165)
+#define KEY_EXIT (KEY_MIN + 166)
+#define KEY_FIND (KEY_MIN + 167)
+#define KEY_HELP (KEY_MIN + 168)
+#define KEY_MARK (KEY_MIN + 169)
+#define KEY_MESSAGE (KEY_MIN + 170)
+#define KEY_MOVE (KEY_MIN + 171)
+#define KEY_NEXT (KEY_MIN + 172)
+#define KEY_OPEN (KEY_MIN + 173)
+#define KEY_OPTIONS (KEY_MIN + 174)
+#define KEY_PREVIOUS (KEY_MIN + 175)
+#define KEY_PRINT (KEY_MIN + 176)
+#define KEY_REDO (KEY_MIN + 177)
+#define KEY_REFERENCE (KEY_MIN + 178)
+#define KEY_REFRESH (KEY_MIN + 179)
+#define KEY_REPLACE (KEY_MIN + 180)
+#define KEY_RESTART (KEY_MIN + 181)
+#define KEY_RESUME (KEY_MIN + 182)
+#define KEY_SAVE (KEY_MIN + 183)
+#define KEY_SUSPEND (KEY_MIN + 184)
+#define KEY_UNDO (KEY_MIN + 185)
+#define KEY_F0 0x300
+#define KEY_F(n) (KEY_F0 + (n))
+#define KEY_BREAK 0x340
+#define KEY_SRESET 0x341
+#define KEY_RESET 0x342
+/* The terminal has another size now: LINES, COLS and all windows are of the new one. */
+#define KEY_RESIZE 0x343
+#define KEY_MAX 0x3ff
+
+#endif

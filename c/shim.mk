@@ -1,0 +1,47 @@
+# curses.h over huttavel.h: the archive libhuttavel_curses.a, and its headers. Makefile includes this; it also works by
+# itself: make -f shim.mk.
+#   curses                   makes out/libhuttavel_curses.a
+#   check-headers            compiles each header by itself, as C99 and as C++, with every warning an error
+#   install-curses           copies archive and headers below PREFIX (and DESTDIR)
+#   uninstall-curses         removes them
+# A program that wants <curses.h> of here is compiled with -I PREFIX/include/huttavel, and linked with
+# -lhuttavel_curses -lhuttavel.
+
+SHIM := $(dir $(lastword $(MAKEFILE_LIST)))
+PREFIX ?= /usr/local
+HUTTAVEL_INCLUDE ?= $(SHIM)../include
+CFLAGS ?= -O2
+CXX ?= c++
+SHIM_FLAGS := -std=c99 -Wall -Wextra -pedantic -I $(SHIM) -I $(HUTTAVEL_INCLUDE)
+SHIM_HEADERS := $(SHIM)curses.h $(SHIM)curses_codes.h
+SHIM_PARTS := $(SHIM)curses.c $(SHIM)curses/screens.h $(wildcard $(SHIM)curses/*.c)
+SHIM_OUT := $(SHIM)out
+
+.PHONY: curses check-headers install-curses uninstall-curses
+curses: $(SHIM_OUT)/libhuttavel_curses.a
+
+$(SHIM_OUT)/libhuttavel_curses.a: $(SHIM_PARTS) $(SHIM_HEADERS)
+	mkdir -p $(SHIM_OUT)
+	$(CC) $(SHIM_FLAGS) $(CFLAGS) -c $(SHIM)curses.c -o $(SHIM_OUT)/curses.o
+	rm -f $@
+	$(AR) rcs $@ $(SHIM_OUT)/curses.o
+
+# Each header alone, and both together in either order.
+check-headers:
+	mkdir -p $(SHIM_OUT)
+	for headers in curses.h huttavel.h 'curses.h huttavel.h' 'huttavel.h curses.h'; do \
+	    for header in $$headers; do echo "#include <$$header>"; done > $(SHIM_OUT)/header.c; \
+	    echo 'int main(void) { return 0; }' >> $(SHIM_OUT)/header.c; \
+	    $(CC) $(SHIM_FLAGS) -Werror -fsyntax-only $(SHIM_OUT)/header.c || exit; \
+	    $(CXX) -x c++ -Wall -Wextra -Werror -I $(SHIM) -I $(HUTTAVEL_INCLUDE) -fsyntax-only $(SHIM_OUT)/header.c || exit; \
+	done
+
+install-curses: curses
+	install -d $(DESTDIR)$(PREFIX)/include/huttavel $(DESTDIR)$(PREFIX)/lib
+	install -m 644 $(SHIM_HEADERS) $(DESTDIR)$(PREFIX)/include/huttavel
+	install -m 644 $(SHIM_OUT)/libhuttavel_curses.a $(DESTDIR)$(PREFIX)/lib
+
+uninstall-curses:
+	rm -f $(DESTDIR)$(PREFIX)/include/huttavel/curses.h $(DESTDIR)$(PREFIX)/include/huttavel/curses_codes.h
+	rm -f $(DESTDIR)$(PREFIX)/lib/libhuttavel_curses.a
+	-rmdir $(DESTDIR)$(PREFIX)/include/huttavel
