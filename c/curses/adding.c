@@ -23,16 +23,31 @@ int wmove(WINDOW *window, int row, int column)
             huttavel_color_set(handle_of(window), (window)->number, (window)->pair);                         \
     } while (0)
 
-int waddch(WINDOW *window, const chtype character)
+/* Adds a character, `count` times. */
+static int add_character(WINDOW *window, chtype character, int count)
 {
     bool stayed = false;
-    uint32_t fault;
+    uint32_t fault = HUTTAVEL_OK;
+
+    for (; count > 0 && !stayed && fault == HUTTAVEL_OK; count--)
+        WITH_PAIR(window, character, fault,
+                  huttavel_add_byte(handle_of(window), window->number, byte_of(character), attrs_of(character), &stayed));
+    return stayed ? ERR : answer(fault);
+}
+
+int waddch(WINDOW *window, const chtype character)
+{
+    int count;
 
     if (!window)
         return ERR;
-    WITH_PAIR(window, character, fault,
-              huttavel_add_byte(handle_of(window), window->number, byte_of(character), attrs_of(character), &stayed));
-    return stayed ? ERR : answer(fault);
+    if (byte_of(character) != '\t')
+        return add_character(window, character, 1);
+    /* A tab is blanks with the window's attributes as long as it ends in its line; the library's has none. */
+    count = 8 - getcurx(window) % 8;
+    if (getcurx(window) + count >= window->columns)
+        return add_character(window, character, 1);
+    return add_character(window, (character & A_ATTRIBUTES) | ' ', count);
 }
 
 int wechochar(WINDOW *window, const chtype character)
@@ -126,6 +141,8 @@ static int draw_line(uint32_t (*draw)(huttavel *, uint32_t, uint8_t, uint32_t), 
     uint8_t before = window->attrs;
     uint32_t fault;
 
+    if (count <= 0)
+        return OK;
     set_pen(window, before | attrs_of(character), window->pair);
     WITH_PAIR(window, character, fault, draw(handle_of(window), window->number, byte_of(character), (uint32_t)count));
     set_pen(window, before, window->pair);
@@ -140,12 +157,12 @@ static chtype or_default(chtype character, chtype otherwise)
 
 int whline(WINDOW *window, chtype character, int count)
 {
-    return window && count > 0 ? draw_line(huttavel_line_across, window, or_default(character, ACS_HLINE), count) : ERR;
+    return window ? draw_line(huttavel_line_across, window, or_default(character, ACS_HLINE), count) : ERR;
 }
 
 int wvline(WINDOW *window, chtype character, int count)
 {
-    return window && count > 0 ? draw_line(huttavel_line_down, window, or_default(character, ACS_VLINE), count) : ERR;
+    return window ? draw_line(huttavel_line_down, window, or_default(character, ACS_VLINE), count) : ERR;
 }
 
 /* Draws a border piece by piece, each with its attributes. The cursor stays. */

@@ -2,22 +2,22 @@
 
 char *unctrl(chtype character)
 {
-    static char text[5];
-    uint8_t byte = byte_of(character);
-    const char *meta_prefix = byte >= 128 ? "M-" : "";
+    static char texts[256][5];
+    uint8_t byte = byte_of(character), plain = byte & 127;
+    const char *prefix = byte >= 128 ? "M-" : "";
+    char *text = texts[byte];
 
-    byte &= 127;
-    if (byte < ' ' || byte == 127)
-        snprintf(text, sizeof text, "%s^%c", meta_prefix, byte ^ 64);
+    if (plain < ' ' || plain == 127)
+        snprintf(text, sizeof texts[byte], "%s^%c", prefix, plain ^ 64);
     else
-        snprintf(text, sizeof text, "%s%c", meta_prefix, byte);
+        snprintf(text, sizeof texts[byte], "%s%c", prefix, plain);
     return text;
 }
 
-/* The names of the keys that have a capability, but function keys. */
-static const struct {
+/* The names of keys, but function keys. */
+static struct {
     int key;
-    const char *name;
+    char name[16];
 } key_names[] = {
 #define NAMED(name) {name, #name}
     NAMED(KEY_BACKSPACE), NAMED(KEY_CATAB),  NAMED(KEY_CLEAR),   NAMED(KEY_CTAB),     NAMED(KEY_DC),
@@ -37,19 +37,17 @@ static const struct {
 
 char *keyname(int key)
 {
-    static char text[20];
+    static char functions[64][12];
     size_t n;
 
     if (key >= 0 && key < KEY_MIN)
         return unctrl((chtype)key);
     if (key >= KEY_F0 && key <= KEY_F(63)) {
-        snprintf(text, sizeof text, "KEY_F(%d)", key - KEY_F0);
-        return text;
+        snprintf(functions[key - KEY_F0], sizeof *functions, "KEY_F(%d)", key - KEY_F0);
+        return functions[key - KEY_F0];
     }
     for (n = 0; n < COUNT(key_names); n++)
-        if (key_names[n].key == key) {
-            snprintf(text, sizeof text, "%s", key_names[n].name);
-            return text;
-        }
+        if (key_names[n].key == key)
+            return key_names[n].name;
     return NULL;
 }
