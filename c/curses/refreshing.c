@@ -87,7 +87,7 @@ int pnoutrefresh(WINDOW *pad, int row, int column, int top, int left, int bottom
     column = column < 0 ? 0 : column;
     top = top < 0 ? 0 : top;
     left = left < 0 ? 0 : left;
-    if (row >= pad->rows || column >= pad->columns)
+    if (row >= pad->rows || column >= pad->columns || bottom < top || right < left)
         return ERR;
     if (bottom - top > pad->rows - 1 - row)
         bottom = top + pad->rows - 1 - row;

@@ -95,7 +95,7 @@ WINDOW *derwin(WINDOW *window, int rows, int columns, int row, int column)
 
 WINDOW *subwin(WINDOW *window, int rows, int columns, int row, int column)
 {
-    if (!window || window->is_pad)
+    if (!window || window->is_pad || row < 0 || column < 0)
         return NULL;
     return sub_window(window, rows, columns, row - getbegy(window), column - getbegx(window));
 }
