@@ -2,10 +2,10 @@
 # itself: make -f shim.mk.
 #   curses                   makes out/libhuttavel_curses.a
 #   check-headers            compiles each header by itself, as C99 and as C++, with every warning an error
-#   install-curses           copies archive and headers below PREFIX (and DESTDIR)
+#   install-curses           copies archive, headers and a file for pkg-config below PREFIX (and DESTDIR)
 #   uninstall-curses         removes them
 # A program that wants <curses.h> of here is compiled with -I PREFIX/include/huttavel, and linked with
-# -lhuttavel_curses -lhuttavel.
+# -lhuttavel_curses -lhuttavel: pkg-config --cflags --libs huttavel_curses.
 
 SHIM := $(dir $(lastword $(MAKEFILE_LIST)))
 PREFIX ?= /usr/local
@@ -37,11 +37,15 @@ check-headers:
 	done
 
 install-curses: curses
-	install -d $(DESTDIR)$(PREFIX)/include/huttavel $(DESTDIR)$(PREFIX)/lib
+	install -d $(DESTDIR)$(PREFIX)/include/huttavel $(DESTDIR)$(PREFIX)/lib/pkgconfig
 	install -m 644 $(SHIM_HEADERS) $(DESTDIR)$(PREFIX)/include/huttavel
 	install -m 644 $(SHIM_OUT)/libhuttavel_curses.a $(DESTDIR)$(PREFIX)/lib
+	printf '%s\n' 'prefix=$(PREFIX)' 'libdir=$${prefix}/lib' 'includedir=$${prefix}/include/huttavel' '' \
+	    'Name: huttavel_curses' 'Description: curses.h over huttavel' 'Version: 1.0' \
+	    'Libs: -L$${libdir} -lhuttavel_curses -lhuttavel' 'Cflags: -I$${includedir}' \
+	    > $(DESTDIR)$(PREFIX)/lib/pkgconfig/huttavel_curses.pc
 
 uninstall-curses:
-	rm -f $(DESTDIR)$(PREFIX)/include/huttavel/curses.h $(DESTDIR)$(PREFIX)/include/huttavel/curses_codes.h
-	rm -f $(DESTDIR)$(PREFIX)/lib/libhuttavel_curses.a
+	rm -f $(addprefix $(DESTDIR)$(PREFIX)/include/huttavel/,$(notdir $(SHIM_HEADERS)))
+	rm -f $(DESTDIR)$(PREFIX)/lib/libhuttavel_curses.a $(DESTDIR)$(PREFIX)/lib/pkgconfig/huttavel_curses.pc
 	-rmdir $(DESTDIR)$(PREFIX)/include/huttavel
