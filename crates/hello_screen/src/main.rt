@@ -28,13 +28,16 @@ fn greet(rt: &HostRuntime, terminal: &mut TerminalScreen) -> Result<()> {
     Ok(())
 }
 
+fn greet_and_close(rt: &HostRuntime, terminal: &mut TerminalScreen) -> Result<()> {
+    let greeted = greet(rt, terminal);
+    terminal.close()?;
+    greeted
+}
+
 fn main(rt: HostRuntime) -> Result<()> {
-    let mut terminal = match std::env::args(&rt)?.count() {
-        0 | 1 => TerminalScreen::open(&rt)?,
-        _ => TerminalScreen::open_entry(&rt, bundled(rt.alloc())?)?,
+    let opened = match std::env::args(&rt)?.count() {
+        0 | 1 => TerminalScreen::open(&rt),
+        _ => TerminalScreen::open_entry(&rt, bundled(rt.alloc())?),
     };
-    let greeted = greet(&rt, &mut terminal);
-    let closed = terminal.close();
-    greeted?;
-    Ok(closed?)
+    greet_and_close(&rt, &mut opened?)
 }
