@@ -52,10 +52,8 @@ fn own_screen<W: Counted>(
     out: &mut W,
     editor: &mut Editor,
 ) -> Result<(), Failure> {
-    match open_screen(around.rt.alloc(), around.entry, line.size()) {
-        Ok(mut screen) => live_and_close(around, &mut screen, line, out, editor),
-        Err(fault) => Err(Failure::Screen(fault)),
-    }
+    let opened = open_screen(around.rt.alloc(), around.entry, line.size());
+    live_and_close(around, &mut opened?, line, out, editor)
 }
 
 fn live_and_close<W: Counted>(

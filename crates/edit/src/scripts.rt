@@ -137,10 +137,8 @@ fn play_with(
     script: &mut Script<'_>,
     editor: &mut Editor,
 ) -> Result<Option<Size>, Failure> {
-    match Screen::open_sized(rt.alloc(), entry, size) {
-        Ok(mut screen) => play_on(rt, path, &mut screen, script, editor),
-        Err(fault) => Err(Failure::Screen(fault)),
-    }
+    let opened = Screen::open_sized(rt.alloc(), entry, size);
+    play_on(rt, path, &mut opened?, script, editor)
 }
 
 fn play_on(

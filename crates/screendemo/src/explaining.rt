@@ -47,8 +47,8 @@ fn explain_update(
     updates: u32,
     page: &mut Page,
 ) -> Result<(), NoMemory> {
-    let mut stage = open(alloc, size)?;
-    explain_on(alloc, lines, updates, &mut stage, page)
+    let opened = open(alloc, size);
+    explain_on(alloc, lines, updates, &mut opened?, page)
 }
 
 // The same, on a blank stage.
