@@ -56,6 +56,23 @@ grid_filled rows columns inside f g = grid_of rows columns (λ r c. if inside r 
 abbrev pub is_in_run : ℕ → ℕ → ℕ → ℕ → ℕ → Bool
 is_in_run row from end r c = r == row && leb from c && ltb c end
 
+-- The rows from `first` up to, but not including, `end` move up by n; the rows left free get this element.
+abbrev pub rows_up : {A : Type 0} → ℕ → ℕ → ℕ → A → (ℕ → ℕ → A) → ℕ → ℕ → A
+rows_up first end n x at r c = if leb first r && ltb r end then (if ltb (r + n) end then at (r + n) c else x) else at r c
+
+-- The same, down.
+abbrev pub rows_down : {A : Type 0} → ℕ → ℕ → ℕ → A → (ℕ → ℕ → A) → ℕ → ℕ → A
+rows_down first end n x at r c = if leb first r && ltb r end then (if leb (first + n) r then at (r - n) c else x) else at r c
+
+-- The places of a row from column `from` up to, but not including, `end` move left by n; the places left free get this
+-- element.
+abbrev pub places_left : {A : Type 0} → ℕ → ℕ → ℕ → ℕ → A → (ℕ → ℕ → A) → ℕ → ℕ → A
+places_left row from end n x at r c = if is_in_run row from end r c then (if ltb (c + n) end then at r (c + n) else x) else at r c
+
+-- The same, to the right.
+abbrev pub places_right : {A : Type 0} → ℕ → ℕ → ℕ → ℕ → A → (ℕ → ℕ → A) → ℕ → ℕ → A
+places_right row from end n x at r c = if is_in_run row from end r c then (if leb (from + n) c then at r (c - n) else x) else at r c
+
 -- Laws of grids: a grid is its places; a formula's grid has what the formula gives; a changed run or place changes no
 -- other place.
 pub record GridLaws (A : Type 0) : Type 0 where

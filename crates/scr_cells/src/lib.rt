@@ -11,6 +11,7 @@ mod differences;
 mod grids;
 mod laws;
 mod looks;
+mod moves;
 mod pens;
 mod pictures;
 mod showing;

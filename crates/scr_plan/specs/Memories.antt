@@ -7,7 +7,7 @@ use Rattle.scr_cells.specs.LookViews.{LookView}
 use Rattle.scr_cells.specs.PenViews.{PenView}
 use Rattle.scr_cells.specs.PictureViews.{IsSize}
 use Rattle.scr_term.specs.declared.operations.operation.Op.{Op}
-use Rattle.scr_term.specs.declared.operations.operation.Op.TheVariants.{Home, Move, Clear, EraseLine, EraseBelow, EraseChars, Reset, Set, Put}
+use Rattle.scr_term.specs.declared.operations.operation.Op.TheVariants.{Home, Move, Clear, EraseLine, EraseBelow, EraseChars, InsertLines, DeleteLines, InsertChars, DeleteChars, Reset, Set, Put}
 use Rattle.scr_term.specs.declared.operations.operation.Spot.{Spot}
 use Rattle.scr_term.specs.declared.operations.operation.Spot.TheVariants.{At}
 use Rattle.scr_term.specs.Operations.Abilities.{Abilities, full_abilities}
@@ -120,8 +120,16 @@ abbrev pub changes_cells : Op → Bool
 changes_cells EraseLine = true
 changes_cells EraseBelow = true
 changes_cells (EraseChars n) = true
+changes_cells (InsertChars n) = true
+changes_cells (DeleteChars n) = true
 changes_cells (Put byte) = true
 changes_cells op = false
+
+-- The operation moves rows at the cursor.
+abbrev pub moves_rows : Op → Bool
+moves_rows (InsertLines n) = true
+moves_rows (DeleteLines n) = true
+moves_rows op = false
 
 -- The operation clears the screen.
 abbrev pub clears : Op → Bool
@@ -142,12 +150,17 @@ rows_erased EraseLine (At r zero) rows = slice_set rows r true
 rows_erased EraseBelow (At r zero) rows = known_from r rows
 rows_erased op spot rows = rows
 
--- The rows known after an operation that led to the state `next`: all after clearing the screen; none if cells were
--- changed while the cursor's position or the pen was unknown; otherwise those known before, and those erased whole.
+-- After the operation no row is known any more: it changes cells while the cursor's position or the pen is unknown, or
+-- it moves rows while not everything is known.
+abbrev pub loses_rows : Op → MemoryView → Bool
+loses_rows op memory = (changes_cells op && not (memory.known_spot && memory.known_pen)) || (moves_rows op && not (is_known memory))
+
+-- The rows known after an operation that led to the state `next`: all after clearing the screen; none where the
+-- operation loses them; otherwise those known before, and those erased whole.
 abbrev pub rows_followed : Op → MemoryView → TerminalState → List Bool
 rows_followed op memory next =
     if clears op then replicate (length memory.known_rows) true
-    else (if changes_cells op && not (memory.known_spot && memory.known_pen) then replicate (length memory.known_rows) false else rows_erased op next.spot memory.known_rows)
+    else (if loses_rows op memory then replicate (length memory.known_rows) false else rows_erased op next.spot memory.known_rows)
 
 -- The memory after an operation, given the state that it leads to; nothing is known if it is undefined.
 abbrev pub stepped : Abilities → Op → MemoryView → Option TerminalState → MemoryView

@@ -5,7 +5,7 @@ ghost use Rattle.std.specs.Option.{is_some};
 ghost use Rattle.scr_term.specs.Operations.Profiles.{abilities};
 ghost use Rattle.scr_term.specs.Operations.States.{IsSpot};
 ghost use Rattle.scr_term.specs.Operations.Steps.{step};
-ghost use Rattle.scr_plan.specs.Memories.{IsMemory, all_followed, changes_cells, clears, disturbed, followed, forgotten, has_one_pen, is_known, is_known_row, known_from, pen_if_known, places_spot, row_looks, rows_erased, rows_followed, sets_pen, spot_if_known, stepped, unknown};
+ghost use Rattle.scr_plan.specs.Memories.{IsMemory, all_followed, changes_cells, clears, disturbed, followed, forgotten, has_one_pen, is_known, is_known_row, known_from, loses_rows, moves_rows, pen_if_known, places_spot, row_looks, rows_erased, rows_followed, sets_pen, spot_if_known, stepped, unknown};
 ghost use Rattle.scr_plan.specs.Repaints.{is_placed};
 ghost use Rattle.scr_cells.specs.Grids.{grid_row};
 ghost use Rattle.scr_plan.specs.Code.Remembering.{gone_to};
@@ -278,11 +278,19 @@ impl Memory {
     {
         if clears(op) {
             self.know_rows();
-        } else if changes_cells(op) && !(self.spot && self.pen) {
+        } else if self.loses_rows(op) {
             self.set_rows(false);
         } else {
             self.learn_erased(op);
         }
+    }
+
+    // Whether no row is known after an operation: it changes cells, or moves rows, and where they
+    // are is not known.
+    fn loses_rows(&self, op: Op) -> bool
+        ensures { result ≡ loses_rows op self.now }
+    {
+        (changes_cells(op) && !(self.spot && self.pen)) || (moves_rows(op) && !self.known())
     }
 
     // Rows that were erased from the first column on become known: the cursor's, or it and all
@@ -362,8 +370,20 @@ fn changes_cells(op: Op) -> bool
 {
     matches!(
         op,
-        Op::EraseLine | Op::EraseBelow | Op::EraseChars(_) | Op::Put(_)
+        Op::EraseLine
+            | Op::EraseBelow
+            | Op::EraseChars(_)
+            | Op::InsertChars(_)
+            | Op::DeleteChars(_)
+            | Op::Put(_)
     )
+}
+
+// Whether an operation moves rows.
+fn moves_rows(op: Op) -> bool
+    ensures { result ≡ moves_rows op }
+{
+    matches!(op, Op::InsertLines(_) | Op::DeleteLines(_))
 }
 
 // Whether an operation makes the whole screen blank.

@@ -1,9 +1,10 @@
 -- What a drawing does: the cell of each place of the area after it, given the cells before.
 use Rattle.std.specs.Prelude.{ℕ, ◌<◌, ◌≤◌}
 use Rattle.scr_cells.specs.CellViews.{CellView}
+use Rattle.scr_cells.specs.Grids.{rows_down, rows_up}
 use Rattle.scr_surfaces.specs.declared.drawings.Drawing.{Drawing}
 use Rattle.scr_surfaces.specs.declared.drawings.Drawing.TheVariants.{Run, Rows, Below, Column, Opened, Closed, Up, Down, Exchanged, Edges}
-use Rattle.scr_surfaces.specs.Formulas.{all_exchanged, below_put, bordered, column_put, row_closed, row_opened, rows_down, rows_put, rows_up, run_put}
+use Rattle.scr_surfaces.specs.Formulas.{all_exchanged, below_put, bordered, column_put, row_closed, row_opened, rows_put, run_put}
 
 -- A drawing in an area of this size, place by place.
 abbrev pub drawn : Drawing → ℕ → ℕ → (ℕ → ℕ → CellView) → ℕ → ℕ → CellView

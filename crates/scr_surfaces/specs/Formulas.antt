@@ -23,14 +23,6 @@ row_opened y x cell at r c = if r == y && leb x c then (if c == x then cell else
 abbrev pub row_closed : ℕ → ℕ → ℕ → CellView → (ℕ → ℕ → CellView) → ℕ → ℕ → CellView
 row_closed columns y x cell at r c = if r == y && leb x c then (if ltb (c + 1) columns then at r (c + 1) else cell) else at r c
 
--- scrl(), insdelln(): the rows from `first` up to `end` move up by n; rows left free get this cell.
-abbrev pub rows_up : ℕ → ℕ → ℕ → CellView → (ℕ → ℕ → CellView) → ℕ → ℕ → CellView
-rows_up first end n cell at r c = if leb first r && ltb r end then (if ltb (r + n) end then at (r + n) c else cell) else at r c
-
--- The same, down.
-abbrev pub rows_down : ℕ → ℕ → ℕ → CellView → (ℕ → ℕ → CellView) → ℕ → ℕ → CellView
-rows_down first end n cell at r c = if leb first r && ltb r end then (if leb (first + n) r then at (r - n) c else cell) else at r c
-
 -- clrtobot(): the places from (y, x) to the end of the row, and all rows below, get this cell.
 abbrev pub below_put : ℕ → ℕ → CellView → (ℕ → ℕ → CellView) → ℕ → ℕ → CellView
 below_put y x cell at r c = if (r == y && leb x c) || ltb y r then cell else at r c

@@ -1,8 +1,9 @@
 //! The drawings that fill and move places of an area. Each is a private function, and every place outside the area
 //! stays.
 ghost use Rattle.std.specs.Prelude.{◌≡◌, ◌+◌, ◌-◌, ◌<◌, ◌≤◌};
+ghost use Rattle.scr_cells.specs.Grids.{rows_down, rows_up};
 ghost use Rattle.scr_surfaces.specs.SurfaceViews.{IsPart, IsSurface, filled, inside_at};
-ghost use Rattle.scr_surfaces.specs.Formulas.{run_put, rows_put, below_put, column_put, all_exchanged, row_opened, row_closed, rows_up, rows_down};
+ghost use Rattle.scr_surfaces.specs.Formulas.{run_put, rows_put, below_put, column_put, all_exchanged, row_opened, row_closed};
 
 use crate::areas::Area;
 use crate::surfaces::Surface;

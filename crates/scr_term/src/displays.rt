@@ -5,7 +5,8 @@ mod changes;
 mod display;
 
 pub(crate) use changes::{
-    Change, characters_erased, moved_down, moved_left, moved_right, moved_to, moved_to_column,
-    moved_to_row, moved_up, rest_of_line_erased,
+    Change, characters_deleted, characters_erased, characters_inserted, lines_deleted,
+    lines_inserted, moved_down, moved_left, moved_right, moved_to, moved_to_column, moved_to_row,
+    moved_up, rest_of_line_erased,
 };
 pub(crate) use display::Display;

@@ -3,6 +3,7 @@
 
 mod admission;
 mod capability;
+mod ladders;
 mod laws;
 mod leading;
 mod making;

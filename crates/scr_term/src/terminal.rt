@@ -56,10 +56,13 @@ impl Terminal {
     /// Returns `Undefined`, and changes nothing, if
     ///
     /// - the terminal does not have the operation, or it leads off the screen;
-    /// - it erases while an attribute or a colour is on, or moves then without `msgr`;
+    /// - it erases, inserts or deletes while an attribute or a colour is on, or moves then without
+    ///   `msgr`;
     /// - the cursor is at the margin and the operation is not `Home`, `Move`, `Clear`, `Reset`,
     ///   `Enter` or `Set`;
-    /// - it is `EraseBelow` and the cursor is not in the first column.
+    /// - it is `EraseBelow`, `InsertLines` or `DeleteLines`, and the cursor is not in the first
+    ///   column;
+    /// - it inserts or deletes more lines or characters than there are from the cursor's on.
     pub fn step(&mut self, profile: &Profile, op: Op) -> Result<(), Undefined>
         requires rows { profile.now.rows ≡ self.old.rows }
         requires columns { profile.now.columns ≡ self.old.columns }

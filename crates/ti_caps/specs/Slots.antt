@@ -5,7 +5,7 @@ use Rattle.std.specs.Str.{bytes_eq}
 use Rattle.ti_caps.specs.declared.table.Kind.{Kind}
 use Rattle.ti_caps.specs.declared.table.Kind.TheVariants.{Flag, Number, Text}
 use Rattle.ti_caps.specs.declared.table.Slot.{Slot}
-use Rattle.ti_caps.specs.declared.slots.TheConstants.{AM, XHP, XENL, GN, HC, MSGR, OS, XT, HZ, UL, SAM, COLS, LINES, XMC, COLORS, PAIRS, NCV, CR, CLEAR, EL, ED, HPA, CUP, CUD1, HOME, CUB1, CUF1, CUU1, BLINK, BOLD, SMCUP, DIM, INVIS, REV, SMSO, SMUL, ECH, SGR0, RMCUP, KBS, KCUD1, KCUB1, KCUF1, KCUU1, RMKX, SMKX, CUD, CUB, CUF, CUU, VPA, SGR, OP, SETAF, SETAB}
+use Rattle.ti_caps.specs.declared.slots.TheConstants.{AM, XHP, XENL, GN, HC, IN, DA, DB, MSGR, OS, XT, HZ, UL, SAM, COLS, LINES, XMC, COLORS, PAIRS, NCV, CR, CLEAR, EL, ED, HPA, CUP, CUD1, HOME, CUB1, CUF1, CUU1, DCH1, DL1, BLINK, BOLD, SMCUP, SMDC, DIM, INVIS, REV, SMSO, SMUL, ECH, SGR0, RMCUP, IL1, KBS, KCUD1, KCUB1, KCUF1, KCUU1, RMKX, SMKX, DCH, DL, CUD, ICH, IL, CUB, CUF, CUU, VPA, SGR, OP, SETAF, SETAB}
 use Rattle.ti_caps.specs.Table.{name_at}
 
 -- The number of positions of a kind.
@@ -31,6 +31,9 @@ flags_are_named =
     ∷ is_slot_of Flag XENL (codes "xenl")
     ∷ is_slot_of Flag GN (codes "gn")
     ∷ is_slot_of Flag HC (codes "hc")
+    ∷ is_slot_of Flag IN (codes "in")
+    ∷ is_slot_of Flag DA (codes "da")
+    ∷ is_slot_of Flag DB (codes "db")
     ∷ is_slot_of Flag MSGR (codes "msgr")
     ∷ is_slot_of Flag OS (codes "os")
     ∷ is_slot_of Flag XT (codes "xt")
@@ -62,9 +65,12 @@ texts_are_named =
     ∷ is_slot_of Text CUB1 (codes "cub1")
     ∷ is_slot_of Text CUF1 (codes "cuf1")
     ∷ is_slot_of Text CUU1 (codes "cuu1")
+    ∷ is_slot_of Text DCH1 (codes "dch1")
+    ∷ is_slot_of Text DL1 (codes "dl1")
     ∷ is_slot_of Text BLINK (codes "blink")
     ∷ is_slot_of Text BOLD (codes "bold")
     ∷ is_slot_of Text SMCUP (codes "smcup")
+    ∷ is_slot_of Text SMDC (codes "smdc")
     ∷ is_slot_of Text DIM (codes "dim")
     ∷ is_slot_of Text INVIS (codes "invis")
     ∷ is_slot_of Text REV (codes "rev")
@@ -73,6 +79,7 @@ texts_are_named =
     ∷ is_slot_of Text ECH (codes "ech")
     ∷ is_slot_of Text SGR0 (codes "sgr0")
     ∷ is_slot_of Text RMCUP (codes "rmcup")
+    ∷ is_slot_of Text IL1 (codes "il1")
     ∷ is_slot_of Text KBS (codes "kbs")
     ∷ is_slot_of Text KCUD1 (codes "kcud1")
     ∷ is_slot_of Text KCUB1 (codes "kcub1")
@@ -80,7 +87,11 @@ texts_are_named =
     ∷ is_slot_of Text KCUU1 (codes "kcuu1")
     ∷ is_slot_of Text RMKX (codes "rmkx")
     ∷ is_slot_of Text SMKX (codes "smkx")
+    ∷ is_slot_of Text DCH (codes "dch")
+    ∷ is_slot_of Text DL (codes "dl")
     ∷ is_slot_of Text CUD (codes "cud")
+    ∷ is_slot_of Text ICH (codes "ich")
+    ∷ is_slot_of Text IL (codes "il")
     ∷ is_slot_of Text CUB (codes "cub")
     ∷ is_slot_of Text CUF (codes "cuf")
     ∷ is_slot_of Text CUU (codes "cuu")

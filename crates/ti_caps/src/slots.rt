@@ -17,6 +17,12 @@ pub const XENL: Slot = Slot(4);
 pub const GN: Slot = Slot(6);
 /// `hc`.
 pub const HC: Slot = Slot(7);
+/// `in`.
+pub const IN: Slot = Slot(10);
+/// `da`.
+pub const DA: Slot = Slot(11);
+/// `db`.
+pub const DB: Slot = Slot(12);
 /// `msgr`.
 pub const MSGR: Slot = Slot(14);
 /// `os`.
@@ -67,12 +73,18 @@ pub const CUB1: Slot = Slot(14);
 pub const CUF1: Slot = Slot(17);
 /// `cuu1`.
 pub const CUU1: Slot = Slot(19);
+/// `dch1`.
+pub const DCH1: Slot = Slot(21);
+/// `dl1`.
+pub const DL1: Slot = Slot(22);
 /// `blink`.
 pub const BLINK: Slot = Slot(26);
 /// `bold`.
 pub const BOLD: Slot = Slot(27);
 /// `smcup`.
 pub const SMCUP: Slot = Slot(28);
+/// `smdc`.
+pub const SMDC: Slot = Slot(29);
 /// `dim`.
 pub const DIM: Slot = Slot(30);
 /// `invis`.
@@ -89,6 +101,8 @@ pub const ECH: Slot = Slot(37);
 pub const SGR0: Slot = Slot(39);
 /// `rmcup`.
 pub const RMCUP: Slot = Slot(40);
+/// `il1`.
+pub const IL1: Slot = Slot(53);
 /// `kbs`.
 pub const KBS: Slot = Slot(55);
 /// `kcud1`.
@@ -103,8 +117,16 @@ pub const KCUU1: Slot = Slot(87);
 pub const RMKX: Slot = Slot(88);
 /// `smkx`.
 pub const SMKX: Slot = Slot(89);
+/// `dch`.
+pub const DCH: Slot = Slot(105);
+/// `dl`.
+pub const DL: Slot = Slot(106);
 /// `cud`.
 pub const CUD: Slot = Slot(107);
+/// `ich`.
+pub const ICH: Slot = Slot(108);
+/// `il`.
+pub const IL: Slot = Slot(110);
 /// `cub`.
 pub const CUB: Slot = Slot(111);
 /// `cuf`.

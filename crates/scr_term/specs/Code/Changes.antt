@@ -1,24 +1,28 @@
 -- What changes on an emulated terminal, and what a change makes of a state.
-use Rattle.std.specs.Prelude.{ℕ, ◌≡◌, ◌<◌, ◌≤◌, Option, option_map}
-use Rattle.scr_cells.specs.Grids.{is_in_run}
+use Rattle.std.specs.Prelude.{ℕ, ◌≡◌, ◌+◌, ◌<◌, ◌≤◌, Option, option_map}
+use Rattle.scr_cells.specs.Grids.{is_in_run, places_left, places_right, rows_down, rows_up}
 use Rattle.scr_cells.specs.LookViews.{blank_grid}
 use Rattle.scr_cells.specs.PenViews.{PenView, plain_pen, with_attribute}
 use Rattle.scr_term.specs.Operations.Abilities.{full_abilities}
-use Rattle.scr_term.specs.Operations.States.{TerminalState, IsSpot, IsShownPen, erased, is_from_place}
+use Rattle.scr_term.specs.Operations.States.{TerminalState, IsSpot, IsShownPen, erased, is_from_place, shifted}
 use Rattle.scr_term.specs.declared.operations.operation.Op.{Op}
 use Rattle.scr_term.specs.declared.operations.operation.Op.TheVariants.{Reset, Enter, Set}
 use Rattle.scr_term.specs.declared.operations.operation.Spot.{Spot}
 use Rattle.scr_term.specs.declared.operations.operation.Spot.TheVariants.{At}
 use Rattle.scr_term.specs.declared.displays.changes.Change.{Change}
-use Rattle.scr_term.specs.declared.displays.changes.Change.TheVariants.{Moved, ErasedRun, ErasedFrom, ErasedAll, Cleared, Rendered}
+use Rattle.scr_term.specs.declared.displays.changes.Change.TheVariants.{Moved, ErasedRun, ErasedFrom, ErasedAll, Cleared, LinesInserted, LinesDeleted, CharactersInserted, CharactersDeleted, Rendered}
 
--- a place of the screen, places of one of its rows, and a pen that it shows
+-- a place of the screen, places of one of its rows, lines and characters that it has, and a pen that it shows
 abbrev pub IsChange : ℕ → ℕ → Change → Type 0
 IsChange rows columns (Moved spot) = IsSpot rows columns spot
 IsChange rows columns (ErasedRun row from end) = (row < rows) × (from ≤ end) × (end ≤ columns)
 IsChange rows columns (ErasedFrom row column) = (row < rows) × (column < columns)
 IsChange rows columns ErasedAll = Unit {0}
 IsChange rows columns Cleared = Unit {0}
+IsChange rows columns (LinesInserted row n) = row + n ≤ rows
+IsChange rows columns (LinesDeleted row n) = row + n ≤ rows
+IsChange rows columns (CharactersInserted row column n) = (row < rows) × (column + n ≤ columns)
+IsChange rows columns (CharactersDeleted row column n) = (row < rows) × (column + n ≤ columns)
 IsChange rows columns (Rendered pen) = IsShownPen (full_abilities rows columns) pen
 
 -- the state with the spot, some places or the pen changed
@@ -28,6 +32,10 @@ changed rows columns state (ErasedRun row from end) = erased rows columns (is_in
 changed rows columns state (ErasedFrom row column) = erased rows columns (is_from_place row column) state
 changed rows columns state ErasedAll = record state { grid = blank_grid rows columns }
 changed rows columns state Cleared = record state { grid = blank_grid rows columns; spot = At 0 0 }
+changed rows columns state (LinesInserted row n) = shifted rows columns (rows_down row rows n) state
+changed rows columns state (LinesDeleted row n) = shifted rows columns (rows_up row rows n) state
+changed rows columns state (CharactersInserted row column n) = shifted rows columns (places_right row column columns n) state
+changed rows columns state (CharactersDeleted row column n) = shifted rows columns (places_left row column columns n) state
 changed rows columns state (Rendered pen) = record state { pen = pen }
 
 -- the change, or that there is none, is what a definition makes of each state; of each with this spot; of each with this

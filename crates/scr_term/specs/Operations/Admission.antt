@@ -1,5 +1,6 @@
 -- Which entries make a profile, which profile, and why others do not. terminfo(5), 'Predefined Capabilities'.
-use Rattle.std.specs.Prelude.{ℕ, ◌≡◌, ◌==◌, ◌&&◌, Bool, true, false, not, nat_lt, nat_le, List, [], ◌∷◌, map, Option, Some, None, option_and_then, option_map, if◌then◌else◌, ◌⊎◌}
+use Rattle.std.specs.Prelude.{ℕ, ◌≡◌, ◌==◌, ◌&&◌, ◌||◌, Bool, true, false, not, nat_lt, nat_le, List, [], ◌∷◌, ◌++◌, map, Option, Some, None, option_and_then, option_map, if◌then◌else◌, ◌⊎◌}
+use Rattle.std.specs.List.{list_any}
 use Rattle.std.specs.Option.{is_some, is_none}
 use Rattle.scr_cells.specs.declared.sizes.Size.{Size}
 use Rattle.scr_cells.specs.PictureViews.{IsSize}
@@ -9,15 +10,15 @@ use Rattle.ti_caps.specs.Table.{or_else}
 use Rattle.ti_caps.specs.declared.table.Kind.{Kind}
 use Rattle.ti_caps.specs.declared.table.Kind.TheVariants as kind
 use Rattle.ti_caps.specs.declared.table.Slot.{Slot}
-use Rattle.ti_caps.specs.declared.slots.TheConstants.{AM, XENL, HC, OS, GN, HZ, UL, XHP, XT, SAM, XMC, LINES, COLS, COLORS, PAIRS, NCV, MSGR}
+use Rattle.ti_caps.specs.declared.slots.TheConstants.{AM, XENL, HC, OS, GN, HZ, UL, XHP, XT, SAM, XMC, LINES, COLS, COLORS, PAIRS, NCV, MSGR, IN, DA, DB, SMDC}
 use Rattle.ti_param.specs.Parsed.{parsed}
 use Rattle.ti_param.specs.Stripped.{stripped}
 use Rattle.ti_param.specs.Tree.{Tree, bound, depth}
 use Rattle.scr_term.specs.declared.operations.capability.Capability.{Capability}
-use Rattle.scr_term.specs.declared.operations.capability.Capability.TheVariants.{Clear, Cup}
+use Rattle.scr_term.specs.declared.operations.capability.Capability.TheVariants.{Clear, Cup, Il1, Il, Dl1, Dl, Ich, Dch1, Dch}
 use Rattle.scr_term.specs.declared.operations.profile_faults.ProfileFault.{ProfileFault}
 use Rattle.scr_term.specs.declared.operations.profile_faults.ProfileFault.TheVariants.{Unsuitable, AutoMargin, Missing, NoSize, BadSize, BadString, LongString, NoMemory}
-use Rattle.scr_term.specs.Operations.Capabilities.{each_capability, slot_of}
+use Rattle.scr_term.specs.Operations.Capabilities.{each_capability, each_spare, slot_of}
 use Rattle.scr_term.specs.Operations.Profiles.{ProfileView}
 
 -- ---- the profile
@@ -34,6 +35,33 @@ sent_text entry capability = option_and_then (λ text. some_text (stripped text)
 -- The program of that text, if it is one.
 abbrev pub planned_program : Description → Capability → Option Tree
 planned_program entry capability = option_and_then parsed (sent_text entry capability)
+
+-- A text of a spare capability is not used where what it moves could come back or be moved otherwise: lines where the
+-- terminal keeps those that went off the screen (`da`, `db`), inserted characters where it tells blanks that were
+-- written from others (`in`), deleted ones where a mode has to be entered first (`smdc`).
+abbrev pub is_spoiled : Description → Capability → Bool
+is_spoiled entry Il1 = flag_at entry DA.0 || flag_at entry DB.0
+is_spoiled entry Il = flag_at entry DA.0 || flag_at entry DB.0
+is_spoiled entry Dl1 = flag_at entry DA.0 || flag_at entry DB.0
+is_spoiled entry Dl = flag_at entry DA.0 || flag_at entry DB.0
+is_spoiled entry Ich = flag_at entry IN.0
+is_spoiled entry Dch1 = is_some (text_at entry SMDC.0)
+is_spoiled entry Dch = is_some (text_at entry SMDC.0)
+is_spoiled entry _ = false
+
+-- The program, if no run of it needs a stack of more than 20 or sends more than 1,024 bytes.
+abbrev pub within_limits : Option Tree → Option Tree
+within_limits None = None
+within_limits (Some program) = if nat_le (depth program) 20 && nat_le (bound program) 1024 then Some program else None
+
+-- The program of a text of a spare capability. A line feed (10) in it could become a carriage return too on its way.
+abbrev pub program_without_line_feed : List ℕ → Option Tree
+program_without_line_feed text = if list_any (λ byte. byte == 10) text then None else within_limits (parsed text)
+
+-- The program of a spare capability: none where its text cannot be used.
+abbrev pub spare_program : Description → Capability → Option Tree
+spare_program entry capability =
+    if is_spoiled entry capability then None else option_and_then program_without_line_feed (sent_text entry capability)
 
 -- The number is present and at least this.
 abbrev pub is_at_least : ℕ → Option ℕ → Bool
@@ -54,7 +82,7 @@ unfoldable pub admitted : Description → ℕ → ℕ → ProfileView
 admitted entry rows columns = record {
   rows = rows;
   columns = columns;
-  programs = map (planned_program entry) each_capability;
+  programs = map (planned_program entry) each_capability ++ map (spare_program entry) each_spare;
   msgr = flag_at entry MSGR.0;
   palette = has_palette entry;
 }

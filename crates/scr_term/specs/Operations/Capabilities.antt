@@ -1,9 +1,9 @@
 -- The capabilities whose texts operations send. terminfo(5), 'Predefined Capabilities'.
 use Rattle.std.specs.Prelude.{ℕ, List, [], ◌∷◌}
 use Rattle.ti_caps.specs.declared.table.Slot.{Slot}
-use Rattle.ti_caps.specs.declared.slots.TheConstants.{CR, CLEAR, EL, ED, HPA, CUP, CUD1, HOME, CUB1, CUF1, CUU1, BLINK, BOLD, DIM, INVIS, REV, SMSO, SMUL, ECH, SGR0, CUD, CUB, CUF, CUU, VPA, SGR, OP, SETAF, SETAB}
+use Rattle.ti_caps.specs.declared.slots.TheConstants.{CR, CLEAR, EL, ED, HPA, CUP, CUD1, HOME, CUB1, CUF1, CUU1, BLINK, BOLD, DIM, INVIS, REV, SMSO, SMUL, ECH, SGR0, CUD, CUB, CUF, CUU, VPA, SGR, OP, SETAF, SETAB, IL1, IL, DL1, DL, ICH, DCH1, DCH}
 use Rattle.scr_term.specs.declared.operations.capability.Capability.{Capability}
-use Rattle.scr_term.specs.declared.operations.capability.Capability.TheVariants.{Cr, Clear, El, Ed, Hpa, Cup, Cud1, Home, Cub1, Cuf1, Cuu1, Blink, Bold, Dim, Invis, Rev, Smso, Smul, Ech, Sgr0, Cud, Cub, Cuf, Cuu, Vpa, Sgr, Op, Setaf, Setab}
+use Rattle.scr_term.specs.declared.operations.capability.Capability.TheVariants.{Cr, Clear, El, Ed, Hpa, Cup, Cud1, Home, Cub1, Cuf1, Cuu1, Blink, Bold, Dim, Invis, Rev, Smso, Smul, Ech, Sgr0, Cud, Cub, Cuf, Cuu, Vpa, Sgr, Op, Setaf, Setab, Il1, Il, Dl1, Dl, Ich, Dch1, Dch}
 
 -- The position of a capability among the texts of an entry.
 abbrev pub slot_of : Capability → Slot
@@ -36,14 +36,25 @@ slot_of Sgr = SGR
 slot_of Op = OP
 slot_of Setaf = SETAF
 slot_of Setab = SETAB
+slot_of Il1 = IL1
+slot_of Il = IL
+slot_of Dl1 = DL1
+slot_of Dl = DL
+slot_of Ich = ICH
+slot_of Dch1 = DCH1
+slot_of Dch = DCH
 
--- All of these capabilities, in the order of their positions.
+-- All of these capabilities but the spare ones, in the order of their positions.
 abbrev pub each_capability : List Capability
 each_capability =
     Cr ∷ Clear ∷ El ∷ Ed ∷ Hpa ∷ Cup ∷ Cud1 ∷ Home ∷ Cub1 ∷ Cuf1 ∷ Cuu1 ∷ Blink ∷ Bold ∷ Dim ∷ Invis ∷ Rev ∷ Smso ∷ Smul ∷ Ech
     ∷ Sgr0 ∷ Cud ∷ Cub ∷ Cuf ∷ Cuu ∷ Vpa ∷ Sgr ∷ Op ∷ Setaf ∷ Setab ∷ []
 
--- The number of a capability in this list, from 0.
+-- The spare capabilities: those that insert and delete lines and characters. A terminal can do without each.
+abbrev pub each_spare : List Capability
+each_spare = Il1 ∷ Il ∷ Dl1 ∷ Dl ∷ Ich ∷ Dch1 ∷ Dch ∷ []
+
+-- The number of a capability in these lists, one behind the other, from 0.
 abbrev pub ordinal : Capability → ℕ
 ordinal Cr = 0
 ordinal Clear = 1
@@ -74,3 +85,10 @@ ordinal Sgr = 25
 ordinal Op = 26
 ordinal Setaf = 27
 ordinal Setab = 28
+ordinal Il1 = 29
+ordinal Il = 30
+ordinal Dl1 = 31
+ordinal Dl = 32
+ordinal Ich = 33
+ordinal Dch1 = 34
+ordinal Dch = 35

@@ -1,7 +1,7 @@
 -- The state of a terminal: what its screen shows, where its cursor is, and what it writes with. terminfo(5), 'Cursor
 -- Motions' and 'Highlighting'; ECMA-48, 'active presentation position'.
 use Rattle.std.specs.Prelude.{ℕ, ◌≡◌, ◌+◌, ◌-◌, ◌<◌, ◌==◌, ◌&&◌, ◌||◌, Bool, true, false, List, All, bit_and, nat_le, nat_lt, if◌then◌else◌, Option, Some, None, IfSome}
-use Rattle.scr_cells.specs.Grids.{IsGrid, grid_at, grid_filled, grid_with, is_in_run}
+use Rattle.scr_cells.specs.Grids.{IsGrid, grid_at, grid_filled, grid_of, grid_with, is_in_run, places_left, places_right, rows_down, rows_up}
 use Rattle.scr_cells.specs.LookViews.{LookView, IsLook, blank, blank_grid, negative_grid}
 use Rattle.scr_cells.specs.PenViews.{PenView, IsColour, negative_pen, plain_pen}
 use Rattle.scr_term.specs.Operations.Abilities.{Abilities}
@@ -110,3 +110,28 @@ rest_of_line_erased rows columns state = from_place state.spot (λ r c. Some (er
 abbrev pub characters_erased : ℕ → ℕ → TerminalState → ℕ → Option TerminalState
 characters_erased rows columns state n =
     from_place state.spot (λ r c. if nat_le (c + n) columns then Some (erased rows columns (is_in_run r c (c + n)) state) else None)
+
+-- Lines or characters move; what is left free becomes blanks without attributes, in default colours; the cursor stays.
+abbrev pub shifted : ℕ → ℕ → (LookView → (ℕ → ℕ → LookView) → ℕ → ℕ → LookView) → TerminalState → TerminalState
+shifted rows columns move state = record state { grid = grid_of rows columns (move blank (grid_at blank state.grid)) }
+
+-- n blank lines are inserted before the cursor's line, and the last n are lost; undefined at the margin, outside the
+-- first column, and where there are not so many lines from the cursor's on.
+abbrev pub lines_inserted : ℕ → ℕ → TerminalState → ℕ → Option TerminalState
+lines_inserted rows columns state n =
+    from_place state.spot (λ r c. if c == 0 && nat_le (r + n) rows then Some (shifted rows columns (rows_down r rows n) state) else None)
+
+-- n lines from the cursor's on are deleted, and the last n become blank; undefined likewise.
+abbrev pub lines_deleted : ℕ → ℕ → TerminalState → ℕ → Option TerminalState
+lines_deleted rows columns state n =
+    from_place state.spot (λ r c. if c == 0 && nat_le (r + n) rows then Some (shifted rows columns (rows_up r rows n) state) else None)
+
+-- n blanks are inserted at the cursor, and the last n places of its line are lost; undefined beyond the end of the line.
+abbrev pub characters_inserted : ℕ → ℕ → TerminalState → ℕ → Option TerminalState
+characters_inserted rows columns state n =
+    from_place state.spot (λ r c. if nat_le (c + n) columns then Some (shifted rows columns (places_right r c columns n) state) else None)
+
+-- n characters from the cursor on are deleted, and the last n places of its line become blank; undefined likewise.
+abbrev pub characters_deleted : ℕ → ℕ → TerminalState → ℕ → Option TerminalState
+characters_deleted rows columns state n =
+    from_place state.spot (λ r c. if nat_le (c + n) columns then Some (shifted rows columns (places_left r c columns n) state) else None)

@@ -4,17 +4,17 @@ use Rattle.std.specs.Prelude.{ℕ, ◌==◌, ◌||◌, List, [], ◌∷◌, Opti
 use Rattle.scr_cells.specs.LookViews.{blank_grid}
 use Rattle.scr_cells.specs.PenViews.{PenView, is_plain_pen, plain_pen, with_attribute}
 use Rattle.scr_term.specs.Operations.Profiles.{ProfileView}
-use Rattle.scr_term.specs.Operations.States.{TerminalState, character_written, characters_erased, erased, from_place, is_from_place, moved_down, moved_left, moved_right, moved_to, moved_to_column, moved_to_row, moved_up, rest_of_line_erased}
+use Rattle.scr_term.specs.Operations.States.{TerminalState, character_written, characters_deleted, characters_erased, characters_inserted, erased, from_place, is_from_place, lines_deleted, lines_inserted, moved_down, moved_left, moved_right, moved_to, moved_to_column, moved_to_row, moved_up, rest_of_line_erased}
 use Rattle.scr_term.specs.Operations.Texts.{has}
 use Rattle.scr_term.specs.declared.operations.operation.Op.{Op}
-use Rattle.scr_term.specs.declared.operations.operation.Op.TheVariants.{Home, Move, Column, Line, Up, Down, Left, Right, Return, Clear, EraseLine, EraseBelow, EraseChars, Reset, Enter, Set, Fore, Back, Put}
+use Rattle.scr_term.specs.declared.operations.operation.Op.TheVariants.{Home, Move, Column, Line, Up, Down, Left, Right, Return, Clear, EraseLine, EraseBelow, EraseChars, InsertLines, DeleteLines, InsertChars, DeleteChars, Reset, Enter, Set, Fore, Back, Put}
 use Rattle.scr_term.specs.declared.operations.operation.Spot.TheVariants.{At}
 
 -- A motion; with an attribute or a colour on, it is defined only if the terminal has `msgr`.
 abbrev pub motion_made : ProfileView → TerminalState → Option TerminalState → Option TerminalState
 motion_made profile state next = if profile.msgr || is_plain_pen state.pen then next else None
 
--- An erasure; undefined with an attribute or a colour on.
+-- An erasure, an insertion or a deletion; undefined with an attribute or a colour on.
 abbrev pub erasure_made : TerminalState → Option TerminalState → Option TerminalState
 erasure_made state next = if is_plain_pen state.pen then next else None
 
@@ -42,6 +42,10 @@ act profile state Clear = erasure_made state (Some (record state { grid = blank_
 act profile state EraseLine = erasure_made state (rest_of_line_erased profile.rows profile.columns state)
 act profile state EraseBelow = erasure_made state (lines_below_erased profile.rows profile.columns state)
 act profile state (EraseChars n) = erasure_made state (characters_erased profile.rows profile.columns state n)
+act profile state (InsertLines n) = erasure_made state (lines_inserted profile.rows profile.columns state n)
+act profile state (DeleteLines n) = erasure_made state (lines_deleted profile.rows profile.columns state n)
+act profile state (InsertChars n) = erasure_made state (characters_inserted profile.rows profile.columns state n)
+act profile state (DeleteChars n) = erasure_made state (characters_deleted profile.rows profile.columns state n)
 act profile state Reset = Some (record state { pen = plain_pen })
 act profile state (Enter a) = Some (record state { pen = with_attribute state.pen a.0 })
 act profile state (Set a) = Some (record state { pen = record plain_pen { attrs = a.0 } })

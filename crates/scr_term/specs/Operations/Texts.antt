@@ -9,7 +9,7 @@ use Rattle.ti_param.specs.Tree.{Tree, start, value}
 use Rattle.scr_term.specs.declared.operations.capability.Capability.{Capability}
 use Rattle.scr_term.specs.declared.operations.capability.Capability.TheVariants as capability
 use Rattle.scr_term.specs.declared.operations.operation.Op.{Op}
-use Rattle.scr_term.specs.declared.operations.operation.Op.TheVariants.{Home, Move, Column, Line, Up, Down, Left, Right, Return, Clear, EraseLine, EraseBelow, EraseChars, Reset, Enter, Set, Fore, Back, Put}
+use Rattle.scr_term.specs.declared.operations.operation.Op.TheVariants.{Home, Move, Column, Line, Up, Down, Left, Right, Return, Clear, EraseLine, EraseBelow, EraseChars, InsertLines, DeleteLines, InsertChars, DeleteChars, Reset, Enter, Set, Fore, Back, Put}
 use Rattle.scr_term.specs.Operations.Pieces.{Piece, Character, Text}
 use Rattle.scr_term.specs.Operations.Profiles.{ProfileView, entering, has_colours, is_shown, is_there, program_of, shown_set}
 
@@ -29,7 +29,7 @@ text_of_one capability n = Text capability (nine (pos n ∷ []))
 abbrev pub text_of_two : Capability → ℕ → ℕ → Piece
 text_of_two capability n m = Text capability (nine (pos n ∷ pos m ∷ []))
 
--- A motion by one place, if the terminal has a text for that; otherwise by a number of places.
+-- A text for one place or line, if the terminal has one; otherwise that for a number of them.
 abbrev pub motion : ProfileView → Capability → Capability → ℕ → Piece
 motion profile one many n = if n == 1 && is_there profile one then text one else text_of_one many n
 
@@ -56,6 +56,10 @@ first_piece profile Clear = text capability.Clear
 first_piece profile EraseLine = text capability.El
 first_piece profile EraseBelow = text capability.Ed
 first_piece profile (EraseChars n) = text_of_one capability.Ech n
+first_piece profile (InsertLines n) = motion profile capability.Il1 capability.Il n
+first_piece profile (DeleteLines n) = motion profile capability.Dl1 capability.Dl n
+first_piece profile (InsertChars n) = text_of_one capability.Ich n
+first_piece profile (DeleteChars n) = motion profile capability.Dch1 capability.Dch n
 first_piece profile Reset = text capability.Sgr0
 first_piece profile (Enter a) = text (entering a.0)
 first_piece profile (Set a) = Text capability.Sgr (renditions_of a.0)
@@ -79,7 +83,8 @@ abbrev pub is_sendable : ProfileView → Piece → Bool
 is_sendable profile (Character byte) = true
 is_sendable profile (Text capability parameters) = is_there profile capability
 
--- The numbers by which the cursor can be moved or characters erased: 1 to 500.
+-- The numbers by which the cursor can be moved, and of lines and characters that are erased, inserted or deleted: 1 to
+-- 500.
 abbrev pub is_count : ℕ → Bool
 is_count n = nat_le 1 n && nat_le n 500
 
@@ -101,6 +106,10 @@ is_within profile (Down n) = is_count n
 is_within profile (Left n) = is_count n
 is_within profile (Right n) = is_count n
 is_within profile (EraseChars n) = is_count n
+is_within profile (InsertLines n) = is_count n
+is_within profile (DeleteLines n) = is_count n
+is_within profile (InsertChars n) = is_count n
+is_within profile (DeleteChars n) = is_count n
 is_within profile (Enter a) = is_attribute a.0 && is_shown profile a.0
 is_within profile (Set a) = bit_and (shown_set profile) a.0 == a.0
 is_within profile (Fore n) = is_shown_colour profile n

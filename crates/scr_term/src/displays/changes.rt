@@ -1,6 +1,6 @@
 //! Changes of an emulated terminal, worked out before any of them is made.
 ghost use Rattle.std.specs.Prelude.{◌≤◌, IfSome};
-ghost use Rattle.scr_term.specs.Operations.States.{IsSpot, characters_erased, moved_down, moved_left, moved_right, moved_to, moved_to_column, moved_to_row, moved_up, rest_of_line_erased};
+ghost use Rattle.scr_term.specs.Operations.States.{IsSpot, characters_deleted, characters_erased, characters_inserted, lines_deleted, lines_inserted, moved_down, moved_left, moved_right, moved_to, moved_to_column, moved_to_row, moved_up, rest_of_line_erased};
 ghost use Rattle.scr_term.specs.Code.Changes.{IsChange, Makes, MakesAt};
 
 use crate::Spot;
@@ -19,6 +19,14 @@ pub(crate) enum Change {
     ErasedAll,
     /// Every place is erased, and the cursor goes to row 0, column 0.
     Cleared,
+    /// Blank lines are inserted before a row; the numbers are the row and how many.
+    LinesInserted(u32, u32),
+    /// Lines are deleted from a row on; the numbers are the row and how many.
+    LinesDeleted(u32, u32),
+    /// Blanks are inserted into a row; the numbers are the row, the column and how many.
+    CharactersInserted(u32, u32, u32),
+    /// Characters of a row are deleted; the numbers are the row, the column and how many.
+    CharactersDeleted(u32, u32, u32),
     /// This is the pen from now on.
     Rendered(Pen),
 }
@@ -130,6 +138,66 @@ pub(crate) fn characters_erased(size: Size, spot: Spot, count: u32) -> Option<Ch
     match spot {
         Spot::At(row, column) if column + count <= size.columns => {
             Some(Change::ErasedRun(row, column, column + count))
+        }
+        _ => None,
+    }
+}
+
+/// Inserts `count` blank lines before the cursor's; `None` if there are not
+/// so many from there on, outside the first column, and at the margin.
+pub(crate) fn lines_inserted(size: Size, spot: Spot, count: u32) -> Option<Change>
+    requires spot { IsSpot size.rows size.columns spot }
+    requires few { count ≤ 65535 }
+    ensures value { MakesAt size.rows size.columns spot result (λ state. lines_inserted size.rows size.columns state count) }
+    ensures change { IfSome result (IsChange size.rows size.columns) }
+{
+    match spot {
+        Spot::At(row, 0) if row + count <= size.rows => Some(Change::LinesInserted(row, count)),
+        _ => None,
+    }
+}
+
+/// Deletes `count` lines from the cursor's on; `None` if there are not
+/// so many from there on, outside the first column, and at the margin.
+pub(crate) fn lines_deleted(size: Size, spot: Spot, count: u32) -> Option<Change>
+    requires spot { IsSpot size.rows size.columns spot }
+    requires few { count ≤ 65535 }
+    ensures value { MakesAt size.rows size.columns spot result (λ state. lines_deleted size.rows size.columns state count) }
+    ensures change { IfSome result (IsChange size.rows size.columns) }
+{
+    match spot {
+        Spot::At(row, 0) if row + count <= size.rows => Some(Change::LinesDeleted(row, count)),
+        _ => None,
+    }
+}
+
+/// Inserts `count` blanks at the cursor; `None` if these go past the end of the line,
+/// and at the margin.
+pub(crate) fn characters_inserted(size: Size, spot: Spot, count: u32) -> Option<Change>
+    requires spot { IsSpot size.rows size.columns spot }
+    requires few { count ≤ 65535 }
+    ensures value { MakesAt size.rows size.columns spot result (λ state. characters_inserted size.rows size.columns state count) }
+    ensures change { IfSome result (IsChange size.rows size.columns) }
+{
+    match spot {
+        Spot::At(row, column) if column + count <= size.columns => {
+            Some(Change::CharactersInserted(row, column, count))
+        }
+        _ => None,
+    }
+}
+
+/// Deletes `count` characters from the cursor on; `None` if these go past the end of the line,
+/// and at the margin.
+pub(crate) fn characters_deleted(size: Size, spot: Spot, count: u32) -> Option<Change>
+    requires spot { IsSpot size.rows size.columns spot }
+    requires few { count ≤ 65535 }
+    ensures value { MakesAt size.rows size.columns spot result (λ state. characters_deleted size.rows size.columns state count) }
+    ensures change { IfSome result (IsChange size.rows size.columns) }
+{
+    match spot {
+        Spot::At(row, column) if column + count <= size.columns => {
+            Some(Change::CharactersDeleted(row, column, count))
         }
         _ => None,
     }

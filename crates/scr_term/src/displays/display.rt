@@ -1,7 +1,7 @@
 //! The grid, the cursor's spot and the pen of an emulated terminal.
-ghost use Rattle.std.specs.Prelude.{◌≡◌, ◌<◌, ◌≤◌, IfOk, is_some, length};
+ghost use Rattle.std.specs.Prelude.{◌≡◌, ◌+◌, ◌<◌, ◌≤◌, IfOk, is_some, length};
 ghost use Rattle.scr_cells.specs.CellViews.{IsCharacter};
-ghost use Rattle.scr_cells.specs.Grids.{grid_at, grid_filled, grid_row, is_in_run};
+ghost use Rattle.scr_cells.specs.Grids.{grid_at, grid_filled, grid_of, grid_row, is_in_run, places_left, places_right, rows_down, rows_up};
 ghost use Rattle.scr_cells.specs.LookViews.{IsLook, LookView, blank};
 ghost use Rattle.scr_cells.specs.PictureViews.{IsPlace};
 ghost use Rattle.scr_term.specs.Operations.Abilities.{full_abilities};
@@ -150,6 +150,14 @@ impl Display {
                 self.grid.fill_every(Look::blank());
                 self.spot = Spot::At(0, 0);
             }
+            Change::LinesInserted(row, count) => insert_lines(&mut self.grid, row, count),
+            Change::LinesDeleted(row, count) => delete_lines(&mut self.grid, row, count),
+            Change::CharactersInserted(row, column, count) => {
+                insert_characters(&mut self.grid, row, column, count)
+            }
+            Change::CharactersDeleted(row, column, count) => {
+                delete_characters(&mut self.grid, row, column, count)
+            }
             Change::Rendered(pen) => self.pen = pen,
         }
     }
@@ -202,4 +210,42 @@ fn erase_from(grid: &mut Grid<Look>, row: u32, column: u32)
         erase_run(grid, below, 0, columns);
         below += 1;
     }
+}
+
+// Inserts blank lines before a row. The last ones are lost.
+fn insert_lines(grid: &mut Grid<Look>, row: u32, count: u32)
+    requires { row + count ≤ grid.old.rows }
+    ensures { grid.new ≡ record grid.old { lines = grid_of grid.old.rows grid.old.columns (rows_down row grid.old.rows count blank (grid_at blank grid.old.lines)) } }
+{
+    let rows = grid.rows();
+    grid.move_rows_down(row, rows, count, Look::blank());
+}
+
+// Deletes lines from a row on. As many at the end become blank.
+fn delete_lines(grid: &mut Grid<Look>, row: u32, count: u32)
+    requires { row + count ≤ grid.old.rows }
+    ensures { grid.new ≡ record grid.old { lines = grid_of grid.old.rows grid.old.columns (rows_up row grid.old.rows count blank (grid_at blank grid.old.lines)) } }
+{
+    let rows = grid.rows();
+    grid.move_rows_up(row, rows, count, Look::blank());
+}
+
+// Inserts blanks into a row. The last places of the row are lost.
+fn insert_characters(grid: &mut Grid<Look>, row: u32, column: u32, count: u32)
+    requires row { row < grid.old.rows }
+    requires end { column + count ≤ grid.old.columns }
+    ensures { grid.new ≡ record grid.old { lines = grid_of grid.old.rows grid.old.columns (places_right row column grid.old.columns count blank (grid_at blank grid.old.lines)) } }
+{
+    let columns = grid.columns();
+    grid.move_places_right(row, column, columns, count, Look::blank());
+}
+
+// Deletes characters of a row. As many places at its end become blank.
+fn delete_characters(grid: &mut Grid<Look>, row: u32, column: u32, count: u32)
+    requires row { row < grid.old.rows }
+    requires end { column + count ≤ grid.old.columns }
+    ensures { grid.new ≡ record grid.old { lines = grid_of grid.old.rows grid.old.columns (places_left row column grid.old.columns count blank (grid_at blank grid.old.lines)) } }
+{
+    let columns = grid.columns();
+    grid.move_places_left(row, column, columns, count, Look::blank());
 }

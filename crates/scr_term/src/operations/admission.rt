@@ -1,7 +1,7 @@
 //! How a terminfo entry becomes a profile, or why it does not.
 ghost use Rattle.std.specs.Prelude.{◌≡◌, ◌≢◌, ◌++◌, ◌∷◌, [], OnOk, IfOk, IfErr, IsErrOf, Some, map, length, option_map};
 ghost use Rattle.ti_param.specs.Parsed.{parsed};
-ghost use Rattle.scr_term.specs.Operations.Admission.{IsAdmitted, IsBundledAdmitted, IsEcma48, IsRefused, RanOut, first_where, is_bad_string, is_over_bound, is_present, named_text, planned_program, screen_size, sent_text, size_fault};
+ghost use Rattle.scr_term.specs.Operations.Admission.{IsAdmitted, IsBundledAdmitted, IsEcma48, IsRefused, RanOut, first_where, is_bad_string, is_over_bound, is_present, is_spoiled, named_text, planned_program, program_without_line_feed, screen_size, sent_text, size_fault, spare_program, within_limits};
 ghost use Rattle.scr_term.specs.Code.Admission.{Judges, bad_fault_of, program_in};
 ghost use Rattle.scr_term.specs.Operations.Admission.{is_missing, margin_fault, missing_fault, unsuitable_fault};
 
@@ -54,6 +54,11 @@ impl Profile {
     /// 7. `LongString`: the text of such a capability could give more than 1,024 bytes.
     /// 8. `NoMemory`: an allocation failed, whatever refusal would have followed. The first two are
     ///    checked before any allocation.
+    ///
+    /// Nothing is refused for a text that inserts or deletes lines or characters. Such a text counts
+    /// as absent if it is not a parameter string, could need more than 20 values or give more than
+    /// 1,024 bytes, or contains a line feed; all that move lines do if `da` or `db` is present, `ich`
+    /// if `in` is, `dch` and `dch1` if `smdc` is.
     pub fn admit(alloc: Global, entry: &Entry, size: Option<Size>) -> Result<Profile, ProfileFault>
         ensures ok { IfOk result (IsAdmitted entry.now size) }
         ensures err { IfErr result (IsRefused entry.now size) }
@@ -67,6 +72,9 @@ impl Profile {
         if let Some(capability) = first_long(&programs, &Capability::EACH) {
             return Err(ProfileFault::LongString((Kind::Text, capability.slot())));
         }
+        let Ok(programs) = with_spares(alloc, entry, programs, &Capability::SPARE) else {
+            return Err(ProfileFault::NoMemory);
+        };
         Ok(profile(entry, size, programs).priced(entry))
     }
 
@@ -249,6 +257,77 @@ fn planned_program(
     match program {
         Some(program) if program.depth() <= MOST_DEPTH => Ok(Some(program)),
         _ => Err(ProfileFault::BadString((Kind::Text, capability.slot()))),
+    }
+}
+
+// The programs of these capabilities, behind others.
+fn with_spares(
+    alloc: Global,
+    entry: &Entry,
+    programs: Vec<Option<Program>>,
+    capabilities: &[Capability],
+) -> Result<Vec<Option<Program>>, NoMemory>
+    ensures { IfOk result (λ all. all.items ≡ programs.items ++ map (spare_program entry.now) capabilities.now) }
+{
+    let mut programs = programs;
+    for capability in capabilities {
+        let program = spare_program(alloc, entry, *capability)?;
+        add(&mut programs, program)?;
+    }
+    Ok(programs)
+}
+
+// The program of a spare capability; `None` if its text cannot be used.
+fn spare_program(
+    alloc: Global,
+    entry: &Entry,
+    capability: Capability,
+) -> Result<Option<Program>, NoMemory>
+    ensures { IfOk result (λ program. program ≡ spare_program entry.now capability) }
+{
+    if is_spoiled(entry, capability) {
+        return Ok(None);
+    }
+    match sent_text(alloc, entry, capability)? {
+        Some(text) => program_without_line_feed(alloc, &text),
+        None => Ok(None),
+    }
+}
+
+// Whether the terminal moves lines or characters otherwise than operations do.
+fn is_spoiled(entry: &Entry, capability: Capability) -> bool
+    ensures { result ≡ is_spoiled entry.now capability }
+{
+    match capability {
+        Capability::Il1 | Capability::Il | Capability::Dl1 | Capability::Dl => {
+            entry.flag(slots::DA) || entry.flag(slots::DB)
+        }
+        Capability::Ich => entry.flag(slots::IN),
+        Capability::Dch1 | Capability::Dch => entry.text(slots::SMDC).is_some(),
+        _ => false,
+    }
+}
+
+// The program of a text; `None` if it is no parameter string, exceeds the limits or contains a line
+// feed.
+fn program_without_line_feed(alloc: Global, text: &[u8]) -> Result<Option<Program>, NoMemory>
+    ensures { IfOk result (λ program. program ≡ program_without_line_feed text.now) }
+{
+    if text.contains(&b'\n') {
+        return Ok(None);
+    }
+    Ok(within_limits(parsed_program(alloc, text)?))
+}
+
+// The program, if it keeps to the limits.
+fn within_limits(program: Option<Program>) -> Option<Program>
+    ensures { result ≡ within_limits program }
+{
+    match program {
+        Some(program) if program.depth() <= MOST_DEPTH && program.bound() <= MOST_BYTES => {
+            Some(program)
+        }
+        _ => None,
     }
 }
 

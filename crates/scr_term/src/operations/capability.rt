@@ -4,8 +4,8 @@ ghost use Rattle.scr_term.specs.Operations.Capabilities.{ordinal, slot_of};
 
 use ti_caps::{Slot, slots};
 
-/// A capability that an operation sends, in the order of positions (terminfo(5), "Predefined
-/// Capabilities").
+/// A capability that an operation sends (terminfo(5), "Predefined Capabilities"). Those in `SPARE`
+/// come last.
 #[derive(Clone, Copy, Debug, PartialEq, Eq)]
 pub enum Capability {
     /// `cr`.
@@ -66,10 +66,24 @@ pub enum Capability {
     Setaf,
     /// `setab`.
     Setab,
+    /// `il1`.
+    Il1,
+    /// `il`.
+    Il,
+    /// `dl1`.
+    Dl1,
+    /// `dl`.
+    Dl,
+    /// `ich`.
+    Ich,
+    /// `dch1`.
+    Dch1,
+    /// `dch`.
+    Dch,
 }
 
 impl Capability {
-    /// All of them, in the order of their positions.
+    /// All of them but those in `SPARE`, in the order of their positions.
     pub const EACH: [Capability; 29] = [
         Capability::Cr,
         Capability::Clear,
@@ -102,7 +116,19 @@ impl Capability {
         Capability::Setab,
     ];
 
-    /// Its index in `EACH`.
+    /// Those that insert and delete lines and characters. A terminal can do without each of them, so
+    /// an entry is admitted whatever their texts are.
+    pub const SPARE: [Capability; 7] = [
+        Capability::Il1,
+        Capability::Il,
+        Capability::Dl1,
+        Capability::Dl,
+        Capability::Ich,
+        Capability::Dch1,
+        Capability::Dch,
+    ];
+
+    /// Its index in `EACH`, or behind these in `SPARE`.
     pub(crate) fn ordinal(self) -> usize
         ensures { result ≡ ordinal self }
     {
@@ -143,6 +169,13 @@ impl Capability {
             Capability::Op => slots::OP,
             Capability::Setaf => slots::SETAF,
             Capability::Setab => slots::SETAB,
+            Capability::Il1 => slots::IL1,
+            Capability::Il => slots::IL,
+            Capability::Dl1 => slots::DL1,
+            Capability::Dl => slots::DL,
+            Capability::Ich => slots::ICH,
+            Capability::Dch1 => slots::DCH1,
+            Capability::Dch => slots::DCH,
         }
     }
 }

@@ -36,6 +36,17 @@ pub enum Op {
     EraseBelow,
     /// `ech`: makes 1 to 500 places of the row blank, from the cursor on.
     EraseChars(u32),
+    /// `il1` or `il`, sent in the first column: inserts 1 to 500 blank lines before the cursor's
+    /// row. As many rows at the bottom of the screen are lost.
+    InsertLines(u32),
+    /// `dl1` or `dl`, sent in the first column: deletes 1 to 500 lines, from the cursor's row on.
+    /// As many rows at the bottom of the screen become blank.
+    DeleteLines(u32),
+    /// `ich`: inserts 1 to 500 blanks at the cursor. As many places at the end of the row are lost.
+    InsertChars(u32),
+    /// `dch1` or `dch`: deletes 1 to 500 characters of the row, from the cursor on. As many places
+    /// at the end of the row become blank.
+    DeleteChars(u32),
     /// `sgr0`, then `op` if colours are shown: turns all attributes off and makes the colours
     /// default.
     Reset,

@@ -44,6 +44,10 @@ impl Profile {
             Op::EraseLine => text(Capability::El),
             Op::EraseBelow => text(Capability::Ed),
             Op::EraseChars(count) => text_of_one(Capability::Ech, count),
+            Op::InsertLines(count) => self.motion(Capability::Il1, Capability::Il, count),
+            Op::DeleteLines(count) => self.motion(Capability::Dl1, Capability::Dl, count),
+            Op::InsertChars(count) => text_of_one(Capability::Ich, count),
+            Op::DeleteChars(count) => self.motion(Capability::Dch1, Capability::Dch, count),
             Op::Reset => text(Capability::Sgr0),
             Op::Enter(attribute) => text(entering(attribute)),
             Op::Set(attributes) => Sent::Renditions(attributes),
@@ -53,8 +57,7 @@ impl Profile {
         }
     }
 
-    // A motion by one place uses the text for one place if the terminal has it, otherwise the one
-    // with a count.
+    // The text for one place or line if the terminal has it, otherwise the one with a count.
     fn motion(&self, one: Capability, many: Capability, count: u32) -> Sent
         requires { count ≤ 500 }
         ensures { piece_of result ≡ motion self.now one many count }

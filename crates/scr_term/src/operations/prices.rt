@@ -3,6 +3,10 @@
 ghost use Rattle.std.specs.Prelude.{◌≡◌, ◌<◌, IfSome};
 
 use crate::operations::capability::Capability;
+use crate::operations::ladders::{
+    ADDRESSED_COLUMNS, ADDRESSED_ROWS, ByDigits, CHARS_DELETED, CHARS_INSERTED, COLUMNS, Counted,
+    DOWNS, ERASURES, LEFTS, LINES, LINES_DELETED, LINES_INSERTED, RIGHTS, UPS,
+};
 use crate::{Op, Profile};
 use bitflags::Flags;
 use scr_cells::Attrs;
@@ -10,27 +14,6 @@ use ti_caps::Entry;
 
 /// The price of an operation that the terminal does not have: more than all others together.
 pub const FAR: u32 = 1_000_000;
-
-// The operations by which a text with a number is priced: one with a number of one digit, one of
-// two and one of three. `hpa` and `vpa` count from 1. A motion also has one by a single place.
-const ERASURES: [Op; 3] = [Op::EraseChars(1), Op::EraseChars(10), Op::EraseChars(100)];
-
-const COLUMNS: [Op; 3] = [Op::Column(0), Op::Column(9), Op::Column(99)];
-
-const LINES: [Op; 3] = [Op::Line(0), Op::Line(9), Op::Line(99)];
-
-const UPS: [Op; 4] = [Op::Up(1), Op::Up(2), Op::Up(10), Op::Up(100)];
-
-const DOWNS: [Op; 4] = [Op::Down(1), Op::Down(2), Op::Down(10), Op::Down(100)];
-
-const LEFTS: [Op; 4] = [Op::Left(1), Op::Left(2), Op::Left(10), Op::Left(100)];
-
-const RIGHTS: [Op; 4] = [Op::Right(1), Op::Right(2), Op::Right(10), Op::Right(100)];
-
-// The same for `cup`, in the first column and in the first row.
-const ADDRESSED_ROWS: [Op; 3] = [Op::Move(0, 0), Op::Move(9, 0), Op::Move(99, 0)];
-
-const ADDRESSED_COLUMNS: [Op; 3] = [Op::Move(0, 0), Op::Move(0, 9), Op::Move(0, 99)];
 
 /// The prices of a terminal's operations: estimates of their bytes, made when the entry is
 /// admitted.
@@ -45,6 +28,10 @@ pub struct Prices {
     erase_line: u32,
     erase_below: u32,
     erase_chars: ByDigits,
+    insert_lines: Counted,
+    delete_lines: Counted,
+    insert_chars: ByDigits,
+    delete_chars: Counted,
     column: ByDigits,
     line: ByDigits,
     up: Counted,
@@ -63,60 +50,6 @@ pub struct Prices {
     // `sgr`: the price without attributes, and what each attribute adds to it.
     set: u32,
     set_more: [u32; 7],
-}
-
-// The price of a text with a number, by the digits of the number that is sent.
-#[derive(Clone, Copy)]
-struct ByDigits {
-    one: u32,
-    two: u32,
-    three: u32,
-}
-
-// The price of a motion by a count; one place can have a text of its own.
-#[derive(Clone, Copy)]
-struct Counted {
-    one: u32,
-    more: ByDigits,
-}
-
-impl ByDigits {
-    // For a text that the terminal does not have.
-    fn far() -> ByDigits {
-        ByDigits {
-            one: FAR,
-            two: FAR,
-            three: FAR,
-        }
-    }
-
-    // The price with this number.
-    #[inline(always)]
-    fn with(self, number: u32) -> u32 {
-        match number {
-            0..=9 => self.one,
-            10..=99 => self.two,
-            _ => self.three,
-        }
-    }
-
-    // The price with the next number: `cup`, `hpa` and `vpa` count from 1.
-    #[inline(always)]
-    fn with_next(self, number: u32) -> u32 {
-        self.with(number.saturating_add(1))
-    }
-}
-
-impl Counted {
-    // The price of a motion by `count` places.
-    #[inline(always)]
-    fn by(self, count: u32) -> u32 {
-        if count == 1 {
-            self.one
-        } else {
-            self.more.with(count)
-        }
-    }
 }
 
 impl Prices {
@@ -140,6 +73,10 @@ impl Prices {
             Op::EraseLine => self.erase_line,
             Op::EraseBelow => self.erase_below,
             Op::EraseChars(count) => self.erase_chars.with(count),
+            Op::InsertLines(count) => self.insert_lines.by(count),
+            Op::DeleteLines(count) => self.delete_lines.by(count),
+            Op::InsertChars(count) => self.insert_chars.with(count),
+            Op::DeleteChars(count) => self.delete_chars.by(count),
             Op::Reset => self.reset,
             Op::Enter(attribute) => self.enters(attribute),
             Op::Set(attributes) => sum(self.set, &self.set_more, attributes),
@@ -183,6 +120,10 @@ impl Prices {
             erase_line: FAR,
             erase_below: FAR,
             erase_chars: number,
+            insert_lines: count,
+            delete_lines: count,
+            insert_chars: number,
+            delete_chars: count,
             column: number,
             line: number,
             up: count,
@@ -270,6 +211,10 @@ impl Profile {
             erase_line: self.price_of(entry, Capability::El, Op::EraseLine),
             erase_below: self.price_of(entry, Capability::Ed, Op::EraseBelow),
             erase_chars: self.prices_of(entry, Capability::Ech, ERASURES),
+            insert_lines: self.counted(LINES_INSERTED),
+            delete_lines: self.counted(LINES_DELETED),
+            insert_chars: self.ladder(CHARS_INSERTED),
+            delete_chars: self.counted(CHARS_DELETED),
             column: self.prices_of(entry, Capability::Hpa, COLUMNS),
             line: self.prices_of(entry, Capability::Vpa, LINES),
             up: self.motion_prices(entry, Capability::Cuu1, Capability::Cuu, UPS),
@@ -351,6 +296,15 @@ impl Profile {
         Counted {
             one: self.price_of(entry, sent, by_one),
             more: self.prices_of(entry, many, [two, ten, hundred]),
+        }
+    }
+
+    // The prices of an operation that has one text for one place or line and one with a count.
+    fn counted(&self, ops: [Op; 4]) -> Counted {
+        let [by_one, two, ten, hundred] = ops;
+        Counted {
+            one: self.price(by_one),
+            more: self.ladder([two, ten, hundred]),
         }
     }
 

@@ -128,7 +128,11 @@ impl Profile {
             | Op::Down(count)
             | Op::Left(count)
             | Op::Right(count)
-            | Op::EraseChars(count) => is_count(count),
+            | Op::EraseChars(count)
+            | Op::InsertLines(count)
+            | Op::DeleteLines(count)
+            | Op::InsertChars(count)
+            | Op::DeleteChars(count) => is_count(count),
             Op::Enter(attribute) => is_attribute(attribute) && self.is_shown(attribute),
             Op::Set(attributes) => self.shown.contains(attributes),
             Op::Fore(colour) | Op::Back(colour) => colour < 8 && self.colours,
@@ -157,7 +161,7 @@ impl Profile {
     }
 }
 
-// Whether a motion or an erasure can have this count.
+// Whether an operation can have this count.
 fn is_count(count: u32) -> bool
     ensures { result ≡ is_count count }
 {

@@ -9,8 +9,9 @@ ghost use Rattle.scr_term.specs.Operations.Texts.{has};
 ghost use Rattle.scr_term.specs.Code.Changes.{IsChange, MakesAt, MakesWith, next_pen};
 
 use crate::displays::{
-    Change, characters_erased, moved_down, moved_left, moved_right, moved_to, moved_to_column,
-    moved_to_row, moved_up, rest_of_line_erased,
+    Change, characters_deleted, characters_erased, characters_inserted, lines_deleted,
+    lines_inserted, moved_down, moved_left, moved_right, moved_to, moved_to_column, moved_to_row,
+    moved_up, rest_of_line_erased,
 };
 use crate::{Op, Profile, Spot};
 use bitflags::Flags;
@@ -42,6 +43,10 @@ pub(crate) fn change_of(profile: &Profile, spot: Spot, pen: Pen, op: Op) -> Opti
         Op::EraseLine => erasure(pen, rest_of_line_erased(size, spot)),
         Op::EraseBelow => erasure(pen, lines_below_erased(size, spot)),
         Op::EraseChars(count) => erasure(pen, characters_erased(size, spot, count)),
+        Op::InsertLines(count) => erasure(pen, lines_inserted(size, spot, count)),
+        Op::DeleteLines(count) => erasure(pen, lines_deleted(size, spot, count)),
+        Op::InsertChars(count) => erasure(pen, characters_inserted(size, spot, count)),
+        Op::DeleteChars(count) => erasure(pen, characters_deleted(size, spot, count)),
         Op::Reset | Op::Enter(_) | Op::Set(_) => Some(Change::Rendered(next_pen(pen, op))),
         Op::Fore(colour) => coloured(spot, pen.with_foreground(Some(colour))),
         Op::Back(colour) => coloured(spot, pen.with_background(Some(colour))),
@@ -62,7 +67,7 @@ fn motion(profile: &Profile, pen: Pen, change: Option<Change>) -> Option<Change>
     }
 }
 
-// An erasure. With an attribute or a colour on, it is undefined.
+// An erasure, an insertion or a deletion. With an attribute or a colour on, it is undefined.
 fn erasure(pen: Pen, change: Option<Change>) -> Option<Change>
     ensures { result ≡ if is_plain_pen pen then change else None }
 {

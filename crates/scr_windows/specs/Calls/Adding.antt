@@ -2,6 +2,7 @@
 use Rattle.std.specs.Prelude.{ℕ, List, [], ◌∷◌, Result, Ok, Err, ◌+◌, ◌-◌, ◌*◌, ◌/◌, ◌==◌, ◌||◌, ltb, leb, min, bit_or, bit_xor, if◌then◌else◌}
 use Rattle.std.specs.List.{list_any}
 use Rattle.scr_cells.specs.CellViews.{CellView, is_character}
+use Rattle.scr_cells.specs.Grids.{rows_up}
 use Rattle.scr_cells.specs.declared.attributes.Attrs.{Attrs}
 use Rattle.scr_windows.specs.declared.faults.WinFault.{WinFault}
 use Rattle.scr_windows.specs.declared.faults.WinFault.TheVariants.{NotAscii}
@@ -9,7 +10,7 @@ use Rattle.scr_windows.specs.declared.faults.Added.{Added}
 use Rattle.scr_windows.specs.declared.faults.Added.TheVariants.{Done, Stayed}
 use Rattle.scr_windows.specs.declared.frames.WindowState.{WindowState}
 use Rattle.scr_windows.specs.DeskViews.{WindowView, DeskView, window_at, no_attributes}
-use Rattle.scr_surfaces.specs.Formulas.{column_put, run_put, row_opened, rows_up}
+use Rattle.scr_surfaces.specs.Formulas.{column_put, run_put, row_opened}
 use Rattle.scr_windows.specs.Changes.{index_of, on_window, write}
 use Rattle.scr_windows.specs.Calls.Erasing.{erased_up_to}
 use Rattle.scr_windows.specs.Calls.Settings.{with_state, cursor_at}

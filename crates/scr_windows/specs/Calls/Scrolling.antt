@@ -1,9 +1,10 @@
 -- What the calls that shift cells within a line, or lines, do. X/Open Curses Issue 7, delch(), insdelln(), scrl().
 use Rattle.std.specs.Prelude.{ℕ, ℤ, pos, negsuc, Result, Ok, Err, ◌+◌, ◌==◌, if◌then◌else◌}
+use Rattle.scr_cells.specs.Grids.{rows_down, rows_up}
 use Rattle.scr_windows.specs.declared.faults.WinFault.{WinFault}
 use Rattle.scr_windows.specs.declared.faults.WinFault.TheVariants.{NoScroll}
 use Rattle.scr_windows.specs.DeskViews.{WindowView, DeskView, window_at}
-use Rattle.scr_surfaces.specs.Formulas.{row_closed, rows_up, rows_down}
+use Rattle.scr_surfaces.specs.Formulas.{row_closed}
 use Rattle.scr_windows.specs.Changes.{index_of, on_window, write}
 
 -- delch(): the cells of the cursor's line from the cursor on move left by one, and the last place becomes background.

@@ -1,6 +1,6 @@
 use Rattle.std.proofs.Common.{◌≡◌, ℕ, ◌-◌, arith, refl, subst}
 use Rattle.scr_surfaces.specs.Code.Steps.{Changes}
-use Rattle.scr_surfaces.specs.Formulas.{rows_down}
+use Rattle.scr_cells.specs.Grids.{rows_down}
 use Rattle.scr_surfaces.proofs.ChangeLaws.{row_down_there, row_free_down_there, rows_partly_down}
 use Rattle.scr_surfaces.proofs.FilledLaws.{filled_is}
 use Rattle.scr_surfaces.proofs.surfaces.Surface.move_down.Goals as goal

@@ -1,6 +1,6 @@
 use Rattle.std.proofs.Common.{◌≡◌, ℕ, ◌+◌, ◌-◌, arith, subst}
 use Rattle.scr_surfaces.specs.Code.Steps.{Changes}
-use Rattle.scr_surfaces.specs.Formulas.{rows_up}
+use Rattle.scr_cells.specs.Grids.{rows_up}
 use Rattle.scr_surfaces.proofs.ChangeLaws.{row_free_up_there, row_up_there, rows_partly_up, up_begun}
 use Rattle.scr_surfaces.proofs.FilledLaws.{filled_is}
 use Rattle.scr_surfaces.proofs.surfaces.Surface.move_up.Goals as goal
