@@ -2,5 +2,6 @@ pub mod BuiltLaws
 pub mod DifferenceLaws
 pub mod GridLaws
 pub mod MadeRunLaws
+pub mod MoveLaws
 pub mod PlaceLaws
 pub mod ShowingLaws

@@ -2,7 +2,7 @@
 ghost use Rattle.std.specs.Prelude.{◌≡◌, ◌<◌, ◌≤◌};
 ghost use Rattle.scr_cells.specs.Grids.{grid_at, grid_of, places_left, places_right, rows_down, rows_up};
 
-use crate::{Grid, grid_laws};
+use crate::Grid;
 
 impl<T: Copy> Grid<T> {
     /// Moves rows `first..end` up by `n` among themselves, and fills those left free. Nothing else changes.
@@ -11,7 +11,6 @@ impl<T: Copy> Grid<T> {
         requires end { end ≤ self.old.rows }
         ensures { self.new ≡ record self.old { lines = grid_of self.old.rows self.old.columns (rows_up first end n element (grid_at element self.old.lines)) } }
     {
-        grid_laws::<T>();
         let columns = self.columns();
         let free = first + (end - first).saturating_sub(n);
         for row in first..free {
@@ -28,7 +27,6 @@ impl<T: Copy> Grid<T> {
         requires end { end ≤ self.old.rows }
         ensures { self.new ≡ record self.old { lines = grid_of self.old.rows self.old.columns (rows_down first end n element (grid_at element self.old.lines)) } }
     {
-        grid_laws::<T>();
         let columns = self.columns();
         let moved = (end - first).saturating_sub(n);
         for done in 0..moved {
@@ -48,7 +46,6 @@ impl<T: Copy> Grid<T> {
         requires end { end ≤ self.old.columns }
         ensures { self.new ≡ record self.old { lines = grid_of self.old.rows self.old.columns (places_left row from end n element (grid_at element self.old.lines)) } }
     {
-        grid_laws::<T>();
         let _columns = self.columns();
         let moved = (end - from).saturating_sub(n);
         self.copy(row, end - moved, end, row, from);
@@ -63,7 +60,6 @@ impl<T: Copy> Grid<T> {
         requires end { end ≤ self.old.columns }
         ensures { self.new ≡ record self.old { lines = grid_of self.old.rows self.old.columns (places_right row from end n element (grid_at element self.old.lines)) } }
     {
-        grid_laws::<T>();
         let _columns = self.columns();
         let moved = (end - from).saturating_sub(n);
         self.copy(row, from, from + moved, row, end - moved);

@@ -1,4 +1,4 @@
-use Rattle.std.proofs.Common.{arith, false, get_or, refl, nat_eq, ◌≡◌}
+use Rattle.std.proofs.Common.{arith, false, get_or, nat_eq, ◌≡◌}
 use Rattle.std.proofs.lemmas.Bool.Decides.{nat_tests}
 use Rattle.scr_cells.proofs.ShowingLaws.{none_of_eight}
 use Rattle.scr_cells.proofs.showing.are_other.Goals as goal

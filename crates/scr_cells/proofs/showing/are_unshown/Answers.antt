@@ -1,5 +1,4 @@
 use Rattle.scr_cells.proofs.ShowingLaws.{are_unlike}
-use Rattle.std.proofs.Common.{rules}
 use Rattle.scr_cells.proofs.showing.are_unshown.Goals as goal
 
 pub returns-then-are_other : goal.returns-then-are_other

@@ -1,4 +1,4 @@
-use Rattle.std.proofs.Common.{arith, rules}
+use Rattle.std.proofs.Common.{rules}
 use Rattle.scr_cells.proofs.ShowingLaws.{first_in}
 use Rattle.scr_cells.proofs.showing.first_number.Goals as goal
 
