@@ -38,8 +38,8 @@ impl<T: Copy> Grid<T> {
         }
     }
 
-    /// Moves the places of a row in columns `from..end` left by `n` among themselves, and fills those left free. Nothing
-    /// else changes.
+    /// Moves the places of a row in columns `from..end` left by `n` among themselves, and fills those left free.
+    /// Nothing else changes.
     pub fn move_places_left(&mut self, row: u32, from: u32, end: u32, n: u32, element: T)
         requires row { row < self.old.rows }
         requires order { from ≤ end }
