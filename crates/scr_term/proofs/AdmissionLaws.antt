@@ -1,7 +1,9 @@
 -- What an admission finds and makes.
-use Rattle.std.proofs.Common.{◌≡◌, ◌≢◌, ◌∙◌, ℕ, zero, suc, ◌+◌, ◌<◌, ◌≤◌, ◌&&◌, ◌⊎◌, ◌++◌, inl, inr, Bool, true, false, ℤ, List, [], ◌∷◌, All, IfSome, Option, Some, None, max, map, length, length-append, option_and_then, option_map, filter, cond, slice_index_or, ap, arith, refl, replicate, subst, sym, pos, take, drop, get_or}
+use Rattle.std.proofs.Common.{◌≡◌, ◌≢◌, ◌∙◌, ℕ, zero, suc, ◌+◌, ◌<◌, ◌≤◌, ◌&&◌, ◌==◌, ◌⊎◌, ◌++◌, inl, inr, Bool, true, false, ℤ, List, [], ◌∷◌, All, IfSome, append_assoc, nat_le, Option, Some, None, max, map, length, length-append, option_and_then, option_map, filter, cond, slice_index_or, ap, arith, refl, replicate, subst, sym, pos, take, drop, get_or}
+use Rattle.std.specs.List.{list_any}
 use Rattle.std.specs.Option.{is_some, is_none}
 use Rattle.std.proofs.lemmas.List.{at_drop_more, map_more}
+use Rattle.std.proofs.lemmas.List.Elements.{All-append}
 use Rattle.std.proofs.lemmas.Bool.Decides.{nat_tests}
 use Rattle.scr_cells.specs.declared.sizes.Size.{Size}
 use Rattle.scr_cells.specs.Attributes.{all_attributes}
@@ -15,7 +17,7 @@ use Rattle.ti_param.specs.Grammar.{IsText}
 use Rattle.ti_param.specs.Parsed.{parsed}
 use Rattle.ti_param.specs.ProgramLaws.{IsBounded, IsParsed}
 use Rattle.ti_param.specs.States.{Outcome}
-use Rattle.ti_param.specs.Tree.{Tree, bound, start, value}
+use Rattle.ti_param.specs.Tree.{Tree, bound, depth, start, value}
 use Rattle.scr_term.specs.declared.operations.capability.Capability.{Capability}
 use Rattle.scr_term.specs.declared.operations.capability.Capability.TheVariants.{Clear, Cup}
 use Rattle.scr_term.specs.declared.operations.capability.Capability.TheVariants as capability
@@ -23,8 +25,8 @@ use Rattle.scr_term.specs.declared.operations.operation.Op.{Op}
 use Rattle.scr_term.specs.Operations.Pieces.{Piece, Character, Text}
 use Rattle.scr_term.specs.declared.operations.profile_faults.ProfileFault.{ProfileFault}
 use Rattle.scr_term.specs.declared.operations.profile_faults.ProfileFault.TheVariants.{BadString, LongString, NoMemory}
-use Rattle.scr_term.specs.Operations.Admission.{IsRefused, admitted, first_some, first_where, has_palette, is_bad_string, is_long_string, is_over_bound, is_unreadable, named_text, planned_program, refusal, refusals, screen_size, sent_text, size_fault}
-use Rattle.scr_term.specs.Operations.Capabilities.{each_capability, ordinal}
+use Rattle.scr_term.specs.Operations.Admission.{IsRefused, admitted, first_some, first_where, has_palette, is_bad_string, is_long_string, is_over_bound, is_spoiled, is_unreadable, named_text, planned_program, program_without_line_feed, refusal, refusals, screen_size, sent_text, size_fault, spare_program, within_limits}
+use Rattle.scr_term.specs.Operations.Capabilities.{each_capability, each_spare, ordinal}
 use Rattle.scr_term.specs.Operations.Profiles.{IsPlanned, IsProfile, ProfileView, has_colours, is_shown, program_of, set_of, shown_set}
 use Rattle.scr_term.specs.Operations.Texts.{bytes_in, bytes_of, first_piece, nine, piece_bytes, resets_colours, text, written}
 use Rattle.scr_term.specs.Code.Admission.{ArePlanned, AreTexts, bad_fault_of, program_in, counted_bound, greatest_bound, longest, with_programs}
@@ -152,9 +154,33 @@ text_there : (t : Option (List ℕ)) → is_none t ≡ false → (is_some t && i
 text_there None n u = cc
 text_there (Some text) n u = program_there (parsed text) u
 
-pub texts_planned : (entry : Description) → AreTexts entry → ArePlanned (map (planned_program entry) each_capability)
+-- a spare program keeps to the limits, since it is not taken otherwise
+limited : (t : Bool) (program : Tree) → (nat_le (depth program) 20 && nat_le (bound program) 1024) ≡ t → IfSome (cond t (Some program) None) IsPlanned
+limited true program e = record { depth = grind (arith, nat_tests); bound = grind (arith, nat_tests) }
+limited false program e = tt
+
+limits_planned : (q : Option Tree) → IfSome (within_limits q) IsPlanned
+limits_planned None = tt
+limits_planned (Some program) = limited (nat_le (depth program) 20 && nat_le (bound program) 1024) program refl
+
+none_or : (t : Bool) (q : Option Tree) → IfSome q IsPlanned → IfSome (cond t None q) IsPlanned
+none_or true q planned = tt
+none_or false q planned = planned
+
+without_line_feed : (t : Option (List ℕ)) → IfSome (option_and_then program_without_line_feed t) IsPlanned
+without_line_feed None = tt
+without_line_feed (Some text) = none_or (list_any (λ byte. byte == 10) text) (within_limits (parsed text)) (limits_planned (parsed text))
+
+spares_planned : (entry : Description) (cs : List Capability) → ArePlanned (map (spare_program entry) cs)
+spares_planned entry [] = all_none PlannedOption
+spares_planned entry (c ∷ cs) =
+    all_cons PlannedOption (spare_program entry c) (map (spare_program entry) cs) (none_or (is_spoiled entry c) _ (without_line_feed (sent_text entry c))) (spares_planned entry cs)
+
+pub texts_planned : (entry : Description) → AreTexts entry → ArePlanned (map (planned_program entry) each_capability ++ map (spare_program entry) each_spare)
 texts_planned entry t =
-    all_planned entry each_capability (all_false (is_bad_string entry) each_capability (mapped_none _ _ t.good)) (all_false (is_long_string entry) each_capability (mapped_none _ _ t.short))
+    All-append PlannedOption (map (planned_program entry) each_capability) (map (spare_program entry) each_spare)
+    (all_planned entry each_capability (all_false (is_bad_string entry) each_capability (mapped_none _ _ t.good)) (all_false (is_long_string entry) each_capability (mapped_none _ _ t.short)))
+    (spares_planned entry each_spare)
 
 pub admitted_is_profile : (entry : Description) (rows columns : ℕ) → AreTexts entry → IsSize rows columns → IsProfile (admitted entry rows columns)
 unfolding admitted
@@ -255,7 +281,7 @@ kept bounded entry rows columns profile shown colours most made texts size s h m
 
 -- ---- the view of the profile
 
-pub made_profile : (entry : Description) (rows columns : ℕ) (programs : List (Option Tree)) (msgr palette : Bool) → programs ≡ map (planned_program entry) each_capability → msgr ≡ flag_at entry MSGR.0 → palette ≡ has_palette entry
+pub made_profile : (entry : Description) (rows columns : ℕ) (programs : List (Option Tree)) (msgr palette : Bool) → programs ≡ map (planned_program entry) each_capability ++ map (spare_program entry) each_spare → msgr ≡ flag_at entry MSGR.0 → palette ≡ has_palette entry
     → (let profile : ProfileView = record { rows = rows; columns = columns; programs = programs; msgr = msgr; palette = palette } in profile) ≡ admitted entry rows columns
 unfolding admitted
 made_profile entry rows columns programs msgr palette p m q = λ i. record { rows = rows; columns = columns; programs = p i; msgr = m i; palette = q i }
@@ -275,6 +301,14 @@ pub programs_more : (entry : Description) (capabilities : List Capability) (inde
     → old ≡ map (planned_program entry) (take index capabilities) → new ≡ map (planned_program entry) (take (index + 1) capabilities)
 programs_more entry capabilities index d old new program below p n o =
     n ∙ ap (λ l. l ++ program ∷ []) o ∙ ap (λ q. map (planned_program entry) (take index capabilities) ++ q ∷ []) p ∙ sym (map_more (planned_program entry) capabilities index d below)
+
+pub spares_more : (entry : Description) (capabilities : List Capability) (index : ℕ) (d : Capability) (first old new : List (Option Tree)) (program : Option Tree) → index < length capabilities
+    → program ≡ spare_program entry (get_or capabilities index d) → new ≡ old ++ program ∷ []
+    → old ≡ first ++ map (spare_program entry) (take index capabilities) → new ≡ first ++ map (spare_program entry) (take (index + 1) capabilities)
+spares_more entry capabilities index d first old new program below p n o =
+    n ∙ ap (λ l. l ++ program ∷ []) o ∙ append_assoc first (map (spare_program entry) (take index capabilities)) (program ∷ [])
+    ∙ ap (λ q. first ++ (map (spare_program entry) (take index capabilities) ++ q ∷ [])) p
+    ∙ ap (λ l. first ++ l) (sym (map_more (spare_program entry) capabilities index d below))
 
 not_taken : {A : Type 0} → (b : Bool) (x : A) → cond b (Some x) None ≡ None → b ≡ false
 not_taken true x e = cc
@@ -302,6 +336,6 @@ first_bad entry capabilities index d fault below (inr e) h =
     inr (ap (option_map (λ c. BadString (named_text c))) (sym h ∙ at_drop_more (first_where (is_bad_string entry)) capabilities index d below) ∙ taken (is_bad_string entry x) x _ fault e)
 
 -- the capability whose program could give too many bytes
-pub long_first : (entry : Description) (programs : List (Option Tree)) (found : Option Capability) → programs ≡ map (planned_program entry) each_capability
+pub long_first : (entry : Description) (programs : List (Option Tree)) (found : Option Capability) → programs ≡ map (planned_program entry) each_capability ++ map (spare_program entry) each_spare
     → found ≡ first_where (λ c. is_over_bound (program_in programs c)) each_capability → option_map (λ c. LongString (named_text c)) found ≡ long_fault entry
 long_first entry programs found p f = ap (option_map (λ c. LongString (named_text c))) (f ∙ ap (λ l. first_where (λ c. is_over_bound (program_in l c)) each_capability) p)

@@ -10,7 +10,7 @@ use Rattle.scr_term.specs.declared.operations.operation.Spot.{Spot}
 use Rattle.scr_term.specs.declared.operations.operation.Spot.TheVariants.{At}
 use Rattle.scr_term.specs.Displays.{DisplayView, IsDisplay, blank_display}
 use Rattle.scr_term.proofs.DisplayLaws.{blanked}
-use Rattle.scr_term.proofs.LookGridLaws.{all_blank, filled_all, is_blank, put_all, put_is_grid}
+use Rattle.scr_term.proofs.LookGridLaws.{all_blank, filled_all, formed_all, formed_is_grid, is_blank, put_all, put_is_grid}
 use Rattle.scr_term.proofs.ShownPenLaws.{plain_is_shown}
 
 blank_is_display : (rows columns : ℕ) → IsSize rows columns → IsDisplay (blank_display rows columns)
@@ -73,4 +73,15 @@ cleared_is_display old grid is e =
     subst P (sym e) (record {
       size = is.size;
       state = record { whole = is_blank old.rows old.columns; looks = all_blank old.rows old.columns; spot = is.state.spot; pen = is.state.pen };
+    })
+
+-- one whose places moved
+pub formed_is_display : (old : DisplayView) (grid : GridView LookView) (f : ℕ → ℕ → LookView) → IsDisplay old → ((r c : ℕ) → IsLook (f r c))
+    → grid ≡ record { rows = old.rows; columns = old.columns; lines = grid_of old.rows old.columns f }
+    → IsDisplay (record { rows = grid.rows; columns = grid.columns; state = record old.state { grid = grid.lines } })
+formed_is_display old grid f is each e =
+    let P : GridView LookView → Type 0 = λ g. IsDisplay (record { rows = g.rows; columns = g.columns; state = record old.state { grid = g.lines } }) in
+    subst P (sym e) (record {
+      size = is.size;
+      state = record { whole = formed_is_grid old.rows old.columns f; looks = formed_all old.rows old.columns f each; spot = is.state.spot; pen = is.state.pen };
     })

@@ -1,21 +1,21 @@
 -- The profile of the bundled entry, computed.
-use Rattle.std.proofs.Common.{◌≡◌, ◌∙◌, ℕ, Bool, true, ◌&&◌, nat_le, refl, sym, ap, subst, arith, List, [], ◌∷◌, All, map, Option, Some, None, IfSome, option_and_then}
+use Rattle.std.proofs.Common.{◌≡◌, ◌∙◌, ℕ, Bool, true, false, cond, not, ◌&&◌, ◌++◌, nat_le, refl, sym, ap, subst, arith, List, [], ◌∷◌, All, map, Option, Some, None, IfSome, option_and_then}
 use Rattle.std.specs.List.{list_all}
 use Rattle.std.proofs.lemmas.Bool.Decides.{nat_tests}
 use Rattle.std.proofs.lemmas.List.Elements.{All-nil, All-cons}
 use Rattle.scr_cells.specs.PictureViews.{IsSize}
-use Rattle.ti_caps.specs.Bundled.{IsBundled, bundled_texts}
-use Rattle.ti_caps.specs.Description.{Description}
+use Rattle.ti_caps.specs.Bundled.{IsBundled, bundled_texts, listed}
+use Rattle.ti_caps.specs.Description.{Description, text_at}
 use Rattle.ti_caps.specs.declared.slots.TheConstants.{MSGR, COLORS, PAIRS, NCV}
 use Rattle.ti_param.specs.Parsed.{parsed}
 use Rattle.ti_param.specs.Stripped.{stripped}
 use Rattle.ti_param.specs.Tree.{Tree, bound, depth}
 use Rattle.scr_term.proofs.ChoiceLaws.{both_true}
 use Rattle.scr_term.specs.declared.operations.capability.Capability.{Capability}
-use Rattle.scr_term.specs.declared.operations.capability.Capability.TheVariants.{Cr, Clear, El, Ed, Hpa, Cup, Cud1, Home, Cub1, Cuf1, Cuu1, Blink, Bold, Dim, Invis, Rev, Smso, Smul, Ech, Sgr0, Cud, Cub, Cuf, Cuu, Vpa, Sgr, Op, Setaf, Setab}
+use Rattle.scr_term.specs.declared.operations.capability.Capability.TheVariants.{Cr, Clear, El, Ed, Hpa, Cup, Cud1, Home, Cub1, Cuf1, Cuu1, Blink, Bold, Dim, Invis, Rev, Smso, Smul, Ech, Sgr0, Cud, Cub, Cuf, Cuu, Vpa, Sgr, Op, Setaf, Setab, Il1, Il, Dl1, Dl, Ich, Dch1, Dch}
 use Rattle.scr_term.specs.Operations.Abilities.{full_abilities}
-use Rattle.scr_term.specs.Operations.Admission.{IsEcma48, admitted, has_palette, is_at_least, is_zero_or_absent, planned_program, some_text}
-use Rattle.scr_term.specs.Operations.Capabilities.{each_capability, slot_of}
+use Rattle.scr_term.specs.Operations.Admission.{IsEcma48, admitted, has_palette, is_at_least, is_spoiled, is_zero_or_absent, planned_program, program_without_line_feed, some_text, spare_program}
+use Rattle.scr_term.specs.Operations.Capabilities.{each_capability, each_spare, slot_of}
 use Rattle.scr_term.specs.Operations.Ecma48.{Ecma48Laws, bundled_program, ecma48_profile}
 use Rattle.scr_term.specs.Operations.Profiles.{ProfileView, IsPlanned, IsProfile, abilities, has_colours, is_there, program_of, shown_set}
 
@@ -25,6 +25,24 @@ programs_are entry b =
     ap (λ f. map f each_capability)
     (λ i capability. option_and_then parsed (option_and_then (λ text. some_text (stripped text)) (b.texts (slot_of capability).0 i)))
 
+-- it has no spare one
+none_of_two : (t : Bool) (q : Option Tree) → q ≡ None → cond t None q ≡ None
+none_of_two true q e = refl
+none_of_two false q e = e
+
+spare_is_none : (entry : Description) → IsBundled entry → (capability : Capability) → listed bundled_texts (slot_of capability).0 ≡ None → spare_program entry capability ≡ bundled_program capability
+spare_is_none entry b capability absent =
+    let none : text_at entry (slot_of capability).0 ≡ None = b.texts (slot_of capability).0 ∙ absent in
+    none_of_two (is_spoiled entry capability) (option_and_then program_without_line_feed (option_and_then (λ text. some_text (stripped text)) (text_at entry (slot_of capability).0)))
+    (ap (λ t. option_and_then program_without_line_feed (option_and_then (λ text. some_text (stripped text)) t)) none)
+    ∙ sym (ap (λ t. option_and_then parsed (option_and_then (λ text. some_text (stripped text)) t)) absent)
+
+spares_are : (entry : Description) → IsBundled entry → map (spare_program entry) each_spare ≡ map bundled_program each_spare
+unfolding bundled_texts
+spares_are entry b =
+    let one : (capability : Capability) → listed bundled_texts (slot_of capability).0 ≡ None → spare_program entry capability ≡ bundled_program capability = spare_is_none entry b in
+    λ i. one Il1 refl i ∷ one Il refl i ∷ one Dl1 refl i ∷ one Dl refl i ∷ one Ich refl i ∷ one Dch1 refl i ∷ one Dch refl i ∷ []
+
 has_a_palette : (entry : Description) → IsBundled entry → has_palette entry ≡ true
 has_a_palette entry b = λ i. is_at_least 8 (b.numbers COLORS.0 i) && is_at_least 64 (b.numbers PAIRS.0 i) && is_zero_or_absent (b.numbers NCV.0 i)
 
@@ -33,7 +51,7 @@ unfolding admitted ecma48_profile
 made_of rows columns entry b = λ i. record {
   rows = rows;
   columns = columns;
-  programs = programs_are entry b i;
+  programs = programs_are entry b i ++ spares_are entry b i;
   msgr = b.flags MSGR.0 i;
   palette = has_a_palette entry b i;
 }
@@ -58,7 +76,7 @@ unfolding ecma48_profile bundled_texts stripped parsed
 is_one rows columns size = record {
   size = size;
   whole = refl;
-  programs = all_planned (map bundled_program each_capability) refl;
+  programs = all_planned (map bundled_program each_capability ++ map bundled_program each_spare) refl;
   cup = refl;
   clear = refl;
 }
@@ -78,7 +96,18 @@ ecma48_laws_hold = record { made = made; is_profile = is_profile; can_show = sho
 
 -- ---- what it has
 
-there : (rows columns : ℕ) (capability : Capability) → is_there (ecma48_profile rows columns) capability ≡ true
+-- one of those that the bundled entry does without
+abbrev pub is_spare : Capability → Bool
+is_spare Il1 = true
+is_spare Il = true
+is_spare Dl1 = true
+is_spare Dl = true
+is_spare Ich = true
+is_spare Dch1 = true
+is_spare Dch = true
+is_spare _ = false
+
+there : (rows columns : ℕ) (capability : Capability) → is_there (ecma48_profile rows columns) capability ≡ not (is_spare capability)
 unfolding ecma48_profile bundled_texts stripped parsed
 there rows columns Cr = refl
 there rows columns Clear = refl
@@ -109,6 +138,13 @@ there rows columns Sgr = refl
 there rows columns Op = refl
 there rows columns Setaf = refl
 there rows columns Setab = refl
+there rows columns Il1 = refl
+there rows columns Il = refl
+there rows columns Dl1 = refl
+there rows columns Dl = refl
+there rows columns Ich = refl
+there rows columns Dch1 = refl
+there rows columns Dch = refl
 
 program_at : (rows columns : ℕ) (capability : Capability) → program_of (ecma48_profile rows columns) capability ≡ bundled_program capability
 unfolding ecma48_profile
@@ -141,11 +177,18 @@ program_at rows columns Sgr = refl
 program_at rows columns Op = refl
 program_at rows columns Setaf = refl
 program_at rows columns Setab = refl
+program_at rows columns Il1 = refl
+program_at rows columns Il = refl
+program_at rows columns Dl1 = refl
+program_at rows columns Dl = refl
+program_at rows columns Ich = refl
+program_at rows columns Dch1 = refl
+program_at rows columns Dch = refl
 
 pub program_is : (profile : ProfileView) → IsEcma48 profile → (capability : Capability) → program_of profile capability ≡ bundled_program capability
 program_is profile is capability = ap (λ p. program_of p capability) (made profile is) ∙ program_at profile.rows profile.columns capability
 
-pub all_there : (profile : ProfileView) → IsEcma48 profile → (capability : Capability) → is_there profile capability ≡ true
+pub all_there : (profile : ProfileView) → IsEcma48 profile → (capability : Capability) → is_there profile capability ≡ not (is_spare capability)
 all_there profile is capability = ap (λ p. is_there p capability) (made profile is) ∙ there profile.rows profile.columns capability
 
 pub colours_are_shown : (profile : ProfileView) → IsEcma48 profile → has_colours profile ≡ true

@@ -1,12 +1,12 @@
 -- Grids of looks: blank ones, and what a character that is put in a place keeps.
-use Rattle.std.proofs.Common.{Bool, true, false, cond, get_or, ◌≤◌, ◌≡◌, ◌≢◌, ◌⊎◌, inl, inr, ℕ, ◌<◌, All, List, [], ap, arith, length, map, set, subst, sym, ◌∙◌}
+use Rattle.std.proofs.Common.{Bool, true, false, cond, get_or, ◌+◌, ◌-◌, ◌≤◌, ◌≡◌, ◌≢◌, ◌⊎◌, inl, inr, ℕ, ◌<◌, All, List, [], ap, arith, length, map, set, subst, sym, ◌∙◌}
 use Rattle.std.specs.List.{range_with_len}
 use Rattle.std.proofs.Math.ListN.{get_or-eq_default, get_or-map}
 use Rattle.std.proofs.lemmas.Simd.{map-map}
 use Rattle.std.proofs.lemmas.List.{get_or-set_other, get_or-set_same, length-set, map-set}
 use Rattle.std.proofs.lemmas.List.FromFn.{get_or-map-range_with_len, length-map-range_with_len}
 use Rattle.std.proofs.lemmas.List.Elements.{All-get_or, All-map, All-set}
-use Rattle.scr_cells.specs.Grids.{IsGrid, grid_at, grid_filled, grid_row, grid_with}
+use Rattle.scr_cells.specs.Grids.{IsGrid, grid_at, grid_filled, grid_of, grid_row, grid_with, places_left, places_right, rows_down, rows_up}
 use Rattle.scr_cells.specs.LookViews.{IsLook, LookView, blank, blank_grid, negative, negative_grid}
 
 same_or_not : (a b : ℕ) → (a ≡ b) ⊎ (a ≢ b)
@@ -81,6 +81,37 @@ either : (t : Bool) (look : LookView) → IsLook look → IsLook (cond t blank l
 either true look is = look_is
 either false look is = is
 
+-- a grid by a formula that gives looks
+pub formed_all : (rows columns : ℕ) (f : ℕ → ℕ → LookView) → ((r c : ℕ) → IsLook (f r c)) → All (All IsLook) (grid_of rows columns f)
+formed_all rows columns f each =
+    All-map (All IsLook) (λ r. map (f r) (range_with_len 0 columns)) (range_with_len 0 rows) (λ i d h. All-map IsLook _ (range_with_len 0 columns) (λ j e k. each _ _))
+
+pub formed_is_grid : {A : Type 0} (rows columns : ℕ) (f : ℕ → ℕ → A) → IsGrid rows columns (grid_of rows columns f)
+formed_is_grid {A} rows columns f = record {
+  high = length-map-range_with_len _ 0 rows;
+  wide = λ r h. ap length (get_or-map-range_with_len line 0 rows r r [] h (omega arith)) ∙ length-map-range_with_len _ 0 columns;
+}
+  where
+    line : ℕ → List A
+    line r = map (f r) (range_with_len 0 columns)
+
+one_of_two : (t : Bool) (x y : LookView) → IsLook x → IsLook y → IsLook (cond t x y)
+one_of_two true x y is other = is
+one_of_two false x y is other = other
+
+-- what is in a place after rows or places moved is a look
+pub up_is_look : (first end n : ℕ) (lines : List (List LookView)) → All (All IsLook) lines → (r c : ℕ) → IsLook (rows_up first end n blank (grid_at blank lines) r c)
+up_is_look first end n lines each r c = one_of_two _ _ _ (one_of_two _ _ _ (at_is_look lines (r + n) c each) look_is) (at_is_look lines r c each)
+
+pub down_is_look : (first end n : ℕ) (lines : List (List LookView)) → All (All IsLook) lines → (r c : ℕ) → IsLook (rows_down first end n blank (grid_at blank lines) r c)
+down_is_look first end n lines each r c = one_of_two _ _ _ (one_of_two _ _ _ (at_is_look lines (r - n) c each) look_is) (at_is_look lines r c each)
+
+pub left_is_look : (row from end n : ℕ) (lines : List (List LookView)) → All (All IsLook) lines → (r c : ℕ) → IsLook (places_left row from end n blank (grid_at blank lines) r c)
+left_is_look row from end n lines each r c = one_of_two _ _ _ (one_of_two _ _ _ (at_is_look lines r (c + n) each) look_is) (at_is_look lines r c each)
+
+pub right_is_look : (row from end n : ℕ) (lines : List (List LookView)) → All (All IsLook) lines → (r c : ℕ) → IsLook (places_right row from end n blank (grid_at blank lines) r c)
+right_is_look row from end n lines each r c = one_of_two _ _ _ (one_of_two _ _ _ (at_is_look lines r (c - n) each) look_is) (at_is_look lines r c each)
+
 -- a grid some of whose places are made blank
 pub filled_all : (rows columns : ℕ) (inside : ℕ → ℕ → Bool) (lines : List (List LookView)) → All (All IsLook) lines
     → All (All IsLook) (grid_filled rows columns inside (λ _ _. blank) (grid_at blank lines))
@@ -89,10 +120,4 @@ filled_all rows columns inside lines each =
     (λ i d h. All-map IsLook _ (range_with_len 0 columns) (λ j e k. either _ _ (at_is_look lines _ _ each)))
 
 pub filled_is_grid : (rows columns : ℕ) (inside : ℕ → ℕ → Bool) (old : ℕ → ℕ → LookView) → IsGrid rows columns (grid_filled rows columns inside (λ _ _. blank) old)
-filled_is_grid rows columns inside old = record {
-  high = length-map-range_with_len _ 0 rows;
-  wide = λ r h. ap length (get_or-map-range_with_len line 0 rows r r [] h (omega arith)) ∙ length-map-range_with_len _ 0 columns;
-}
-  where
-    line : ℕ → List LookView
-    line r = map (λ c. cond (inside r c) blank (old r c)) (range_with_len 0 columns)
+filled_is_grid rows columns inside old = formed_is_grid rows columns (λ r c. cond (inside r c) blank (old r c))

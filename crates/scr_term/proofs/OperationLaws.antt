@@ -1,10 +1,10 @@
 -- On the bundled entry, the bytes of each operation do to the negative of a state what the operation does to the state.
-use Rattle.std.proofs.Common.{◌≡◌, ℕ, ℤ, pos, ◌+◌, ◌-◌, ◌<◌, ◌≤◌, ◌==◌, ◌&&◌, ◌||◌, Bool, true, false, IsTrue, cond, inl, inr, refl, sym, ◌∙◌, ap, subst, arith, List, [], ◌∷◌, ◌++◌, length-append, Option, Some, None, option_map, option_and_then, bit_and, bit_or, nat_le, nat_lt}
+use Rattle.std.proofs.Common.{◌≡◌, ℕ, ℤ, pos, ◌+◌, ◌-◌, ◌<◌, ◌≤◌, ◌==◌, ◌&&◌, ◌||◌, Bool, true, false, IsTrue, cond, not, inl, inr, refl, sym, ◌∙◌, ap, subst, arith, List, [], ◌∷◌, ◌++◌, length-append, Option, Some, None, option_map, option_and_then, bit_and, bit_or, nat_le, nat_lt}
 use Rattle.std.specs.List.{flat_map, list_any}
 use Rattle.std.specs.Fmt.{decimal}
 use Rattle.std.proofs.lemmas.Nat.{and_le_l}
 use Rattle.std.proofs.lemmas.List.{append-nil}
-use Rattle.std.proofs.lemmas.Bool.{eqb-true}
+use Rattle.std.proofs.lemmas.Bool.{eqb-true, false≢true}
 use Rattle.std.proofs.lemmas.Bool.Decides.{nat_tests}
 use Rattle.scr_cells.specs.Attributes.{all_attributes}
 use Rattle.scr_cells.specs.LookViews.{LookView, blank_grid}
@@ -15,7 +15,7 @@ use Rattle.ti_param.specs.ProgramLaws.{AddsOne, WritesDecimal}
 use Rattle.scr_term.specs.declared.operations.capability.Capability.{Capability}
 use Rattle.scr_term.specs.declared.operations.capability.Capability.TheVariants as capability
 use Rattle.scr_term.specs.declared.operations.operation.Op.{Op}
-use Rattle.scr_term.specs.declared.operations.operation.Op.TheVariants.{Home, Move, Column, Line, Up, Down, Left, Right, Return, Clear, EraseLine, EraseBelow, EraseChars, Reset, Enter, Set, Fore, Back, Put}
+use Rattle.scr_term.specs.declared.operations.operation.Op.TheVariants.{Home, Move, Column, Line, Up, Down, Left, Right, Return, Clear, EraseLine, EraseBelow, EraseChars, InsertLines, DeleteLines, InsertChars, DeleteChars, Reset, Enter, Set, Fore, Back, Put}
 use Rattle.scr_term.specs.declared.operations.operation.Spot.{Spot}
 use Rattle.scr_term.specs.Operations.Pieces.{Piece, Character, Text}
 use Rattle.scr_term.specs.declared.operations.operation.Spot.TheVariants.{At, Margin}
@@ -28,7 +28,7 @@ use Rattle.scr_term.specs.Ecma.Units.{Graphic, Control, is_parameter_byte}
 use Rattle.scr_term.specs.Ecma.Meanings.{Leads, control_function, count_of, cursor_at, parameters_of, renditions}
 use Rattle.scr_term.specs.Operations.Laws.{BytesActAsTheirOperation}
 use Rattle.scr_term.proofs.Attributes.{each_attribute, negative-or_standout, negative-or_underline, negative-or_reverse, negative-or_blink, negative-or_dim, negative-or_bold, negative-or_invis}
-use Rattle.scr_term.proofs.Ecma48Laws.{all_there, colours_are_shown, every_is_shown, program_is}
+use Rattle.scr_term.proofs.Ecma48Laws.{all_there, colours_are_shown, every_is_shown, is_spare, program_is}
 use Rattle.scr_term.specs.Operations.Ecma48.{bundled_program}
 use Rattle.scr_term.proofs.BundledTextLaws.{blink_text, bold_text, clear_text, control_sequence, cr_text, cub1_text, cub_text, cud1_text, cud_text, cuf1_text, cuf_text, cup_text, cuu1_text, cuu_text, dim_text, ech_text, ed_text, el_text, home_text, hpa_text, invis_text, op_text, rendition_parameters, rev_text, setab_text, setaf_text, sgr0_text, sgr_text, smso_text, smul_text, vpa_text}
 use Rattle.scr_term.proofs.ChoiceLaws.{both_true, chosen, same_some}
@@ -64,13 +64,13 @@ two_texts profile is op c parameters bytes sends writes =
     ∙ ap (λ bs. bs ++ op_bytes) writes
 
 -- what holds of the text for one place and of that for a number of places holds of a motion's
-either_motion : (profile : ProfileView) → IsEcma48 profile → (one many : Capability) (n : ℕ) (P : List ℕ → Type 0)
+either_motion : (profile : ProfileView) → IsEcma48 profile → (one many : Capability) (n : ℕ) (P : List ℕ → Type 0) → is_spare one ≡ false
     → (n ≡ 1 → P (written (bundled_program one) (nine []))) → P (written (bundled_program many) (nine (pos n ∷ []))) → P (piece_bytes profile (motion profile one many n))
-either_motion profile is one many n P single several = by (n == 1) refl
+either_motion profile is one many n P kept single several = by (n == 1) refl
   where
     by : (t : Bool) → (n == 1) ≡ t → P (piece_bytes profile (motion profile one many n))
     by true e =
-        subst (λ b. P (piece_bytes profile (cond b (text one) (text_of_one many n)))) (sym (ap (λ t. t && is_there profile one) e ∙ all_there profile is one))
+        subst (λ b. P (piece_bytes profile (cond b (text one) (text_of_one many n)))) (sym (ap (λ t. t && is_there profile one) e ∙ all_there profile is one ∙ ap not kept))
         (subst (λ p. P (written p (nine []))) (sym (program_is profile is one)) (single (eqb-true n 1 e)))
     by false e =
         subst (λ b. P (piece_bytes profile (cond b (text one) (text_of_one many n)))) (sym (ap (λ t. t && is_there profile one) e))
@@ -184,14 +184,14 @@ vertical profile is law old new n low few = (up, down)
     up : moved_up profile.rows profile.columns old n ≡ Some new → OpLeads profile old new (piece_bytes profile (motion profile capability.Cuu1 capability.Cuu n))
     up h =
         let goes = negative_leads new (moved_up profile.rows profile.columns (negative_state old) n) (moved_up profile.rows profile.columns old n) (up_negative profile.rows profile.columns old n) h in
-        either_motion profile is capability.Cuu1 capability.Cuu n (OpLeads profile old new)
+        either_motion profile is capability.Cuu1 capability.Cuu n (OpLeads profile old new) refl
         (λ one. subst (OpLeads profile old new) (sym cuu1_text) (bare_leads profile.rows profile.columns (negative_state old) (negative_state new) 65 (omega arith) (omega arith) (ap (moved_up profile.rows profile.columns (negative_state old)) (sym one) ∙ goes)))
         (subst (OpLeads profile old new) (sym (cuu_text law n (omega arith))) (counted_leads profile.rows profile.columns (negative_state old) (negative_state new) n 65 (omega arith) (omega arith) (omega arith) (counted n (moved_up profile.rows profile.columns (negative_state old)) low ∙ goes)))
 
     down : moved_down profile.rows profile.columns old n ≡ Some new → OpLeads profile old new (piece_bytes profile (motion profile capability.Cud1 capability.Cud n))
     down h =
         let goes = negative_leads new (moved_down profile.rows profile.columns (negative_state old) n) (moved_down profile.rows profile.columns old n) (down_negative profile.rows profile.columns old n) h in
-        either_motion profile is capability.Cud1 capability.Cud n (OpLeads profile old new)
+        either_motion profile is capability.Cud1 capability.Cud n (OpLeads profile old new) refl
         (λ one. subst (OpLeads profile old new) (sym cud1_text) (bare_leads profile.rows profile.columns (negative_state old) (negative_state new) 66 (omega arith) (omega arith) (ap (moved_down profile.rows profile.columns (negative_state old)) (sym one) ∙ goes)))
         (subst (OpLeads profile old new) (sym (cud_text law n (omega arith))) (counted_leads profile.rows profile.columns (negative_state old) (negative_state new) n 66 (omega arith) (omega arith) (omega arith) (counted n (moved_down profile.rows profile.columns (negative_state old)) low ∙ goes)))
 
@@ -204,14 +204,14 @@ horizontal profile is law old new n low few = (left, right)
     left : moved_left profile.rows profile.columns old n ≡ Some new → OpLeads profile old new (piece_bytes profile (motion profile capability.Cub1 capability.Cub n))
     left h =
         let goes = negative_leads new (moved_left profile.rows profile.columns (negative_state old) n) (moved_left profile.rows profile.columns old n) (left_negative profile.rows profile.columns old n) h in
-        either_motion profile is capability.Cub1 capability.Cub n (OpLeads profile old new)
+        either_motion profile is capability.Cub1 capability.Cub n (OpLeads profile old new) refl
         (λ one. subst (OpLeads profile old new) (sym cub1_text) (unit_leads profile.rows profile.columns (negative_state old) (negative_state new) (Control 8) (inl refl) (ap (moved_left profile.rows profile.columns (negative_state old)) (sym one) ∙ goes)))
         (subst (OpLeads profile old new) (sym (cub_text law n (omega arith))) (counted_leads profile.rows profile.columns (negative_state old) (negative_state new) n 68 (omega arith) (omega arith) (omega arith) (counted n (moved_left profile.rows profile.columns (negative_state old)) low ∙ goes)))
 
     right : moved_right profile.rows profile.columns old n ≡ Some new → OpLeads profile old new (piece_bytes profile (motion profile capability.Cuf1 capability.Cuf n))
     right h =
         let goes = negative_leads new (moved_right profile.rows profile.columns (negative_state old) n) (moved_right profile.rows profile.columns old n) (right_negative profile.rows profile.columns old n) h in
-        either_motion profile is capability.Cuf1 capability.Cuf n (OpLeads profile old new)
+        either_motion profile is capability.Cuf1 capability.Cuf n (OpLeads profile old new) refl
         (λ one. subst (OpLeads profile old new) (sym cuf1_text) (bare_leads profile.rows profile.columns (negative_state old) (negative_state new) 67 (omega arith) (omega arith) (ap (moved_right profile.rows profile.columns (negative_state old)) (sym one) ∙ goes)))
         (subst (OpLeads profile old new) (sym (cuf_text law n (omega arith))) (counted_leads profile.rows profile.columns (negative_state old) (negative_state new) n 67 (omega arith) (omega arith) (omega arith) (counted n (moved_right profile.rows profile.columns (negative_state old)) low ∙ goes)))
 
@@ -235,24 +235,32 @@ enter_leads profile is old a small one =
     (leads 64 56 capability.Invis (Some 8 ∷ []) (bit_or state.pen.attrs 64) refl invis_text refl refl refl (negative-or_invis old.pen.attrs small))
     a one
 
-within : (profile : ProfileView) (op : Op) → has profile op ≡ true → is_within profile op ≡ true
+parts : (profile : ProfileView) (op : Op) → has profile op ≡ true → (is_within profile op ≡ true) × (is_sendable profile (first_piece profile op) ≡ true)
 unfolding has
-within profile op had = (both_true (is_within profile op) (is_sendable profile (first_piece profile op)) had).0
+parts profile op had = both_true (is_within profile op) (is_sendable profile (first_piece profile op)) had
+
+-- the bundled entry sends nothing that inserts or deletes
+not_sent : (profile : ProfileView) → IsEcma48 profile → (one many : Capability) (n : ℕ) (P : Type 0) → is_spare one ≡ true → is_spare many ≡ true → is_sendable profile (motion profile one many n) ≡ true → P
+not_sent profile is one many n P first second sends = by (n == 1 && is_there profile one) sends
+  where
+    by : (t : Bool) → is_sendable profile (cond t (text one) (text_of_one many n)) ≡ true → P
+    by true e = absurd (false≢true (ap not (sym first) ∙ sym (all_there profile is one) ∙ e))
+    by false e = absurd (false≢true (ap not (sym second) ∙ sym (all_there profile is many) ∙ e))
 
 leads_by : (profile : ProfileView) → IsEcma48 profile → WritesDecimal → AddsOne → (old new : TerminalState) → IsState (abilities profile) old
-    → (op : Op) → is_within profile op ≡ true → act profile old op ≡ Some new → OpLeads profile old new (bytes_of profile op)
+    → (op : Op) → is_within profile op ≡ true → is_sendable profile (first_piece profile op) ≡ true → act profile old op ≡ Some new → OpLeads profile old new (bytes_of profile op)
 unfolding control_function
-leads_by profile is law adds old new s Home had h =
+leads_by profile is law adds old new s Home had sends h =
     let goes = negative_leads new (moved_to profile.rows profile.columns (negative_state old) 0 0) (moved_to profile.rows profile.columns old 0 0) (to_negative profile.rows profile.columns old 0 0) (chosen (profile.msgr || is_plain_pen old.pen) (moved_to profile.rows profile.columns old 0 0) new h).1 in
     subst (OpLeads profile old new) (sym (one_text profile is Home capability.Home (nine []) (control_sequence [] 72) refl home_text))
     (bare_leads profile.rows profile.columns (negative_state old) (negative_state new) 72 (omega arith) (omega arith) goes)
-leads_by profile is law adds old new s (Move r c) had h =
+leads_by profile is law adds old new s (Move r c) had sends h =
     let hr : r < profile.rows = grind (arith, nat_tests) in
     let hc : c < profile.columns = grind (arith, nat_tests) in
     let goes = negative_leads new (moved_to profile.rows profile.columns (negative_state old) r c) (moved_to profile.rows profile.columns old r c) (to_negative profile.rows profile.columns old r c) (chosen (profile.msgr || is_plain_pen old.pen) (moved_to profile.rows profile.columns old r c) new h).1 in
     subst (OpLeads profile old new) (sym (one_text profile is (Move r c) capability.Cup (nine (pos r ∷ pos c ∷ [])) (control_sequence (decimal (r + 1) ++ 59 ∷ decimal (c + 1)) 72) refl (cup_text law adds r c (omega (arith, is.size.few_rows)) (omega (arith, is.size.few_columns)))))
     (place_leads profile.rows profile.columns (negative_state old) (negative_state new) r c (omega (arith, is.size.few_rows)) (omega (arith, is.size.few_columns)) goes)
-leads_by profile is law adds old new s (Column c) had h =
+leads_by profile is law adds old new s (Column c) had sends h =
     let hc : c < profile.columns = grind (arith, nat_tests) in
     let few : c ≤ 500 = omega (arith, is.size.few_columns) in
     let same : c + 1 - 1 ≡ c = omega arith in
@@ -260,7 +268,7 @@ leads_by profile is law adds old new s (Column c) had h =
     subst (OpLeads profile old new) (sym (one_text profile is (Column c) capability.Hpa (nine (pos c ∷ [])) (control_sequence (decimal (c + 1)) 71) refl (hpa_text law adds c (omega arith))))
     (counted_leads profile.rows profile.columns (negative_state old) (negative_state new) (c + 1) 71 (omega arith) (omega arith) (omega arith)
     (counted (c + 1) (λ n. moved_to_column profile.rows profile.columns (negative_state old) (n - 1)) (omega arith) ∙ ap (moved_to_column profile.rows profile.columns (negative_state old)) same ∙ goes))
-leads_by profile is law adds old new s (Line r) had h =
+leads_by profile is law adds old new s (Line r) had sends h =
     let hr : r < profile.rows = grind (arith, nat_tests) in
     let few : r ≤ 500 = omega (arith, is.size.few_rows) in
     let same : r + 1 - 1 ≡ r = omega arith in
@@ -268,58 +276,62 @@ leads_by profile is law adds old new s (Line r) had h =
     subst (OpLeads profile old new) (sym (one_text profile is (Line r) capability.Vpa (nine (pos r ∷ [])) (control_sequence (decimal (r + 1)) 100) refl (vpa_text law adds r (omega arith))))
     (counted_leads profile.rows profile.columns (negative_state old) (negative_state new) (r + 1) 100 (omega arith) (omega arith) (omega arith)
     (counted (r + 1) (λ n. moved_to_row profile.rows profile.columns (negative_state old) (n - 1)) (omega arith) ∙ ap (moved_to_row profile.rows profile.columns (negative_state old)) same ∙ goes))
-leads_by profile is law adds old new s (Up n) had h =
+leads_by profile is law adds old new s (Up n) had sends h =
     let few = is_count_of n had in
     subst (OpLeads profile old new) (sym (one_piece profile (Up n) (motion profile capability.Cuu1 capability.Cuu n) refl))
     ((vertical profile is law old new n few.0 few.1).0 (chosen (profile.msgr || is_plain_pen old.pen) (moved_up profile.rows profile.columns old n) new h).1)
-leads_by profile is law adds old new s (Down n) had h =
+leads_by profile is law adds old new s (Down n) had sends h =
     let few = is_count_of n had in
     subst (OpLeads profile old new) (sym (one_piece profile (Down n) (motion profile capability.Cud1 capability.Cud n) refl))
     ((vertical profile is law old new n few.0 few.1).1 (chosen (profile.msgr || is_plain_pen old.pen) (moved_down profile.rows profile.columns old n) new h).1)
-leads_by profile is law adds old new s (Left n) had h =
+leads_by profile is law adds old new s (Left n) had sends h =
     let few = is_count_of n had in
     subst (OpLeads profile old new) (sym (one_piece profile (Left n) (motion profile capability.Cub1 capability.Cub n) refl))
     ((horizontal profile is law old new n few.0 few.1).0 (chosen (profile.msgr || is_plain_pen old.pen) (moved_left profile.rows profile.columns old n) new h).1)
-leads_by profile is law adds old new s (Right n) had h =
+leads_by profile is law adds old new s (Right n) had sends h =
     let few = is_count_of n had in
     subst (OpLeads profile old new) (sym (one_piece profile (Right n) (motion profile capability.Cuf1 capability.Cuf n) refl))
     ((horizontal profile is law old new n few.0 few.1).1 (chosen (profile.msgr || is_plain_pen old.pen) (moved_right profile.rows profile.columns old n) new h).1)
-leads_by profile is law adds old new s Return had h =
+leads_by profile is law adds old new s Return had sends h =
     let goes = negative_leads new (moved_to_column profile.rows profile.columns (negative_state old) 0) (moved_to_column profile.rows profile.columns old 0) (column_negative profile.rows profile.columns old 0) (chosen (profile.msgr || is_plain_pen old.pen) (moved_to_column profile.rows profile.columns old 0) new h).1 in
     subst (OpLeads profile old new) (sym (one_text profile is Return capability.Cr (nine []) (13 ∷ []) refl cr_text))
     (unit_leads profile.rows profile.columns (negative_state old) (negative_state new) (Control 13) (inr refl) goes)
-leads_by profile is law adds old new s Clear had h =
+leads_by profile is law adds old new s Clear had sends h =
     let next : TerminalState = record old { grid = blank_grid profile.rows profile.columns; spot = At 0 0 } in
     subst (λ z. OpLeads profile old z (bytes_of profile Clear)) (same_some next new (chosen (is_plain_pen old.pen) (Some next) new h).1)
     (subst (OpLeads profile old next) (sym (one_text profile is Clear capability.Clear (nine []) (control_sequence [] 72 ++ control_sequence (50 ∷ []) 74) refl clear_text))
     (clear_leads profile.rows profile.columns old is.size))
-leads_by profile is law adds old new s EraseLine had h =
+leads_by profile is law adds old new s EraseLine had sends h =
     let goes = negative_leads new (rest_of_line_erased profile.rows profile.columns (negative_state old)) (rest_of_line_erased profile.rows profile.columns old) (line_negative profile.rows profile.columns old) (chosen (is_plain_pen old.pen) (rest_of_line_erased profile.rows profile.columns old) new h).1 in
     subst (OpLeads profile old new) (sym (one_text profile is EraseLine capability.El (nine []) (control_sequence [] 75) refl el_text))
     (bare_leads profile.rows profile.columns (negative_state old) (negative_state new) 75 (omega arith) (omega arith) goes)
-leads_by profile is law adds old new s EraseBelow had h =
+leads_by profile is law adds old new s EraseBelow had sends h =
     let goes = negative_leads new (lines_below_erased profile.rows profile.columns (negative_state old)) (lines_below_erased profile.rows profile.columns old) (below_negative profile.rows profile.columns old) (chosen (is_plain_pen old.pen) (lines_below_erased profile.rows profile.columns old) new h).1 in
     subst (OpLeads profile old new) (sym (one_text profile is EraseBelow capability.Ed (nine []) (control_sequence [] 74) refl ed_text))
     (bare_leads profile.rows profile.columns (negative_state old) (negative_state new) 74 (omega arith) (omega arith) (below_is profile.rows profile.columns (negative_state old) (negative_state new) goes))
-leads_by profile is law adds old new s (EraseChars n) had h =
+leads_by profile is law adds old new s (EraseChars n) had sends h =
     let few = is_count_of n had in
     let goes = negative_leads new (characters_erased profile.rows profile.columns (negative_state old) n) (characters_erased profile.rows profile.columns old n) (characters_negative profile.rows profile.columns old n) (chosen (is_plain_pen old.pen) (characters_erased profile.rows profile.columns old n) new h).1 in
     subst (OpLeads profile old new) (sym (one_text profile is (EraseChars n) capability.Ech (nine (pos n ∷ [])) (control_sequence (decimal n) 88) refl (ech_text law n (omega (arith, few.1)))))
     (counted_leads profile.rows profile.columns (negative_state old) (negative_state new) n 88 (omega (arith, few.1)) (omega arith) (omega arith)
     (counted n (characters_erased profile.rows profile.columns (negative_state old)) few.0 ∙ goes))
-leads_by profile is law adds old new s Reset had h =
+leads_by profile is law adds old new s (InsertLines n) had sends h = not_sent profile is capability.Il1 capability.Il n _ refl refl sends
+leads_by profile is law adds old new s (DeleteLines n) had sends h = not_sent profile is capability.Dl1 capability.Dl n _ refl refl sends
+leads_by profile is law adds old new s (InsertChars n) had sends h = absurd (false≢true (sym (all_there profile is capability.Ich) ∙ sends))
+leads_by profile is law adds old new s (DeleteChars n) had sends h = not_sent profile is capability.Dch1 capability.Dch n _ refl refl sends
+leads_by profile is law adds old new s Reset had sends h =
     let next : TerminalState = record old { pen = plain_pen } in
     subst (λ z. OpLeads profile old z (bytes_of profile Reset)) (same_some next new h)
     (subst (OpLeads profile old next) (sym (two_texts profile is Reset capability.Sgr0 (nine []) (control_sequence (48 ∷ []) 109) refl sgr0_text))
     (leads-append profile.rows profile.columns (negative_state old) (negative_state next) (negative_state next) (control_sequence (48 ∷ []) 109) op_bytes
     (digit_leads profile.rows profile.columns (negative_state old) 48 (Some 0 ∷ []) plain_pen refl refl refl)
     (default_leads profile.rows profile.columns (negative_state next))))
-leads_by profile is law adds old new s (Enter a) had h =
+leads_by profile is law adds old new s (Enter a) had sends h =
     let next : TerminalState = record old { pen = with_attribute old.pen a.0 } in
     let small : old.pen.attrs < 128 = small_set old.pen.attrs (let e : shown_set profile ≡ 127 = every_is_shown profile is in rw e at s.pen.attrs) in
     subst (λ z. OpLeads profile old z (bytes_of profile (Enter a))) (same_some next new h)
     (enter_leads profile is old a.0 small (both_true _ _ had).0)
-leads_by profile is law adds old new s (Set a) had h =
+leads_by profile is law adds old new s (Set a) had sends h =
     let next : TerminalState = record old { pen = record plain_pen { attrs = a.0 } } in
     let few : a.0 < 128 = small_set a.0 (let e : shown_set profile ≡ 127 = every_is_shown profile is in let same : bit_and (shown_set profile) a.0 ≡ a.0 = eqb-true _ _ had in rw e at same) in
     subst (λ z. OpLeads profile old z (bytes_of profile (Set a))) (same_some next new h)
@@ -327,17 +339,17 @@ leads_by profile is law adds old new s (Set a) had h =
     (leads-append profile.rows profile.columns (negative_state old) (negative_state next) (negative_state next) (control_sequence (rendition_parameters a.0) 109) op_bytes
     (set_leads profile.rows profile.columns (negative_state old) a.0 few)
     (default_leads profile.rows profile.columns (negative_state next))))
-leads_by profile is law adds old new s (Fore n) had h =
+leads_by profile is law adds old new s (Fore n) had sends h =
     let few : n < 8 = (let e = (both_true (nat_lt n 8) (has_colours profile) had).0 in grind (arith, nat_tests)) in
     subst (λ z. OpLeads profile old z (bytes_of profile (Fore n))) (coloured_is old new (record old.pen { foreground = Some n }) old.spot h)
     (subst (OpLeads profile old (record old { pen = record old.pen { foreground = Some n } })) (sym (one_text profile is (Fore n) capability.Setaf (nine (pos n ∷ [])) (control_sequence (51 ∷ decimal n) 109) refl (setaf_text law n (omega arith))))
     (foreground_leads profile.rows profile.columns (negative_state old) n few))
-leads_by profile is law adds old new s (Back n) had h =
+leads_by profile is law adds old new s (Back n) had sends h =
     let few : n < 8 = (let e = (both_true (nat_lt n 8) (has_colours profile) had).0 in grind (arith, nat_tests)) in
     subst (λ z. OpLeads profile old z (bytes_of profile (Back n))) (coloured_is old new (record old.pen { background = Some n }) old.spot h)
     (subst (OpLeads profile old (record old { pen = record old.pen { background = Some n } })) (sym (one_text profile is (Back n) capability.Setab (nine (pos n ∷ [])) (control_sequence (52 ∷ decimal n) 109) refl (setab_text law n (omega arith))))
     (background_leads profile.rows profile.columns (negative_state old) n few))
-leads_by profile is law adds old new s (Put byte) had h =
+leads_by profile is law adds old new s (Put byte) had sends h =
     let low : 32 ≤ byte = grind (arith, nat_tests) in
     let high : byte ≤ 126 = grind (arith, nat_tests) in
     subst (OpLeads profile old new) (sym (one_piece profile (Put byte) (Character byte) refl)) (put_leads profile.rows profile.columns byte old new old.spot refl low high h)
@@ -345,4 +357,4 @@ leads_by profile is law adds old new s (Put byte) had h =
 pub bytes_act_as_their_operation : WritesDecimal → AddsOne → BytesActAsTheirOperation
 bytes_act_as_their_operation law adds profile is old new s op h =
     let c = chosen (has profile op) (act profile old op) new h in
-    leads_by profile is law adds old new s op (within profile op c.0) c.1
+    leads_by profile is law adds old new s op (parts profile op c.0).0 (parts profile op c.0).1 c.1

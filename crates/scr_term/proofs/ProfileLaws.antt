@@ -8,7 +8,7 @@ use Rattle.std.proofs.lemmas.Bool.{eqb-true, false≢true}
 use Rattle.std.proofs.lemmas.Bool.Decides.{nat_tests}
 use Rattle.scr_cells.specs.Attributes.{all_attributes}
 use Rattle.scr_cells.specs.declared.attributes.Attrs.{Attrs}
-use Rattle.scr_term.specs.declared.operations.operation.Op.TheVariants.{Home, Move, Column, Line, Up, Down, Left, Right, Return, Clear, EraseLine, EraseBelow, EraseChars, Reset, Enter, Set, Fore, Back, Put}
+use Rattle.scr_term.specs.declared.operations.operation.Op.TheVariants.{Home, Move, Column, Line, Up, Down, Left, Right, Return, Clear, EraseLine, EraseBelow, EraseChars, InsertLines, DeleteLines, InsertChars, DeleteChars, Reset, Enter, Set, Fore, Back, Put}
 use Rattle.scr_term.specs.declared.operations.operation.Op.{Op}
 use Rattle.scr_term.specs.declared.operations.capability.Capability.TheVariants.{Sgr0, Setaf, Setab}
 use Rattle.scr_cells.specs.PenViews.{PenView}
@@ -191,6 +191,10 @@ next_is_shown profile pen Clear had is = is
 next_is_shown profile pen EraseLine had is = is
 next_is_shown profile pen EraseBelow had is = is
 next_is_shown profile pen (EraseChars n) had is = is
+next_is_shown profile pen (InsertLines n) had is = is
+next_is_shown profile pen (DeleteLines n) had is = is
+next_is_shown profile pen (InsertChars n) had is = is
+next_is_shown profile pen (DeleteChars n) had is = is
 next_is_shown profile pen (Fore n) had is = is
 next_is_shown profile pen (Back n) had is = is
 next_is_shown profile pen (Put b) had is = is

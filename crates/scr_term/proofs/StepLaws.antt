@@ -5,21 +5,21 @@ use Rattle.std.proofs.lemmas.List.Concat.{flat_map-append}
 use Rattle.std.proofs.lemmas.List.Elements.{All-from_recursion}
 use Rattle.std.proofs.lemmas.Bool.{eqb-true}
 use Rattle.std.proofs.lemmas.Bool.Decides.{nat_tests}
-use Rattle.scr_cells.specs.Grids.{grid_with, is_in_run}
-use Rattle.scr_cells.specs.LookViews.{LookView}
+use Rattle.scr_cells.specs.Grids.{grid_at, grid_with, is_in_run, places_left, places_right, rows_down, rows_up}
+use Rattle.scr_cells.specs.LookViews.{LookView, IsLook, blank}
 use Rattle.scr_cells.specs.PenViews.{PenView, is_plain_pen, plain_pen}
 use Rattle.scr_term.specs.declared.operations.operation.Op.{Op}
-use Rattle.scr_term.specs.declared.operations.operation.Op.TheVariants.{Home, Move, Column, Line, Up, Down, Left, Right, Return, Clear, EraseLine, EraseBelow, EraseChars, Reset, Enter, Set, Fore, Back, Put}
+use Rattle.scr_term.specs.declared.operations.operation.Op.TheVariants.{Home, Move, Column, Line, Up, Down, Left, Right, Return, Clear, EraseLine, EraseBelow, EraseChars, InsertLines, DeleteLines, InsertChars, DeleteChars, Reset, Enter, Set, Fore, Back, Put}
 use Rattle.scr_term.specs.declared.operations.operation.Spot.{Spot}
 use Rattle.scr_term.specs.declared.operations.operation.Spot.TheVariants.{At, Margin}
 use Rattle.scr_term.specs.Operations.Abilities.{Abilities, AreAbilities}
 use Rattle.scr_term.specs.Operations.Profiles.{ProfileView, IsProfile, abilities, shown_set}
-use Rattle.scr_term.specs.Operations.States.{TerminalState, AreShownColours, IsShownPen, IsSpot, IsState, blank_state, erased, from_place, is_from_place, moved_to, spot_after, written_at}
+use Rattle.scr_term.specs.Operations.States.{TerminalState, AreShownColours, IsShownPen, IsSpot, IsState, blank_state, erased, from_place, is_from_place, moved_to, shifted, spot_after, written_at}
 use Rattle.scr_term.specs.Operations.Steps.{act, erasure_made, motion_made, step, runs}
 use Rattle.scr_term.specs.Operations.Texts.{bytes_of, has}
 use Rattle.scr_term.specs.Operations.Laws.{BlankLaws, RunLaws, StepsKeepStates}
 use Rattle.scr_term.proofs.ChoiceLaws.{both_true, chosen, no_some, same_some, then_some}
-use Rattle.scr_term.proofs.LookGridLaws.{all_blank, filled_all, filled_is_grid, is_blank, negative_blank, put_all, put_is_grid}
+use Rattle.scr_term.proofs.LookGridLaws.{all_blank, down_is_look, filled_all, filled_is_grid, formed_all, formed_is_grid, is_blank, left_is_look, negative_blank, put_all, put_is_grid, right_is_look, up_is_look}
 use Rattle.scr_term.proofs.ProfileLaws.{abilities_are, entered_is_shown, is_had}
 use Rattle.scr_term.proofs.ShownPenLaws.{more_is_shown, plain_is_shown, set_is_shown, shown_is_pen}
 
@@ -35,6 +35,15 @@ erased_keeps : (a : Abilities) (old : TerminalState) (inside : ℕ → ℕ → B
 erased_keeps a old inside s = record {
   whole = filled_is_grid a.rows a.columns inside _;
   looks = filled_all a.rows a.columns inside old.grid s.looks;
+  spot = s.spot;
+  pen = s.pen;
+}
+
+shifted_keeps : (a : Abilities) (old : TerminalState) (move : LookView → (ℕ → ℕ → LookView) → ℕ → ℕ → LookView) → IsState a old
+    → ((r c : ℕ) → IsLook (move blank (grid_at blank old.grid) r c)) → IsState a (shifted a.rows a.columns move old)
+shifted_keeps a old move s each = record {
+  whole = formed_is_grid a.rows a.columns (move blank (grid_at blank old.grid));
+  looks = formed_all a.rows a.columns (move blank (grid_at blank old.grid)) each;
   spot = s.spot;
   pen = s.pen;
 }
@@ -131,6 +140,18 @@ keeps profile p old s EraseBelow had =
 keeps profile p old s (EraseChars n) had =
     erasure profile old _ (place_keeps (abilities profile) old.spot _ s.spot (λ r c row_in column_in. tested_keeps (abilities profile) (nat_le (c + n) profile.columns) _
     (λ t. some_keeps (abilities profile) _ (erased_keeps (abilities profile) old (is_in_run r c (c + n)) s))))
+keeps profile p old s (InsertLines n) had =
+    erasure profile old _ (place_keeps (abilities profile) old.spot _ s.spot (λ r c row_in column_in. tested_keeps (abilities profile) (c == 0 && nat_le (r + n) profile.rows) _
+    (λ t. some_keeps (abilities profile) _ (shifted_keeps (abilities profile) old (rows_down r profile.rows n) s (down_is_look r profile.rows n old.grid s.looks)))))
+keeps profile p old s (DeleteLines n) had =
+    erasure profile old _ (place_keeps (abilities profile) old.spot _ s.spot (λ r c row_in column_in. tested_keeps (abilities profile) (c == 0 && nat_le (r + n) profile.rows) _
+    (λ t. some_keeps (abilities profile) _ (shifted_keeps (abilities profile) old (rows_up r profile.rows n) s (up_is_look r profile.rows n old.grid s.looks)))))
+keeps profile p old s (InsertChars n) had =
+    erasure profile old _ (place_keeps (abilities profile) old.spot _ s.spot (λ r c row_in column_in. tested_keeps (abilities profile) (nat_le (c + n) profile.columns) _
+    (λ t. some_keeps (abilities profile) _ (shifted_keeps (abilities profile) old (places_right r c profile.columns n) s (right_is_look r c profile.columns n old.grid s.looks)))))
+keeps profile p old s (DeleteChars n) had =
+    erasure profile old _ (place_keeps (abilities profile) old.spot _ s.spot (λ r c row_in column_in. tested_keeps (abilities profile) (nat_le (c + n) profile.columns) _
+    (λ t. some_keeps (abilities profile) _ (shifted_keeps (abilities profile) old (places_left r c profile.columns n) s (left_is_look r c profile.columns n old.grid s.looks)))))
 keeps profile p old s Reset had = some_keeps (abilities profile) _ (rendered (abilities profile) old plain_pen s (plain_is_shown (abilities profile)))
 keeps profile p old s (Enter a) had =
     some_keeps (abilities profile) _ (rendered (abilities profile) old _ s (more_is_shown (abilities profile) old.pen a.0 s.pen (entered_is_shown profile a had)))

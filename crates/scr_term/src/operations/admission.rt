@@ -69,12 +69,12 @@ impl Profile {
         has_needed_texts(alloc, entry)?;
         let size = screen_size(entry, size)?;
         let programs = programs(alloc, entry, &Capability::EACH)?;
-        if let Some(capability) = first_long(&programs, &Capability::EACH) {
-            return Err(ProfileFault::LongString((Kind::Text, capability.slot())));
-        }
         let Ok(programs) = with_spares(alloc, entry, programs, &Capability::SPARE) else {
             return Err(ProfileFault::NoMemory);
         };
+        if let Some(capability) = first_long(&programs, &Capability::EACH) {
+            return Err(ProfileFault::LongString((Kind::Text, capability.slot())));
+        }
         Ok(profile(entry, size, programs).priced(entry))
     }
 
@@ -269,12 +269,12 @@ fn with_spares(
 ) -> Result<Vec<Option<Program>>, NoMemory>
     ensures { IfOk result (λ all. all.items ≡ programs.items ++ map (spare_program entry.now) capabilities.now) }
 {
-    let mut programs = programs;
+    let mut all = programs;
     for capability in capabilities {
         let program = spare_program(alloc, entry, *capability)?;
-        add(&mut programs, program)?;
+        add(&mut all, program)?;
     }
-    Ok(programs)
+    Ok(all)
 }
 
 // The program of a spare capability; `None` if its text cannot be used.
@@ -347,7 +347,7 @@ fn parsed_program(alloc: Global, text: &[u8]) -> Result<Option<Program>, NoMemor
 
 // The first of these capabilities whose program could give too many bytes.
 fn first_long(programs: &[Option<Program>], capabilities: &[Capability]) -> Option<Capability>
-    requires { length programs.now ≡ 29 }
+    requires { length programs.now ≡ 36 }
     ensures { result ≡ first_where (λ c. is_over_bound (program_in programs.now c)) capabilities.now }
 {
     for capability in capabilities {

@@ -3,7 +3,8 @@ use Rattle.scr_cells.specs.Grids.{grid_of, is_in_run}
 use Rattle.scr_cells.specs.LookViews.{LookView}
 use Rattle.scr_term.specs.Displays.{DisplayView}
 use Rattle.scr_term.specs.Operations.States.{is_from_place}
-use Rattle.scr_term.proofs.DisplayViewLaws.{blanked_is_display, cleared_is_display}
+use Rattle.scr_term.proofs.DisplayViewLaws.{blanked_is_display, cleared_is_display, formed_is_display}
+use Rattle.scr_term.proofs.LookGridLaws.{down_is_look, left_is_look, right_is_look, up_is_look}
 use Rattle.scr_term.proofs.displays.display.Display.make.Goals as goal
 
 pub invariant_of-self-in-ErasedAll : goal.invariant_of-self-in-ErasedAll
@@ -24,3 +25,27 @@ invariant_of-self-in-ErasedFrom c =
     let grid = c.self.inside.grid in
     let old : DisplayView = record { rows = grid.rows; columns = grid.columns; state = record { grid = grid.lines; spot = c.self.inside.spot; pen = c.self.inside.pen } } in
     blanked_is_display c.grid_laws.ensures old c.erase_from.new.grid (is_from_place c.in-ErasedFrom.row c.in-ErasedFrom.column) c.self.invariant c.erase_from.ensures
+
+pub invariant_of-self-in-LinesInserted : goal.invariant_of-self-in-LinesInserted
+invariant_of-self-in-LinesInserted c =
+    let grid = c.self.inside.grid in
+    let old : DisplayView = record { rows = grid.rows; columns = grid.columns; state = record { grid = grid.lines; spot = c.self.inside.spot; pen = c.self.inside.pen } } in
+    formed_is_display old c.insert_lines.new.grid _ c.self.invariant (down_is_look c.in-LinesInserted.row grid.rows c.in-LinesInserted.count grid.lines c.self.invariant.state.looks) c.insert_lines.ensures
+
+pub invariant_of-self-in-LinesDeleted : goal.invariant_of-self-in-LinesDeleted
+invariant_of-self-in-LinesDeleted c =
+    let grid = c.self.inside.grid in
+    let old : DisplayView = record { rows = grid.rows; columns = grid.columns; state = record { grid = grid.lines; spot = c.self.inside.spot; pen = c.self.inside.pen } } in
+    formed_is_display old c.delete_lines.new.grid _ c.self.invariant (up_is_look c.in-LinesDeleted.row grid.rows c.in-LinesDeleted.count grid.lines c.self.invariant.state.looks) c.delete_lines.ensures
+
+pub invariant_of-self-in-CharactersInserted : goal.invariant_of-self-in-CharactersInserted
+invariant_of-self-in-CharactersInserted c =
+    let grid = c.self.inside.grid in
+    let old : DisplayView = record { rows = grid.rows; columns = grid.columns; state = record { grid = grid.lines; spot = c.self.inside.spot; pen = c.self.inside.pen } } in
+    formed_is_display old c.insert_characters.new.grid _ c.self.invariant (right_is_look c.in-CharactersInserted.row c.in-CharactersInserted.column grid.columns c.in-CharactersInserted.count grid.lines c.self.invariant.state.looks) c.insert_characters.ensures
+
+pub invariant_of-self-in-CharactersDeleted : goal.invariant_of-self-in-CharactersDeleted
+invariant_of-self-in-CharactersDeleted c =
+    let grid = c.self.inside.grid in
+    let old : DisplayView = record { rows = grid.rows; columns = grid.columns; state = record { grid = grid.lines; spot = c.self.inside.spot; pen = c.self.inside.pen } } in
+    formed_is_display old c.delete_characters.new.grid _ c.self.invariant (left_is_look c.in-CharactersDeleted.row c.in-CharactersDeleted.column grid.columns c.in-CharactersDeleted.count grid.lines c.self.invariant.state.looks) c.delete_characters.ensures

@@ -1,8 +1,9 @@
-use Rattle.std.proofs.Common.{◌∙◌, Some, inr, ap, subst, sym, option_map}
+use Rattle.std.proofs.Common.{◌∙◌, ◌++◌, Some, inr, ap, map, subst, sym, option_map}
 use Rattle.std.proofs.lemmas.Result.{err_from_is_err_and}
 use Rattle.ti_caps.specs.declared.table.Kind.TheVariants.{Text}
 use Rattle.scr_term.specs.declared.operations.profile_faults.ProfileFault.TheVariants.{LongString}
-use Rattle.scr_term.specs.Operations.Admission.{IsRefused, admitted_on, named_text}
+use Rattle.scr_term.specs.Operations.Admission.{IsRefused, admitted_on, named_text, spare_program}
+use Rattle.scr_term.specs.Operations.Capabilities.{each_spare}
 use Rattle.scr_term.proofs.AdmissionLaws.{refused_unsuitable, refused_margin, refused_missing, refused_size, refused_bad, refused_long, none_refused, long_first}
 use Rattle.scr_term.proofs.operations.profiles.Profile.admit.Goals as goal
 
@@ -44,14 +45,14 @@ returns-in_err-programs-clause-err c =
 pub returns-in-Some-clause-err : goal.returns-in-Some-clause-err
 returns-in-Some-clause-err c =
     let entry = c.args.entry.now in
-    let long = long_first entry c.deref.result.now c.first_long.result (c.deref.ensures.value ∙ c.in_ok-programs.ensures.programs) c.first_long.ensures in
+    let long = long_first entry c.deref.result.now c.first_long.result (c.deref.ensures.value ∙ c.in-Ok.ensures ∙ ap (λ l. l ++ map (spare_program entry) each_spare) c.in_ok-programs.ensures.programs) c.first_long.ensures in
     refused_long entry c.args.size _ c.in_ok-is_suitable.ensures.judged c.in_ok-keeps_its_margin.ensures.judged c.in_ok-has_needed_texts.ensures c.in_ok-size.ensures.judged c.in_ok-programs.ensures.judged (inr (sym long ∙ ap (option_map (λ x. LongString (named_text x))) c.in-Some.is ∙ ap (λ s. Some (LongString (Text, s))) (sym c.slot.ensures)))
 
 pub returns-clause-ok : goal.returns-clause-ok
 returns-clause-ok c =
     let entry = c.args.entry.now in
-    let long = long_first entry c.deref.result.now c.first_long.result (c.deref.ensures.value ∙ c.in_ok-programs.ensures.programs) c.first_long.ensures in
+    let long = long_first entry c.deref.result.now c.first_long.result (c.deref.ensures.value ∙ c.in-Ok.ensures ∙ ap (λ l. l ++ map (spare_program entry) each_spare) c.in_ok-programs.ensures.programs) c.first_long.ensures in
     record {
-      suits = none_refused entry c.args.size c.in_ok-is_suitable.ensures.judged c.in_ok-keeps_its_margin.ensures.judged c.in_ok-has_needed_texts.ensures c.in_ok-size.ensures.judged c.in_ok-programs.ensures.judged (sym long ∙ ap (option_map (λ x. LongString (named_text x))) c.in_default.is);
+      suits = none_refused entry c.args.size c.in_ok-is_suitable.ensures.judged c.in_ok-keeps_its_margin.ensures.judged c.in_ok-has_needed_texts.ensures c.in_ok-size.ensures.judged c.in_ok-programs.ensures.judged (sym long ∙ ap (option_map (λ x. LongString (named_text x))) c.in_default-first_long.is);
       made = subst (λ s. admitted_on entry s c.priced.result) (sym c.in_ok-size.ensures.size) (c.priced.ensures ∙ c.profile.ensures);
     }
