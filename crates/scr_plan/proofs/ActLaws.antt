@@ -1,20 +1,22 @@
 -- What an operation makes of the spot, of the pen and of the grid, where it is defined.
-use Rattle.std.proofs.Common.{◌≡◌, ℕ, ◌+◌, ◌-◌, ◌<◌, ◌==◌, ◌&&◌, ◌||◌, nat_le, nat_lt, Bool, true, false, refl, sym, ◌∙◌, ap, subst, arith, List, [], get_or, length, slice_set, Option, Some, None, map, if◌then◌else◌}
+use Rattle.std.proofs.Common.{◌≡◌, ℕ, ◌+◌, ◌-◌, ◌<◌, ◌==◌, ◌&&◌, ◌||◌, not, leb, ltb, nat_le, nat_lt, Bool, true, false, refl, sym, ◌∙◌, ap, subst, arith, List, [], get_or, length, slice_set, Option, Some, None, map, if◌then◌else◌}
 use Rattle.std.specs.List.{range_with_len}
 use Rattle.std.proofs.lemmas.Bool.Decides.{nat_tests}
 use Rattle.std.proofs.lemmas.List.{get_or-set_other}
-use Rattle.std.proofs.lemmas.List.FromFn.{get_or-map-range_with_len}
+use Rattle.std.proofs.lemmas.List.FromFn.{get_or-map-range_with_len, length-map-range_with_len}
 use Rattle.std.proofs.lemmas.Grind.{get_or-set_at}
-use Rattle.scr_cells.specs.Grids.{IsGrid, grid_at, grid_filled, grid_row, grid_with, is_in_run}
+use Rattle.scr_cells.specs.Grids.{IsGrid, grid_at, grid_filled, grid_of, grid_row, grid_with, is_in_run, places_left, places_right, rows_down, rows_up}
 use Rattle.scr_cells.specs.LookViews.{LookView, blank, blank_grid}
 use Rattle.scr_cells.specs.PenViews.{PenView, is_plain_pen, plain_pen, with_attribute}
 use Rattle.scr_term.specs.declared.operations.operation.Op.{Op}
-use Rattle.scr_term.specs.declared.operations.operation.Op.TheVariants.{Home, Move, Column, Line, Up, Down, Left, Right, Return, Clear, EraseLine, EraseBelow, EraseChars, Reset, Enter, Set, Fore, Back, Put}
+use Rattle.scr_term.specs.declared.operations.operation.Op.TheVariants.{Home, Move, Column, Line, Up, Down, Left, Right, Return, Clear, EraseLine, EraseBelow, EraseChars, InsertLines, DeleteLines, InsertChars, DeleteChars, Reset, Enter, Set, Fore, Back, Put}
 use Rattle.scr_term.specs.declared.operations.operation.Spot.{Spot}
 use Rattle.scr_term.specs.declared.operations.operation.Spot.TheVariants.{At, Margin}
-use Rattle.scr_term.specs.Operations.Profiles.{ProfileView}
+use Rattle.scr_term.specs.Operations.Profiles.{ProfileView, IsProfile}
 use Rattle.scr_term.specs.Operations.States.{TerminalState, is_from_place, spot_after}
-use Rattle.scr_term.specs.Operations.Steps.{act}
+use Rattle.scr_term.specs.Operations.Steps.{act, step}
+use Rattle.scr_term.specs.Operations.Texts.{has}
+use Rattle.scr_plan.specs.Memories.{moves_rows}
 
 -- ---- the parts of a state
 
@@ -55,6 +57,10 @@ grid_by profile Clear spot pen grid = blank_grid profile.rows profile.columns
 grid_by profile EraseLine (At r c) pen grid = erased_grid profile (is_in_run r c profile.columns) grid
 grid_by profile EraseBelow (At r c) pen grid = erased_grid profile (is_from_place r c) grid
 grid_by profile (EraseChars n) (At r c) pen grid = erased_grid profile (is_in_run r c (c + n)) grid
+grid_by profile (InsertLines n) (At r c) pen grid = grid_of profile.rows profile.columns (rows_down r profile.rows n blank (grid_at blank grid))
+grid_by profile (DeleteLines n) (At r c) pen grid = grid_of profile.rows profile.columns (rows_up r profile.rows n blank (grid_at blank grid))
+grid_by profile (InsertChars n) (At r c) pen grid = grid_of profile.rows profile.columns (places_right r c profile.columns n blank (grid_at blank grid))
+grid_by profile (DeleteChars n) (At r c) pen grid = grid_of profile.rows profile.columns (places_left r c profile.columns n blank (grid_at blank grid))
 grid_by profile (Put byte) (At r c) pen grid = grid_with grid r c (record { byte = byte; pen = pen })
 grid_by profile op spot pen grid = grid
 
@@ -119,6 +125,18 @@ acts profile EraseBelow grid (Margin r) pen new e = nothing _ new e
 acts profile (EraseChars k) grid (At r c) pen new e =
     led profile (EraseChars k) grid (At r c) pen new (whole (erased_grid profile (is_in_run r c (c + k)) grid) (At r c) pen) refl refl refl (when _ _ new (when _ _ new e))
 acts profile (EraseChars k) grid (Margin r) pen new e = nothing _ new e
+acts profile (InsertLines k) grid (At r c) pen new e =
+    led profile (InsertLines k) grid (At r c) pen new (whole (grid_of profile.rows profile.columns (rows_down r profile.rows k blank (grid_at blank grid))) (At r c) pen) refl refl refl (when _ _ new (when _ _ new e))
+acts profile (InsertLines k) grid (Margin r) pen new e = nothing _ new e
+acts profile (DeleteLines k) grid (At r c) pen new e =
+    led profile (DeleteLines k) grid (At r c) pen new (whole (grid_of profile.rows profile.columns (rows_up r profile.rows k blank (grid_at blank grid))) (At r c) pen) refl refl refl (when _ _ new (when _ _ new e))
+acts profile (DeleteLines k) grid (Margin r) pen new e = nothing _ new e
+acts profile (InsertChars k) grid (At r c) pen new e =
+    led profile (InsertChars k) grid (At r c) pen new (whole (grid_of profile.rows profile.columns (places_right r c profile.columns k blank (grid_at blank grid))) (At r c) pen) refl refl refl (when _ _ new (when _ _ new e))
+acts profile (InsertChars k) grid (Margin r) pen new e = nothing _ new e
+acts profile (DeleteChars k) grid (At r c) pen new e =
+    led profile (DeleteChars k) grid (At r c) pen new (whole (grid_of profile.rows profile.columns (places_left r c profile.columns k blank (grid_at blank grid))) (At r c) pen) refl refl refl (when _ _ new (when _ _ new e))
+acts profile (DeleteChars k) grid (Margin r) pen new e = nothing _ new e
 acts profile Reset grid spot pen new e = led profile Reset grid spot pen new (whole grid spot plain_pen) refl refl refl e
 acts profile (Enter a) grid spot pen new e = led profile (Enter a) grid spot pen new (whole grid spot (with_attribute pen a.0)) refl refl refl e
 acts profile (Set a) grid spot pen new e = led profile (Set a) grid spot pen new (whole grid spot (record plain_pen { attrs = a.0 })) refl refl refl e
@@ -139,6 +157,23 @@ erased_same profile inside a b r high same =
     get_or-map-range_with_len (λ r. map (λ c. if inside r c then blank else grid_at blank a r c) (range_with_len 0 profile.columns)) 0 profile.rows r r [] high at
     ∙ ap (λ line. map (λ c. if inside r c then blank else get_or line c blank) (range_with_len 0 profile.columns)) same
     ∙ sym (get_or-map-range_with_len (λ r. map (λ c. if inside r c then blank else grid_at blank b r c) (range_with_len 0 profile.columns)) 0 profile.rows r r [] high at)
+
+-- places of a row that move within it
+right_same : (profile : ProfileView) (row column n : ℕ) (a b : List (List LookView)) (r : ℕ) → r < profile.rows → grid_row a r ≡ grid_row b r
+    → grid_row (grid_of profile.rows profile.columns (places_right row column profile.columns n blank (grid_at blank a))) r ≡ grid_row (grid_of profile.rows profile.columns (places_right row column profile.columns n blank (grid_at blank b))) r
+right_same profile row column n a b r high same =
+    let at : 0 + r ≡ r = omega arith in
+    get_or-map-range_with_len (λ r. map (places_right row column profile.columns n blank (grid_at blank a) r) (range_with_len 0 profile.columns)) 0 profile.rows r r [] high at
+    ∙ ap (λ line. map (λ c. if is_in_run row column profile.columns r c then (if leb (column + n) c then get_or line (c - n) blank else blank) else get_or line c blank) (range_with_len 0 profile.columns)) same
+    ∙ sym (get_or-map-range_with_len (λ r. map (places_right row column profile.columns n blank (grid_at blank b) r) (range_with_len 0 profile.columns)) 0 profile.rows r r [] high at)
+
+left_same : (profile : ProfileView) (row column n : ℕ) (a b : List (List LookView)) (r : ℕ) → r < profile.rows → grid_row a r ≡ grid_row b r
+    → grid_row (grid_of profile.rows profile.columns (places_left row column profile.columns n blank (grid_at blank a))) r ≡ grid_row (grid_of profile.rows profile.columns (places_left row column profile.columns n blank (grid_at blank b))) r
+left_same profile row column n a b r high same =
+    let at : 0 + r ≡ r = omega arith in
+    get_or-map-range_with_len (λ r. map (places_left row column profile.columns n blank (grid_at blank a) r) (range_with_len 0 profile.columns)) 0 profile.rows r r [] high at
+    ∙ ap (λ line. map (λ c. if is_in_run row column profile.columns r c then (if ltb (c + n) profile.columns then get_or line (c + n) blank else blank) else get_or line c blank) (range_with_len 0 profile.columns)) same
+    ∙ sym (get_or-map-range_with_len (λ r. map (places_left row column profile.columns n blank (grid_at blank b) r) (range_with_len 0 profile.columns)) 0 profile.rows r r [] high at)
 
 true_is_not_false : true ≡ false → ⊥
 true_is_not_false e = (cc)
@@ -161,28 +196,52 @@ written_same a b row column look r first second same false e =
         true_is_not_false (sym both ∙ e)
 
 pub rows_same : (profile : ProfileView) (op : Op) (spot : Spot) (pen : PenView) (a b : List (List LookView)) → IsGrid profile.rows profile.columns a → IsGrid profile.rows profile.columns b
-    → (r : ℕ) → r < profile.rows → grid_row a r ≡ grid_row b r → grid_row (grid_by profile op spot pen a) r ≡ grid_row (grid_by profile op spot pen b) r
-rows_same profile Clear spot pen a b first second r high same = refl
-rows_same profile EraseLine (At row column) pen a b first second r high same = erased_same profile (is_in_run row column profile.columns) a b r high same
-rows_same profile EraseLine (Margin row) pen a b first second r high same = same
-rows_same profile EraseBelow (At row column) pen a b first second r high same = erased_same profile (is_from_place row column) a b r high same
-rows_same profile EraseBelow (Margin row) pen a b first second r high same = same
-rows_same profile (EraseChars n) (At row column) pen a b first second r high same = erased_same profile (is_in_run row column (column + n)) a b r high same
-rows_same profile (EraseChars n) (Margin row) pen a b first second r high same = same
-rows_same profile (Put byte) (At row column) pen a b first second r high same =
+    → (r : ℕ) → r < profile.rows → moves_rows op ≡ false → grid_row a r ≡ grid_row b r → grid_row (grid_by profile op spot pen a) r ≡ grid_row (grid_by profile op spot pen b) r
+rows_same profile Clear spot pen a b first second r high still same = refl
+rows_same profile EraseLine (At row column) pen a b first second r high still same = erased_same profile (is_in_run row column profile.columns) a b r high same
+rows_same profile EraseLine (Margin row) pen a b first second r high still same = same
+rows_same profile EraseBelow (At row column) pen a b first second r high still same = erased_same profile (is_from_place row column) a b r high same
+rows_same profile EraseBelow (Margin row) pen a b first second r high still same = same
+rows_same profile (EraseChars n) (At row column) pen a b first second r high still same = erased_same profile (is_in_run row column (column + n)) a b r high same
+rows_same profile (EraseChars n) (Margin row) pen a b first second r high still same = same
+rows_same profile (InsertLines n) spot pen a b first second r high still same = absurd (true_is_not_false still)
+rows_same profile (DeleteLines n) spot pen a b first second r high still same = absurd (true_is_not_false still)
+rows_same profile (InsertChars n) (At row column) pen a b first second r high still same = right_same profile row column n a b r high same
+rows_same profile (InsertChars n) (Margin row) pen a b first second r high still same = same
+rows_same profile (DeleteChars n) (At row column) pen a b first second r high still same = left_same profile row column n a b r high same
+rows_same profile (DeleteChars n) (Margin row) pen a b first second r high still same = same
+rows_same profile (Put byte) (At row column) pen a b first second r high still same =
     written_same a b row column (record { byte = byte; pen = pen }) r (omega (arith, high, first.high)) (omega (arith, high, second.high)) same (r == row) refl
-rows_same profile (Put byte) (Margin row) pen a b first second r high same = same
-rows_same profile Home spot pen a b first second r high same = same
-rows_same profile (Move row column) spot pen a b first second r high same = same
-rows_same profile (Column column) spot pen a b first second r high same = same
-rows_same profile (Line row) spot pen a b first second r high same = same
-rows_same profile (Up n) spot pen a b first second r high same = same
-rows_same profile (Down n) spot pen a b first second r high same = same
-rows_same profile (Left n) spot pen a b first second r high same = same
-rows_same profile (Right n) spot pen a b first second r high same = same
-rows_same profile Return spot pen a b first second r high same = same
-rows_same profile Reset spot pen a b first second r high same = same
-rows_same profile (Enter attribute) spot pen a b first second r high same = same
-rows_same profile (Set attrs) spot pen a b first second r high same = same
-rows_same profile (Fore colour) spot pen a b first second r high same = same
-rows_same profile (Back colour) spot pen a b first second r high same = same
+rows_same profile (Put byte) (Margin row) pen a b first second r high still same = same
+rows_same profile Home spot pen a b first second r high still same = same
+rows_same profile (Move row column) spot pen a b first second r high still same = same
+rows_same profile (Column column) spot pen a b first second r high still same = same
+rows_same profile (Line row) spot pen a b first second r high still same = same
+rows_same profile (Up n) spot pen a b first second r high still same = same
+rows_same profile (Down n) spot pen a b first second r high still same = same
+rows_same profile (Left n) spot pen a b first second r high still same = same
+rows_same profile (Right n) spot pen a b first second r high still same = same
+rows_same profile Return spot pen a b first second r high still same = same
+rows_same profile Reset spot pen a b first second r high still same = same
+rows_same profile (Enter attribute) spot pen a b first second r high still same = same
+rows_same profile (Set attrs) spot pen a b first second r high still same = same
+rows_same profile (Fore colour) spot pen a b first second r high still same = same
+rows_same profile (Back colour) spot pen a b first second r high still same = same
+
+-- ---- an operation that changes no cell of any grid moves no row
+
+no_rows : {R : Type 0} (rows columns : ℕ) (f : ℕ → ℕ → LookView) → 0 < rows → [] ≡ grid_of rows columns f → R
+no_rows rows columns f some e = absurd (omega (arith, some, ap length e, length-map-range_with_len (λ r. map (f r) (range_with_len 0 columns)) 0 rows))
+
+acted : (profile : ProfileView) (op : Op) (state new : TerminalState) → step profile state op ≡ Some new → act profile state op ≡ Some new
+acted profile op state new e = when (has profile op) (act profile state op) new e
+
+pub still_rows : (profile : ProfileView) → IsProfile profile → (op : Op) (s t : Spot) (p q : PenView)
+    → ((state : TerminalState) → state.spot ≡ s → state.pen ≡ p → step profile state op ≡ Some (record { grid = state.grid; spot = t; pen = q })) → moves_rows op ≡ false
+still_rows profile is (InsertLines n) (At r c) t p q leads =
+    no_rows profile.rows profile.columns _ is.size.some_rows (acts profile (InsertLines n) [] (At r c) p (whole [] t q) (acted profile (InsertLines n) (whole [] (At r c) p) (whole [] t q) (leads (whole [] (At r c) p) refl refl))).grid_is
+still_rows profile is (InsertLines n) (Margin r) t p q leads = nothing _ (whole [] t q) (acted profile (InsertLines n) (whole [] (Margin r) p) (whole [] t q) (leads (whole [] (Margin r) p) refl refl))
+still_rows profile is (DeleteLines n) (At r c) t p q leads =
+    no_rows profile.rows profile.columns _ is.size.some_rows (acts profile (DeleteLines n) [] (At r c) p (whole [] t q) (acted profile (DeleteLines n) (whole [] (At r c) p) (whole [] t q) (leads (whole [] (At r c) p) refl refl))).grid_is
+still_rows profile is (DeleteLines n) (Margin r) t p q leads = nothing _ (whole [] t q) (acted profile (DeleteLines n) (whole [] (Margin r) p) (whole [] t q) (leads (whole [] (Margin r) p) refl refl))
+still_rows profile is op s t p q leads = refl

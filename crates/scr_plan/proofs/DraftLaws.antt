@@ -1,8 +1,9 @@
 -- The short plan: what each stroke does to the terminal.
-use Rattle.std.proofs.Common.{◌≡◌, ℕ, ◌+◌, ◌-◌, ◌<◌, ◌≤◌, ◌&&◌, not, ltb, nat_le, nat_lt, Bool, true, false, All, refl, sym, ◌∙◌, ap, subst, arith, List, [], ◌∷◌, ◌++◌, append_assoc, drop, length, Some, None, option_and_then, if◌then◌else◌}
+use Rattle.std.proofs.Common.{◌≡◌, ℕ, ◌+◌, ◌-◌, ◌<◌, ◌≤◌, ◌&&◌, not, ltb, nat_le, nat_lt, Bool, true, false, All, refl, sym, ◌∙◌, ap, subst, arith, List, [], ◌∷◌, ◌++◌, append_assoc, drop, length, map, Option, Some, None, option_and_then, if◌then◌else◌}
 use Rattle.std.proofs.lemmas.Bool.Decides.{nat_tests}
 use Rattle.std.proofs.lemmas.List.{append-nil}
 use Rattle.std.proofs.lemmas.List.Elements.{recursion_from_All}
+use Rattle.std.proofs.lemmas.List.Folds.{list_all-append}
 use Rattle.std.proofs.Math.Seq.{drop-append_seam}
 use Rattle.scr_cells.specs.CellViews.{IsCell, blank_cell}
 use Rattle.scr_cells.specs.Grids.{GridLaws, grid_at, grid_with, is_in_run}
@@ -10,7 +11,7 @@ use Rattle.scr_cells.specs.LookViews.{LookView, blank}
 use Rattle.scr_cells.specs.PenViews.{PenView, is_plain_pen, plain_pen}
 use Rattle.scr_cells.specs.PictureViews.{PictureView, IsPicture, IsPlace}
 use Rattle.scr_term.specs.declared.operations.operation.Op.{Op}
-use Rattle.scr_term.specs.declared.operations.operation.Op.TheVariants.{EraseChars, EraseLine, Put}
+use Rattle.scr_term.specs.declared.operations.operation.Op.TheVariants.{EraseChars, EraseLine, Move, Put, Reset}
 use Rattle.scr_term.specs.declared.operations.operation.Spot.{Spot}
 use Rattle.scr_term.specs.declared.operations.operation.Spot.TheVariants.{At, Margin}
 use Rattle.scr_term.specs.Operations.Laws.{ProfilesHave, RunLaws}
@@ -19,17 +20,19 @@ use Rattle.scr_term.specs.Operations.Profiles.{ProfileView, IsProfile}
 use Rattle.scr_term.specs.Operations.States.{TerminalState, characters_erased, erased, from_place, rest_of_line_erased, spot_after, written_at}
 use Rattle.scr_term.specs.Operations.Steps.{act, runs, step}
 use Rattle.scr_term.specs.Operations.Texts.{all_bytes, has}
+use Rattle.scr_plan.proofs.ActLaws.{still_rows}
 use Rattle.scr_plan.proofs.JoinedPriceLaws.{price, price_is, put_price}
 use Rattle.scr_plan.proofs.PlaceLaws.{at_place, begun_run, cell_of, goes_by, one_run, plain, then_runs}
 use Rattle.scr_plan.proofs.LookingLaws.{not_blank}
 use Rattle.scr_plan.proofs.PlacesLaws.{is_here}
 use Rattle.scr_plan.proofs.PlainLaws.{look_same}
 use Rattle.scr_plan.proofs.ScratchLaws.{place_changed, shown_after}
-use Rattle.scr_plan.specs.Code.Drafts.{Covers, IsAdded, IsPaid, IsRight, Keeps, KeepsAll, KeepsEvery, in_part, is_in, without}
+use Rattle.scr_plan.specs.Code.Drafts.{Covers, IsAdded, IsPaid, IsRight, Keeps, KeepsAll, KeepsEvery, in_part, is_calm, is_in, without}
+use Rattle.scr_plan.specs.Memories.{moves_rows}
 use Rattle.scr_plan.specs.Code.Joinings.{counted_up}
-use Rattle.scr_plan.specs.Code.Painters.{painter_begins, painter_look, painter_of}
+use Rattle.scr_plan.specs.Code.Painters.{painter_begins, painter_goes, painter_look, painter_of}
 use Rattle.scr_plan.specs.Repaints.{look_eq}
-use Rattle.scr_plan.specs.Scratch.{Fits, goes, look_at, renders}
+use Rattle.scr_plan.specs.Scratch.{Fits, attributes_of, enter, goes, look_at, renders, sets_background, sets_foreground}
 use Rattle.scr_plan.specs.declared.painting.Painter.{Painter}
 use Rattle.scr_plan.specs.declared.runs.Run.{Run}
 use Rattle.scr_plan.specs.declared.strokes.Draft.{Draft}
@@ -43,6 +46,7 @@ weaker_inside profile picture waits less draft more paid first start right = rec
   ops = right.ops;
   now = right.now;
   run = right.run;
+  calm = right.calm;
   state = right.state;
   bytes = right.bytes;
   spot = right.spot;
@@ -53,12 +57,40 @@ weaker_inside profile picture waits less draft more paid first start right = rec
 pub weaker : (profile : ProfileView) (picture : PictureView) (waits less : ℕ × ℕ → Bool) (draft : Draft) → ((place : ℕ × ℕ) → less place ≡ false → waits place ≡ false) → Keeps profile picture waits less draft draft
 weaker profile picture waits less draft more = weaker_inside profile picture waits less draft (λ r c high wide e. more (r, c) e)
 
+-- what leads to a place moves no row
+goes_calm : (moves can : Bool) (row column : ℕ) → is_calm (if moves then Move row column ∷ (if can then Reset ∷ [] else []) else ((if can then Reset ∷ [] else []) ++ Move row column ∷ [])) ≡ true
+goes_calm true true row column = refl
+goes_calm true false row column = refl
+goes_calm false true row column = refl
+goes_calm false false row column = refl
+
+enters_calm : (attributes : List ℕ) → is_calm (map enter attributes) ≡ true
+enters_calm [] = refl
+enters_calm (attribute ∷ attributes) = enters_calm attributes
+
+foreground_calm : (colour : Option ℕ) → is_calm (sets_foreground colour) ≡ true
+foreground_calm None = refl
+foreground_calm (Some colour) = refl
+
+background_calm : (colour : Option ℕ) → is_calm (sets_background colour) ≡ true
+background_calm None = refl
+background_calm (Some colour) = refl
+
+both_calm : (first second : List Op) → is_calm first ≡ true → is_calm second ≡ true → is_calm (first ++ second) ≡ true
+both_calm first second a b = list_all-append (λ op. not (moves_rows op)) first second ∙ (λ i. a i && b i)
+
+pub begins_calm : (painter : Painter) (place : ℕ × ℕ) (pen : PenView) → is_calm (painter_begins painter place pen) ≡ true
+begins_calm painter place pen =
+    both_calm (painter_goes painter place) (renders pen) (goes_calm painter.moves_in_any_rendition painter.can_reset place.0 place.1)
+    (both_calm (map enter (attributes_of pen.attrs)) (sets_foreground pen.foreground ++ sets_background pen.background) (enters_calm (attributes_of pen.attrs))
+    (both_calm (sets_foreground pen.foreground) (sets_background pen.background) (foreground_calm pen.foreground) (background_calm pen.background)))
+
 -- operations more, which lead to a state in which every place that does not wait is right
-pub drawn : RunLaws → (profile : ProfileView) → IsProfile profile → (picture : PictureView) (paid : ℕ) (first : List Op) (start : TerminalState) (waits less : ℕ × ℕ → Bool) (old new : Draft) (more : List Op) (spot : Spot) (pen : PenView)
+pub drawn : RunLaws → (profile : ProfileView) → IsProfile profile → (picture : PictureView) (paid : ℕ) (first : List Op) (start : TerminalState) (waits less : ℕ × ℕ → Bool) (old new : Draft) (more : List Op) → is_calm more ≡ true → (spot : Spot) (pen : PenView)
     → IsAdded profile old new more spot pen → (right : IsRight profile picture paid first start waits old) → (next : TerminalState) → runs profile right.now more ≡ Some next → next.spot ≡ spot → next.pen ≡ pen
     → ((r c : ℕ) → r < picture.rows → c < picture.columns → less (r, c) ≡ false → grid_at blank next.grid r c ≡ look_at profile picture (r, c))
     → IsRight profile picture paid first start less new
-drawn laws profile p picture paid first start waits less old new more spot pen added right next run spot_is pen_is shows =
+drawn laws profile p picture paid first start waits less old new more calm spot pen added right next run spot_is pen_is shows =
     let had : All (λ op. has profile op ≡ true) more = laws.had profile right.now next more run in
     let sum : price profile (right.own ++ more) ≡ price profile right.own + price profile more = (price_is laws profile).joined right.own more in
     record {
@@ -66,6 +98,7 @@ drawn laws profile p picture paid first start waits less old new more spot pen a
       ops = added.ops ∙ ap (λ ops. ops ++ more) right.ops ∙ append_assoc first right.own more;
       now = next;
       run = then_runs laws profile start right.now next right.own more right.run run;
+      calm = list_all-append (λ op. not (moves_rows op)) right.own more ∙ (λ i. right.calm i && calm i);
       state = laws.kept profile p right.now next right.state more run;
       bytes = added.bytes had ∙ omega (arith, right.bytes, sum);
       spot = spot_is ∙ sym added.spot_is;
@@ -79,7 +112,8 @@ pub led : RunLaws → (profile : ProfileView) → IsProfile profile → (old new
     → KeepsEvery profile old new
 led laws profile p old new op spot pen added leads picture waits paid first start right =
     let next : TerminalState = record { grid = right.now.grid; spot = spot; pen = pen } in
-    drawn laws profile p picture paid first start waits waits old new (op ∷ []) spot pen added right next
+    let still : moves_rows op ≡ false = still_rows profile p op old.spot spot old.pen pen leads in
+    drawn laws profile p picture paid first start waits waits old new (op ∷ []) (λ i. not (still i) && true) spot pen added right next
     (ap (option_and_then (λ s. runs profile s [])) (leads right.now right.spot right.pen)) refl refl right.shows
 
 pub gone : RunLaws → (profile : ProfileView) → IsProfile profile → (old new : Draft) (op : Op) (spot : Spot) → GoesTo profile old.spot old.pen op spot → IsAdded profile old new (op ∷ []) spot old.pen → KeepsEvery profile old new
@@ -150,7 +184,7 @@ begin_keeps laws have profile p picture k fits painter who place high wide pen i
     let run : runs profile right.now (goes profile place ++ renders own) ≡ Some next =
     then_runs laws profile right.now there next (goes profile place) (renders own)
     (goes_by laws profile can right.now right.state.pen place inside profile.msgr refl) (begun_run laws have profile p picture k place right.now) in
-    drawn laws profile p picture paid first start waits waits old new (painter_begins painter place pen) (At place.0 place.1) pen added right next
+    drawn laws profile p picture paid first start waits waits old new (painter_begins painter place pen) (begins_calm painter place pen) (At place.0 place.1) pen added right next
     (ap (λ ops. runs profile right.now ops) (λ i. painter_begins (who i) place (same i)) ∙ run) refl (sym same) right.shows
 
 -- what leads to a place with a plain pen
@@ -160,7 +194,7 @@ jump_keeps laws have profile p picture fits painter who place high wide pen is o
     let inside : IsPlace profile.rows profile.columns place = (omega (arith, high, fits.rows), omega (arith, wide, fits.columns)) in
     let there : TerminalState = plain (at_place right.now place) in
     let run : runs profile right.now (goes profile place) ≡ Some there = goes_by laws profile (have profile p) right.now right.state.pen place inside profile.msgr refl in
-    drawn laws profile p picture paid first start waits waits old new (painter_begins painter place pen) (At place.0 place.1) pen added right there
+    drawn laws profile p picture paid first start waits waits old new (painter_begins painter place pen) (begins_calm painter place pen) (At place.0 place.1) pen added right there
     (ap (λ ops. runs profile right.now ops) ((λ i. painter_begins (who i) place (is i)) ∙ append-nil (goes profile place)) ∙ run) refl (sym is) right.shows
 
 -- a character where the cursor is
@@ -178,7 +212,7 @@ put_covers laws have grids profile p picture k fits painter who row column high 
     let next : TerminalState = record { grid = grid_with now.grid row column shown; spot = spot_after profile.columns row column; pen = now.pen } in
     let had : has profile (Put byte) ≡ true = ap (λ b. has profile (Put b)) byte_is ∙ (have profile p).put look.byte cell.character in
     let run : runs profile now (Put byte ∷ []) ≡ Some next = one_run profile now next (Put byte) had (ap (written_at profile.columns now byte) (right.spot ∙ here)) in
-    drawn laws profile p picture paid first start waits (without (in_part row column (column + 1)) waits) old new (Put byte ∷ []) spot old.pen added right next run (sym behind) right.pen
+    drawn laws profile p picture paid first start waits (without (in_part row column (column + 1)) waits) old new (Put byte ∷ []) refl spot old.pen added right next run (sym behind) right.pen
     (λ r c up left e.
     place_changed grids profile.rows profile.columns now.grid right.state.whole (row, column) (omega (arith, high, fits.rows), omega (arith, wide, fits.columns)) shown r c (omega (arith, up, fits.rows)) (omega (arith, left, fits.columns))
     ∙ by r c (is_here r c (row, column)) refl (waits (r, c)) refl e shown same (λ w. right.shows r c up left w))
@@ -238,6 +272,7 @@ put_none profile picture fits row column wide old now here items bytes spot pen 
     ops = items ∙ right.ops;
     now = right.now;
     run = right.run;
+    calm = right.calm;
     state = right.state;
     bytes = omega (arith, right.bytes);
     spot = right.spot ∙ here ∙ sym (ap (λ b. if b then At row column else Margin row) inside);
@@ -289,17 +324,17 @@ put_counted profile picture row column end more old now new ops bytes spot pen p
 -- ---- places are erased
 
 -- an erasure with a plain pen: what it erases is seen blank, and covers the places
-pub erasure_covers : RunLaws → GridLaws LookView → (profile : ProfileView) → IsProfile profile → (picture : PictureView) → Fits profile picture → (row column end : ℕ) (covers : ℕ × ℕ → Bool) → (old new : Draft) (op : Op)
+pub erasure_covers : RunLaws → GridLaws LookView → (profile : ProfileView) → IsProfile profile → (picture : PictureView) → Fits profile picture → (row column end : ℕ) (covers : ℕ × ℕ → Bool) → (old new : Draft) (op : Op) → moves_rows op ≡ false
     → ((state : TerminalState) → state.spot ≡ At row column → is_plain_pen state.pen ≡ true → act profile state op ≡ Some (erased profile.rows profile.columns (is_in_run row column end) state))
     → has profile op ≡ true → old.spot ≡ At row column → is_plain_pen old.pen ≡ true
     → ((c : ℕ) → column ≤ c → c < end → c < picture.columns → look_eq (look_at profile picture (row, c)) blank ≡ true)
     → ((place : ℕ × ℕ) → place.1 < picture.columns → covers place ≡ true → in_part row column end place ≡ true)
     → IsAdded profile old new (op ∷ []) old.spot old.pen → Covers profile picture covers old new
-erasure_covers laws grids profile p picture fits row column end covers old new op acts had here plain blanks within added waits paid first start right =
+erasure_covers laws grids profile p picture fits row column end covers old new op still acts had here plain blanks within added waits paid first start right =
     let now : TerminalState = right.now in
     let next : TerminalState = erased profile.rows profile.columns (is_in_run row column end) now in
     let run : runs profile now (op ∷ []) ≡ Some next = one_run profile now next op had (acts now (right.spot ∙ here) (ap is_plain_pen right.pen ∙ plain)) in
-    drawn laws profile p picture paid first start waits (without covers waits) old new (op ∷ []) old.spot old.pen added right next run right.spot right.pen
+    drawn laws profile p picture paid first start waits (without covers waits) old new (op ∷ []) (λ i. not (still i) && true) old.spot old.pen added right next run right.spot right.pen
     (λ r c up left e.
     grids.formula blank profile.rows profile.columns (λ r c. if is_in_run row column end r c then blank else grid_at blank now.grid r c) r c (omega (arith, up, fits.rows)) (omega (arith, left, fits.columns))
     ∙ by r c left (is_in_run row column end r c) refl (waits (r, c)) refl e (λ w. right.shows r c up left w))
@@ -323,7 +358,7 @@ pub line_covers : RunLaws → GridLaws LookView → (profile : ProfileView) → 
     → has profile EraseLine ≡ true → old.spot ≡ At row column → is_plain_pen old.pen ≡ true → ((c : ℕ) → column ≤ c → c < picture.columns → look_eq (painter_look painter picture (row, c)) blank ≡ true)
     → IsAdded profile old new (EraseLine ∷ []) old.spot old.pen → Covers profile picture (in_part row column end) old new
 line_covers laws grids profile p picture fits painter who row column end old new had here plain blanks added =
-    erasure_covers laws grids profile p picture fits row column profile.columns (in_part row column end) old new EraseLine
+    erasure_covers laws grids profile p picture fits row column profile.columns (in_part row column end) old new EraseLine refl
     (λ state at with. ap (λ b. if b then rest_of_line_erased profile.rows profile.columns state else None) with ∙ ap (λ spot. from_place spot (λ r c. Some (erased profile.rows profile.columns (is_in_run r c profile.columns) state))) at)
     had here plain (λ c low high wide. ap (λ painter. look_eq (painter_look painter picture (row, c)) blank) (sym who) ∙ blanks c low wide)
     (λ place wide e. inside place (omega (arith, wide, fits.columns)) e) added
@@ -338,7 +373,7 @@ pub chars_covers : RunLaws → GridLaws LookView → (profile : ProfileView) →
 chars_covers laws grids profile p picture fits painter who row column end order wide old new had here plain blanks added =
     let back : column + (end - column) ≡ end = omega (arith, order) in
     let narrow : nat_le (column + (end - column)) profile.columns ≡ true = grind (arith, nat_tests, wide, fits.columns) in
-    erasure_covers laws grids profile p picture fits row column end (in_part row column end) old new (EraseChars (end - column))
+    erasure_covers laws grids profile p picture fits row column end (in_part row column end) old new (EraseChars (end - column)) refl
     (λ state at with. ap (λ b. if b then characters_erased profile.rows profile.columns state (end - column) else None) with
     ∙ ap (λ spot. from_place spot (λ r c. if nat_le (c + (end - column)) profile.columns then Some (erased profile.rows profile.columns (is_in_run r c (c + (end - column))) state) else None)) at
     ∙ ap (λ b. if b then Some (erased profile.rows profile.columns (is_in_run row column (column + (end - column))) state) else None) narrow

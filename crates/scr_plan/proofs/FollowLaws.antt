@@ -9,7 +9,7 @@ use Rattle.scr_cells.specs.Grids.{GridLaws, IsGrid, grid_at, grid_row, is_in_run
 use Rattle.scr_cells.specs.LookViews.{LookView, blank}
 use Rattle.scr_cells.specs.PenViews.{PenView, plain_pen}
 use Rattle.scr_term.specs.declared.operations.operation.Op.{Op}
-use Rattle.scr_term.specs.declared.operations.operation.Op.TheVariants.{Home, Move, Clear, EraseLine, EraseBelow, EraseChars, Reset, Set, Put}
+use Rattle.scr_term.specs.declared.operations.operation.Op.TheVariants.{Home, Move, Clear, EraseLine, EraseBelow, EraseChars, InsertLines, DeleteLines, InsertChars, DeleteChars, Reset, Set, Put}
 use Rattle.scr_term.specs.declared.operations.operation.Spot.{Spot}
 use Rattle.scr_term.specs.declared.operations.operation.Spot.TheVariants.{At, Margin}
 use Rattle.scr_term.specs.Operations.Abilities.{Abilities}
@@ -21,7 +21,7 @@ use Rattle.scr_term.specs.Operations.Texts.{has}
 use Rattle.scr_plan.proofs.ActLaws.{Acts, acts, erased_grid, grid_by, pen_by, rows_same, spot_by}
 use Rattle.scr_plan.proofs.RememberedRowLaws.{from_above, from_as_many, from_kept}
 use Rattle.scr_plan.proofs.ScratchLaws.{grid_same, map_same}
-use Rattle.scr_plan.specs.Memories.{Agrees, IsDisturbance, IsWithout, MemoryLaws, MemoryView, changes_cells, clears, disturbed, followed, forgotten, has_one_pen, is_known, is_known_row, places_spot, rows_erased, sets_pen, stepped}
+use Rattle.scr_plan.specs.Memories.{Agrees, IsDisturbance, IsWithout, MemoryLaws, MemoryView, changes_cells, clears, disturbed, followed, forgotten, has_one_pen, is_known, is_known_row, loses_rows, moves_rows, places_spot, rows_erased, sets_pen, stepped}
 
 -- ---- truth values
 
@@ -119,13 +119,17 @@ cleared_same : (profile : ProfileView) (op : Op) (s t : Spot) (p q : PenView) (a
 cleared_same profile Clear s t p q a b e = refl
 cleared_same profile op s t p q a b e = (cc)
 
-kept_same : (profile : ProfileView) (op : Op) (s : Spot) (p : PenView) (a : List (List LookView)) → clears op ≡ false → changes_cells op ≡ false → grid_by profile op s p a ≡ a
-kept_same profile Clear s p a e f = (cc)
-kept_same profile EraseLine s p a e f = (cc)
-kept_same profile EraseBelow s p a e f = (cc)
-kept_same profile (EraseChars n) s p a e f = (cc)
-kept_same profile (Put byte) s p a e f = (cc)
-kept_same profile op s p a e f = refl
+kept_same : (profile : ProfileView) (op : Op) (s : Spot) (p : PenView) (a : List (List LookView)) → clears op ≡ false → changes_cells op ≡ false → moves_rows op ≡ false → grid_by profile op s p a ≡ a
+kept_same profile Clear s p a e f g = (cc)
+kept_same profile EraseLine s p a e f g = (cc)
+kept_same profile EraseBelow s p a e f g = (cc)
+kept_same profile (EraseChars n) s p a e f g = (cc)
+kept_same profile (InsertChars n) s p a e f g = (cc)
+kept_same profile (DeleteChars n) s p a e f g = (cc)
+kept_same profile (InsertLines n) s p a e f g = (cc)
+kept_same profile (DeleteLines n) s p a e f g = (cc)
+kept_same profile (Put byte) s p a e f g = (cc)
+kept_same profile op s p a e f g = refl
 
 -- a terminal that shows nothing else has a plain pen
 one_pen : (abilities : Abilities) (pen : PenView) → has_one_pen abilities ≡ true → IsShownPen abilities pen → pen ≡ plain_pen
@@ -161,26 +165,26 @@ whole_row profile inside a b r high all =
     ∙ sym (get_or-map-range_with_len (λ r. map (λ c. if inside r c then blank else grid_at blank b r c) (range_with_len 0 profile.columns)) 0 profile.rows r r [] high at)
 
 -- a row that is known after an operation where the cursor and the pen are known
-erased_after : (profile : ProfileView) (op : Op) (spot : Spot) (pen : PenView) (a b : List (List LookView)) → IsGrid profile.rows profile.columns a → IsGrid profile.rows profile.columns b → (rows : List Bool) (r : ℕ) → r < profile.rows
+erased_after : (profile : ProfileView) (op : Op) (spot : Spot) (pen : PenView) (a b : List (List LookView)) → IsGrid profile.rows profile.columns a → IsGrid profile.rows profile.columns b → (rows : List Bool) (r : ℕ) → r < profile.rows → moves_rows op ≡ false
     → (get_or rows r false ≡ true → grid_row a r ≡ grid_row b r) → get_or (rows_erased op (spot_by profile.columns op spot) rows) r false ≡ true
     → grid_row (grid_by profile op spot pen a) r ≡ grid_row (grid_by profile op spot pen b) r
-erased_after profile EraseLine (At r0 zero) pen a b first second rows r high same known = by (r == r0) refl
+erased_after profile EraseLine (At r0 zero) pen a b first second rows r high still same known = by (r == r0) refl
   where
     by : (t : Bool) → (r == r0) ≡ t → grid_row (grid_by profile EraseLine (At r0 0) pen a) r ≡ grid_row (grid_by profile EraseLine (At r0 0) pen b) r
     by true e = whole_row profile (is_in_run r0 0 profile.columns) a b r high (λ c wide. grind (arith, nat_tests))
     by false e =
         let other : r ≢ r0 = λ at. false_is_not (r == r0) e (grind (arith, nat_tests)) in
-        rows_same profile EraseLine (At r0 0) pen a b first second r high (same (sym (get_or-set_other rows r0 r true false other) ∙ known))
-erased_after profile EraseLine (At r0 (suc c)) pen a b first second rows r high same known = rows_same profile EraseLine (At r0 (suc c)) pen a b first second r high (same known)
-erased_after profile EraseLine (Margin r0) pen a b first second rows r high same known = rows_same profile EraseLine (Margin r0) pen a b first second r high (same known)
-erased_after profile EraseBelow (At r0 zero) pen a b first second rows r high same known = by (leb r0 r) refl
+        rows_same profile EraseLine (At r0 0) pen a b first second r high refl (same (sym (get_or-set_other rows r0 r true false other) ∙ known))
+erased_after profile EraseLine (At r0 (suc c)) pen a b first second rows r high still same known = rows_same profile EraseLine (At r0 (suc c)) pen a b first second r high refl (same known)
+erased_after profile EraseLine (Margin r0) pen a b first second rows r high still same known = rows_same profile EraseLine (Margin r0) pen a b first second r high refl (same known)
+erased_after profile EraseBelow (At r0 zero) pen a b first second rows r high still same known = by (leb r0 r) refl
   where
     by : (t : Bool) → leb r0 r ≡ t → grid_row (grid_by profile EraseBelow (At r0 0) pen a) r ≡ grid_row (grid_by profile EraseBelow (At r0 0) pen b) r
     by true e = whole_row profile (is_from_place r0 0) a b r high (λ c wide. grind (arith, nat_tests))
-    by false e = rows_same profile EraseBelow (At r0 0) pen a b first second r high (same (from_above r0 rows r e known))
-erased_after profile EraseBelow (At r0 (suc c)) pen a b first second rows r high same known = rows_same profile EraseBelow (At r0 (suc c)) pen a b first second r high (same known)
-erased_after profile EraseBelow (Margin r0) pen a b first second rows r high same known = rows_same profile EraseBelow (Margin r0) pen a b first second r high (same known)
-erased_after profile op spot pen a b first second rows r high same known = rows_same profile op spot pen a b first second r high (same known)
+    by false e = rows_same profile EraseBelow (At r0 0) pen a b first second r high refl (same (from_above r0 rows r e known))
+erased_after profile EraseBelow (At r0 (suc c)) pen a b first second rows r high still same known = rows_same profile EraseBelow (At r0 (suc c)) pen a b first second r high refl (same known)
+erased_after profile EraseBelow (Margin r0) pen a b first second rows r high still same known = rows_same profile EraseBelow (Margin r0) pen a b first second r high refl (same known)
+erased_after profile op spot pen a b first second rows r high still same known = rows_same profile op spot pen a b first second r high still (same known)
 
 -- an operation that changes no cell erases no row
 not_erased : (op : Op) (spot : Spot) (rows : List Bool) → changes_cells op ≡ false → rows_erased op spot rows ≡ rows
@@ -190,23 +194,26 @@ not_erased op spot rows e = refl
 
 -- both states after an operation, from two that it was defined from
 rows_after : (profile : ProfileView) (memory : MemoryView) (old new next : TerminalState) (op : Op) → Agrees (abilities profile) memory old
-    → Acts profile op old.grid old.spot old.pen new → Acts profile op memory.state.grid memory.state.spot memory.state.pen next
-    → (r : ℕ) → r < profile.rows → (clear change know : Bool) → clears op ≡ clear → changes_cells op ≡ change → (memory.known_spot && memory.known_pen) ≡ know
-    → get_or (if clear then replicate (length memory.known_rows) true else (if change && not know then replicate (length memory.known_rows) false else rows_erased op next.spot memory.known_rows)) r false ≡ true
+    → Acts profile op old.grid old.spot old.pen new → Acts profile op memory.state.grid memory.state.spot memory.state.pen next → (is_known memory ≡ true → new ≡ next)
+    → (r : ℕ) → r < profile.rows → (clear change know move all : Bool) → clears op ≡ clear → changes_cells op ≡ change → (memory.known_spot && memory.known_pen) ≡ know → moves_rows op ≡ move → is_known memory ≡ all
+    → get_or (if clear then replicate (length memory.known_rows) true else (if (change && not know) || (move && not all) then replicate (length memory.known_rows) false else rows_erased op next.spot memory.known_rows)) r false ≡ true
     → grid_row new.grid r ≡ grid_row next.grid r
-rows_after profile memory old new next op agrees a b r h true change know ce he ke known =
+rows_after profile memory old new next op agrees a b same r h true change know move all ce he ke me ae known =
     ap (λ g. grid_row g r) (a.grid_is ∙ cleared_same profile op old.spot memory.state.spot old.pen memory.state.pen old.grid memory.state.grid ce ∙ sym b.grid_is)
-rows_after profile memory old new next op agrees a b r h false false know ce he ke known =
-    ap (λ g. grid_row g r) (a.grid_is ∙ kept_same profile op old.spot old.pen old.grid ce he)
+rows_after profile memory old new next op agrees a b same r h false change know move true ce he ke me ae known = ap (λ (s : TerminalState). grid_row s.grid r) (same ae)
+rows_after profile memory old new next op agrees a b same r h false false know true false ce he ke me ae known = false_is_not _ (no_row (length memory.known_rows) r) known
+rows_after profile memory old new next op agrees a b same r h false true true true false ce he ke me ae known = false_is_not _ (no_row (length memory.known_rows) r) known
+rows_after profile memory old new next op agrees a b same r h false true false move false ce he ke me ae known = false_is_not _ (no_row (length memory.known_rows) r) known
+rows_after profile memory old new next op agrees a b same r h false false know false false ce he ke me ae known =
+    ap (λ g. grid_row g r) (a.grid_is ∙ kept_same profile op old.spot old.pen old.grid ce he me)
     ∙ agrees.rows r h (sym (ap (λ rows. get_or rows r false) (not_erased op next.spot memory.known_rows he)) ∙ known)
-    ∙ ap (λ g. grid_row g r) (sym (b.grid_is ∙ kept_same profile op memory.state.spot memory.state.pen memory.state.grid ce he))
-rows_after profile memory old new next op agrees a b r h false true false ce he ke known = false_is_not _ (no_row (length memory.known_rows) r) known
-rows_after profile memory old new next op agrees a b r h false true true ce he ke known =
+    ∙ ap (λ g. grid_row g r) (sym (b.grid_is ∙ kept_same profile op memory.state.spot memory.state.pen memory.state.grid ce he me))
+rows_after profile memory old new next op agrees a b same r h false true true false false ce he ke me ae known =
     let parts = both memory.known_spot memory.known_pen ke in
     let spot : old.spot ≡ memory.state.spot = agrees.spot parts.0 in
     let pen : old.pen ≡ memory.state.pen = agrees.pen parts.1 in
     ap (λ g. grid_row g r) (a.grid_is ∙ (λ i. grid_by profile op (spot i) (pen i) old.grid))
-    ∙ erased_after profile op memory.state.spot memory.state.pen old.grid memory.state.grid agrees.is_state.whole agrees.may_be.whole memory.known_rows r h (agrees.rows r h)
+    ∙ erased_after profile op memory.state.spot memory.state.pen old.grid memory.state.grid agrees.is_state.whole agrees.may_be.whole memory.known_rows r h me (agrees.rows r h)
     (ap (λ s. get_or (rows_erased op s memory.known_rows) r false) (sym b.spot_is) ∙ known)
     ∙ ap (λ g. grid_row g r) (sym b.grid_is)
 
@@ -223,33 +230,6 @@ high_after : (op : Op) (spot : Spot) (memory : MemoryView) (a b : Bool) → leng
 high_after op spot memory true b = length-replicate (length memory.known_rows) true
 high_after op spot memory false true = length-replicate (length memory.known_rows) false
 high_after op spot memory false false = as_many op spot memory.known_rows
-
-stepped_agrees : StepsKeepStates → (profile : ProfileView) → IsProfile profile → (memory : MemoryView) (old new : TerminalState) (op : Op)
-    → Agrees (abilities profile) memory old → step profile old op ≡ Some new → (next : Option TerminalState) → step profile memory.state op ≡ next
-    → Agrees (abilities profile) (stepped (abilities profile) op memory next) new
-stepped_agrees keep profile p memory old new op agrees e None n =
-    forgets (abilities profile) memory old new agrees (keep profile p old new agrees.is_state op e)
-stepped_agrees keep profile p memory old new op agrees e (Some next) n =
-    let new_is : IsState (abilities profile) new = keep profile p old new agrees.is_state op e in
-    let next_is : IsState (abilities profile) next = keep profile p memory.state next agrees.may_be op n in
-    let a : Acts profile op old.grid old.spot old.pen new = acts profile op old.grid old.spot old.pen new (had profile old new op e) in
-    let b : Acts profile op memory.state.grid memory.state.spot memory.state.pen next = acts profile op memory.state.grid memory.state.spot memory.state.pen next (had profile memory.state next op n) in
-    record {
-      is_state = new_is;
-      may_be = next_is;
-      high = high_after op next.spot memory (clears op) (changes_cells op && not (memory.known_spot && memory.known_pen)) ∙ agrees.high;
-      rows = λ r h known. rows_after profile memory old new next op agrees a b r h (clears op) (changes_cells op) (memory.known_spot && memory.known_pen) refl refl refl known;
-      spot = λ known. a.spot_is ∙ either memory.known_spot (places_spot op) known
-          (λ k. ap (spot_by profile.columns op) (agrees.spot k))
-          (λ k. placed_same profile.columns op old.spot memory.state.spot k) ∙ sym b.spot_is;
-      pen = λ known. either (memory.known_pen || sets_pen op) (has_one_pen (abilities profile)) known
-          (λ some. a.pen_is ∙ either memory.known_pen (sets_pen op) some (λ k. ap (pen_by op) (agrees.pen k)) (λ k. pen_same op old.pen memory.state.pen k) ∙ sym b.pen_is)
-          (λ one. one_pen (abilities profile) new.pen one new_is.pen ∙ sym (one_pen (abilities profile) next.pen one next_is.pen));
-    }
-
-pub follows : StepsKeepStates → (profile : ProfileView) → IsProfile profile → (memory : MemoryView) (old new : TerminalState) (op : Op)
-    → Agrees (abilities profile) memory old → step profile old op ≡ Some new → Agrees (abilities profile) (followed profile op memory) new
-follows keep profile p memory old new op agrees e = stepped_agrees keep profile p memory old new op agrees e (step profile memory.state op) refl
 
 -- ---- all that was known is
 
@@ -275,6 +255,37 @@ known_state grids abilities memory old agrees e =
     let pen : old.pen ≡ memory.state.pen = agrees.pen most.1 in
     λ i. record { grid = grid i; spot = sym spot i; pen = sym pen i }
 
+same_some : (a b : TerminalState) → Some a ≡ Some b → a ≡ b
+same_some a b e = (cc)
+
+stepped_agrees : StepsKeepStates → GridLaws LookView → (profile : ProfileView) → IsProfile profile → (memory : MemoryView) (old new : TerminalState) (op : Op)
+    → Agrees (abilities profile) memory old → step profile old op ≡ Some new → (next : Option TerminalState) → step profile memory.state op ≡ next
+    → Agrees (abilities profile) (stepped (abilities profile) op memory next) new
+stepped_agrees keep grids profile p memory old new op agrees e None n =
+    forgets (abilities profile) memory old new agrees (keep profile p old new agrees.is_state op e)
+stepped_agrees keep grids profile p memory old new op agrees e (Some next) n =
+    let new_is : IsState (abilities profile) new = keep profile p old new agrees.is_state op e in
+    let next_is : IsState (abilities profile) next = keep profile p memory.state next agrees.may_be op n in
+    let a : Acts profile op old.grid old.spot old.pen new = acts profile op old.grid old.spot old.pen new (had profile old new op e) in
+    let b : Acts profile op memory.state.grid memory.state.spot memory.state.pen next = acts profile op memory.state.grid memory.state.spot memory.state.pen next (had profile memory.state next op n) in
+    let same : is_known memory ≡ true → new ≡ next = λ known. same_some new next (sym e ∙ ap (λ s. step profile s op) (sym (known_state grids (abilities profile) memory old agrees known)) ∙ n) in
+    record {
+      is_state = new_is;
+      may_be = next_is;
+      high = high_after op next.spot memory (clears op) (loses_rows op memory) ∙ agrees.high;
+      rows = λ r h known. rows_after profile memory old new next op agrees a b same r h (clears op) (changes_cells op) (memory.known_spot && memory.known_pen) (moves_rows op) (is_known memory) refl refl refl refl refl known;
+      spot = λ known. a.spot_is ∙ either memory.known_spot (places_spot op) known
+          (λ k. ap (spot_by profile.columns op) (agrees.spot k))
+          (λ k. placed_same profile.columns op old.spot memory.state.spot k) ∙ sym b.spot_is;
+      pen = λ known. either (memory.known_pen || sets_pen op) (has_one_pen (abilities profile)) known
+          (λ some. a.pen_is ∙ either memory.known_pen (sets_pen op) some (λ k. ap (pen_by op) (agrees.pen k)) (λ k. pen_same op old.pen memory.state.pen k) ∙ sym b.pen_is)
+          (λ one. one_pen (abilities profile) new.pen one new_is.pen ∙ sym (one_pen (abilities profile) next.pen one next_is.pen));
+    }
+
+pub follows : StepsKeepStates → GridLaws LookView → (profile : ProfileView) → IsProfile profile → (memory : MemoryView) (old new : TerminalState) (op : Op)
+    → Agrees (abilities profile) memory old → step profile old op ≡ Some new → Agrees (abilities profile) (followed profile op memory) new
+follows keep grids profile p memory old new op agrees e = stepped_agrees keep grids profile p memory old new op agrees e (step profile memory.state op) refl
+
 still_set : (rows : List Bool) (r : ℕ) → list_all (λ known. known) rows ≡ true → list_all (λ known. known) (set rows r true) ≡ true
 still_set [] r e = refl
 still_set (known ∷ rows) zero e = (both known (list_all (λ known. known) rows) e).1
@@ -290,12 +301,26 @@ still_erased EraseBelow (At r (suc c)) rows e = e
 still_erased EraseBelow (Margin r) rows e = e
 still_erased op spot rows e = e
 
-still_known : (op : Op) (spot : Spot) (memory : MemoryView) (a b c d : Bool) → list_all (λ known. known) memory.known_rows ≡ true → memory.known_spot ≡ true → memory.known_pen ≡ true
-    → (list_all (λ known. known) (if a then replicate (length memory.known_rows) true else (if b && not (memory.known_spot && memory.known_pen) then replicate (length memory.known_rows) false else rows_erased op spot memory.known_rows))
+-- where all is known no row is lost
+none_lost : (op : Op) (memory : MemoryView) → memory.known_spot ≡ true → memory.known_pen ≡ true → is_known memory ≡ true → loses_rows op memory ≡ false
+none_lost op memory spot pen known = (λ i. (changes_cells op && not (spot i && pen i)) || (moves_rows op && not (known i))) ∙ neither_lost (changes_cells op) (moves_rows op)
+  where
+    neither_lost : (a b : Bool) → ((a && false) || (b && false)) ≡ false
+    neither_lost true true = refl
+    neither_lost true false = refl
+    neither_lost false true = refl
+    neither_lost false false = refl
+
+still_known : (op : Op) (spot : Spot) (memory : MemoryView) (a c d : Bool) → loses_rows op memory ≡ false → list_all (λ known. known) memory.known_rows ≡ true → memory.known_spot ≡ true → memory.known_pen ≡ true
+    → (list_all (λ known. known) (if a then replicate (length memory.known_rows) true else (if loses_rows op memory then replicate (length memory.known_rows) false else rows_erased op spot memory.known_rows))
     && (memory.known_spot || c) && (memory.known_pen || sets_pen op || d)) ≡ true
-still_known op s memory true b c d rows spot pen = rw (spot, pen) (ap (λ x. x && true && true) (known_all (length memory.known_rows)))
-still_known op s memory false true c d rows spot pen = rw (spot, pen) (ap (λ x. x && true && true) (still_erased op s memory.known_rows rows))
-still_known op s memory false false c d rows spot pen = rw (spot, pen) (ap (λ x. x && true && true) (still_erased op s memory.known_rows rows))
+still_known op s memory a c d lost rows spot pen =
+    (λ i. list_all (λ known. known) (if a then replicate (length memory.known_rows) true else (if lost i then replicate (length memory.known_rows) false else rows_erased op s memory.known_rows)) && (spot i || c) && (pen i || sets_pen op || d))
+    ∙ ap (λ x. x && true && true) (by a)
+  where
+    by : (a : Bool) → list_all (λ known. known) (if a then replicate (length memory.known_rows) true else rows_erased op s memory.known_rows) ≡ true
+    by true = known_all (length memory.known_rows)
+    by false = still_erased op s memory.known_rows rows
 
 pub stays_known : GridLaws LookView → (profile : ProfileView) → IsProfile profile → (memory : MemoryView) (old new : TerminalState) (op : Op)
     → Agrees (abilities profile) memory old → step profile old op ≡ Some new → is_known memory ≡ true → is_known (followed profile op memory) ≡ true
@@ -305,7 +330,7 @@ stays_known grids profile p memory old new op agrees e known =
     let most = both (list_all (λ known. known) memory.known_rows && memory.known_spot) memory.known_pen known in
     let parts = both (list_all (λ known. known) memory.known_rows) memory.known_spot most.0 in
     ap (λ next. is_known (stepped (abilities profile) op memory next)) there
-    ∙ still_known op new.spot memory (clears op) (changes_cells op) (places_spot op) (has_one_pen (abilities profile)) parts.0 parts.1 most.1
+    ∙ still_known op new.spot memory (clears op) (places_spot op) (has_one_pen (abilities profile)) (none_lost op memory parts.1 most.1 known) parts.0 parts.1 most.1
 
 pub memory_laws : StepsKeepStates → GridLaws LookView → MemoryLaws
-memory_laws keep grids = record { follows = follows keep; stays_known = stays_known grids; forgets = forgets; others = others; marks = marks; marks_join = marks_join }
+memory_laws keep grids = record { follows = follows keep grids; stays_known = stays_known grids; forgets = forgets; others = others; marks = marks; marks_join = marks_join }

@@ -57,6 +57,7 @@ changes_done profile picture memory is all some found old mid new ops bytes spot
         ops = ops;
         now = memory.state;
         run = refl;
+        calm = refl;
         state = is;
         bytes = bytes;
         spot = sym spot;
@@ -77,6 +78,7 @@ anew_done laws profile p picture fits painter who all marks old new first ops by
         ops = ops ∙ sym (append-nil first);
         now = blank_state profile.rows profile.columns;
         run = refl;
+        calm = refl;
         state = laws.state profile p;
         bytes = bytes;
         spot = sym spot;

@@ -17,7 +17,7 @@ use Rattle.scr_term.specs.Operations.Profiles.{ProfileView, IsProfile, abilities
 use Rattle.scr_term.specs.Operations.States.{TerminalState, IsState, erased, from_place, is_from_place, rest_of_line_erased}
 use Rattle.scr_term.specs.Operations.Steps.{act, lines_below_erased, runs, step}
 use Rattle.scr_term.specs.Operations.Texts.{all_bytes, has}
-use Rattle.scr_plan.proofs.DraftLaws.{drawn, weaker, weaker_inside}
+use Rattle.scr_plan.proofs.DraftLaws.{begins_calm, drawn, weaker, weaker_inside}
 use Rattle.scr_plan.proofs.FollowLaws.{both}
 use Rattle.scr_plan.proofs.MemoryRunLaws.{agrees_itself}
 use Rattle.scr_plan.proofs.PartLaws.{look_refl}
@@ -25,10 +25,10 @@ use Rattle.scr_plan.proofs.PlaceLaws.{at_place, goes_by, one_run, plain}
 use Rattle.scr_plan.proofs.PlainLaws.{look_same, not_false}
 use Rattle.scr_plan.proofs.RememberedRowLaws.{from_known, from_stays}
 use Rattle.scr_plan.proofs.RunChangeLaws.{not_in}
-use Rattle.scr_plan.specs.Code.Drafts.{AreUnknown, HasChangesIn, HasDiffering, HasUnsettled, HasUnsettledIn, IsAdded, IsPartly, IsRight, Keeps, KeepsAll, KeepsRuns, Knows, Leaves, RightFrom, Wipes, WipesRow, in_runs, or_below, or_from, or_row, row_wiped, unsettled, wiped}
+use Rattle.scr_plan.specs.Code.Drafts.{AreUnknown, HasChangesIn, HasDiffering, HasUnsettled, HasUnsettledIn, IsAdded, IsPartly, IsRight, Keeps, KeepsAll, KeepsRuns, Knows, Leaves, RightFrom, Wipes, WipesRow, in_runs, is_calm, or_below, or_from, or_row, row_wiped, unsettled, wiped}
 use Rattle.scr_plan.specs.Code.Joinings.{counted_up}
 use Rattle.scr_plan.specs.Code.Painters.{painter_begins, painter_of, row_differs}
-use Rattle.scr_plan.specs.Memories.{Agrees, MemoryView, all_followed, changes_cells, clears, followed, has_one_pen, is_known, is_known_row, known_from, places_spot, rows_erased, sets_pen, stepped}
+use Rattle.scr_plan.specs.Memories.{Agrees, MemoryView, all_followed, changes_cells, clears, followed, has_one_pen, is_known, is_known_row, known_from, moves_rows, places_spot, rows_erased, sets_pen, stepped}
 use Rattle.scr_plan.specs.MemoryRuns.{MayBe, MemoryRuns}
 use Rattle.scr_plan.specs.Repaints.{look_eq, look_in}
 use Rattle.scr_plan.specs.Scratch.{Fits, goes, look_at}
@@ -66,11 +66,11 @@ stays_erased EraseBelow (At row (suc c)) rows r known = known
 stays_erased EraseBelow (Margin row) rows r known = known
 stays_erased op spot rows r known = known
 
-stays_followed : (op : Op) (spot : Spot) (rows : List Bool) (r : ℕ) (a b : Bool) → get_or rows r false ≡ true
-    → get_or (if a then replicate (length rows) true else (if b && not (true && true) then replicate (length rows) false else rows_erased op spot rows)) r false ≡ true
-stays_followed op spot rows r true b known = known_there (length rows) r rows refl known
-stays_followed op spot rows r false true known = stays_erased op spot rows r known
-stays_followed op spot rows r false false known = stays_erased op spot rows r known
+stays_followed : (op : Op) (spot : Spot) (rows : List Bool) (r : ℕ) (a b k : Bool) → get_or rows r false ≡ true
+    → get_or (if a then replicate (length rows) true else (if (b && not (true && true)) || (false && k) then replicate (length rows) false else rows_erased op spot rows)) r false ≡ true
+stays_followed op spot rows r true b k known = known_there (length rows) r rows refl known
+stays_followed op spot rows r false true k known = stays_erased op spot rows r known
+stays_followed op spot rows r false false k known = stays_erased op spot rows r known
 
 -- what stays after operations
 record Still (profile : ProfileView) (memory : MemoryView) (ops : List Op) : Type 0 where
@@ -78,10 +78,14 @@ record Still (profile : ProfileView) (memory : MemoryView) (ops : List Op) : Typ
   pub known_pen : (all_followed profile ops memory).known_pen ≡ true
   pub rows : (r : ℕ) → is_known_row memory r ≡ true → is_known_row (all_followed profile ops memory) r ≡ true
 
-still : (profile : ProfileView) (memory : MemoryView) (ops : List Op) (now : TerminalState) → memory.known_spot ≡ true → memory.known_pen ≡ true → runs profile memory.state ops ≡ Some now → Still profile memory ops
-still profile memory [] now spot pen run = record { known_spot = spot; known_pen = pen; rows = λ r known. known }
-still profile memory (op ∷ ops) now spot pen run = by (step profile memory.state op) refl (λ m s p e. still profile m ops now s p e) run
+still : (profile : ProfileView) (memory : MemoryView) (ops : List Op) (now : TerminalState) → is_calm ops ≡ true → memory.known_spot ≡ true → memory.known_pen ≡ true → runs profile memory.state ops ≡ Some now → Still profile memory ops
+still profile memory [] now calm spot pen run = record { known_spot = spot; known_pen = pen; rows = λ r known. known }
+still profile memory (op ∷ ops) now calm spot pen run = by (step profile memory.state op) refl (λ m s p e. still profile m ops now (both (not (moves_rows op)) (is_calm ops) calm).1 s p e) run
   where
+    not_moved : (b : Bool) → not b ≡ true → b ≡ false
+    not_moved true e = (cc)
+    not_moved false e = refl
+
     nothing : {R : Type 0} → None ≡ Some now → R
     nothing e = (cc)
 
@@ -92,9 +96,10 @@ still profile memory (op ∷ ops) now spot pen run = by (step profile memory.sta
         let after : MemoryView = stepped (abilities profile) op memory (Some next) in
         let same : followed profile op memory ≡ after = ap (λ n. stepped (abilities profile) op memory n) at in
         let rest : Still profile after ops = on after (ap (λ b. b || places_spot op) spot) (ap (λ b. b || sets_pen op || has_one_pen (abilities profile)) pen) e in
+        let stays : moves_rows op ≡ false = not_moved (moves_rows op) (both (not (moves_rows op)) (is_calm ops) calm).0 in
         let kept : (r : ℕ) → is_known_row memory r ≡ true → is_known_row after r ≡ true = λ r known.
-        (λ i. get_or (if clears op then replicate (length memory.known_rows) true else (if changes_cells op && not (spot i && pen i) then replicate (length memory.known_rows) false else rows_erased op next.spot memory.known_rows)) r false)
-        ∙ stays_followed op next.spot memory.known_rows r (clears op) (changes_cells op) known in
+        (λ i. get_or (if clears op then replicate (length memory.known_rows) true else (if (changes_cells op && not (spot i && pen i)) || (stays i && not (is_known memory)) then replicate (length memory.known_rows) false else rows_erased op next.spot memory.known_rows)) r false)
+        ∙ stays_followed op next.spot memory.known_rows r (clears op) (changes_cells op) (not (is_known memory)) known in
         record {
           known_spot = ap (λ m. (all_followed profile ops m).known_spot) same ∙ rest.known_spot;
           known_pen = ap (λ m. (all_followed profile ops m).known_pen) same ∙ rest.known_pen;
@@ -115,13 +120,13 @@ knows_weaker profile memory known less draft fewer knows = record {
 }
 
 -- operations more that are defined from what is remembered
-knows_more : MemoryRuns → (profile : ProfileView) → IsProfile profile → (memory : MemoryView) (known : ℕ → Bool) (old new : Draft) (own : List Op) (now : TerminalState) → Knows profile memory known old → new.ops.items ≡ old.ops.items ++ own
+knows_more : MemoryRuns → (profile : ProfileView) → IsProfile profile → (memory : MemoryView) (known : ℕ → Bool) (old new : Draft) (own : List Op) (now : TerminalState) → Knows profile memory known old → new.ops.items ≡ old.ops.items ++ own → is_calm own ≡ true
     → runs profile (all_followed profile old.ops.items memory).state own ≡ Some now → now.spot ≡ new.spot → now.pen ≡ new.pen → new.bytes ≡ counted_up new.bytes → Knows profile memory known new
-knows_more laws profile p memory known old new own now knows ops run spot pen bytes =
+knows_more laws profile p memory known old new own now knows ops calm run spot pen bytes =
     let m : MemoryView = all_followed profile old.ops.items memory in
     let same : all_followed profile new.ops.items memory ≡ all_followed profile own m = ap (λ o. all_followed profile o memory) ops ∙ laws.joined profile memory old.ops.items own in
     let state : (all_followed profile new.ops.items memory).state ≡ now = ap (λ (m : MemoryView). m.state) same ∙ laws.state profile m now own run in
-    let stays : Still profile m own = still profile m own now knows.known_spot knows.known_pen run in
+    let stays : Still profile m own = still profile m own now calm knows.known_spot knows.known_pen run in
     let agrees : Agrees (abilities profile) (all_followed profile own m) now = laws.follows profile p m m.state now own (agrees_itself (abilities profile) m knows.may) run in
     record {
       may = subst (MayBe (abilities profile)) (sym same) (record { state = agrees.may_be; high = agrees.high });
@@ -143,29 +148,30 @@ knows_kept laws profile p picture memory known old new keeps knows =
       ops = sym (append-nil old.ops.items);
       now = m.state;
       run = refl;
+      calm = refl;
       state = knows.may.state;
       bytes = knows.bytes ∙ omega arith;
       spot = knows.spot;
       pen = knows.pen;
       shows = λ r c high wide e. never true refl e;
     }) in
-    knows_more laws profile p memory known old new right.own right.now knows right.ops right.run right.spot right.pen (omega (arith, right.bytes))
+    knows_more laws profile p memory known old new right.own right.now knows right.ops right.calm right.run right.spot right.pen (omega (arith, right.bytes))
 
 -- an erasure, where the cursor and the pen are known
-knows_by : RunLaws → MemoryRuns → (profile : ProfileView) → IsProfile profile → (memory : MemoryView) (known more : ℕ → Bool) (old new : Draft) (op : Op) (next : TerminalState) → clears op ≡ false → has profile op ≡ true
+knows_by : RunLaws → MemoryRuns → (profile : ProfileView) → IsProfile profile → (memory : MemoryView) (known more : ℕ → Bool) (old new : Draft) (op : Op) (next : TerminalState) → clears op ≡ false → moves_rows op ≡ false → has profile op ≡ true
     → act profile (all_followed profile old.ops.items memory).state op ≡ Some next → next.spot ≡ old.spot → next.pen ≡ old.pen → IsAdded profile old new (op ∷ []) old.spot old.pen → Knows profile memory known old
     → ((r : ℕ) → more r ≡ true → get_or (rows_erased op old.spot (all_followed profile old.ops.items memory).known_rows) r false ≡ true) → Knows profile memory more new
-knows_by run_laws laws profile p memory known more old new op next dirty had acted spot pen added knows erased =
+knows_by run_laws laws profile p memory known more old new op next dirty still_there had acted spot pen added knows erased =
     let m : MemoryView = all_followed profile old.ops.items memory in
     let stepped_to : step profile m.state op ≡ Some next = ap (λ b. if b then act profile m.state op else None) had ∙ acted in
     let run : runs profile m.state (op ∷ []) ≡ Some next = one_run profile m.state next op had acted in
     let bytes : new.bytes ≡ counted_up new.bytes = omega (arith, added.bytes (run_laws.had profile m.state next (op ∷ []) run)) in
-    let goes_on = knows_more laws profile p memory known old new (op ∷ []) next knows added.ops run (spot ∙ sym added.spot_is) (pen ∙ sym added.pen_is) bytes in
+    let goes_on = knows_more laws profile p memory known old new (op ∷ []) next knows added.ops (λ i. not (still_there i) && true) run (spot ∙ sym added.spot_is) (pen ∙ sym added.pen_is) bytes in
     let same : all_followed profile new.ops.items memory ≡ stepped (abilities profile) op m (Some next) =
     ap (λ o. all_followed profile o memory) added.ops ∙ laws.joined profile memory old.ops.items (op ∷ []) ∙ ap (λ n. stepped (abilities profile) op m n) stepped_to in
-    let rows : (all_followed profile new.ops.items memory).known_rows ≡ (if changes_cells op && not (true && true) then replicate (length m.known_rows) false else rows_erased op old.spot m.known_rows) =
+    let rows : (all_followed profile new.ops.items memory).known_rows ≡ (if (changes_cells op && not (true && true)) || (false && not (is_known m)) then replicate (length m.known_rows) false else rows_erased op old.spot m.known_rows) =
     ap (λ (m : MemoryView). m.known_rows) same
-    ∙ (λ i. if dirty i then replicate (length m.known_rows) true else (if changes_cells op && not (knows.known_spot i && knows.known_pen i) then replicate (length m.known_rows) false else rows_erased op (spot i) m.known_rows)) in
+    ∙ (λ i. if dirty i then replicate (length m.known_rows) true else (if (changes_cells op && not (knows.known_spot i && knows.known_pen i)) || (still_there i && not (is_known m)) then replicate (length m.known_rows) false else rows_erased op (spot i) m.known_rows)) in
     record {
       may = goes_on.may;
       known_spot = goes_on.known_spot;
@@ -173,12 +179,12 @@ knows_by run_laws laws profile p memory known more old new op next dirty had act
       spot = goes_on.spot;
       pen = goes_on.pen;
       bytes = bytes;
-      rows = λ r e. ap (λ rows. get_or rows r false) (rows ∙ kept (changes_cells op) (replicate (length m.known_rows) false) (rows_erased op old.spot m.known_rows)) ∙ erased r e;
+      rows = λ r e. ap (λ rows. get_or rows r false) (rows ∙ kept (changes_cells op) (not (is_known m)) (replicate (length m.known_rows) false) (rows_erased op old.spot m.known_rows)) ∙ erased r e;
     }
   where
-    kept : (b : Bool) (none some : List Bool) → (if b && not (true && true) then none else some) ≡ some
-    kept true none some = refl
-    kept false none some = refl
+    kept : (b k : Bool) (none some : List Bool) → (if (b && not (true && true)) || (false && k) then none else some) ≡ some
+    kept true k none some = refl
+    kept false k none some = refl
 
 -- an erasure of the row where the cursor is in its first column
 pub knows_erased : RunLaws → MemoryRuns → (profile : ProfileView) → IsProfile profile → (memory : MemoryView) (known : ℕ → Bool) (row : ℕ) → row < profile.rows → (old new : Draft) → has profile EraseLine ≡ true → old.spot ≡ At row 0 → is_plain_pen old.pen ≡ true
@@ -189,7 +195,7 @@ knows_erased run_laws laws profile p memory known row high old new had here plai
     let acted : act profile m.state EraseLine ≡ Some next =
     ap (λ b. if b then rest_of_line_erased profile.rows profile.columns m.state else None) (ap is_plain_pen knows.pen ∙ plain)
     ∙ ap (λ spot. from_place spot (λ r c. Some (erased profile.rows profile.columns (is_in_run r c profile.columns) m.state))) (knows.spot ∙ here) in
-    knows_by run_laws laws profile p memory known (or_row known row) old new EraseLine next refl had acted knows.spot knows.pen added knows
+    knows_by run_laws laws profile p memory known (or_row known row) old new EraseLine next refl refl had acted knows.spot knows.pen added knows
     (λ r e. ap (λ spot. get_or (rows_erased EraseLine spot m.known_rows) r false) here ∙ by r (known r) refl e (knows.rows r) (omega (arith, high, knows.may.high)))
   where
     by : (r : ℕ) (b : Bool) → known r ≡ b → (known r || r == row) ≡ true → (known r ≡ true → get_or (all_followed profile old.ops.items memory).known_rows r false ≡ true) → row < length (all_followed profile old.ops.items memory).known_rows
@@ -210,7 +216,7 @@ knows_erased_below run_laws laws profile p memory known top old new had here pla
     let acted : act profile m.state EraseBelow ≡ Some next =
     ap (λ b. if b then lines_below_erased profile.rows profile.columns m.state else None) (ap is_plain_pen knows.pen ∙ plain)
     ∙ ap (λ spot. from_place spot (λ r c. if c == 0 then Some (erased profile.rows profile.columns (is_from_place r c) m.state) else None)) (knows.spot ∙ here) in
-    knows_by run_laws laws profile p memory known (or_from known top profile.rows) old new EraseBelow next refl had acted knows.spot knows.pen added knows
+    knows_by run_laws laws profile p memory known (or_from known top profile.rows) old new EraseBelow next refl refl had acted knows.spot knows.pen added knows
     (λ r e. ap (λ spot. get_or (rows_erased EraseBelow spot m.known_rows) r false) here ∙ by r (known r) refl e (knows.rows r))
   where
     by : (r : ℕ) (b : Bool) → known r ≡ b → or_from known top profile.rows r ≡ true → (known r ≡ true → get_or (all_followed profile old.ops.items memory).known_rows r false ≡ true)
@@ -241,6 +247,7 @@ begun_right laws have profile p picture fits painter who memory row high wide pe
       ops = added.ops ∙ ap (λ o. o ++ begins) ops;
       now = next;
       run = run;
+      calm = begins_calm painter (row, 0) pen;
       state = laws.kept profile p start next agrees.is_state begins run;
       bytes = added.bytes (laws.had profile start next begins run) ∙ ap (λ n. counted_up (n + length (all_bytes profile begins))) bytes;
       spot = sym added.spot_is;
@@ -342,7 +349,7 @@ row_wipes laws grids profile p picture fits row old new had here plain added wai
     let acted : act profile now EraseLine ≡ Some next =
     ap (λ b. if b then rest_of_line_erased profile.rows profile.columns now else None) (ap is_plain_pen right.pen ∙ plain)
     ∙ ap (λ spot. from_place spot (λ r c. Some (erased profile.rows profile.columns (is_in_run r c profile.columns) now))) (right.spot ∙ here) in
-    drawn laws profile p picture paid first start waits (row_wiped profile picture row waits) old new (EraseLine ∷ []) old.spot old.pen added right next (one_run profile now next EraseLine had acted) right.spot right.pen
+    drawn laws profile p picture paid first start waits (row_wiped profile picture row waits) old new (EraseLine ∷ []) refl old.spot old.pen added right next (one_run profile now next EraseLine had acted) right.spot right.pen
     (λ r c up left e.
     grids.formula blank profile.rows profile.columns (λ r c. if is_in_run row 0 profile.columns r c then blank else grid_at blank now.grid r c) r c (omega (arith, up, fits.rows)) (omega (arith, left, fits.columns))
     ∙ ap (λ b. if b then blank else grid_at blank now.grid r c) (inside r c (omega (arith, left, fits.columns)))
@@ -482,8 +489,7 @@ partly_done laws profile p picture fits memory runs found old mid new begun know
         own = [];
         ops = sym (append-nil mid.ops.items);
         now = m.state;
-        run = refl;
-        state = here.may.state;
+  X
         bytes = here.bytes ∙ omega arith;
         spot = here.spot;
         pen = here.pen;

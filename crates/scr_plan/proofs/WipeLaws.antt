@@ -20,6 +20,7 @@ use Rattle.scr_plan.proofs.PlainLaws.{look_same, not_false}
 use Rattle.scr_plan.proofs.RunLaws.{in_both, or_nothing}
 use Rattle.scr_plan.specs.Code.Drafts.{HasDiffering, HasMarks, IsAdded, KeepsAbove, KeepsAll, KeepsRuns, Leaves, Wipes, in_runs, is_in, wiped}
 use Rattle.scr_plan.specs.Code.Painters.{painter_of, row_differs}
+use Rattle.scr_plan.specs.Memories.{moves_rows}
 use Rattle.scr_plan.specs.Repaints.{look_eq}
 use Rattle.scr_plan.specs.Scratch.{Fits, look_at}
 use Rattle.scr_plan.specs.declared.painting.Painter.{Painter}
@@ -29,13 +30,13 @@ use Rattle.scr_plan.specs.declared.strokes.Draft.{Draft}
 -- ---- the rows from one on become blank
 
 -- a state whose rows from one on are blank, and whose others are as before
-wiped_by : RunLaws → (profile : ProfileView) → IsProfile profile → (picture : PictureView) → Fits profile picture → (top : ℕ) (old new : Draft) (op : Op) (r0 c0 : ℕ)
+wiped_by : RunLaws → (profile : ProfileView) → IsProfile profile → (picture : PictureView) → Fits profile picture → (top : ℕ) (old new : Draft) (op : Op) → moves_rows op ≡ false → (r0 c0 : ℕ)
     → ((state : TerminalState) → state.spot ≡ old.spot → state.pen ≡ old.pen → (next : TerminalState) × (runs profile state (op ∷ []) ≡ Some next) × (next.spot ≡ At r0 c0) × (next.pen ≡ old.pen)
     × ((r c : ℕ) → r < profile.rows → c < profile.columns → grid_at blank next.grid r c ≡ (if leb top r then blank else grid_at blank state.grid r c)))
     → IsAdded profile old new (op ∷ []) (At r0 c0) old.pen → Wipes profile picture top old new
-wiped_by laws profile p picture fits top old new op r0 c0 does added waits paid first start right =
+wiped_by laws profile p picture fits top old new op still r0 c0 does added waits paid first start right =
     let led = does right.now right.spot right.pen in
-    drawn laws profile p picture paid first start waits (wiped profile picture top waits) old new (op ∷ []) (At r0 c0) old.pen added right led.0 led.1 led.2 led.3
+    drawn laws profile p picture paid first start waits (wiped profile picture top waits) old new (op ∷ []) (λ i. not (still i) && true) (At r0 c0) old.pen added right led.0 led.1 led.2 led.3
     (λ r c up left e. led.4 r c (omega (arith, up, fits.rows)) (omega (arith, left, fits.columns)) ∙ by r c (leb top r) (λ w. right.shows r c up left w) e)
   where
     by : (r c : ℕ) (b : Bool) → (waits (r, c) ≡ false → grid_at blank right.now.grid r c ≡ look_at profile picture (r, c)) → (if b then not (look_eq blank (look_at profile picture (r, c))) else waits (r, c)) ≡ false
@@ -46,7 +47,7 @@ wiped_by laws profile p picture fits top old new op r0 c0 does added waits paid 
 pub clear_wipes : RunLaws → ProfilesHave → GridLaws LookView → (profile : ProfileView) → IsProfile profile → (picture : PictureView) → Fits profile picture → (old new : Draft) → is_plain_pen old.pen ≡ true
     → IsAdded profile old new (Clear ∷ []) (At 0 0) old.pen → Wipes profile picture 0 old new
 clear_wipes laws have grids profile p picture fits old new plain added =
-    wiped_by laws profile p picture fits 0 old new Clear 0 0
+    wiped_by laws profile p picture fits 0 old new Clear refl 0 0
     (λ state at with.
     let next : TerminalState = record { grid = blank_grid profile.rows profile.columns; spot = At 0 0; pen = state.pen } in (
       next,
@@ -66,7 +67,7 @@ clear_wipes laws have grids profile p picture fits old new plain added =
 pub below_wipes : RunLaws → GridLaws LookView → (profile : ProfileView) → IsProfile profile → (picture : PictureView) → Fits profile picture → (top : ℕ) (old new : Draft) → has profile EraseBelow ≡ true → old.spot ≡ At top 0 → is_plain_pen old.pen ≡ true
     → IsAdded profile old new (EraseBelow ∷ []) old.spot old.pen → Wipes profile picture top old new
 below_wipes laws grids profile p picture fits top old new had here plain added =
-    wiped_by laws profile p picture fits top old new EraseBelow top 0
+    wiped_by laws profile p picture fits top old new EraseBelow refl top 0
     (λ state at with.
     let next : TerminalState = erased profile.rows profile.columns (is_from_place top 0) state in
     let acted : act profile state EraseBelow ≡ Some next =

@@ -1,6 +1,6 @@
 -- Making a short plan, operation by operation.
 use Rattle.std.specs.Prelude.{ℕ, ◌≡◌, ◌+◌, ◌<◌, ◌≤◌, ◌==◌, ◌&&◌, ◌||◌, not, leb, ltb, Bool, true, false, List, [], ◌++◌, All, IfSome, drop, length, Option, Some, None, if◌then◌else◌}
-use Rattle.std.specs.List.{list_any}
+use Rattle.std.specs.List.{list_all, list_any}
 use Rattle.scr_cells.specs.Grids.{grid_at, is_in_run}
 use Rattle.scr_cells.specs.LookViews.{LookView, blank}
 use Rattle.scr_cells.specs.PenViews.{PenView, plain_pen}
@@ -14,7 +14,7 @@ use Rattle.scr_term.specs.Operations.Steps.{runs}
 use Rattle.scr_term.specs.Operations.Texts.{all_bytes, has}
 use Rattle.scr_plan.specs.Code.Joinings.{counted_up}
 use Rattle.scr_plan.specs.Code.Painters.{row_differs}
-use Rattle.scr_plan.specs.Memories.{Agrees, MemoryView, all_followed, is_known, is_known_row}
+use Rattle.scr_plan.specs.Memories.{Agrees, MemoryView, all_followed, is_known, is_known_row, moves_rows}
 use Rattle.scr_plan.specs.MemoryRuns.{MayBe}
 use Rattle.scr_plan.specs.Repaints.{look_eq, look_in}
 use Rattle.scr_plan.specs.Scratch.{look_at}
@@ -23,13 +23,18 @@ use Rattle.scr_plan.specs.declared.runs.How.TheVariants.{Write}
 use Rattle.scr_plan.specs.declared.runs.Run.{Run}
 use Rattle.scr_plan.specs.declared.strokes.Draft.{Draft}
 
--- Behind the first ones, a draft's operations lead from this state to one with the draft's spot and pen, in which every place that does not
+-- these operations move no row
+abbrev pub is_calm : List Op → Bool
+is_calm ops = list_all (λ op. not (moves_rows op)) ops
+
+-- Behind the first ones, a draft's operations move no row and lead from this state to one with the draft's spot and pen, in which every place that does not
 -- wait shows what is seen of the picture; their bytes are counted beside so many others.
 pub record IsRight (profile : ProfileView) (picture : PictureView) (paid : ℕ) (first : List Op) (start : TerminalState) (waits : ℕ × ℕ → Bool) (draft : Draft) : Type 0 where
   pub own : List Op
   pub ops : draft.ops.items ≡ first ++ own
   pub now : TerminalState
   pub run : runs profile start own ≡ Some now
+  pub calm : is_calm own ≡ true
   pub state : IsState (abilities profile) now
   pub bytes : draft.bytes ≡ counted_up (paid + length (all_bytes profile own))
   pub spot : now.spot ≡ draft.spot
