@@ -8,7 +8,7 @@ use scr_term::{Op, Profile};
 use ti_caps::{Entry, Slot};
 
 // Operations that between them send the text of each capability, `cup` and `sgr` for two sets.
-const OPS: [Op; 32] = [
+const OPS: [Op; 39] = [
     Op::Home,
     Op::Move(0, 0),
     Op::Column(0),
@@ -26,6 +26,13 @@ const OPS: [Op; 32] = [
     Op::EraseLine,
     Op::EraseBelow,
     Op::EraseChars(2),
+    Op::InsertLines(1),
+    Op::InsertLines(2),
+    Op::DeleteLines(1),
+    Op::DeleteLines(2),
+    Op::InsertChars(2),
+    Op::DeleteChars(1),
+    Op::DeleteChars(2),
     Op::Reset,
     Op::Enter(Attrs::STANDOUT),
     Op::Enter(Attrs::UNDERLINE),

@@ -8,7 +8,8 @@ use scr_cells::Attrs;
 use scr_term::Op;
 
 /// Reads an operation: `home`, `move R C`, `column C`, `line R`, `up N`, `down N`, `left N`, `right N`, `return`,
-/// `clear`, `erase_line`, `erase_below`, `erase_chars N`, `reset`, `enter A`, `set A`, `fore N`, `back N` or `put B`.
+/// `clear`, `erase_line`, `erase_below`, `erase_chars N`, `insert_lines N`, `delete_lines N`, `insert_chars N`,
+/// `delete_chars N`, `reset`, `enter A`, `set A`, `fore N`, `back N` or `put B`.
 pub fn read_op(words: &mut Words<'_>) -> Option<Op> {
     let word = words.name();
     Some(match word {
@@ -22,6 +23,17 @@ pub fn read_op(words: &mut Words<'_>) -> Option<Op> {
         "erase_line" => Op::EraseLine,
         "erase_below" => Op::EraseBelow,
         "erase_chars" => Op::EraseChars(words.number()),
+        _ => return read_moving(word, words),
+    })
+}
+
+// Reads an operation that inserts or deletes, or moves the cursor.
+fn read_moving(word: &str, words: &mut Words<'_>) -> Option<Op> {
+    Some(match word {
+        "insert_lines" => Op::InsertLines(words.number()),
+        "delete_lines" => Op::DeleteLines(words.number()),
+        "insert_chars" => Op::InsertChars(words.number()),
+        "delete_chars" => Op::DeleteChars(words.number()),
         _ => return read_motion(word, words),
     })
 }
@@ -42,6 +54,10 @@ pub fn add_op(op: Op, came: &mut Buffer) {
             add_text(&[byte], came)
         }
         Op::EraseChars(count) => add_op_of("erase_chars", i64::from(count), came),
+        Op::InsertLines(count) => add_op_of("insert_lines", i64::from(count), came),
+        Op::DeleteLines(count) => add_op_of("delete_lines", i64::from(count), came),
+        Op::InsertChars(count) => add_op_of("insert_chars", i64::from(count), came),
+        Op::DeleteChars(count) => add_op_of("delete_chars", i64::from(count), came),
         op => add_bare_op(op, came),
     }
 }

@@ -5,6 +5,7 @@ use Rattle.std.proofs.lemmas.List.{append-nil}
 use Rattle.std.proofs.lemmas.List.Elements.{recursion_from_All}
 use Rattle.std.proofs.lemmas.List.Folds.{list_all-append}
 use Rattle.std.proofs.Math.Seq.{drop-append_seam}
+use Rattle.scr_cells.specs.Attributes.{attributes_of}
 use Rattle.scr_cells.specs.CellViews.{IsCell, blank_cell}
 use Rattle.scr_cells.specs.Grids.{GridLaws, grid_at, grid_with, is_in_run}
 use Rattle.scr_cells.specs.LookViews.{LookView, blank}
@@ -32,7 +33,7 @@ use Rattle.scr_plan.specs.Memories.{moves_rows}
 use Rattle.scr_plan.specs.Code.Joinings.{counted_up}
 use Rattle.scr_plan.specs.Code.Painters.{painter_begins, painter_goes, painter_look, painter_of}
 use Rattle.scr_plan.specs.Repaints.{look_eq}
-use Rattle.scr_plan.specs.Scratch.{Fits, attributes_of, enter, goes, look_at, renders, sets_background, sets_foreground}
+use Rattle.scr_plan.specs.Scratch.{Fits, enter, goes, look_at, renders, sets_background, sets_foreground}
 use Rattle.scr_plan.specs.declared.painting.Painter.{Painter}
 use Rattle.scr_plan.specs.declared.runs.Run.{Run}
 use Rattle.scr_plan.specs.declared.strokes.Draft.{Draft}
