@@ -28,7 +28,7 @@ use Rattle.scr_plan.proofs.LookingLaws.{not_blank}
 use Rattle.scr_plan.proofs.PlacesLaws.{is_here}
 use Rattle.scr_plan.proofs.PlainLaws.{look_same}
 use Rattle.scr_plan.proofs.ScratchLaws.{place_changed, shown_after}
-use Rattle.scr_plan.specs.Code.Drafts.{Covers, IsAdded, IsPaid, IsRight, Keeps, KeepsAll, KeepsEvery, in_part, is_calm, is_in, without}
+use Rattle.scr_plan.specs.Code.Drafts.{Aim, Covers, IsAdded, IsAimed, IsPaid, IsRight, Keeps, KeepsAll, KeepsEvery, aim_of, in_part, is_calm, is_in, without}
 use Rattle.scr_plan.specs.Memories.{moves_rows}
 use Rattle.scr_plan.specs.Code.Joinings.{counted_up}
 use Rattle.scr_plan.specs.Code.Painters.{painter_begins, painter_goes, painter_look, painter_of}
@@ -87,11 +87,11 @@ begins_calm painter place pen =
     (both_calm (sets_foreground pen.foreground) (sets_background pen.background) (foreground_calm pen.foreground) (background_calm pen.background)))
 
 -- operations more, which lead to a state in which every place that does not wait is right
-pub drawn : RunLaws → (profile : ProfileView) → IsProfile profile → (picture : PictureView) (paid : ℕ) (first : List Op) (start : TerminalState) (waits less : ℕ × ℕ → Bool) (old new : Draft) (more : List Op) → is_calm more ≡ true → (spot : Spot) (pen : PenView)
-    → IsAdded profile old new more spot pen → (right : IsRight profile picture paid first start waits old) → (next : TerminalState) → runs profile right.now more ≡ Some next → next.spot ≡ spot → next.pen ≡ pen
-    → ((r c : ℕ) → r < picture.rows → c < picture.columns → less (r, c) ≡ false → grid_at blank next.grid r c ≡ look_at profile picture (r, c))
-    → IsRight profile picture paid first start less new
-drawn laws profile p picture paid first start waits less old new more calm spot pen added right next run spot_is pen_is shows =
+pub drawn : RunLaws → (profile : ProfileView) → IsProfile profile → (aim : Aim) (paid : ℕ) (first : List Op) (start : TerminalState) (waits less : ℕ × ℕ → Bool) (old new : Draft) (more : List Op) → is_calm more ≡ true → (spot : Spot) (pen : PenView)
+    → IsAdded profile old new more spot pen → (right : IsAimed profile aim paid first start waits old) → (next : TerminalState) → runs profile right.now more ≡ Some next → next.spot ≡ spot → next.pen ≡ pen
+    → ((r c : ℕ) → r < aim.rows → c < aim.columns → less (r, c) ≡ false → grid_at blank next.grid r c ≡ aim.look (r, c))
+    → IsAimed profile aim paid first start less new
+drawn laws profile p aim paid first start waits less old new more calm spot pen added right next run spot_is pen_is shows =
     let had : All (λ op. has profile op ≡ true) more = laws.had profile right.now next more run in
     let sum : price profile (right.own ++ more) ≡ price profile right.own + price profile more = (price_is laws profile).joined right.own more in
     record {
@@ -111,10 +111,10 @@ drawn laws profile p picture paid first start waits less old new more calm spot 
 pub led : RunLaws → (profile : ProfileView) → IsProfile profile → (old new : Draft) (op : Op) (spot : Spot) (pen : PenView) → IsAdded profile old new (op ∷ []) spot pen
     → ((state : TerminalState) → state.spot ≡ old.spot → state.pen ≡ old.pen → step profile state op ≡ Some (record { grid = state.grid; spot = spot; pen = pen }))
     → KeepsEvery profile old new
-led laws profile p old new op spot pen added leads picture waits paid first start right =
+led laws profile p old new op spot pen added leads aim waits paid first start right =
     let next : TerminalState = record { grid = right.now.grid; spot = spot; pen = pen } in
     let still : moves_rows op ≡ false = still_rows profile p op old.spot spot old.pen pen leads in
-    drawn laws profile p picture paid first start waits waits old new (op ∷ []) (λ i. not (still i) && true) spot pen added right next
+    drawn laws profile p aim paid first start waits waits old new (op ∷ []) (λ i. not (still i) && true) spot pen added right next
     (ap (option_and_then (λ s. runs profile s [])) (leads right.now right.spot right.pen)) refl refl right.shows
 
 pub gone : RunLaws → (profile : ProfileView) → IsProfile profile → (old new : Draft) (op : Op) (spot : Spot) → GoesTo profile old.spot old.pen op spot → IsAdded profile old new (op ∷ []) spot old.pen → KeepsEvery profile old new
@@ -148,7 +148,7 @@ pub keeps_both : (profile : ProfileView) (picture : PictureView) (old mid new : 
 keeps_both profile picture old mid new one other waits paid first start right = other waits paid first start (one waits paid first start right)
 
 pub every_itself : (profile : ProfileView) (draft : Draft) → KeepsEvery profile draft draft
-every_itself profile draft picture waits paid first start right = right
+every_itself profile draft aim waits paid first start right = right
 
 pub covers_then : (profile : ProfileView) (picture : PictureView) (covers : ℕ × ℕ → Bool) (old mid new : Draft) → Covers profile picture covers old mid → KeepsAll profile picture mid new → Covers profile picture covers old new
 covers_then profile picture covers old mid new one other waits paid first start right = other (without covers waits) paid first start (one waits paid first start right)
@@ -185,17 +185,17 @@ begin_keeps laws have profile p picture k fits painter who place high wide pen i
     let run : runs profile right.now (goes profile place ++ renders own) ≡ Some next =
     then_runs laws profile right.now there next (goes profile place) (renders own)
     (goes_by laws profile can right.now right.state.pen place inside profile.msgr refl) (begun_run laws have profile p picture k place right.now) in
-    drawn laws profile p picture paid first start waits waits old new (painter_begins painter place pen) (begins_calm painter place pen) (At place.0 place.1) pen added right next
+    drawn laws profile p (aim_of profile picture) paid first start waits waits old new (painter_begins painter place pen) (begins_calm painter place pen) (At place.0 place.1) pen added right next
     (ap (λ ops. runs profile right.now ops) (λ i. painter_begins (who i) place (same i)) ∙ run) refl (sym same) right.shows
 
 -- what leads to a place with a plain pen
 pub jump_keeps : RunLaws → ProfilesHave → (profile : ProfileView) → IsProfile profile → (picture : PictureView) → Fits profile picture → (painter : Painter) → painter ≡ painter_of profile → (place : ℕ × ℕ) → place.0 < picture.rows → place.1 < picture.columns
-    → (pen : PenView) → pen ≡ plain_pen → (old new : Draft) → IsAdded profile old new (painter_begins painter place pen) (At place.0 place.1) pen → KeepsAll profile picture old new
-jump_keeps laws have profile p picture fits painter who place high wide pen is old new added waits paid first start right =
+    → (pen : PenView) → pen ≡ plain_pen → (old new : Draft) → IsAdded profile old new (painter_begins painter place pen) (At place.0 place.1) pen → KeepsEvery profile old new
+jump_keeps laws have profile p picture fits painter who place high wide pen is old new added aim waits paid first start right =
     let inside : IsPlace profile.rows profile.columns place = (omega (arith, high, fits.rows), omega (arith, wide, fits.columns)) in
     let there : TerminalState = plain (at_place right.now place) in
     let run : runs profile right.now (goes profile place) ≡ Some there = goes_by laws profile (have profile p) right.now right.state.pen place inside profile.msgr refl in
-    drawn laws profile p picture paid first start waits waits old new (painter_begins painter place pen) (begins_calm painter place pen) (At place.0 place.1) pen added right there
+    drawn laws profile p aim paid first start waits waits old new (painter_begins painter place pen) (begins_calm painter place pen) (At place.0 place.1) pen added right there
     (ap (λ ops. runs profile right.now ops) ((λ i. painter_begins (who i) place (is i)) ∙ append-nil (goes profile place)) ∙ run) refl (sym is) right.shows
 
 -- a character where the cursor is
@@ -213,7 +213,7 @@ put_covers laws have grids profile p picture k fits painter who row column high 
     let next : TerminalState = record { grid = grid_with now.grid row column shown; spot = spot_after profile.columns row column; pen = now.pen } in
     let had : has profile (Put byte) ≡ true = ap (λ b. has profile (Put b)) byte_is ∙ (have profile p).put look.byte cell.character in
     let run : runs profile now (Put byte ∷ []) ≡ Some next = one_run profile now next (Put byte) had (ap (written_at profile.columns now byte) (right.spot ∙ here)) in
-    drawn laws profile p picture paid first start waits (without (in_part row column (column + 1)) waits) old new (Put byte ∷ []) refl spot old.pen added right next run (sym behind) right.pen
+    drawn laws profile p (aim_of profile picture) paid first start waits (without (in_part row column (column + 1)) waits) old new (Put byte ∷ []) refl spot old.pen added right next run (sym behind) right.pen
     (λ r c up left e.
     place_changed grids profile.rows profile.columns now.grid right.state.whole (row, column) (omega (arith, high, fits.rows), omega (arith, wide, fits.columns)) shown r c (omega (arith, up, fits.rows)) (omega (arith, left, fits.columns))
     ∙ by r c (is_here r c (row, column)) refl (waits (r, c)) refl e shown same (λ w. right.shows r c up left w))
@@ -335,7 +335,7 @@ erasure_covers laws grids profile p picture fits row column end covers old new o
     let now : TerminalState = right.now in
     let next : TerminalState = erased profile.rows profile.columns (is_in_run row column end) now in
     let run : runs profile now (op ∷ []) ≡ Some next = one_run profile now next op had (acts now (right.spot ∙ here) (ap is_plain_pen right.pen ∙ plain)) in
-    drawn laws profile p picture paid first start waits (without covers waits) old new (op ∷ []) (λ i. not (still i) && true) old.spot old.pen added right next run right.spot right.pen
+    drawn laws profile p (aim_of profile picture) paid first start waits (without covers waits) old new (op ∷ []) (λ i. not (still i) && true) old.spot old.pen added right next run right.spot right.pen
     (λ r c up left e.
     grids.formula blank profile.rows profile.columns (λ r c. if is_in_run row column end r c then blank else grid_at blank now.grid r c) r c (omega (arith, up, fits.rows)) (omega (arith, left, fits.columns))
     ∙ by r c left (is_in_run row column end r c) refl (waits (r, c)) refl e (λ w. right.shows r c up left w))

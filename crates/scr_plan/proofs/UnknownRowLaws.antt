@@ -25,7 +25,7 @@ use Rattle.scr_plan.proofs.PlaceLaws.{at_place, goes_by, one_run, plain}
 use Rattle.scr_plan.proofs.PlainLaws.{look_same, not_false}
 use Rattle.scr_plan.proofs.RememberedRowLaws.{from_known, from_stays}
 use Rattle.scr_plan.proofs.RunChangeLaws.{not_in}
-use Rattle.scr_plan.specs.Code.Drafts.{AreUnknown, HasChangesIn, HasDiffering, HasUnsettled, HasUnsettledIn, IsAdded, IsPartly, IsRight, Keeps, KeepsAll, KeepsRuns, Knows, Leaves, RightFrom, Wipes, WipesRow, in_runs, is_calm, or_below, or_from, or_row, row_wiped, unsettled, wiped}
+use Rattle.scr_plan.specs.Code.Drafts.{AreUnknown, HasChangesIn, HasDiffering, HasUnsettled, HasUnsettledIn, IsAdded, IsPartly, IsRight, Keeps, KeepsAll, KeepsRuns, Knows, Leaves, RightFrom, Wipes, WipesRow, aim_of, in_runs, is_calm, or_below, or_from, or_row, row_wiped, unsettled, wiped}
 use Rattle.scr_plan.specs.Code.Joinings.{counted_up}
 use Rattle.scr_plan.specs.Code.Painters.{painter_begins, painter_of, row_differs}
 use Rattle.scr_plan.specs.Memories.{Agrees, MemoryView, all_followed, changes_cells, clears, followed, has_one_pen, is_known, is_known_row, known_from, moves_rows, places_spot, rows_erased, sets_pen, stepped}
@@ -349,7 +349,7 @@ row_wipes laws grids profile p picture fits row old new had here plain added wai
     let acted : act profile now EraseLine ≡ Some next =
     ap (λ b. if b then rest_of_line_erased profile.rows profile.columns now else None) (ap is_plain_pen right.pen ∙ plain)
     ∙ ap (λ spot. from_place spot (λ r c. Some (erased profile.rows profile.columns (is_in_run r c profile.columns) now))) (right.spot ∙ here) in
-    drawn laws profile p picture paid first start waits (row_wiped profile picture row waits) old new (EraseLine ∷ []) refl old.spot old.pen added right next (one_run profile now next EraseLine had acted) right.spot right.pen
+    drawn laws profile p (aim_of profile picture) paid first start waits (row_wiped profile picture row waits) old new (EraseLine ∷ []) refl old.spot old.pen added right next (one_run profile now next EraseLine had acted) right.spot right.pen
     (λ r c up left e.
     grids.formula blank profile.rows profile.columns (λ r c. if is_in_run row 0 profile.columns r c then blank else grid_at blank now.grid r c) r c (omega (arith, up, fits.rows)) (omega (arith, left, fits.columns))
     ∙ ap (λ b. if b then blank else grid_at blank now.grid r c) (inside r c (omega (arith, left, fits.columns)))

@@ -18,7 +18,7 @@ use Rattle.scr_plan.proofs.DraftLaws.{drawn, weaker_inside}
 use Rattle.scr_plan.proofs.PlaceLaws.{one_run}
 use Rattle.scr_plan.proofs.PlainLaws.{look_same, not_false}
 use Rattle.scr_plan.proofs.RunLaws.{in_both, or_nothing}
-use Rattle.scr_plan.specs.Code.Drafts.{HasDiffering, HasMarks, IsAdded, KeepsAbove, KeepsAll, KeepsRuns, Leaves, Wipes, in_runs, is_in, wiped}
+use Rattle.scr_plan.specs.Code.Drafts.{HasDiffering, HasMarks, IsAdded, KeepsAbove, KeepsAll, KeepsRuns, Leaves, Wipes, aim_of, in_runs, is_in, wiped}
 use Rattle.scr_plan.specs.Code.Painters.{painter_of, row_differs}
 use Rattle.scr_plan.specs.Memories.{moves_rows}
 use Rattle.scr_plan.specs.Repaints.{look_eq}
@@ -36,7 +36,7 @@ wiped_by : RunLaws → (profile : ProfileView) → IsProfile profile → (pictur
     → IsAdded profile old new (op ∷ []) (At r0 c0) old.pen → Wipes profile picture top old new
 wiped_by laws profile p picture fits top old new op still r0 c0 does added waits paid first start right =
     let led = does right.now right.spot right.pen in
-    drawn laws profile p picture paid first start waits (wiped profile picture top waits) old new (op ∷ []) (λ i. not (still i) && true) (At r0 c0) old.pen added right led.0 led.1 led.2 led.3
+    drawn laws profile p (aim_of profile picture) paid first start waits (wiped profile picture top waits) old new (op ∷ []) (λ i. not (still i) && true) (At r0 c0) old.pen added right led.0 led.1 led.2 led.3
     (λ r c up left e. led.4 r c (omega (arith, up, fits.rows)) (omega (arith, left, fits.columns)) ∙ by r c (leb top r) (λ w. right.shows r c up left w) e)
   where
     by : (r c : ℕ) (b : Bool) → (waits (r, c) ≡ false → grid_at blank right.now.grid r c ≡ look_at profile picture (r, c)) → (if b then not (look_eq blank (look_at profile picture (r, c))) else waits (r, c)) ≡ false

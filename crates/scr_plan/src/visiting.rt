@@ -1,10 +1,10 @@
 //! Painting the waiting runs, each in its way: in a chosen order, whatever it is, then all that are
 //! left.
 ghost use Rattle.std.specs.Prelude.{◌≡◌, ◌<◌, ◌≤◌, [], IfSome, OnOk, length, slice_index_or, slice_set, true};
-ghost use Rattle.scr_cells.specs.PenViews.{is_plain_pen};
+ghost use Rattle.scr_cells.specs.PenViews.{is_plain_pen, plain_pen};
 ghost use Rattle.scr_term.specs.declared.operations.operation.Spot.TheVariants.{At};
 ghost use Rattle.scr_term.specs.Operations.Texts.{has};
-ghost use Rattle.scr_plan.specs.Code.Drafts.{Covers, KeepsAll, Leaves, in_part, is_in, no_run};
+ghost use Rattle.scr_plan.specs.Code.Drafts.{Covers, KeepsAll, KeepsEvery, Leaves, in_part, is_in, no_run};
 ghost use Rattle.scr_plan.specs.Code.Painters.{painter_of};
 ghost use Rattle.scr_plan.specs.Scratch.{Fits};
 ghost use Rattle.scr_plan.specs.declared.runs.Run.{Run};
@@ -333,8 +333,9 @@ impl Draft {
         requires fits { Fits profile.now picture.now }
         requires row { row < picture.now.rows }
         requires column { column < picture.now.columns }
-        ensures keeps { OnOk result (KeepsAll profile.now picture.now self.old self.new) }
+        ensures keeps { OnOk result (KeepsEvery profile.now self.old self.new) }
         ensures spot { OnOk result (self.new.spot ≡ At row column) }
+        ensures pen { OnOk result (self.new.pen ≡ plain_pen) }
     {
         run_laws();
         profiles_have();

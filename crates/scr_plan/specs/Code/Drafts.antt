@@ -27,9 +27,19 @@ use Rattle.scr_plan.specs.declared.strokes.Draft.{Draft}
 abbrev pub is_calm : List Op → Bool
 is_calm ops = list_all (λ op. not (moves_rows op)) ops
 
--- Behind the first ones, a draft's operations move no row and lead from this state to one with the draft's spot and pen, in which every place that does not
--- wait shows what is seen of the picture; their bytes are counted beside so many others.
-pub record IsRight (profile : ProfileView) (picture : PictureView) (paid : ℕ) (first : List Op) (start : TerminalState) (waits : ℕ × ℕ → Bool) (draft : Draft) : Type 0 where
+-- what is to be shown: so many rows and columns, and the look of each place
+pub record Aim : Type 0 where
+  pub rows : ℕ
+  pub columns : ℕ
+  pub look : ℕ × ℕ → LookView
+
+-- what is seen of a picture
+abbrev pub aim_of : ProfileView → PictureView → Aim
+aim_of profile picture = record { rows = picture.rows; columns = picture.columns; look = look_at profile picture }
+
+-- Behind the first ones, a draft's operations move no row, and they lead from this state to one with the draft's spot and pen, in which every
+-- place that does not wait shows what is aimed at; their bytes are counted beside so many others.
+pub record IsAimed (profile : ProfileView) (aim : Aim) (paid : ℕ) (first : List Op) (start : TerminalState) (waits : ℕ × ℕ → Bool) (draft : Draft) : Type 0 where
   pub own : List Op
   pub ops : draft.ops.items ≡ first ++ own
   pub now : TerminalState
@@ -39,7 +49,11 @@ pub record IsRight (profile : ProfileView) (picture : PictureView) (paid : ℕ) 
   pub bytes : draft.bytes ≡ counted_up (paid + length (all_bytes profile own))
   pub spot : now.spot ≡ draft.spot
   pub pen : now.pen ≡ draft.pen
-  pub shows : (r c : ℕ) → r < picture.rows → c < picture.columns → waits (r, c) ≡ false → grid_at blank now.grid r c ≡ look_at profile picture (r, c)
+  pub shows : (r c : ℕ) → r < aim.rows → c < aim.columns → waits (r, c) ≡ false → grid_at blank now.grid r c ≡ aim.look (r, c)
+
+-- the same of a picture
+abbrev pub IsRight : ProfileView → PictureView → ℕ → List Op → TerminalState → (ℕ × ℕ → Bool) → Draft → Type 0
+IsRight profile picture paid first start waits draft = IsAimed profile (aim_of profile picture) paid first start waits draft
 
 -- a draft with these operations more, counted, and with this spot and this pen
 pub record IsAdded (profile : ProfileView) (old new : Draft) (more : List Op) (spot : Spot) (pen : PenView) : Type 0 where
@@ -56,15 +70,18 @@ pub record IsPaid (profile : ProfileView) (old new : Draft) (begun : ℕ) (spot 
   pub pen_is : new.pen ≡ pen
 
 -- a draft that is right while some places wait becomes one that is right while others do
-abbrev pub Keeps : ProfileView → PictureView → (ℕ × ℕ → Bool) → (ℕ × ℕ → Bool) → Draft → Draft → Type 0
-Keeps profile picture waits less old new = (paid : ℕ) (first : List Op) (start : TerminalState) → IsRight profile picture paid first start waits old → IsRight profile picture paid first start less new
+abbrev pub KeepsAim : ProfileView → Aim → (ℕ × ℕ → Bool) → (ℕ × ℕ → Bool) → Draft → Draft → Type 0
+KeepsAim profile aim waits less old new = (paid : ℕ) (first : List Op) (start : TerminalState) → IsAimed profile aim paid first start waits old → IsAimed profile aim paid first start less new
 
--- whatever waits goes on to wait; of a picture, and of every picture
+abbrev pub Keeps : ProfileView → PictureView → (ℕ × ℕ → Bool) → (ℕ × ℕ → Bool) → Draft → Draft → Type 0
+Keeps profile picture waits less old new = KeepsAim profile (aim_of profile picture) waits less old new
+
+-- whatever waits goes on to wait; of a picture, and whatever is aimed at
 abbrev pub KeepsAll : ProfileView → PictureView → Draft → Draft → Type 0
 KeepsAll profile picture old new = (waits : ℕ × ℕ → Bool) → Keeps profile picture waits waits old new
 
 abbrev pub KeepsEvery : ProfileView → Draft → Draft → Type 0
-KeepsEvery profile old new = (picture : PictureView) → KeepsAll profile picture old new
+KeepsEvery profile old new = (aim : Aim) (waits : ℕ × ℕ → Bool) → KeepsAim profile aim waits waits old new
 
 -- these places wait no more
 abbrev pub without : (ℕ × ℕ → Bool) → (ℕ × ℕ → Bool) → ℕ × ℕ → Bool

@@ -1,11 +1,11 @@
-use Rattle.scr_plan.specs.Code.Drafts.{KeepsAll}
+use Rattle.scr_plan.specs.Code.Drafts.{KeepsEvery}
 use Rattle.scr_plan.proofs.DraftLaws.{jump_keeps}
 use Rattle.scr_plan.proofs.JoinedRowLaws.{on_ok}
 use Rattle.scr_plan.proofs.strokes.Draft.jump.Goals as goal
 
 pub returns-clause-keeps : goal.returns-clause-keeps
 returns-clause-keeps c =
-    on_ok c.lead.result _ (KeepsAll c.args.profile.now c.args.picture.now c.args.self.now c.lead.new.self)
+    on_ok c.lead.result _ (KeepsEvery c.args.profile.now c.args.self.now c.lead.new.self)
     (λ added. jump_keeps c.run_laws.ensures c.profiles_have.ensures c.args.profile.now c.size-size.ensures.profile c.args.picture.now c.requires.fits c.args.painter c.requires.painter
     (c.args.row, c.args.column) c.requires.row c.requires.column _ c.plain.ensures c.args.self.now c.lead.new.self added)
     c.lead.ensures
