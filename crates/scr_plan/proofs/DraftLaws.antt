@@ -83,8 +83,8 @@ both_calm first second a b = list_all-append (λ op. not (moves_rows op)) first 
 pub begins_calm : (painter : Painter) (place : ℕ × ℕ) (pen : PenView) → is_calm (painter_begins painter place pen) ≡ true
 begins_calm painter place pen =
     both_calm (painter_goes painter place) (renders pen) (goes_calm painter.moves_in_any_rendition painter.can_reset place.0 place.1)
-    (both_calm (map enter (attributes_of pen.attrs)) (sets_foreground pen.foreground ++ sets_background pen.background) (enters_calm (attributes_of pen.attrs))
-    (both_calm (sets_foreground pen.foreground) (sets_background pen.background) (foreground_calm pen.foreground) (background_calm pen.background)))
+    (both_calm (map enter (attributes_of pen.attrs) ++ sets_foreground pen.foreground) (sets_background pen.background)
+    (both_calm (map enter (attributes_of pen.attrs)) (sets_foreground pen.foreground) (enters_calm (attributes_of pen.attrs)) (foreground_calm pen.foreground)) (background_calm pen.background))
 
 -- operations more, which lead to a state in which every place that does not wait is right
 pub drawn : RunLaws → (profile : ProfileView) → IsProfile profile → (aim : Aim) (paid : ℕ) (first : List Op) (start : TerminalState) (waits less : ℕ × ℕ → Bool) (old new : Draft) (more : List Op) → is_calm more ≡ true → (spot : Spot) (pen : PenView)

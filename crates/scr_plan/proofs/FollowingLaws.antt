@@ -41,7 +41,7 @@ character_stepped : (abilities : Abilities) (byte : ℕ) (memory : MemoryView) (
 character_stepped abilities byte memory next spot pen =
     (λ i. record memory {
       state = next;
-      known_rows = if not (spot i && pen i) then replicate (length memory.known_rows) false else memory.known_rows;
+      known_rows = if not (spot i && pen i) || false then replicate (length memory.known_rows) false else memory.known_rows;
       known_spot = spot i || false;
       known_pen = pen i || false || has_one_pen abilities;
     })

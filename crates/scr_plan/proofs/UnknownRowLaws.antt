@@ -489,7 +489,9 @@ partly_done laws profile p picture fits memory runs found old mid new begun know
         own = [];
         ops = sym (append-nil mid.ops.items);
         now = m.state;
-  X
+        run = refl;
+        calm = refl;
+        state = here.may.state;
         bytes = here.bytes ∙ omega arith;
         spot = here.spot;
         pen = here.pen;
