@@ -28,7 +28,7 @@ use Rattle.scr_plan.proofs.LookingLaws.{not_blank}
 use Rattle.scr_plan.proofs.PlacesLaws.{is_here}
 use Rattle.scr_plan.proofs.PlainLaws.{look_same}
 use Rattle.scr_plan.proofs.ScratchLaws.{place_changed, shown_after}
-use Rattle.scr_plan.specs.Code.Drafts.{Aim, Covers, IsAdded, IsAimed, IsPaid, IsRight, Keeps, KeepsAll, KeepsEvery, aim_of, in_part, is_calm, is_in, without}
+use Rattle.scr_plan.specs.Code.Drafts.{Aim, Covers, IsAdded, IsAimed, IsPaid, Keeps, KeepsAll, KeepsEvery, aim_of, in_part, is_calm, is_in, without}
 use Rattle.scr_plan.specs.Memories.{moves_rows}
 use Rattle.scr_plan.specs.Code.Joinings.{counted_up}
 use Rattle.scr_plan.specs.Code.Painters.{painter_begins, painter_goes, painter_look, painter_of}

@@ -1,5 +1,5 @@
 -- The profile that the bundled entry makes.
-use Rattle.std.proofs.Common.{◌≡◌, refl, sym, ◌∙◌, ap, subst, arith, ℕ, Option, None, Some}
+use Rattle.std.proofs.Common.{◌≡◌, sym, ◌∙◌, ap, subst, arith, ℕ, Option, None, Some}
 use Rattle.scr_cells.specs.PictureViews.{IsSize}
 use Rattle.scr_cells.specs.declared.sizes.Size.{Size}
 use Rattle.ti_caps.specs.Bundled.{IsBundled, bundled_numbers, listed}
