@@ -285,8 +285,7 @@ impl Memory {
         }
     }
 
-    // Whether no row is known after an operation: it changes cells, or moves rows, and where they
-    // are is not known.
+    // Whether no row is known after an operation, since what it changed or moved is not known.
     fn loses_rows(&self, op: Op) -> bool
         ensures { result ≡ loses_rows op self.now }
     {
