@@ -2,6 +2,7 @@
 pub mod Drafts
 pub mod Joinings
 pub mod Looking
+pub mod Moves
 pub mod Painters
 pub mod Planning
 pub mod Remembering

@@ -36,7 +36,7 @@ impl Draft {
     }
 
     // Follows a motion to a place, with a plain pen if motions need one.
-    fn move_by(
+    pub(crate) fn move_by(
         &mut self,
         profile: &Profile,
         motion: Motion,

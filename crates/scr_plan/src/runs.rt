@@ -83,7 +83,7 @@ impl Painter {
     }
 
     // The column from which the rest of a row is to be erased, if that costs less than writing it.
-    fn erased_rest(
+    pub(crate) fn erased_rest(
         self,
         profile: &Profile,
         picture: &Picture,
@@ -174,7 +174,7 @@ impl Painter {
     // Where a stretch that begins in a place that differs ends: after its last place that differs.
     // It goes on while the pen is the same, over at most as many places that do not differ as an
     // easy motion has bytes.
-    fn stretch_end(
+    pub(crate) fn stretch_end(
         self,
         profile: &Profile,
         picture: &Picture,

@@ -53,6 +53,7 @@ pub(crate) fn short_changes(
         spot: memory.remembered_spot(),
         pen: memory.remembered_pen(),
     };
+    draft.move_what_stays(alloc, painter, profile, memory, wanted, by, &mut runs)?;
     draft.wipe_if_worth(painter, profile, picture, &mut runs)?;
     draft.paint_all(alloc, painter, profile, picture, &mut runs)?;
     Ok(draft)

@@ -321,7 +321,7 @@ impl Draft {
 
     // Leads the cursor to a place with a plain pen, from wherever it is.
     #[inline(never)]
-    fn jump(
+    pub(crate) fn jump(
         &mut self,
         painter: Painter,
         profile: &Profile,

@@ -61,7 +61,7 @@ fn may_gain(chooser: &Chooser<'_>, runs: &[Run]) -> bool {
 }
 
 // The price of the runs as they stand, plus an easy motion for each.
-fn price_as_they_stand(chooser: &Chooser<'_>, runs: &[Run]) -> i64 {
+pub(crate) fn price_as_they_stand(chooser: &Chooser<'_>, runs: &[Run]) -> i64 {
     let mut sum = 0i64;
     for run in runs {
         sum = sum.saturating_add(i64::from(price_as_it_stands(chooser, run)));
@@ -96,7 +96,7 @@ fn may_spare(chooser: &Chooser<'_>, runs: &[Run], price: i64, lost: i64) -> bool
 }
 
 // The price of a run as it stands, plus an easy motion.
-fn price_as_it_stands(chooser: &Chooser<'_>, run: &Run) -> u32 {
+pub(crate) fn price_as_it_stands(chooser: &Chooser<'_>, run: &Run) -> u32 {
     chooser.price_of_painting(run).saturating_add(chooser.jump)
 }
 
@@ -107,7 +107,7 @@ fn least_lost(chooser: &Chooser<'_>) -> i64 {
 }
 
 // How many rows have runs. The runs are by rows.
-fn rows_with_runs(runs: &[Run]) -> u32 {
+pub(crate) fn rows_with_runs(runs: &[Run]) -> u32 {
     let mut rows = 0u32;
     let mut last = None;
     for run in runs {
@@ -220,7 +220,7 @@ fn erasure(chooser: &Chooser<'_>, cursor: &Cursor, row: u32) -> (Op, u32) {
 }
 
 // Whether cells are all seen blank.
-fn is_blank(chooser: &Chooser<'_>, cells: &[Cell]) -> bool {
+pub(crate) fn is_blank(chooser: &Chooser<'_>, cells: &[Cell]) -> bool {
     for cell in cells {
         if !is_blank_cell(chooser, *cell) {
             return false;
@@ -381,7 +381,7 @@ fn chosen_wiping(
 }
 
 // Drops the runs of the rows from `top` on. The runs are by rows.
-fn drop_from(runs: &mut Vec<Run>, top: u32)
+pub(crate) fn drop_from(runs: &mut Vec<Run>, top: u32)
     ensures { KeepsAbove top runs.old.items runs.new.items }
 {
     let mut kept = runs.len();

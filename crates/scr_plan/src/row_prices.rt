@@ -1,0 +1,189 @@
+//! What it costs to make a row show what is wanted, over whatever it shows. This only compares
+//! prices: a choice affects nothing but the number of bytes of an update.
+ghost use Rattle.std.specs.Prelude.{◌≡◌, ◌<◌, ◌≤◌, IfSome, length};
+ghost use Rattle.scr_cells.specs.Grids.{grid_row};
+
+use crate::blanks::{
+    blank_of_many, blanks_begin, blanks_end, is_worth_erasing, least_worth_erasing,
+};
+use crate::painting::Painter;
+use crate::ways::Chooser;
+use scr_cells::{Cell, Look, Picture};
+use scr_term::{FAR, Op, Profile};
+
+// What prices of rows need: a chooser, and the profile that it is for.
+#[derive(Clone, Copy)]
+pub(crate) struct RowPrices<'a> {
+    pub(crate) chooser: Chooser<'a>,
+    pub(crate) profile: &'a Profile,
+}
+
+impl<'a> RowPrices<'a> {
+    // The prices for a profile and a picture.
+    pub(crate) fn new(
+        painter: Painter,
+        profile: &'a Profile,
+        picture: &'a Picture,
+    ) -> RowPrices<'a> {
+        RowPrices {
+            chooser: Chooser::new(painter, profile, picture),
+            profile,
+        }
+    }
+
+    // Whether the terminal has an operation.
+    pub(crate) fn has(&self, op: Op) -> bool {
+        self.chooser.prices.of(op) < FAR
+    }
+
+    // Whether a row of looks is just what is wanted in a row.
+    pub(crate) fn is_shown(&self, row: u32, looks: &[Look]) -> bool {
+        let picture = self.chooser.picture;
+        let size = picture.size();
+        if row >= size.rows || looks.len() != size.columns as usize {
+            return false;
+        }
+        let cells = picture.row(row);
+        let painter = self.chooser.painter;
+        let unlike = painter.unlike_from(picture, row, cells, Some(looks), 0, size.columns);
+        unlike >= size.columns
+    }
+
+    // The price of a row over a blank one: its places that are not blank, plus an easy motion if
+    // there are any.
+    pub(crate) fn on_blanks(&self, row: u32) -> u32 {
+        let mut places = 0u32;
+        let mut unsure = 0u32;
+        let cells = self.chooser.cells(row);
+        for cell in cells {
+            let is_other = *cell != Cell::blank();
+            places = places.wrapping_add(u32::from(is_other));
+            unsure = unsure.wrapping_add(u32::from(is_other & (cell.byte() == b' ')));
+        }
+        if unsure > 0 {
+            places = places.saturating_sub(self.blanks_among(cells));
+        }
+        if places == 0 {
+            return 0;
+        }
+        places.saturating_add(self.chooser.jump)
+    }
+
+    // How many cells are seen blank, though they are none.
+    fn blanks_among(&self, cells: &[Cell]) -> u32 {
+        let chooser = &self.chooser;
+        let mut blanks = 0u32;
+        for cell in cells {
+            if *cell != Cell::blank()
+                && cell.byte() == b' '
+                && chooser.painter.pen_of(chooser.picture, *cell).is_plain()
+            {
+                blanks = blanks.saturating_add(1);
+            }
+        }
+        blanks
+    }
+
+    // The price of a row over a row of looks: that of its runs, plus an easy motion for each.
+    pub(crate) fn over(&self, row: u32, looks: &[Look]) -> u32 {
+        let picture = self.chooser.picture;
+        let size = picture.size();
+        if row >= size.rows || looks.len() != size.columns as usize {
+            return FAR;
+        }
+        let cells = picture.row(row);
+        let painter = self.chooser.painter;
+        let end = size.columns;
+        match painter.erased_rest(self.profile, picture, row, cells, Some(looks), 0, end) {
+            Some(column) => self
+                .part_over(row, cells, looks, column)
+                .saturating_add(self.chooser.prices.of(Op::EraseLine))
+                .saturating_add(self.chooser.jump),
+            None => self.part_over(row, cells, looks, end),
+        }
+    }
+
+    // The price of the columns before `end`.
+    fn part_over(&self, row: u32, cells: &[Cell], looks: &[Look], end: u32) -> u32
+        requires row { row < self.entry.chooser.picture.now.rows }
+        requires cells { cells.now ≡ grid_row self.entry.chooser.picture.now.lines row }
+        requires wide { length cells.now ≡ self.entry.chooser.picture.now.columns }
+        requires width { length looks.now ≡ self.entry.chooser.picture.now.columns }
+        requires end { end ≤ self.entry.chooser.picture.now.columns }
+    {
+        let painter = self.chooser.painter;
+        let picture = self.chooser.picture;
+        let mut price = 0u32;
+        let mut column = 0;
+        while column < end {
+            let start = painter.unlike_from(picture, row, cells, Some(looks), column, end);
+            if start >= end {
+                return price;
+            }
+            let profile = self.profile;
+            let behind = painter.stretch_end(profile, picture, row, cells, Some(looks), start, end);
+            price = price.saturating_add(self.of_stretch(cells, start, behind));
+            column = behind;
+        }
+        price
+    }
+
+    // The price of a stretch.
+    fn of_stretch(&self, cells: &[Cell], start: u32, end: u32) -> u32
+        requires wide { end ≤ length cells.now }
+        requires start { start < end }
+    {
+        let painter = self.chooser.painter;
+        let (_, pen) = painter.seen_in(self.chooser.picture, cells, start);
+        if pen.is_plain() {
+            self.of_pieces(cells, start, end)
+        } else {
+            self.written(start, end)
+        }
+    }
+
+    // The price of places with a plain pen: long blanks are erased, what is between them is
+    // written.
+    fn of_pieces(&self, cells: &[Cell], start: u32, end: u32) -> u32
+        requires wide { end ≤ length cells.now }
+        requires start { start < end }
+    {
+        let many = least_worth_erasing(self.profile);
+        let mut price = 0u32;
+        let mut begun = start;
+        let mut column = start;
+        while column < end {
+            let blank = blank_of_many(cells, column, end, many);
+            if blank >= end {
+                return price.saturating_add(self.written(begun, end));
+            }
+            let first = blanks_begin(cells, column, blank);
+            let behind = blanks_end(cells, blank, end);
+            if is_worth_erasing(self.profile, behind - first, behind < end) {
+                price = price
+                    .saturating_add(self.written(begun, first))
+                    .saturating_add(self.erased(first, behind));
+                begun = behind;
+            }
+            column = behind.max(blank + 1);
+        }
+        price.saturating_add(self.written(begun, end))
+    }
+
+    // The price of a run that is written, unless it is empty.
+    fn written(&self, start: u32, end: u32) -> u32 {
+        if start >= end {
+            return 0;
+        }
+        end.saturating_sub(start).saturating_add(self.chooser.jump)
+    }
+
+    // The price of a run of characters that are erased.
+    fn erased(&self, start: u32, end: u32) -> u32 {
+        let count = end.saturating_sub(start);
+        self.chooser
+            .prices
+            .of(Op::EraseChars(count))
+            .saturating_add(self.chooser.jump)
+    }
+}

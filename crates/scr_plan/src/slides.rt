@@ -1,0 +1,265 @@
+//! The search for characters of a row that moved along it. Prices alone decide, and the choice
+//! affects nothing but the number of bytes of an update.
+ghost use Rattle.std.specs.Prelude.{◌≡◌, ◌+◌, ◌<◌, ◌≤◌, IfOk, IfSome, length};
+ghost use Rattle.scr_plan.specs.Code.Moves.{IsSlide};
+
+use crate::motions::cheapest_motion;
+use crate::row_prices::RowPrices;
+use crate::runs::{How, Run};
+use crate::shown::slide_into;
+use crate::ways::Cursor;
+use crate::wiping::{is_blank, price_as_it_stands};
+use scr_cells::{Cell, Look, NoMemory, Pen};
+use scr_term::{FAR, Op};
+
+// How many columns have to lie from the first to the last place of a row that differs, at least.
+const WORTH_LOOKING: u32 = 6;
+
+// How many places in a row are looked for.
+const PATTERN: usize = 12;
+
+// How many bytes a slide has to save, at least.
+const WORTH: i64 = 4;
+
+// Places of a row from a column on that move by `count`: to the right, where blanks are inserted,
+// or to the left, where characters are deleted.
+#[derive(Clone, Copy)]
+pub(crate) struct Slide {
+    pub(crate) column: u32,
+    pub(crate) count: u32,
+    pub(crate) inserts: bool,
+}
+
+impl Slide {
+    // The operation of a slide.
+    pub(crate) fn op(self) -> Op {
+        if self.inserts {
+            Op::InsertChars(self.count)
+        } else {
+            Op::DeleteChars(self.count)
+        }
+    }
+}
+
+// Whether the terminal can slide any characters.
+pub(crate) fn can_slide_some(prices: &RowPrices<'_>) -> bool {
+    least_operation(prices) < FAR
+}
+
+// The least price of an operation that slides characters.
+fn least_operation(prices: &RowPrices<'_>) -> u32 {
+    let prices = prices.chooser.prices;
+    prices
+        .of(Op::InsertChars(1))
+        .min(prices.of(Op::DeleteChars(1)))
+        .min(prices.of(Op::DeleteChars(2)))
+}
+
+// The slide of a row that saves most, if one saves enough. The row shows `looks`, and `runs` are
+// all of its runs over them. `room` is for a row that is put together.
+pub(crate) fn cheapest_slide(
+    prices: &RowPrices<'_>,
+    cursor: &Cursor,
+    row: u32,
+    looks: &[Look],
+    runs: &[Run],
+    room: &mut Vec<Look>,
+) -> Result<Option<Slide>, NoMemory>
+    ensures { IfOk result (λ slide. IfSome slide (IsSlide (length looks.now))) }
+{
+    let Some(column) = column_worth_looking(looks, runs) else {
+        return Ok(None);
+    };
+    let price = price_without_way(prices, cursor, row, column, runs);
+    if price < i64::from(least_operation(prices)).saturating_add(WORTH) {
+        return Ok(None);
+    }
+    let inserting = insertion(prices, row, looks, column);
+    let inserted = slide_if_worth(prices, row, looks, price, inserting, WORTH - 1, room)?;
+    let least = match inserted {
+        Some((_, saved)) => saved,
+        None => WORTH - 1,
+    };
+    let deleting = deletion(prices, row, looks, column);
+    let deleted = slide_if_worth(prices, row, looks, price, deleting, least, room)?;
+    Ok(slide_of(deleted.or(inserted)))
+}
+
+// The slide without what it saves.
+fn slide_of(slide: Option<(Slide, i64)>) -> Option<Slide> {
+    match slide {
+        Some((slide, _)) => Some(slide),
+        None => None,
+    }
+}
+
+// The first column that differs, if the last one is far enough from it. `runs` are all runs of a
+// row that shows `looks`.
+fn column_worth_looking(looks: &[Look], runs: &[Run]) -> Option<u32> {
+    let first = runs.first()?;
+    let last = runs.last()?;
+    if end_of_differing(looks, last).saturating_sub(first.start) < WORTH_LOOKING {
+        return None;
+    }
+    Some(first.start)
+}
+
+// The end of the places that differ of a run, the last one of a row that shows `looks`.
+fn end_of_differing(looks: &[Look], run: &Run) -> u32 {
+    let mut end = run.end;
+    if !matches!(run.how, How::EraseLine) {
+        return end;
+    }
+    while end > run.start && is_blank_at(looks, end - 1) {
+        end -= 1;
+    }
+    end
+}
+
+// Whether a row shows a blank in a column.
+fn is_blank_at(looks: &[Look], column: u32) -> bool {
+    let column = column as usize;
+    column < looks.len() && looks[column] == Look::blank()
+}
+
+// The price of the runs of a row as they stand, less that of going to a column of it with a plain
+// pen.
+fn price_without_way(
+    prices: &RowPrices<'_>,
+    cursor: &Cursor,
+    row: u32,
+    column: u32,
+    runs: &[Run],
+) -> i64 {
+    let chooser = &prices.chooser;
+    let turn = chooser.price_of_turn(cursor.pen, Pen::plain());
+    let motion = cheapest_motion(chooser.prices, cursor.spot, row, column).price;
+    let mut price = 0u32;
+    for run in runs {
+        price = price.saturating_add(price_as_it_stands(chooser, run));
+    }
+    i64::from(price) - i64::from(turn) - i64::from(motion)
+}
+
+// The slide to the right that brings the first places from a column on to where they are wanted,
+// if they are.
+fn insertion(prices: &RowPrices<'_>, row: u32, looks: &[Look], column: u32) -> Option<Slide> {
+    let cells = prices.chooser.cells(row);
+    let from = column as usize;
+    if looks.len() != cells.len() || !has_places(looks.len(), from) {
+        return None;
+    }
+    if are_blank(&looks[from..from + PATTERN]) {
+        return None;
+    }
+    let byte = looks[from].byte();
+    for at in from + 1..cells.len() - (PATTERN - 1) {
+        if cells[at].byte() == byte && are_seen(prices, looks, from, cells, at) {
+            return Some(slide_from(column, at - from, true));
+        }
+    }
+    None
+}
+
+// The slide to the left that brings places to where they are wanted from a column on, if they are
+// in the row.
+fn deletion(prices: &RowPrices<'_>, row: u32, looks: &[Look], column: u32) -> Option<Slide> {
+    let cells = prices.chooser.cells(row);
+    let from = column as usize;
+    if looks.len() != cells.len() || !has_places(looks.len(), from) {
+        return None;
+    }
+    if is_blank(&prices.chooser, &cells[from..from + PATTERN]) {
+        return None;
+    }
+    let byte = cells[from].byte();
+    for at in from + 1..looks.len() - (PATTERN - 1) {
+        if looks[at].byte() == byte && are_seen(prices, looks, at, cells, from) {
+            return Some(slide_from(column, at - from, false));
+        }
+    }
+    None
+}
+
+// Whether a row of so many columns has all places that are looked for.
+fn has_places(columns: usize, from: usize) -> bool
+    ensures { result ≡ true → from + 12 ≤ columns }
+{
+    columns >= PATTERN && from <= columns - PATTERN
+}
+
+// A slide from a column on.
+fn slide_from(column: u32, count: usize, inserts: bool) -> Slide {
+    Slide {
+        column,
+        count: count.min(FAR as usize) as u32,
+        inserts,
+    }
+}
+
+// Whether looks from a column on are what is seen of cells from another on.
+fn are_seen(prices: &RowPrices<'_>, looks: &[Look], from: usize, cells: &[Cell], at: usize) -> bool
+    requires looks { from + 12 ≤ length looks.now }
+    requires cells { at + 12 ≤ length cells.now }
+{
+    let chooser = &prices.chooser;
+    for place in 0..PATTERN {
+        let cell = cells[at + place];
+        if !chooser
+            .painter
+            .is_seen(chooser.picture, looks[from + place], cell)
+        {
+            return false;
+        }
+    }
+    true
+}
+
+// Whether looks are all blank.
+pub(crate) fn are_blank(looks: &[Look]) -> bool {
+    for look in looks {
+        if *look != Look::blank() {
+            return false;
+        }
+    }
+    true
+}
+
+// A slide and what it saves, if that is more than `least` and the terminal has its operation.
+// `price` is that of the row without the slide, less that of going there.
+fn slide_if_worth(
+    prices: &RowPrices<'_>,
+    row: u32,
+    looks: &[Look],
+    price: i64,
+    slide: Option<Slide>,
+    least: i64,
+    room: &mut Vec<Look>,
+) -> Result<Option<(Slide, i64)>, NoMemory>
+    ensures { IfOk result (λ slide. IfSome slide (λ slide. IsSlide (length looks.now) slide.0)) }
+{
+    let Some(slide) = slide else {
+        return Ok(None);
+    };
+    if !is_inside(looks, slide) {
+        return Ok(None);
+    }
+    let left = price.saturating_sub(i64::from(prices.chooser.prices.of(slide.op())));
+    if left <= least {
+        return Ok(None);
+    }
+    slide_into(room, looks, slide)?;
+    let saved = left.saturating_sub(i64::from(prices.over(row, room)));
+    if saved <= least {
+        return Ok(None);
+    }
+    Ok(Some((slide, saved)))
+}
+
+// Whether a slide is one of a row of looks.
+fn is_inside(looks: &[Look], slide: Slide) -> bool
+    ensures { result ≡ true → IsSlide (length looks.now) slide }
+{
+    let column = slide.column as usize;
+    slide.count > 0 && column <= looks.len() && slide.count as usize <= looks.len() - column
+}
