@@ -10,48 +10,22 @@ ghost use Rattle.scr_plan.specs.Scratch.{Fits};
 ghost use Rattle.scr_term.specs.declared.operations.operation.Spot.TheVariants.{At};
 
 use crate::memories::Memory;
-use crate::motions::cheapest_motion;
 use crate::painting::Painter;
 use crate::planning::Looked;
 use crate::row_prices::RowPrices;
 use crate::runs::Run;
-use crate::shifts::{Shift, can_shift_some, cheapest_shift};
+use crate::shifts::Shift;
 use crate::shown::{is_moved, shown_row, slide_into};
 use crate::slides::{Slide, can_slide_some, cheapest_slide};
 use crate::strokes::Draft;
 use crate::ways::Cursor;
 use crate::wiping::drop_from;
-use scr_cells::{Look, NoMemory, Pen, Picture};
-use scr_term::{Op, Profile, Spot};
+use scr_cells::{Look, NoMemory, Picture};
+use scr_term::{Op, Profile};
 use scr_virtual::Virtual;
 use std::alloc::Global;
 
 impl Draft {
-    // Goes to a place with a plain pen, by a turn and the cheapest motion.
-    fn come_to(
-        &mut self,
-        painter: Painter,
-        profile: &Profile,
-        picture: &Picture,
-        row: u32,
-        column: u32,
-    ) -> Result<(), NoMemory>
-        requires painter { painter ≡ painter_of profile.now }
-        requires fits { Fits profile.now picture.now }
-        requires row { row < picture.now.rows }
-        requires column { column < picture.now.columns }
-        ensures spot { OnOk result (self.new.spot ≡ At row column) }
-        ensures plain { OnOk result (is_plain_pen self.new.pen ≡ true) }
-    {
-        self.turn_to(profile, Pen::plain())?;
-        let motion = cheapest_motion(profile.prices(), self.spot, row, column);
-        self.move_by(profile, motion, row, column)?;
-        if self.spot == Spot::At(row, column) && self.pen.is_plain() {
-            return Ok(());
-        }
-        self.jump(painter, profile, picture, row, column)
-    }
-
     // Goes to a place with a plain pen, and adds an operation that moves what is there.
     fn move_at(
         &mut self,
@@ -69,70 +43,6 @@ impl Draft {
     {
         self.come_to(painter, profile, picture, row, column)?;
         self.add(profile, op, self.spot, self.pen)
-    }
-
-    // Shifts rows. Lines are deleted first, so that nothing but blank lines leaves the screen.
-    pub(crate) fn shift_rows(
-        &mut self,
-        painter: Painter,
-        profile: &Profile,
-        picture: &Picture,
-        shift: Shift,
-    ) -> Result<(), NoMemory>
-        requires painter { painter ≡ painter_of profile.now }
-        requires fits { Fits profile.now picture.now }
-        requires shift { IsShift picture.now.rows shift }
-    {
-        if shift.up {
-            self.shift_up(painter, profile, picture, shift)
-        } else {
-            self.shift_down(painter, profile, picture, shift)
-        }
-    }
-
-    // Shifts rows up: lines are deleted at the block's top, and inserted above what is below it.
-    fn shift_up(
-        &mut self,
-        painter: Painter,
-        profile: &Profile,
-        picture: &Picture,
-        shift: Shift,
-    ) -> Result<(), NoMemory>
-        requires painter { painter ≡ painter_of profile.now }
-        requires fits { Fits profile.now picture.now }
-        requires shift { IsShift picture.now.rows shift }
-    {
-        let size = picture.size();
-        let count = shift.count;
-        let top = shift.top;
-        self.move_at(painter, profile, picture, top, 0, Op::DeleteLines(count))?;
-        if shift.end >= size.rows {
-            return Ok(());
-        }
-        let row = shift.end - count;
-        self.move_at(painter, profile, picture, row, 0, Op::InsertLines(count))
-    }
-
-    // Shifts rows down: lines are deleted above what is below the block, and inserted at its top.
-    fn shift_down(
-        &mut self,
-        painter: Painter,
-        profile: &Profile,
-        picture: &Picture,
-        shift: Shift,
-    ) -> Result<(), NoMemory>
-        requires painter { painter ≡ painter_of profile.now }
-        requires fits { Fits profile.now picture.now }
-        requires shift { IsShift picture.now.rows shift }
-    {
-        let size = picture.size();
-        let count = shift.count;
-        let top = shift.top;
-        if shift.end < size.rows {
-            let row = shift.end - count;
-            self.move_at(painter, profile, picture, row, 0, Op::DeleteLines(count))?;
-        }
-        self.move_at(painter, profile, picture, top, 0, Op::InsertLines(count))
     }
 
     // Slides characters of a row.
@@ -177,28 +87,6 @@ impl Draft {
         self.settle_from(
             painter, profile, memory, wanted, by, shift, from, runs, &mut room,
         )
-    }
-
-    // Shifts rows, if that is worth it.
-    fn shift_if_worth(
-        &mut self,
-        painter: Painter,
-        profile: &Profile,
-        memory: &Memory,
-        picture: &Picture,
-        runs: &[Run],
-    ) -> Result<Option<Shift>, NoMemory>
-        requires painter { painter ≡ painter_of profile.now }
-        requires fits { Fits profile.now picture.now }
-        requires size { IsSizeOf picture.now memory.now }
-        ensures { IfOk result (λ shift. IfSome shift (IsShift picture.now.rows)) }
-    {
-        let prices = RowPrices::new(painter, profile, picture);
-        let Some(shift) = shift_of(&prices, memory, &self.cursor(), runs) else {
-            return Ok(None);
-        };
-        self.shift_rows(painter, profile, picture, shift)?;
-        Ok(Some(shift))
     }
 
     // The first row above `end` whose characters are to be slid; `end` if there is none. The runs
@@ -302,22 +190,6 @@ impl Draft {
         slide_into(room, looks, slide)?;
         runs.truncate(begun);
         painter.add_row(profile, picture, row, Some(room), 0, columns, runs)
-    }
-}
-
-// The shift that is worth sending, if the terminal has its operations.
-fn shift_of(prices: &RowPrices<'_>, memory: &Memory, cursor: &Cursor, runs: &[Run]) -> Option<Shift>
-    ensures { IfSome result (IsShift memory.now.rows) }
-{
-    if runs.is_empty() || !can_shift_some(prices) {
-        return None;
-    }
-    let shift = cheapest_shift(prices, memory, cursor, runs)?;
-    let profile = prices.profile;
-    if profile.has(Op::DeleteLines(shift.count)) && profile.has(Op::InsertLines(shift.count)) {
-        Some(shift)
-    } else {
-        None
     }
 }
 
