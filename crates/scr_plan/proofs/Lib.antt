@@ -27,5 +27,6 @@ pub mod ScratchTextLaws
 pub mod UnknownRowLaws
 pub mod UpToDateLaws
 pub mod WipeLaws
+pub mod ShiftLaws
 pub mod ShortPlanLaws
 pub mod SkipLaws

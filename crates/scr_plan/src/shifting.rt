@@ -115,13 +115,15 @@ impl Draft {
         ensures { OnOk result (Sends profile.now (rows_up shift.top shift.end shift.count blank) self.old self.new) }
     {
         grid_laws::<Look>();
-        let size = picture.size();
+        let _picture = picture.size();
+        let size = profile.size();
         self.delete_lines(painter, profile, picture, shift.top, shift.count)?;
-        if shift.end >= size.rows {
-            return Ok(());
+        if shift.end < size.rows {
+            let row = shift.end - shift.count;
+            self.insert_lines(painter, profile, picture, row, shift.count)
+        } else {
+            Ok(())
         }
-        let row = shift.end - shift.count;
-        self.insert_lines(painter, profile, picture, row, shift.count)
     }
 
     // Shifts rows down: lines are deleted above what is below the block, and inserted at its top.
@@ -140,13 +142,15 @@ impl Draft {
         ensures { OnOk result (Sends profile.now (rows_down shift.top shift.end shift.count blank) self.old self.new) }
     {
         grid_laws::<Look>();
-        let size = picture.size();
-        if shift.end >= size.rows {
-            return self.insert_lines(painter, profile, picture, shift.top, shift.count);
+        let _picture = picture.size();
+        let size = profile.size();
+        if shift.end < size.rows {
+            let row = shift.end - shift.count;
+            self.delete_lines(painter, profile, picture, row, shift.count)?;
+            self.insert_lines(painter, profile, picture, shift.top, shift.count)
+        } else {
+            self.insert_lines(painter, profile, picture, shift.top, shift.count)
         }
-        let row = shift.end - shift.count;
-        self.delete_lines(painter, profile, picture, row, shift.count)?;
-        self.insert_lines(painter, profile, picture, shift.top, shift.count)
     }
 
     // Shifts rows.
