@@ -25,8 +25,9 @@ use Rattle.scr_plan.proofs.PlainLaws.{look_same, not_false}
 use Rattle.scr_plan.proofs.RunChangeLaws.{not_in}
 use Rattle.scr_plan.proofs.RunLaws.{leaves_then}
 use Rattle.scr_plan.proofs.ScratchLaws.{cleared_run, grid_is_painted}
-use Rattle.scr_plan.specs.Code.Drafts.{HasChanges, HasMarks, IsDone, IsPartly, Leaves, in_runs}
+use Rattle.scr_plan.specs.Code.Drafts.{HasChanges, HasMarks, IsDone, IsPartly, IsRight, Leaves, in_runs}
 use Rattle.scr_plan.specs.Code.Joinings.{counted_up}
+use Rattle.scr_plan.specs.Code.Moves.{IsChanged, IsMoved}
 use Rattle.scr_plan.specs.Code.Painters.{painter_of, row_differs}
 use Rattle.scr_plan.specs.Code.Planning.{painted_anew}
 use Rattle.scr_plan.specs.Memories.{Agrees, IsMemory, MemoryView, all_followed, is_known}
@@ -46,24 +47,37 @@ state_of profile memory is rows columns shown =
     let full : IsState (full_abilities profile.rows profile.columns) memory.state = subst (λ n. IsState (full_abilities profile.rows n) memory.state) columns (subst (λ n. IsState (full_abilities n memory.columns) memory.state) rows is.state) in
     record { whole = full.whole; looks = full.looks; spot = full.spot; pen = shown }
 
--- from what is remembered
-pub changes_done : (profile : ProfileView) (picture : PictureView) (memory : MemoryView) → IsState (abilities profile) memory.state → (all some : List Run) → HasChanges profile picture memory all picture.rows → (old mid new : Draft)
-    → old.ops.items ≡ [] → old.bytes ≡ 0 → old.spot ≡ memory.state.spot → old.pen ≡ memory.state.pen → Leaves profile picture all some old mid → Leaves profile picture some [] mid new
-    → IfSome picture.wish (λ place. new.spot ≡ At place.0 place.1) → IsDone profile picture [] memory.state new
-changes_done profile picture memory is all some found old mid new ops bytes spot pen wiped painted placed = record {
-  right =
-      leaves_then profile picture all some [] old mid new wiped painted 0 [] memory.state (record {
-        own = [];
-        ops = ops;
-        now = memory.state;
-        run = refl;
-        calm = refl;
-        state = is;
-        bytes = bytes;
-        spot = sym spot;
-        pen = sym pen;
-        shows = λ r c high wide e. found r high c wide e;
-      });
+-- from what is remembered, where nothing moved
+pub begun_moved : (profile : ProfileView) (picture : PictureView) (memory : MemoryView) → IsState (abilities profile) memory.state → (all : List Run) → HasChanges profile picture memory all picture.rows → (draft : Draft)
+    → draft.ops.items ≡ [] → draft.bytes ≡ 0 → draft.spot ≡ memory.state.spot → draft.pen ≡ memory.state.pen → IsMoved profile picture memory.state (in_runs all) draft
+begun_moved profile picture memory is all found draft ops bytes spot pen = record {
+  first = [];
+  mid = memory.state;
+  led = refl;
+  right = record {
+    own = [];
+    ops = ops;
+    now = memory.state;
+    run = refl;
+    calm = refl;
+    state = is;
+    bytes = bytes;
+    spot = sym spot;
+    pen = sym pen;
+    shows = λ r c high wide e. found r high c wide e;
+  };
+}
+
+-- the runs that are left are painted
+pub changes_done : (profile : ProfileView) (picture : PictureView) (start : TerminalState) (all some : List Run) (old mid new : Draft) → IsMoved profile picture start (in_runs all) old
+    → Leaves profile picture all some old mid → Leaves profile picture some [] mid new → IfSome picture.wish (λ place. new.spot ≡ At place.0 place.1) → IsChanged profile picture start new
+changes_done profile picture start all some old mid new moved wiped painted placed = record {
+  moved = record {
+    first = moved.first;
+    mid = moved.mid;
+    led = moved.led;
+    right = leaves_then profile picture all some [] old mid new wiped painted (length (all_bytes profile moved.first)) moved.first moved.mid moved.right;
+  };
   spot = placed;
 }
 
@@ -94,23 +108,26 @@ anew_done laws profile p picture fits painter who all marks old new first ops by
 
 -- ---- what a finished draft shows
 
-done_shows : GridLaws LookView → (profile : ProfileView) (picture : PictureView) → IsPicture picture → Fits profile picture → (first : List Op) (start : TerminalState) (draft : Draft) → (done : IsDone profile picture first start draft) → RunsToShow profile start done.right.own picture
-done_shows grids profile picture k fits first start draft done =
-    let right = done.right in
+right_shows : GridLaws LookView → (profile : ProfileView) (picture : PictureView) → IsPicture picture → Fits profile picture → (paid : ℕ) (first : List Op) (start : TerminalState) (draft : Draft) → (right : IsRight profile picture paid first start (in_runs []) draft)
+    → IfSome picture.wish (λ place. draft.spot ≡ At place.0 place.1) → RunsToShow profile start right.own picture
+right_shows grids profile picture k fits paid first start draft right placed =
     let lines : IsGrid profile.rows profile.columns picture.lines = rw (← fits.rows, ← fits.columns) k.grid in
     record {
       new = right.now;
       run = right.run;
       shows = record {
         grid = grid_is_painted grids profile picture lines right.now.grid right.state.whole (λ r c high wide. right.shows r c (omega (arith, high, fits.rows)) (omega (arith, wide, fits.columns)) refl);
-        spot = by picture.wish done.spot;
+        spot = by picture.wish placed;
       };
       state = right.state;
     }
   where
-    by : (wish : Option (ℕ × ℕ)) → IfSome wish (λ place. draft.spot ≡ At place.0 place.1) → IfSome wish (λ place. done.right.now.spot ≡ At place.0 place.1)
+    by : (wish : Option (ℕ × ℕ)) → IfSome wish (λ place. draft.spot ≡ At place.0 place.1) → IfSome wish (λ place. right.now.spot ≡ At place.0 place.1)
     by None placed = placed
-    by (Some place) placed = done.right.spot ∙ placed
+    by (Some place) placed = right.spot ∙ placed
+
+done_shows : GridLaws LookView → (profile : ProfileView) (picture : PictureView) → IsPicture picture → Fits profile picture → (first : List Op) (start : TerminalState) (draft : Draft) → (done : IsDone profile picture first start draft) → RunsToShow profile start done.right.own picture
+done_shows grids profile picture k fits first start draft done = right_shows grids profile picture k fits 0 first start draft done.right done.spot
 
 never : {R : Type 0} (b : Bool) → b ≡ true → b ≡ false → R
 never true e f = (cc)
@@ -126,18 +143,27 @@ few_bytes : (own whole bytes drafted : ℕ) → drafted ≡ counted_up (0 + own)
 few_bytes own whole bytes drafted counted less exact all = omega (arith, counted, less, exact, all)
 
 -- where all is known
-pub short_plan : KnownMemories → MemoryRuns → JoinedIsCheap → GridLaws LookView → (profile : ProfileView) → IsProfile profile → (virtual : VirtualView) → IsPicture virtual.picture → Fits profile virtual.picture
-    → (memory : MemoryView) → (is_known memory && not virtual.repaint) ≡ true → (draft : Draft) → IsDone profile virtual.picture [] memory.state draft → (bytes : ℕ) → draft.bytes ≤ bytes → bytes < 2 ^ 64 - 1
+pub short_plan : RunLaws → KnownMemories → MemoryRuns → JoinedIsCheap → GridLaws LookView → (profile : ProfileView) → IsProfile profile → (virtual : VirtualView) → IsPicture virtual.picture → Fits profile virtual.picture
+    → (memory : MemoryView) → (is_known memory && not virtual.repaint) ≡ true → (draft : Draft) → IsChanged profile virtual.picture memory.state draft → (bytes : ℕ) → draft.bytes ≤ bytes → bytes < 2 ^ 64 - 1
     → bytes ≤ counted_up (length (all_bytes profile (joined_of profile memory virtual.picture))) → length draft.ops.items ≤ virtual.picture.rows * virtual.picture.columns * 12 + 4 → IsPlan profile memory virtual draft.ops.items
-short_plan known_laws memory_laws cheap grids profile p virtual k fits memory due draft done bytes less exact all few =
+short_plan laws known_laws memory_laws cheap grids profile p virtual k fits memory due draft changed bytes less exact all few =
     let parts = both_true (is_known memory) (not virtual.repaint) due in
     let known : is_known memory ≡ true = parts.0 in
-    let shown = done_shows grids profile virtual.picture k fits [] memory.state draft done in
-    let ops : done.right.own ≡ draft.ops.items = sym done.right.ops in
-    let shows : RunsToShow profile memory.state draft.ops.items virtual.picture = subst (λ o. RunsToShow profile memory.state o virtual.picture) ops shown in
+    let moved = changed.moved in
+    let own : List Op = moved.right.own in
+    let ops : draft.ops.items ≡ moved.first ++ own = moved.right.ops in
+    let shown = right_shows grids profile virtual.picture k fits (length (all_bytes profile moved.first)) moved.first moved.mid draft moved.right changed.spot in
+    let shows : RunsToShow profile memory.state draft.ops.items virtual.picture = record {
+      new = shown.new;
+      run = ap (λ o. runs profile memory.state o) ops ∙ then_runs laws profile memory.state moved.mid shown.new moved.first own moved.led shown.run;
+      shows = shown.shows;
+      state = shown.state;
+    } in
+    let sum : length (all_bytes profile draft.ops.items) ≡ length (all_bytes profile moved.first) + length (all_bytes profile own) =
+    ap (λ o. length (all_bytes profile o)) ops ∙ ap length (laws.bytes profile moved.first own) ∙ length-append (all_bytes profile moved.first) (all_bytes profile own) in
     let fewer : length (all_bytes profile draft.ops.items) ≤ length (all_bytes profile (joined_of profile memory virtual.picture)) =
-    subst (λ o. length (all_bytes profile o) ≤ length (all_bytes profile (joined_of profile memory virtual.picture))) ops
-    (few_bytes (length (all_bytes profile done.right.own)) (length (all_bytes profile (joined_of profile memory virtual.picture))) bytes draft.bytes done.right.bytes less exact all) in
+    few_bytes (length (all_bytes profile draft.ops.items)) (length (all_bytes profile (joined_of profile memory virtual.picture))) bytes draft.bytes
+    (moved.right.bytes ∙ ap counted_up (omega (arith, sum))) less exact all in
     record {
       shows = λ old agrees. subst (λ state. RunsToShow profile state draft.ops.items virtual.picture) (known_laws.state (abilities profile) memory old agrees known) shows;
       anew = λ wished old state. never (not virtual.repaint) parts.1 (ap not wished);

@@ -2,10 +2,14 @@
 //! runs of what they change.
 ghost use Rattle.std.specs.Prelude.{◌≡◌, ◌+◌, ◌<◌, ◌≤◌, IfOk, IfSome, OnOk, length, true};
 ghost use Rattle.scr_cells.specs.PenViews.{is_plain_pen};
-ghost use Rattle.scr_plan.specs.Code.Moves.{IsShift, IsSlide};
-ghost use Rattle.scr_plan.specs.Code.Drafts.{KeepsEvery};
+ghost use Rattle.scr_plan.specs.Code.Moves.{IsBegun, IsMoved, IsShift, IsSlide};
+ghost use Rattle.scr_plan.specs.Code.Drafts.{HasChanges, in_runs};
+ghost use Rattle.scr_plan.specs.Code.Planning.{range_by};
+ghost use Rattle.scr_plan.specs.Memories.{is_known};
+ghost use Rattle.scr_term.specs.Operations.Profiles.{abilities};
+ghost use Rattle.scr_term.specs.Operations.States.{IsShownPen};
 ghost use Rattle.scr_plan.specs.Code.Painters.{painter_of};
-ghost use Rattle.scr_plan.specs.Repaints.{IsSizeOf};
+ghost use Rattle.scr_plan.specs.Repaints.{IsSizeOf, ShowsOutside};
 ghost use Rattle.scr_plan.specs.Scratch.{Fits};
 ghost use Rattle.scr_term.specs.declared.operations.operation.Spot.TheVariants.{At};
 
@@ -78,6 +82,12 @@ impl Draft {
         requires painter { painter ≡ painter_of profile.now }
         requires fits { Fits profile.now wanted.now.picture }
         requires size { IsSizeOf wanted.now.picture memory.now }
+        requires same { ShowsOutside (range_by by) profile.now memory.now wanted.now }
+        requires known { is_known memory.now ≡ true }
+        requires pen { IsShownPen (abilities profile.now) memory.now.state.pen }
+        requires found { HasChanges profile.now wanted.now.picture memory.now runs.old.items wanted.now.picture.rows }
+        requires begun { IsBegun memory.now self.old }
+        ensures { OnOk result (IsMoved profile.now wanted.now.picture memory.now.state (in_runs runs.new.items) self.new) }
     {
         let shift = self.shift_if_worth(painter, profile, memory, wanted.picture(), runs)?;
         let mut room = Vec::new(alloc);

@@ -220,8 +220,7 @@ fn partly_if_shorter(
     Ok(whole)
 }
 
-// Paints the whole screen anew: clears it, and paints what is not blank, in the shorter of two
-// ways.
+// Paints the whole screen anew: clears it, and paints what is not blank.
 fn anew(
     alloc: Global,
     profile: &Profile,
@@ -305,6 +304,7 @@ fn changes(
     joined_is_cheap();
     known_memories();
     memory_runs();
+    run_laws();
     profiles_have();
     grid_laws::<Look>();
     let _profile = profile.size();

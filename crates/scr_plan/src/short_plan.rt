@@ -5,6 +5,7 @@ ghost use Rattle.scr_term.specs.declared.operations.operation.Op.TheVariants.{Cl
 ghost use Rattle.scr_term.specs.Operations.Profiles.{abilities};
 ghost use Rattle.scr_term.specs.Operations.States.{IsShownPen, blank_state};
 ghost use Rattle.scr_plan.specs.Code.Drafts.{HasChanges, HasChangesIn, IsDone, KeepsRuns};
+ghost use Rattle.scr_plan.specs.Code.Moves.{IsChanged};
 ghost use Rattle.scr_plan.specs.Code.Painters.{painter_of};
 ghost use Rattle.scr_plan.specs.Code.Planning.{range_by};
 ghost use Rattle.scr_plan.specs.Memories.{is_known, is_known_row};
@@ -39,7 +40,7 @@ pub(crate) fn short_changes(
     requires same { ShowsOutside (range_by by) profile.now memory.now wanted.now }
     requires known { is_known memory.now ≡ true }
     requires pen { IsShownPen (abilities profile.now) memory.now.state.pen }
-    ensures { IfOk result (IsDone profile.now wanted.now.picture [] memory.now.state) }
+    ensures { IfOk result (IsChanged profile.now wanted.now.picture memory.now.state) }
 {
     let _profile = profile.size();
     let _memory = memory.size();

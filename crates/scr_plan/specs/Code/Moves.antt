@@ -1,12 +1,17 @@
 -- Shifts of rows, and slides of a row's characters.
-use Rattle.std.specs.Prelude.{ℕ, ◌≡◌, ◌+◌, ◌<◌, ◌≤◌, List, length, Option, Some, None, if◌then◌else◌}
+use Rattle.std.specs.Prelude.{ℕ, ◌≡◌, ◌+◌, ◌<◌, ◌≤◌, Bool, List, [], length, Option, Some, None, IfSome, if◌then◌else◌}
 use Rattle.scr_cells.specs.Grids.{grid_at, grid_of, rows_down, rows_up}
 use Rattle.scr_cells.specs.LookViews.{LookView, blank}
+use Rattle.scr_cells.specs.PictureViews.{PictureView}
+use Rattle.scr_term.specs.declared.operations.operation.Op.{Op}
+use Rattle.scr_term.specs.declared.operations.operation.Spot.TheVariants.{At}
 use Rattle.scr_term.specs.Operations.Profiles.{ProfileView, abilities}
 use Rattle.scr_term.specs.Operations.States.{TerminalState, IsState}
 use Rattle.scr_term.specs.Operations.Steps.{runs}
 use Rattle.scr_term.specs.Operations.Texts.{all_bytes}
+use Rattle.scr_plan.specs.Code.Drafts.{IsRight, in_runs}
 use Rattle.scr_plan.specs.Code.Joinings.{counted_up}
+use Rattle.scr_plan.specs.Memories.{MemoryView}
 use Rattle.scr_plan.specs.declared.shifts.Shift.{Shift}
 use Rattle.scr_plan.specs.declared.slides.Slide.{Slide}
 use Rattle.scr_plan.specs.declared.strokes.Draft.{Draft}
@@ -44,3 +49,22 @@ pub record IsSent (profile : ProfileView) (start : TerminalState) (grid : List (
 abbrev pub Sends : ProfileView → ((ℕ → ℕ → LookView) → ℕ → ℕ → LookView) → Draft → Draft → Type 0
 Sends profile move old new =
     (start : TerminalState) (grid : List (List LookView)) → IsSent profile start grid old → IsSent profile start (grid_of profile.rows profile.columns (move (grid_at blank grid))) new
+
+-- a draft without operations, at what is remembered of the cursor and the pen
+pub record IsBegun (memory : MemoryView) (draft : Draft) : Type 0 where
+  pub ops : draft.ops.items ≡ []
+  pub bytes : draft.bytes ≡ 0
+  pub spot : draft.spot ≡ memory.state.spot
+  pub pen : draft.pen ≡ memory.state.pen
+
+-- Operations that led from this state to another come first; behind them the draft is right while some places wait.
+pub record IsMoved (profile : ProfileView) (picture : PictureView) (start : TerminalState) (waits : ℕ × ℕ → Bool) (draft : Draft) : Type 0 where
+  pub first : List Op
+  pub mid : TerminalState
+  pub led : runs profile start first ≡ Some mid
+  pub right : IsRight profile picture (length (all_bytes profile first)) first mid waits draft
+
+-- no place waits any more, and the cursor is as wished
+pub record IsChanged (profile : ProfileView) (picture : PictureView) (start : TerminalState) (draft : Draft) : Type 0 where
+  pub moved : IsMoved profile picture start (in_runs []) draft
+  pub spot : IfSome picture.wish (λ place. draft.spot ≡ At place.0 place.1)
