@@ -6,6 +6,8 @@ use crate::dumps::{dump_entry, dump_picture, dump_profile};
 use crate::emulated_lines::{answer_of_emulated, dump_terminal};
 use crate::entry_lines::answer_of_entry;
 use crate::joining_lines::answer_of_joining;
+use crate::moving_lines::answer_of_moving;
+use crate::moving_screen::MovingScreen;
 use crate::painting_lines::answer_of_painting;
 use crate::picture_lines::answer_of_picture;
 use crate::plain_lines::{answer_of_plain, dump_memory};
@@ -30,6 +32,7 @@ pub struct TerminalStage {
     entry: Option<Entry>,
     profile: Option<Profile>,
     terminal: Option<Terminal>,
+    moving: Option<MovingScreen>,
     memory: Option<Memory>,
     picture: Option<Picture>,
     screen: Option<EcmaScreen>,
@@ -45,6 +48,7 @@ impl Stage for TerminalStage {
             entry: None,
             profile: None,
             terminal: None,
+            moving: None,
             memory: None,
             picture: None,
             screen: None,
@@ -94,6 +98,15 @@ impl TerminalStage {
             || answer_of_texts(alloc, entry, word, came)
             || answer_of_terminal(alloc, profile, word, words, came)
             || answer_of_emulated(alloc, &mut self.terminal, profile, word, words, came)
+            || answer_of_moving(
+                alloc,
+                &mut self.moving,
+                entry,
+                &mut self.text,
+                word,
+                words,
+                came,
+            )
     }
 
     // Makes the call of a line that is about a picture, a screen or a script, and tells whether it is one.
