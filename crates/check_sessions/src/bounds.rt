@@ -70,8 +70,8 @@ impl Left {
         Ok(())
     }
 
-    /// How many bytes an update to a picture may send, as far as that is known: where only what differs may be sent, those of the
-    /// joined repaint, else those of painting from scratch.
+    /// How many bytes an update to a picture may send, as far as that is known: where only what differs may be sent,
+    /// those of the joined repaint, else those of painting from scratch.
     pub fn most(&self, profile: &Profile, picture: &Picture) -> Option<usize> {
         match self.allowed {
             Allowed::Owed => None,
@@ -80,7 +80,8 @@ impl Left {
         }
     }
 
-    // Nothing where no place differs and the cursor is as wished; else a reset, the places that differ, a reset, and the cursor.
+    // Nothing where no place differs and the cursor is as wished; else a reset, the places that differ, a reset, and
+    // the cursor.
     fn joined_bytes(&self, profile: &Profile, picture: &Picture) -> usize {
         let wish = picture.wish();
         if !self.differs(profile, picture) && is_placed(self.spot, wish) {
@@ -130,8 +131,8 @@ impl Left {
     }
 }
 
-// How many bytes painting from scratch has: two resets, a blank screen, for each place the cursor there, a reset, its attributes and
-// colours and its byte, and the cursor.
+// How many bytes painting from scratch has: two resets, a blank screen, for each place the cursor there, a reset, its
+// attributes and colours and its byte, and the cursor.
 fn scratch_bytes(profile: &Profile, picture: &Picture) -> usize {
     let resets = price(profile, Op::Reset).saturating_mul(2);
     let mut sum = resets.saturating_add(price(profile, Op::Clear));

@@ -58,8 +58,8 @@ static COUNTS: [(&str, usize); 41] = [
     ("copy", 9),
 ];
 
-/// Reads the call of a line, its arguments in the order of the method's; a flag is 0 or 1. `None` where the word names none,
-/// or an update.
+/// Reads the call of a line, its arguments in the order of the method's; a flag is 0 or 1. `None` where the word names
+/// none, or an update.
 pub fn read_call(alloc: Global, word: &str, words: &mut Words<'_>) -> Option<Call> {
     match word {
         "add_text" => Some(read_add_text(alloc, words)),

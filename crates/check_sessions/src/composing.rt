@@ -20,7 +20,8 @@ const SMALL: Win = Win(1);
 
 const PAD: Win = Win(2);
 
-/// Begins a session with two pairs of colours, a window of one row of three and a pad of three rows of eight with a text.
+/// Begins a session with two pairs of colours, a window of one row of three and a pad of three rows of eight with a
+/// text.
 pub fn begin(alloc: Global, opened: &mut Recorded, answer: &mut Buffer) -> Result<(), Trouble> {
     opened.call(Call::SetPair(1, 3, 4), answer)?;
     opened.call(Call::SetPair(2, 1, 0), answer)?;
@@ -30,8 +31,8 @@ pub fn begin(alloc: Global, opened: &mut Recorded, answer: &mut Buffer) -> Resul
     opened.call(Call::AddText(PAD, text), answer)
 }
 
-/// Makes a few calls, and takes a window or a part of the pad onto the virtual screen. Adds their answers, and tells whether there was
-/// memory for them.
+/// Makes a few calls, and takes a window or a part of the pad onto the virtual screen. Adds their answers, and tells
+/// whether there was memory for them.
 pub fn compose(
     alloc: Global,
     opened: &mut Recorded,

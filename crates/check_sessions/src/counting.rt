@@ -4,8 +4,9 @@ use crate::shown::look_of;
 use scr_cells::{Attrs, Cell, Look, Pen, Picture};
 use scr_term::{Op, Profile, Spot};
 
-/// The bytes of operations that are sent one after another, and where they leave the cursor and the pen. What changes nothing where it
-/// stands is left out: a reset where no attribute is on and the colours are the default ones, a motion to where the cursor is.
+/// The bytes of operations that are sent one after another, and where they leave the cursor and the pen. What changes
+/// nothing where it stands is left out: a reset where no attribute is on and the colours are the default ones, a motion
+/// to where the cursor is.
 #[derive(Clone, Copy)]
 pub struct Tally<'a> {
     profile: &'a Profile,
@@ -42,8 +43,9 @@ impl<'a> Tally<'a> {
         }
     }
 
-    /// The places of a row that differ from what the terminal shows there. A place whose left neighbour differs too, and is seen with
-    /// the same pen, is its byte alone. The rest of the line is erased from some column on, or nowhere.
+    /// The places of a row that differ from what the terminal shows there. A place whose left neighbour differs too,
+    /// and is seen with the same pen, is its byte alone. The rest of the line is erased from some column on, or
+    /// nowhere.
     pub fn paint(&mut self, row: &Row<'_>) {
         let erased = row.erased_column(self.profile);
         let mut left: Option<Pen> = None;
@@ -166,8 +168,8 @@ impl Row<'_> {
         }
     }
 
-    // The first place that differs and from which on all are seen blank, where erasing takes no more bytes than there are places that
-    // differ from it on.
+    // The first place that differs and from which on all are seen blank, where erasing takes no more bytes than there
+    // are places that differ from it on.
     fn erased_column(&self, profile: &Profile) -> Option<u32> {
         let mut first = None;
         let mut count: usize = 0;

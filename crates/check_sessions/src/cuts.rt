@@ -18,7 +18,8 @@ pub struct Cut {
     pub behind: usize,
 }
 
-/// How many operations of an update are begun that is cut, and how many of its bytes are sent by it and then by the next.
+/// How many operations of an update are begun that is cut, and how many of its bytes are sent by it and then by the
+/// next.
 #[derive(Clone, Copy)]
 pub struct Ended {
     /// How many operations are begun.
@@ -76,8 +77,8 @@ fn render(profile: &Profile, op: Op, bytes: &mut Vec<u8>) -> Result<bool, Troubl
     Ok(profile.render(op, bytes).is_ok())
 }
 
-/// The operation in whose text a cut is: those up to it are begun, and its text is sent to its end. After all texts, all
-/// are.
+/// The operation in whose text a cut is: those up to it are begun, and its text is sent to its end. After all texts,
+/// all are.
 pub fn ended_at(update: &Text, cut: Cut) -> Ended {
     let mut begun: usize = 0;
     for end in &update.ends {

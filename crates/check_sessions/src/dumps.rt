@@ -1,4 +1,5 @@
-//! All that can be seen of a screen and its terminal, as bytes, so that a refused call can be shown to have changed nothing.
+//! All that can be seen of a screen and its terminal, as bytes, so that a refused call can be shown to have changed
+//! nothing.
 
 use crate::recorded::Recorded;
 use crate::shown_lines::add_spot;

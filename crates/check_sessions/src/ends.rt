@@ -15,8 +15,8 @@ pub enum End {
     Close,
 }
 
-/// Reads `start`, `start_writing K`, `start_stuck K` and `start_flushing`, and the same of `close`: which end it is, and how the writer
-/// fails.
+/// Reads `start`, `start_writing K`, `start_stuck K` and `start_flushing`, and the same of `close`: which end it is,
+/// and how the writer fails.
 pub fn read_end(word: &str, words: &mut Words<'_>) -> Option<(End, Fails)> {
     let (end, how) = match (word.strip_prefix("start"), word.strip_prefix("close")) {
         (Some(how), _) => (End::Start, how),

@@ -9,8 +9,9 @@ use ti_caps::{CapFault, Entry, Kind, Slot, bundled, find_name};
 // How many names a line has at most.
 const MOST: usize = 64;
 
-/// The bundled entry without the flags and the texts that a line names, up to its `=`, and with the numbers that it names and gives; a
-/// text that stands behind its name is taken in place of the bundled one. `None` where the library was refused memory.
+/// The bundled entry without the flags and the texts that a line names, up to its `=`, and with the numbers that it
+/// names and gives; a text that stands behind its name is taken in place of the bundled one. `None` where the library
+/// was refused memory.
 pub fn read_entry(alloc: Global, words: &mut Words<'_>) -> Option<Entry> {
     let Ok(mut entry) = bundled(alloc) else {
         pass_names(words);

@@ -27,12 +27,13 @@ struct Sessions {
     tried: u64,
 }
 
-/// The line `every_cut R C SESSIONS UPDATES SEED LEAST NAME ..`: so many sessions on a screen as with `screen R C NAME ..`, each of so many
-/// updates behind calls that are made up. Each update is cut behind each number of its bytes, by an error and by taking nothing, and at its
-/// flush, each time in a session that makes all calls up to it anew, and two updates behind it. The fault has to tell what was begun and how
-/// much was sent, and what was begun has to be sent to its end; the next update is Ok, and then the terminal shows the picture; the last
-/// update is Ok and sends nothing, so nothing is owed. Adds `agrees`, or how many cuts were tried where they are fewer than LEAST; or the
-/// number of the session and of the update that is not so, the answers of its calls, and how and where it was cut.
+/// The line `every_cut R C SESSIONS UPDATES SEED LEAST NAME ..`: so many sessions on a screen as with `screen R C NAME
+/// ..`, each of so many updates behind calls that are made up. Each update is cut behind each number of its bytes, by
+/// an error and by taking nothing, and at its flush, each time in a session that makes all calls up to it anew, and two
+/// updates behind it. The fault has to tell what was begun and how much was sent, and what was begun has to be sent to
+/// its end; the next update is Ok, and then the terminal shows the picture; the last update is Ok and sends nothing, so
+/// nothing is owed. Adds `agrees`, or how many cuts were tried where they are fewer than LEAST; or the number of the
+/// session and of the update that is not so, the answers of its calls, and how and where it was cut.
 pub fn check_every_cut(
     alloc: Global,
     opened: &mut Option<Recorded>,
@@ -58,8 +59,8 @@ pub fn check_every_cut(
     Ok(())
 }
 
-/// The line `cuts`: the last update of a screen, which ended well, is cut everywhere as by `every_cut`. Adds how many cuts there are, or
-/// how and where the first was made that does not agree.
+/// The line `cuts`: the last update of a screen, which ended well, is cut everywhere as by `every_cut`. Adds how many
+/// cuts there are, or how and where the first was made that does not agree.
 pub fn check_cuts(alloc: Global, opened: &mut Recorded, came: &mut Buffer) -> Result<(), Trouble> {
     let mut tried: u64 = 0;
     let mut answer = Buffer::new(alloc);
@@ -212,7 +213,8 @@ fn cut_update(
     verdict
 }
 
-// Cuts behind 0, 1 .. bytes, fewer than there are, and at the flush, if bytes are sent. Adds how a cut was made that does not agree.
+// Cuts behind 0, 1 .. bytes, fewer than there are, and at the flush, if bytes are sent. Adds how a cut was made that
+// does not agree.
 fn cut_each(
     alloc: Global,
     opened: &Recorded,
@@ -300,7 +302,8 @@ fn judge_cut(alloc: Global, opened: &Recorded, text: &Text, cut: Cut) -> Result<
     }
 }
 
-// Whether the last three updates answered what they have to, what was begun was sent to its end, and a terminal shows the picture.
+// Whether the last three updates answered what they have to, what was begun was sent to its end, and a terminal shows
+// the picture.
 fn judge(
     alloc: Global,
     opened: &Recorded,
@@ -336,7 +339,8 @@ fn lacks_memory(answers: &[Answer]) -> bool {
         .any(|answer| ran_out(answer) || is_writer_full(answer))
 }
 
-// Whether the last three updates answered that the first is cut, that the next sends so many bytes, and that the last sends none.
+// Whether the last three updates answered that the first is cut, that the next sends so many bytes, and that the last
+// sends none.
 fn are_wanted(
     opened: &Recorded,
     cut: Cut,

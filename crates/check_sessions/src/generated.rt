@@ -59,10 +59,10 @@ enum Made {
     Updates,
 }
 
-/// The line `generated COUNT SEED`: so many calls on a screen, every fifth of them or so an update whose writer may fail. After each
-/// other call what `laws` says has to hold of the windows. After each
-/// update that is Ok the terminal has to show the picture, and no more may be sent than what differs; one session has to give the same
-/// answers and send the same bytes. Adds `agrees`, or the number of the call or the update that is not so.
+/// The line `generated COUNT SEED`: so many calls on a screen, every fifth of them or so an update whose writer may
+/// fail. After each other call what `laws` says has to hold of the windows. After each update that is Ok the terminal
+/// has to show the picture, and no more may be sent than what differs; one session has to give the same answers and
+/// send the same bytes. Adds `agrees`, or the number of the call or the update that is not so.
 pub fn check_generated(
     alloc: Global,
     tried: &mut Option<Recorded>,
@@ -75,9 +75,9 @@ pub fn check_generated(
     make_opened(alloc, is_open, tried, Made::Calls, count, seed, came)
 }
 
-/// The line `updates R C COUNT SEED NAME ..`: a screen as with `screen R C NAME ..`, and so many updates, each behind a few changes of its
-/// window, and now and then behind others' bytes on a row that is marked, or with a writer that fails. The same is wanted as with
-/// `generated`.
+/// The line `updates R C COUNT SEED NAME ..`: a screen as with `screen R C NAME ..`, and so many updates, each behind a
+/// few changes of its window, and now and then behind others' bytes on a row that is marked, or with a writer that
+/// fails. The same is wanted as with `generated`.
 pub fn check_updates(
     alloc: Global,
     tried: &mut Option<Recorded>,
@@ -226,7 +226,8 @@ fn make_update(
     opened.update(fails, answer)
 }
 
-// Has others write on a row, which is marked: the cursor to its first place, an attribute where it can be turned off, and a character.
+// Has others write on a row, which is marked: the cursor to its first place, an attribute where it can be turned off,
+// and a character.
 fn write_as_others(
     alloc: Global,
     opened: &mut Recorded,

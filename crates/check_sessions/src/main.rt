@@ -1,7 +1,9 @@
-//! Runs a script of calls on screens, each with the answer or the state that is wanted, which it reads from the standard input.
-//! It prints how many lines agree, or the first that does not with what was wanted and what came (status 1).
+//! Runs a script of calls on screens, each with the answer or the state that is wanted, which it reads from the
+//! standard input. It prints how many lines agree, or the first that does not with what was wanted and what came
+//! (status 1).
 //!
-//! What an update sends goes into a writer that fails where a line says so, and what that took is fed to an emulated screen.
+//! What an update sends goes into a writer that fails where a line says so, and what that took is fed to an emulated
+//! screen.
 #![tactic(auto)]
 
 mod answers;

@@ -47,8 +47,8 @@ pub struct Recorded {
 }
 
 impl Recorded {
-    /// Opens a screen on an entry in place of another, and tells whether there was memory for it. A function that owns a screen
-    /// takes long to prove, so the others borrow one.
+    /// Opens a screen on an entry in place of another, and tells whether there was memory for it. A function that owns
+    /// a screen takes long to prove, so the others borrow one.
     pub fn open_into(
         alloc: Global,
         entry: Entry,
@@ -118,9 +118,10 @@ impl Recorded {
         self.calls.last()
     }
 
-    /// Updates with a writer that fails so, adds what the update answers, and tells whether all is as it has to be. Where that
-    /// is Ok, the terminal has to show the picture, no more may be sent than the joined repaint, or than painting from scratch, and where
-    /// nothing is sent or memory ran out, the writer may not be called; adds what is not so.
+    /// Updates with a writer that fails so, adds what the update answers, and tells whether all is as it has to be.
+    /// Where that is Ok, the terminal has to show the picture, no more may be sent than the joined repaint, or than
+    /// painting from scratch, and where nothing is sent or memory ran out, the writer may not be called; adds what is
+    /// not so.
     pub fn update(&mut self, fails: Fails, came: &mut Buffer) -> Result<bool, Trouble> {
         self.device.writer.plan(fails)?;
         self.device.writer.calls = 0;
@@ -140,8 +141,8 @@ impl Recorded {
         }
     }
 
-    /// Begins or ends the use of the screen with a writer that fails so, and adds what that answers. The emulated screen is fed what was
-    /// sent where the entry has no text for it: others are no ECMA-48 texts.
+    /// Begins or ends the use of the screen with a writer that fails so, and adds what that answers. The emulated
+    /// screen is fed what was sent where the entry has no text for it: others are no ECMA-48 texts.
     pub fn send_end(&mut self, end: End, fails: Fails, came: &mut Buffer) -> Result<(), Trouble> {
         self.left.forget();
         self.device.writer.plan(fails)?;
@@ -184,8 +185,8 @@ impl Recorded {
         add_word(if fed.is_ok() { "Ok" } else { "Undefined" }, came);
     }
 
-    /// Makes the calls by one session with a writer that fails so, and adds `agrees` where its answers, its bytes and whether
-    /// its last update ended well are the same.
+    /// Makes the calls by one session with a writer that fails so, and adds `agrees` where its answers, its bytes and
+    /// whether its last update ended well are the same.
     pub fn add_session(&self, came: &mut Buffer) -> Result<(), Trouble> {
         let mut device = Device::new(self.device.writer.again(self.alloc, self.sent.len())?);
         match self.session(&mut device)? {
@@ -363,7 +364,8 @@ fn end_of(answer: &Answer) -> Ended {
     }
 }
 
-// Whether an update behind a call may paint more than what differs: a redrawing, or a window that wishes the whole screen anew.
+// Whether an update behind a call may paint more than what differs: a redrawing, or a window that wishes the whole
+// screen anew.
 fn may_paint_all(screen: &Screen, call: &Call) -> bool {
     match call {
         Call::RedrawWindow(_) | Call::RedrawLines(..) => true,

@@ -10,8 +10,8 @@ use screen_sessions::session;
 use std::alloc::Global;
 use ti_caps::Entry;
 
-/// Opens a screen and makes a session without calls, and adds why both are refused, `Ok` where neither is, or `differs`. Nothing may be
-/// written then.
+/// Opens a screen and makes a session without calls, and adds why both are refused, `Ok` where neither is, or
+/// `differs`. Nothing may be written then.
 pub fn add_refusal(alloc: Global, words: &mut Words<'_>, came: &mut Buffer) {
     let Some(size) = read_size(words) else {
         return;

@@ -3,8 +3,8 @@
 use scr_cells::{Attrs, Cell, Look, Picture};
 use scr_term::{EcmaScreen, Profile, Spot};
 
-/// Whether an emulated screen shows what a terminal shows of a picture, with the cursor where it is wished. A terminal shows standout as
-/// reverse video (`smso` of the bundled entry is SGR 7).
+/// Whether an emulated screen shows what a terminal shows of a picture, with the cursor where it is wished. A terminal
+/// shows standout as reverse video (`smso` of the bundled entry is SGR 7).
 pub fn shows(emulated: &EcmaScreen, profile: &Profile, picture: &Picture) -> bool {
     let (size, other) = (emulated.size(), picture.size());
     if size.rows != other.rows || size.columns != other.columns {

@@ -16,9 +16,10 @@ use scr_virtual::Virtual;
 use scr_windows::{Desk, Win, WinFault};
 use std::alloc::Global;
 
-/// The lines `shown_rows`, `shown_cursor`, `shown R C` about the emulated screen, `picture_rows`, `picture_at R C` and `wish`
-/// about the picture, `most`, how many bytes the next update may send, `sent`, what the last one sent, `first_sent N`, the first N bytes
-/// of that, and `begun`, the operations that the last update began. Tells whether a line is one of them.
+/// The lines `shown_rows`, `shown_cursor`, `shown R C` about the emulated screen, `picture_rows`, `picture_at R C` and
+/// `wish` about the picture, `most`, how many bytes the next update may send, `sent`, what the last one sent,
+/// `first_sent N`, the first N bytes of that, and `begun`, the operations that the last update began. Tells whether a
+/// line is one of them.
 pub fn answer_of_shown(
     opened: &Recorded,
     word: &str,
@@ -116,11 +117,11 @@ fn add_first_sent(opened: &Recorded, words: &mut Words<'_>, came: &mut Buffer) {
     add_text(sent.get(..count).unwrap_or(sent), came);
 }
 
-/// The line `changed R C ROWS COLUMNS ROW COLUMN BYTE`: a virtual screen of R rows and C columns onto which the first window is
-/// taken, and which is settled then, as by an update that ends well; then a new window is taken, of so many rows and columns at a
-/// row and a column, whose first place has this byte. Adds for each row of the screen the first and the last column that may have
-/// changed since, and the first and the last that may look otherwise, or `none`; then how many bytes a plan of the bundled entry sends
-/// where nothing is known of the terminal.
+/// The line `changed R C ROWS COLUMNS ROW COLUMN BYTE`: a virtual screen of R rows and C columns onto which the first
+/// window is taken, and which is settled then, as by an update that ends well; then a new window is taken, of so many
+/// rows and columns at a row and a column, whose first place has this byte. Adds for each row of the screen the first
+/// and the last column that may have changed since, and the first and the last that may look otherwise, or `none`; then
+/// how many bytes a plan of the bundled entry sends where nothing is known of the terminal.
 pub fn check_changed(
     alloc: Global,
     words: &mut Words<'_>,
@@ -159,8 +160,8 @@ fn add_changed_on(
     }
 }
 
-// Takes the first window, settles, takes a new window of so many rows and columns at a row and a column with a byte in its first
-// place, and adds what may have changed since.
+// Takes the first window, settles, takes a new window of so many rows and columns at a row and a column with a byte in
+// its first place, and adds what may have changed since.
 fn add_changed_by(
     alloc: Global,
     desk: &mut Desk,

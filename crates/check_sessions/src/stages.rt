@@ -79,8 +79,9 @@ impl Stage for SessionStage {
     }
 }
 
-// The line `screen R C NAME ..`, which opens a screen of so many rows and columns on the bundled entry without the texts and flags of these
-// names; a number's name has its value behind it, and that of a text that is another has this text.
+// The line `screen R C NAME ..`, which opens a screen of so many rows and columns on the bundled entry without the
+// texts and flags of these names; a number's name has its value behind it, and that of a text that is another has this
+// text.
 fn open(
     alloc: Global,
     opened: &mut Option<Recorded>,
@@ -98,8 +99,8 @@ fn open(
     Ok(())
 }
 
-// The line `drawn R C TEXT`, which opens a screen of so many rows and columns on the bundled entry, with a text in its first window, whose
-// lines are untouched then and whose cursor is in the first place.
+// The line `drawn R C TEXT`, which opens a screen of so many rows and columns on the bundled entry, with a text in its
+// first window, whose lines are untouched then and whose cursor is in the first place.
 fn open_drawn(
     alloc: Global,
     opened: &mut Option<Recorded>,
@@ -227,7 +228,8 @@ fn is_well(alloc: Global, sent: usize, came: &Buffer) -> Result<bool, Trouble> {
     are_same(came, &well)
 }
 
-// How the writer fails in the lines `update`, `update_writing K`, `update_stuck K`, `update_flushing` and `update_failing`.
+// How the writer fails in the lines `update`, `update_writing K`, `update_stuck K`, `update_flushing` and
+// `update_failing`.
 fn read_update(word: &str, words: &mut Words<'_>) -> Option<Fails> {
     Some(match word {
         "update" => Fails::Never,

@@ -12,11 +12,11 @@ use scr_term::Op;
 use std::alloc::Global;
 use ti_caps::Entry;
 
-/// The lines `moving R C`, a screen of the entry, `moving_clear`, `moving_text ROW COLUMN ATTRS TEXT`, `moving_cursor ROW
-/// COLUMN`, `moving_update`, how many bytes an update sends and its operations, `moving_update_bytes`, their number alone, with characters behind one another as a
-/// text, and `moving_generated SEED N`, so many updates of generated screens on entries with each subset of the seven
-/// texts. A terminal executes the operations: an update after which it does not show the picture says so. Tells whether a
-/// line is one of them.
+/// The lines `moving R C`, a screen of the entry, `moving_clear`, `moving_text ROW COLUMN ATTRS TEXT`, `moving_cursor
+/// ROW COLUMN`, `moving_update`, how many bytes an update sends and its operations, `moving_update_bytes`, their number
+/// alone, with characters behind one another as a text, and `moving_generated SEED N`, so many updates of generated
+/// screens on entries with each subset of the seven texts. A terminal executes the operations: an update after which it
+/// does not show the picture says so. Tells whether a line is one of them.
 pub fn answer_of_moving(
     alloc: Global,
     moving: &mut Option<MovingScreen>,

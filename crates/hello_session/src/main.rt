@@ -1,6 +1,6 @@
-//! A test of a full-screen program without a terminal: a dialog is drawn, its bytes are fed to an emulated terminal, and the
-//! rows that this shows are compared with text. Then a program from its start to its close, which has to leave the terminal without
-//! attributes and on its last line.
+//! A test of a full-screen program without a terminal: a dialog is drawn, its bytes are fed to an emulated terminal,
+//! and the rows that this shows are compared with text. Then a program from its start to its close, which has to leave
+//! the terminal without attributes and on its last line.
 #![tactic(auto)]
 
 use anyhow::{Context, Result, bail};

@@ -17,8 +17,8 @@ never_true : (b : Bool) → (b ≡ true → ⊥) → b ≡ false
 never_true true not = absurd (not refl)
 never_true false not = refl
 
--- What is remembered behind calls that are no updates: less in the rows that they mark, and no more elsewhere; and where a mark is among
--- them, neither the spot nor the pen is known.
+-- What is remembered behind calls that are no updates: less in the rows that they mark, and no more elsewhere; and
+-- where a mark is among them, neither the spot nor the pen is known.
 record Left (drawn : Drawn) (memory left : MemoryView) (calls : List Call) (answers : List Answer) : Type 0 where
   pub state : left.state ≡ memory.state
   pub high : length left.known_rows ≡ length memory.known_rows
