@@ -4,9 +4,10 @@
 # Windows over the whole screen are taken in turn: with nothing touched, with one character written, and with one line,
 # a third of the lines or all of them touched where the windows differ in every place. Then the windows are pages of
 # text: a character is typed in the middle and a status line counts it, forty places all over the screen change in three
-# pens, and one page is shown for the other. Both sides make the same calls, have the same entry (the bundled one,
-# compiled by tic), write into memory, and show the screen already when counting begins. What comes before is counted by
-# itself and taken away: the drawing, and for doupdate alone the taking too.
+# pens, one page is shown for the other, all lines move by one, and a letter is typed into the middle of a line. Both
+# sides make the same calls, have the same entry (the bundled one, compiled by tic, for the last two changes with the
+# texts that insert and delete lines and characters), write into memory, and show the screen already when counting
+# begins. What comes before is counted by itself and taken away: the drawing, and for doupdate alone the taking too.
 # It needs valgrind, a C compiler, libncurses-dev, ncurses' tic, and the program crates/bench_screen, which `rt run`
 # builds.
 # Usage: benchmarks/update/run.sh PROGRAM ["ROWS COLUMNS" ..], from the top of the repository.
@@ -75,4 +76,6 @@ for size in "$@"; do
     row "a status line" status "$1" "$2" 0
     row "forty places" scattered "$1" "$2" 40
     row "a page" page "$1" "$2" "$1"
+    row "lines that move" moved "$1" "$2" "$1"
+    row "a letter in a line" letter "$1" "$2" 0
 done

@@ -1,5 +1,5 @@
 /* Draws, takes and updates by ncurses again and again, as crates/bench_screen does with ours.
-   Usage: update draw|take|update character|lines|status|scattered|page ROWS COLUMNS NUMBER COUNT */
+   Usage: update draw|take|update character|lines|status|scattered|page|moved|letter ROWS COLUMNS NUMBER COUNT */
 #define _GNU_SOURCE
 #include <curses.h>
 #include <stdint.h>
@@ -10,8 +10,8 @@
 #include <unistd.h>
 
 /* What changes between two updates. */
-enum change { CHARACTER, LINES_OF_ONE, STATUS, SCATTERED, PAGE, CHANGES };
-static const char *const names[CHANGES] = {"character", "lines", "status", "scattered", "page"};
+enum change { CHARACTER, LINES_OF_ONE, STATUS, SCATTERED, PAGE, MOVED, LETTER, CHANGES };
+static const char *const names[CHANGES] = {"character", "lines", "status", "scattered", "page", "moved", "letter"};
 
 /* Letters, each as often as it comes among 64 of an English text. */
 static const char letters[] = "eeeeeeeettttttaaaaaoooooiiiinnnnsssshhhhrrrrdddlllccuummwfgypbvk";
@@ -44,16 +44,26 @@ static uint32_t write_line(uint32_t *state, uint32_t width, char *line) {
     return end;
 }
 
-/* Writes the page of a seed onto a blank window. */
-static void draw_page(WINDOW *window, uint32_t seed) {
+/* Writes the page of a seed onto a blank window, from one of its lines on. */
+static void draw_page(WINDOW *window, uint32_t seed, int first) {
     char line[500];
-    for (int row = 0; row < LINES; row++) {
+    for (int row = -first; row < LINES; row++) {
         uint32_t width = next_width(&seed);
         uint32_t length = write_line(&seed, width, line);
+        if (row < 0) continue;
         wmove(window, row, 0);
         waddnstr(window, line, length);
     }
     wmove(window, 0, 0);
+}
+
+/* Writes a line of words over three quarters of the middle row. */
+static void draw_line(WINDOW *window, uint32_t seed) {
+    char line[500];
+    uint32_t length = write_line(&seed, COLS / 4 * 3, line);
+    wmove(window, LINES / 2, 0);
+    wclrtoeol(window);
+    waddnstr(window, line, length);
 }
 
 /* Draws what a window holds before any change. */
@@ -62,8 +72,11 @@ static void prepare(enum change change, WINDOW *window) {
     if (change == CHARACTER || change == LINES_OF_ONE) {
         wbkgdset(window, is_first ? 'x' : 'y');
         werase(window);
-    } else
-        draw_page(window, is_first ? 1 : 2);
+    } else if (change == MOVED)
+        draw_page(window, 1, is_first ? 0 : 1);
+    else
+        draw_page(window, is_first || change == LETTER ? 1 : 2, 0);
+    if (change == LETTER) draw_line(window, 2);
 }
 
 /* Writes one of two characters in the middle. */
@@ -94,6 +107,14 @@ static void draw_status(long done) {
     waddch(stdscr, 'A' + done % 26);
 }
 
+/* Types a letter behind those typed before. */
+static void draw_letter(long done) {
+    int column = COLS / 2 + done % (COLS / 2);
+    wmove(stdscr, LINES / 2, column);
+    winsch(stdscr, 'A' + done % 26);
+    wmove(stdscr, LINES / 2, column + 1 < COLS ? column + 1 : column);
+}
+
 /* Writes one of two characters in each of so many places, whose pens come in turn. */
 static void draw_scattered(int places, long done) {
     static const chtype pens[3] = {A_NORMAL, A_BOLD, A_REVERSE};
@@ -109,6 +130,7 @@ static WINDOW *draw(enum change change, WINDOW *const windows[2], int number, lo
     case CHARACTER: draw_character(done); break;
     case STATUS: draw_status(done); break;
     case SCATTERED: draw_scattered(number, done); break;
+    case LETTER: draw_letter(done); break;
     default: wtouchln(windows[done % 2], 0, number, 1); return windows[done % 2];
     }
     return stdscr;
@@ -128,12 +150,15 @@ int main(int argc, char **argv) {
     setenv("COLUMNS", argv[4], 1);
     /* The output is a file in memory. */
     int memory = memfd_create("output", 0);
-    if (memory < 0 || !newterm("ecma48", fdopen(memory, "w"), fopen("/dev/null", "r"))) return 1;
+    const char *entry = change == MOVED || change == LETTER ? "ecma48-moving" : "ecma48";
+    if (memory < 0 || !newterm(entry, fdopen(memory, "w"), fopen("/dev/null", "r"))) return 1;
     if (LINES != atoi(argv[3]) || COLS != atoi(argv[4])) return 1;
     /* No update looks for input. */
     typeahead(-1);
     WINDOW *second = newwin(0, 0, 0, 0);
     if (!second) return 1;
+    idlok(second, TRUE);
+    idlok(stdscr, TRUE);
     WINDOW *const windows[2] = {second, stdscr};
     for (int shown = 0; shown < 2; shown++) {
         prepare(change, windows[shown]);

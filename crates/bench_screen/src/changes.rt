@@ -1,7 +1,7 @@
 //! What changes between two updates.
 
 use crate::keys::digit;
-use crate::pages::draw_page;
+use crate::pages::{draw_line, draw_next_page, draw_page};
 use crate::screens::{FIRST, fill};
 use anyhow::{Result, bail};
 use curses::Screen;
@@ -22,6 +22,10 @@ pub enum Change {
     Scattered(u32),
     /// So many lines: the windows come in turn, and are pages of text.
     Page(u32),
+    /// So many lines: the windows come in turn, and are pages of one text, of which one begins a line later.
+    Moved(u32),
+    /// A letter that is typed into the middle of a line: what is behind it moves to the right.
+    Letter,
 }
 
 impl Change {
@@ -33,6 +37,8 @@ impl Change {
             "status" => Ok(Change::Status),
             "scattered" => Ok(Change::Scattered(number)),
             "page" => Ok(Change::Page(number)),
+            "moved" => Ok(Change::Moved(number)),
+            "letter" => Ok(Change::Letter),
             _ => bail!("no such change"),
         }
     }
@@ -45,6 +51,8 @@ impl Change {
             Change::Character | Change::Lines(_) => {
                 fill(screen, win, if is_first { b'x' } else { b'y' })
             }
+            Change::Moved(_) if !is_first => draw_next_page(alloc, screen, win, 1),
+            Change::Letter => draw_long_line(alloc, screen, win),
             _ => draw_page(alloc, screen, win, if is_first { 1 } else { 2 }),
         }
     }
@@ -55,7 +63,8 @@ impl Change {
             Change::Character => draw_character(screen, done)?,
             Change::Status => draw_status(screen, done)?,
             Change::Scattered(places) => draw_scattered(screen, places, done)?,
-            Change::Lines(lines) | Change::Page(lines) => {
+            Change::Letter => draw_letter(screen, done)?,
+            Change::Lines(lines) | Change::Page(lines) | Change::Moved(lines) => {
                 return touch(screen, windows[done as usize % 2], lines);
             }
         }
@@ -92,6 +101,25 @@ fn draw_status(screen: &mut Screen, done: u32) -> Result<()> {
     screen.attr_set(FIRST, Attrs(0))?;
     screen.move_cursor(FIRST, rows / 2, column)?;
     screen.add_byte(FIRST, b'A' + (done % 26) as u8, Attrs(0))?;
+    Ok(())
+}
+
+// A page of text whose middle line is long, and has room for more.
+fn draw_long_line(alloc: Global, screen: &mut Screen, win: Win) -> Result<()> {
+    let (rows, _) = screen.size(win)?;
+    draw_page(alloc, screen, win, 1)?;
+    draw_line(alloc, screen, win, 2, rows / 2)
+}
+
+// Types a letter behind those typed before.
+fn draw_letter(screen: &mut Screen, done: u32) -> Result<()> {
+    let (rows, columns) = screen.size(FIRST)?;
+    let half = columns / 2;
+    let column = half.saturating_add(done % half.max(1));
+    screen.move_cursor(FIRST, rows / 2, column)?;
+    screen.insert_byte(FIRST, b'A' + (done % 26) as u8, Attrs(0))?;
+    let next = column.saturating_add(1).min(columns.saturating_sub(1));
+    screen.move_cursor(FIRST, rows / 2, next)?;
     Ok(())
 }
 

@@ -5,6 +5,7 @@
 
 mod changes;
 mod keys;
+mod moving;
 mod pages;
 mod refreshing;
 mod screens;
@@ -19,7 +20,7 @@ use curses::Screen;
 use screens::opened;
 use std::alloc::Global;
 use std::env;
-use ti_caps::bundled;
+use ti_caps::{Entry, bundled};
 
 // Does what some words and numbers say.
 fn measured(alloc: Global, words: [&str; 3], numbers: [u32; 4]) -> Result<u64> {
@@ -34,17 +35,26 @@ fn measured(alloc: Global, words: [&str; 3], numbers: [u32; 4]) -> Result<u64> {
 
 // The benchmarks of a screen: one function opens it, and lends it to the others.
 fn measured_on_screen(alloc: Global, words: [&str; 3], numbers: [u32; 4]) -> Result<u64> {
-    let mut screen = screen_for(alloc, words[0], numbers)?;
+    let mut screen = screen_for(alloc, words, numbers)?;
     measured_on(alloc, &mut screen, words, numbers)
 }
 
 // A new screen: of the keys that a benchmark of keys is about, or of so many rows and columns.
-fn screen_for(alloc: Global, benchmark: &str, numbers: [u32; 4]) -> Result<Screen> {
+fn screen_for(alloc: Global, words: [&str; 3], numbers: [u32; 4]) -> Result<Screen> {
+    let [benchmark, _, name] = words;
     let [first, second, ..] = numbers;
     if benchmark == "keys" {
         return opened(alloc, &keys::entry_of(alloc, first)?, 24, 80);
     }
-    opened(alloc, &bundled(alloc)?, first, second)
+    opened(alloc, &entry_for(alloc, name)?, first, second)
+}
+
+// The terminal's entry: the bundled one, where no change wants more.
+fn entry_for(alloc: Global, change: &str) -> Result<Entry> {
+    match change {
+        "moved" | "letter" => moving::entry(alloc),
+        _ => Ok(bundled(alloc)?),
+    }
 }
 
 fn measured_on(
@@ -73,6 +83,8 @@ fn measure_each(rt: &HostRuntime) -> Result<()> {
     print(rt, ["update", "update", "status"], [3, 44, 0, 2])?;
     print(rt, ["update", "update", "scattered"], [2, 24, 4, 2])?;
     print(rt, ["update", "update", "page"], [2, 24, 2, 2])?;
+    print(rt, ["update", "update", "moved"], [12, 60, 12, 2])?;
+    print(rt, ["update", "update", "letter"], [2, 80, 0, 2])?;
     print(rt, ["keys", "keys", ""], [120, 2, 0, 0])?;
     print(rt, ["windows", "feed", ""], [3, 80, 5, 0])?;
     print(rt, ["terminals", "admit", "bundled"], [3, 0, 0, 0])
@@ -109,7 +121,7 @@ fn measure(rt: &HostRuntime, words: &[String]) -> Result<()> {
 
 // The benchmark of writes, which prints no number.
 fn write(rt: &HostRuntime, action: &str, numbers: [u32; 4]) -> Result<()> {
-    let mut screen = screen_for(rt.alloc(), "writes", numbers)?;
+    let mut screen = screen_for(rt.alloc(), ["writes", action, ""], numbers)?;
     writes::measure(rt, &mut screen, action)
 }
 

@@ -53,11 +53,16 @@ fn add_word(random: &mut Random, length: u32, line: &mut Vec<u8>) -> Result<()> 
 }
 
 // Writes a page line by line.
-fn write_page(screen: &mut Screen, win: Win, mut random: Random, line: &mut Vec<u8>) -> Result<()> {
+fn write_page(
+    screen: &mut Screen,
+    win: Win,
+    random: &mut Random,
+    line: &mut Vec<u8>,
+) -> Result<()> {
     let (rows, columns) = screen.size(win)?;
     for row in 0..rows {
         let width = random.width(columns);
-        write_line(&mut random, width, line)?;
+        write_line(random, width, line)?;
         screen.move_cursor(win, row, 0)?;
         let _ = screen.add_text(win, line)?;
     }
@@ -68,5 +73,26 @@ fn write_page(screen: &mut Screen, win: Win, mut random: Random, line: &mut Vec<
 /// Writes the page of a seed onto a blank window.
 pub fn draw_page(alloc: Global, screen: &mut Screen, win: Win, seed: u32) -> Result<()> {
     let mut line = Vec::new(alloc);
-    write_page(screen, win, Random(seed), &mut line)
+    write_page(screen, win, &mut Random(seed), &mut line)
+}
+
+/// Writes the page of a seed onto a blank window from its second line on, with one more line at its end.
+pub fn draw_next_page(alloc: Global, screen: &mut Screen, win: Win, seed: u32) -> Result<()> {
+    let (_, columns) = screen.size(win)?;
+    let mut random = Random(seed);
+    let mut line = Vec::new(alloc);
+    let width = random.width(columns);
+    write_line(&mut random, width, &mut line)?;
+    write_page(screen, win, &mut random, &mut line)
+}
+
+/// Writes a line of words over three quarters of a row.
+pub fn draw_line(alloc: Global, screen: &mut Screen, win: Win, seed: u32, row: u32) -> Result<()> {
+    let (_, columns) = screen.size(win)?;
+    let mut line = Vec::new(alloc);
+    write_line(&mut Random(seed), columns / 4 * 3, &mut line)?;
+    screen.move_cursor(win, row, 0)?;
+    screen.clear_to_eol(win)?;
+    let _ = screen.add_text(win, &line)?;
+    Ok(())
 }

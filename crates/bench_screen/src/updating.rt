@@ -1,7 +1,8 @@
 //! Draws, takes and updates: `update draw|take|update CHANGE ROWS COLUMNS NUMBER COUNT` draws a change of a screen
 //! again and again, which the file of changes says; `take` takes its window onto the virtual screen each time, and
 //! `update` then brings the terminal to it. The changes are `character`, `lines` of so many lines, `status`,
-//! `scattered` of so many places, and `page` of so many lines. The number is that of the bytes that were sent.
+//! `scattered` of so many places, `page` of so many lines, and `moved` of so many lines and `letter`, whose terminal
+//! inserts and deletes lines and characters. The number is that of the bytes that were sent.
 
 use crate::changes::Change;
 use crate::screens::FIRST;
