@@ -27,6 +27,7 @@ pub mod ScratchTextLaws
 pub mod UnknownRowLaws
 pub mod UpToDateLaws
 pub mod WipeLaws
+pub mod MovedLaws
 pub mod ShiftLaws
 pub mod ShortPlanLaws
 pub mod SkipLaws

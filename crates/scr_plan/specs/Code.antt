@@ -6,3 +6,4 @@ pub mod Moves
 pub mod Painters
 pub mod Planning
 pub mod Remembering
+pub mod Settled

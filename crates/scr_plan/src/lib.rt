@@ -25,6 +25,7 @@ mod runs;
 mod samples;
 mod scratch_laws;
 mod scratch_texts;
+mod settling;
 mod shifting;
 mod shifts;
 mod short_plan;

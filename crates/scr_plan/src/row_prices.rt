@@ -1,6 +1,6 @@
 //! What it costs to make a row show what is wanted, over whatever it shows. This only compares
 //! prices: a choice affects nothing but the number of bytes of an update.
-ghost use Rattle.std.specs.Prelude.{◌≡◌, ◌<◌, ◌≤◌, IfSome, length};
+ghost use Rattle.std.specs.Prelude.{◌≡◌, ◌<◌, ◌≤◌, length};
 ghost use Rattle.scr_cells.specs.Grids.{grid_row};
 
 use crate::blanks::{
@@ -38,15 +38,33 @@ impl<'a> RowPrices<'a> {
 
     // Whether a row of looks is just what is wanted in a row.
     pub(crate) fn is_shown(&self, row: u32, looks: &[Look]) -> bool {
+        let size = self.chooser.picture.size();
+        let is_row = row < size.rows && looks.len() == size.columns as usize;
+        is_row && self.first_unlike(row, looks).is_none()
+    }
+
+    // The first column in which a row of looks is not what is wanted in a row, if there is one.
+    pub(crate) fn first_unlike(&self, row: u32, looks: &[Look]) -> Option<u32> {
         let picture = self.chooser.picture;
         let size = picture.size();
         if row >= size.rows || looks.len() != size.columns as usize {
-            return false;
+            return None;
         }
         let cells = picture.row(row);
         let painter = self.chooser.painter;
         let unlike = painter.unlike_from(picture, row, cells, Some(looks), 0, size.columns);
-        unlike >= size.columns
+        if unlike < size.columns {
+            Some(unlike)
+        } else {
+            None
+        }
+    }
+
+    // Whether a look is what is seen of a cell.
+    #[inline(always)]
+    pub(crate) fn is_seen(&self, cell: Cell, look: Look) -> bool {
+        let chooser = &self.chooser;
+        chooser.painter.is_seen(chooser.picture, look, cell)
     }
 
     // The price of a row over a blank one: its places that are not blank, plus an easy motion if
@@ -96,23 +114,28 @@ impl<'a> RowPrices<'a> {
         let end = size.columns;
         match painter.erased_rest(self.profile, picture, row, cells, Some(looks), 0, end) {
             Some(column) => self
-                .part_over(row, cells, looks, column)
+                .part_over(picture, row, cells, looks, column)
                 .saturating_add(self.chooser.prices.of(Op::EraseLine))
                 .saturating_add(self.chooser.jump),
-            None => self.part_over(row, cells, looks, end),
+            None => self.part_over(picture, row, cells, looks, end),
         }
     }
 
     // The price of the columns before `end`.
-    fn part_over(&self, row: u32, cells: &[Cell], looks: &[Look], end: u32) -> u32
-        requires row { row < self.entry.chooser.picture.now.rows }
-        requires cells { cells.now ≡ grid_row self.entry.chooser.picture.now.lines row }
-        requires wide { length cells.now ≡ self.entry.chooser.picture.now.columns }
-        requires width { length looks.now ≡ self.entry.chooser.picture.now.columns }
-        requires end { end ≤ self.entry.chooser.picture.now.columns }
+    fn part_over(
+        &self,
+        picture: &Picture,
+        row: u32,
+        cells: &[Cell],
+        looks: &[Look],
+        end: u32,
+    ) -> u32
+        requires cells { cells.now ≡ grid_row picture.now.lines row }
+        requires wide { length cells.now ≡ picture.now.columns }
+        requires width { length looks.now ≡ picture.now.columns }
+        requires end { end ≤ picture.now.columns }
     {
         let painter = self.chooser.painter;
-        let picture = self.chooser.picture;
         let mut price = 0u32;
         let mut column = 0;
         while column < end {
@@ -159,15 +182,24 @@ impl<'a> RowPrices<'a> {
             }
             let first = blanks_begin(cells, column, blank);
             let behind = blanks_end(cells, blank, end);
-            if is_worth_erasing(self.profile, behind - first, behind < end) {
-                price = price
-                    .saturating_add(self.written(begun, first))
-                    .saturating_add(self.erased(first, behind));
-                begun = behind;
-            }
+            let (more, next) = self.of_piece(begun, first, behind, end);
+            price = price.saturating_add(more);
+            begun = next;
             column = behind.max(blank + 1);
         }
         price.saturating_add(self.written(begun, end))
+    }
+
+    // The price of blanks if they are worth an erasure, and of what is written before them; and the
+    // end of what is priced so far.
+    fn of_piece(&self, begun: u32, first: u32, behind: u32, end: u32) -> (u32, u32) {
+        if !is_worth_erasing(self.profile, behind.saturating_sub(first), behind < end) {
+            return (0, begun);
+        }
+        let price = self
+            .written(begun, first)
+            .saturating_add(self.erased(first, behind));
+        (price, behind)
     }
 
     // The price of a run that is written, unless it is empty.

@@ -9,7 +9,7 @@ use crate::row_prices::RowPrices;
 use crate::runs::Run;
 use crate::samples::{Distance, Samples, can_shift, looks_of, most_votes};
 use crate::slides::are_blank;
-use crate::ways::Cursor;
+use crate::ways::{Chooser, Cursor};
 use crate::wiping::{is_blank, price_as_it_stands, price_as_they_stand, rows_with_runs};
 use scr_cells::{Look, Pen};
 use scr_term::{Op, Spot};
@@ -286,8 +286,7 @@ impl<'a> Blocks<'a> {
 
     // The price of a shift: of the turn to a plain pen, and of its motions and operations.
     fn price_of_shift(&self, shift: Shift) -> u32 {
-        let chooser = &self.prices.chooser;
-        let turn = chooser.price_of_turn(self.cursor.pen, Pen::plain());
+        let turn = self.chooser().price_of_turn(self.cursor.pen, Pen::plain());
         let spot = self.cursor.spot;
         let inner = shift.end.saturating_sub(shift.count);
         let deleted = Op::DeleteLines(shift.count);
@@ -314,10 +313,16 @@ impl<'a> Blocks<'a> {
 
     // The price of going to the first column of a row, and of an operation there.
     fn price_of_step(&self, spot: Spot, row: u32, op: Op) -> u32 {
-        let prices = self.prices.chooser.prices;
-        cheapest_motion(prices, spot, row, 0)
+        let chooser = self.chooser();
+        cheapest_motion(chooser.prices, spot, row, 0)
             .price
-            .saturating_add(prices.of(op))
+            .saturating_add(chooser.prices.of(op))
+    }
+
+    // What choices need to know.
+    fn chooser(&self) -> Chooser<'a> {
+        let prices = self.prices;
+        prices.chooser
     }
 }
 

@@ -1,7 +1,8 @@
 //! The search for characters of a row that moved along it. Prices alone decide, and the choice
 //! affects nothing but the number of bytes of an update.
-ghost use Rattle.std.specs.Prelude.{◌≡◌, ◌+◌, ◌<◌, ◌≤◌, IfOk, IfSome, length};
+ghost use Rattle.std.specs.Prelude.{◌≡◌, ◌+◌, ◌≤◌, IfOk, IfSome, length, true};
 ghost use Rattle.scr_plan.specs.Code.Moves.{IsSlide};
+ghost use Rattle.scr_plan.specs.Code.Settled.{op_of};
 
 use crate::motions::cheapest_motion;
 use crate::row_prices::RowPrices;
@@ -32,7 +33,9 @@ pub(crate) struct Slide {
 
 impl Slide {
     // The operation of a slide.
-    pub(crate) fn op(self) -> Op {
+    pub(crate) fn op(self) -> Op
+        ensures { result ≡ op_of self }
+    {
         if self.inserts {
             Op::InsertChars(self.count)
         } else {
@@ -55,90 +58,134 @@ fn least_operation(prices: &RowPrices<'_>) -> u32 {
         .min(prices.of(Op::DeleteChars(2)))
 }
 
-// The slide of a row that saves most, if one saves enough. The row shows `looks`, and `runs` are
-// all of its runs over them. `room` is for a row that is put together.
+// The places of a row that differ: the first, the end behind the last, and the price of the row.
+#[derive(Clone, Copy)]
+pub(crate) struct Part {
+    pub(crate) start: u32,
+    pub(crate) end: u32,
+    pub(crate) price: u32,
+}
+
+impl Part {
+    // The places that differ where a row shows `looks`; `runs` are all of its runs over them.
+    pub(crate) fn of_runs(prices: &RowPrices<'_>, looks: &[Look], runs: &[Run]) -> Option<Part> {
+        let first = runs.first()?;
+        let last = runs.last()?;
+        let mut price = 0u32;
+        for run in runs {
+            price = price.saturating_add(price_as_it_stands(&prices.chooser, run));
+        }
+        Some(Part {
+            start: first.start,
+            end: end_of_differing(looks, last),
+            price,
+        })
+    }
+
+    // The places that differ where a row shows `looks`.
+    pub(crate) fn over(prices: &RowPrices<'_>, row: u32, looks: &[Look]) -> Option<Part> {
+        let cells = prices.chooser.cells(row);
+        let start = prices.first_unlike(row, looks)?;
+        let mut end = looks.len().min(cells.len());
+        while end > 0 && prices.is_seen(cells[end - 1], looks[end - 1]) {
+            end -= 1;
+        }
+        Some(Part {
+            start,
+            end: end.min(u32::MAX as usize) as u32,
+            price: prices.over(row, looks),
+        })
+    }
+
+    // Whether it is far enough from the first place to the last.
+    fn is_wide(self) -> bool {
+        self.end.saturating_sub(self.start) >= WORTH_LOOKING
+    }
+}
+
+// The slide of a row that saves most, if one saves enough. The row shows `looks`; `part` is what
+// differs of it. `room` is for a row that is put together.
 pub(crate) fn cheapest_slide(
     prices: &RowPrices<'_>,
     cursor: &Cursor,
     row: u32,
     looks: &[Look],
-    runs: &[Run],
+    part: Option<Part>,
     room: &mut Vec<Look>,
 ) -> Result<Option<Slide>, NoMemory>
     ensures { IfOk result (λ slide. IfSome slide (IsSlide (length looks.now))) }
 {
-    let Some(column) = column_worth_looking(looks, runs) else {
+    let Some(part) = part else {
         return Ok(None);
     };
-    let price = price_without_way(prices, cursor, row, column, runs);
+    if !part.is_wide() {
+        return Ok(None);
+    }
+    let price = price_without_way(prices, cursor, row, part);
     if price < i64::from(least_operation(prices)).saturating_add(WORTH) {
         return Ok(None);
     }
+    better_slide(prices, row, looks, part.start, price, room)
+}
+
+// The better of inserting at a column and deleting there, if one saves enough. `price` is that of
+// the row without a slide, less that of going there.
+fn better_slide(
+    prices: &RowPrices<'_>,
+    row: u32,
+    looks: &[Look],
+    column: u32,
+    price: i64,
+    room: &mut Vec<Look>,
+) -> Result<Option<Slide>, NoMemory>
+    ensures { IfOk result (λ slide. IfSome slide (IsSlide (length looks.now))) }
+{
     let inserting = insertion(prices, row, looks, column);
-    let inserted = slide_if_worth(prices, row, looks, price, inserting, WORTH - 1, room)?;
-    let least = match inserted {
-        Some((_, saved)) => saved,
-        None => WORTH - 1,
-    };
+    let inserted = saved_by(prices, row, looks, price, inserting, room)?;
     let deleting = deletion(prices, row, looks, column);
-    let deleted = slide_if_worth(prices, row, looks, price, deleting, least, room)?;
-    Ok(slide_of(deleted.or(inserted)))
+    let deleted = saved_by(prices, row, looks, price, deleting, room)?;
+    if inserted < WORTH && deleted < WORTH {
+        return Ok(None);
+    }
+    let slide = if deleted > inserted {
+        deleting
+    } else {
+        inserting
+    };
+    Ok(if_inside(looks, slide))
 }
 
-// The slide without what it saves.
-fn slide_of(slide: Option<(Slide, i64)>) -> Option<Slide> {
+// A slide, if it is one of a row of looks.
+fn if_inside(looks: &[Look], slide: Option<Slide>) -> Option<Slide>
+    ensures { IfSome result (IsSlide (length looks.now)) }
+{
     match slide {
-        Some((slide, _)) => Some(slide),
-        None => None,
+        Some(slide) if is_inside(looks, slide) => Some(slide),
+        _ => None,
     }
-}
-
-// The first column that differs, if the last one is far enough from it. `runs` are all runs of a
-// row that shows `looks`.
-fn column_worth_looking(looks: &[Look], runs: &[Run]) -> Option<u32> {
-    let first = runs.first()?;
-    let last = runs.last()?;
-    if end_of_differing(looks, last).saturating_sub(first.start) < WORTH_LOOKING {
-        return None;
-    }
-    Some(first.start)
 }
 
 // The end of the places that differ of a run, the last one of a row that shows `looks`.
 fn end_of_differing(looks: &[Look], run: &Run) -> u32 {
-    let mut end = run.end;
     if !matches!(run.how, How::EraseLine) {
-        return end;
+        return run.end;
     }
-    while end > run.start && is_blank_at(looks, end - 1) {
-        end -= 1;
+    for behind in 0..looks.len() {
+        let column = looks.len() - 1 - behind;
+        if looks[column] != Look::blank() {
+            return column.min(FAR as usize) as u32 + 1;
+        }
     }
-    end
+    run.start
 }
 
-// Whether a row shows a blank in a column.
-fn is_blank_at(looks: &[Look], column: u32) -> bool {
-    let column = column as usize;
-    column < looks.len() && looks[column] == Look::blank()
-}
-
-// The price of the runs of a row as they stand, less that of going to a column of it with a plain
-// pen.
-fn price_without_way(
-    prices: &RowPrices<'_>,
-    cursor: &Cursor,
-    row: u32,
-    column: u32,
-    runs: &[Run],
-) -> i64 {
+// The price of a row as it stands, less that of going to the first of its places that differ with a
+// plain pen.
+fn price_without_way(prices: &RowPrices<'_>, cursor: &Cursor, row: u32, part: Part) -> i64 {
     let chooser = &prices.chooser;
     let turn = chooser.price_of_turn(cursor.pen, Pen::plain());
-    let motion = cheapest_motion(chooser.prices, cursor.spot, row, column).price;
-    let mut price = 0u32;
-    for run in runs {
-        price = price.saturating_add(price_as_it_stands(chooser, run));
-    }
-    i64::from(price) - i64::from(turn) - i64::from(motion)
+    let motion = cheapest_motion(chooser.prices, cursor.spot, row, part.start).price;
+    i64::from(part.price) - i64::from(turn) - i64::from(motion)
 }
 
 // The slide to the right that brings the first places from a column on to where they are wanted,
@@ -225,35 +272,25 @@ pub(crate) fn are_blank(looks: &[Look]) -> bool {
     true
 }
 
-// A slide and what it saves, if that is more than `least` and the terminal has its operation.
-// `price` is that of the row without the slide, less that of going there.
-fn slide_if_worth(
+// What a slide saves; 0 if there is none, or not enough to be worth it. `price` is that of the row
+// without the slide, less that of going there.
+fn saved_by(
     prices: &RowPrices<'_>,
     row: u32,
     looks: &[Look],
     price: i64,
     slide: Option<Slide>,
-    least: i64,
     room: &mut Vec<Look>,
-) -> Result<Option<(Slide, i64)>, NoMemory>
-    ensures { IfOk result (λ slide. IfSome slide (λ slide. IsSlide (length looks.now) slide.0)) }
-{
-    let Some(slide) = slide else {
-        return Ok(None);
+) -> Result<i64, NoMemory> {
+    let Some(slide) = if_inside(looks, slide) else {
+        return Ok(0);
     };
-    if !is_inside(looks, slide) {
-        return Ok(None);
-    }
     let left = price.saturating_sub(i64::from(prices.chooser.prices.of(slide.op())));
-    if left <= least {
-        return Ok(None);
+    if left < WORTH {
+        return Ok(0);
     }
     slide_into(room, looks, slide)?;
-    let saved = left.saturating_sub(i64::from(prices.over(row, room)));
-    if saved <= least {
-        return Ok(None);
-    }
-    Ok(Some((slide, saved)))
+    Ok(left.saturating_sub(i64::from(prices.over(row, room))))
 }
 
 // Whether a slide is one of a row of looks.

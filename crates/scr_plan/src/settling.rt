@@ -1,0 +1,369 @@
+//! Settling rows one after another, once rows were shifted: characters of a row may slide, and its
+//! runs are found over what it shows then.
+ghost use Rattle.std.specs.Prelude.{ℕ, ◌≡◌, ◌+◌, ◌-◌, ◌≤◌, ◌<◌, IfOk, IfSome, List, OnOk, Option, Some, false, length, true};
+ghost use Rattle.scr_cells.specs.LookViews.{LookView};
+ghost use Rattle.scr_plan.specs.Code.Drafts.{KeepsAbove};
+ghost use Rattle.scr_plan.specs.Code.Moves.{IsShift, IsSlide};
+ghost use Rattle.scr_plan.specs.Code.Painters.{painter_of};
+ghost use Rattle.scr_plan.specs.Code.Planning.{range_by};
+ghost use Rattle.scr_plan.specs.Code.Settled.{IsShownRow, Settles, ShowsBeside, SlidesRow, op_of};
+ghost use Rattle.scr_plan.specs.Memories.{MemoryView, is_known};
+ghost use Rattle.scr_plan.specs.Repaints.{IsSizeOf, ShowsOutside};
+ghost use Rattle.scr_plan.specs.Scratch.{Fits};
+ghost use Rattle.scr_plan.specs.declared.shifts.Shift.{Shift};
+ghost use Rattle.scr_term.specs.declared.operations.operation.Op.TheVariants.{DeleteChars, InsertChars};
+ghost use Rattle.scr_term.specs.Operations.Profiles.{ProfileView};
+ghost use Rattle.scr_term.specs.Operations.Texts.{has};
+ghost use Rattle.scr_virtual.specs.Ranges.{IsRange};
+
+use crate::memories::Memory;
+use crate::painting::Painter;
+use crate::planning::Looked;
+use crate::row_prices::RowPrices;
+use crate::runs::Run;
+use crate::shifts::Shift;
+use crate::shown::{is_moved, shown_row, slide_into};
+use crate::slides::{Part, Slide, can_slide_some, cheapest_slide};
+use crate::strokes::Draft;
+use crate::ways::Cursor;
+use crate::wiping::drop_from;
+use scr_cells::{Look, NoMemory, Picture, grid_laws};
+use scr_term::{Op, Profile, run_laws};
+use scr_virtual::Virtual;
+
+impl Draft {
+    // Inserts blanks into a row.
+    fn insert_chars(
+        &mut self,
+        painter: Painter,
+        profile: &Profile,
+        picture: &Picture,
+        row: u32,
+        slide: Slide,
+    ) -> Result<(), NoMemory>
+        requires painter { painter ≡ painter_of profile.now }
+        requires fits { Fits profile.now picture.now }
+        requires row { row < picture.now.rows }
+        requires slide { IsSlide picture.now.columns slide }
+        requires inserts { slide.inserts ≡ true }
+        requires has { has profile.now (InsertChars slide.count) ≡ true }
+        ensures { OnOk result (SlidesRow profile.now picture.now row slide self.old self.new) }
+    {
+        run_laws();
+        grid_laws::<Look>();
+        let _profile = profile.size();
+        let _picture = picture.size();
+        self.come_to(painter, profile, picture, row, slide.column)?;
+        self.add(profile, Op::InsertChars(slide.count), self.spot, self.pen)
+    }
+
+    // Deletes characters of a row.
+    fn delete_chars(
+        &mut self,
+        painter: Painter,
+        profile: &Profile,
+        picture: &Picture,
+        row: u32,
+        slide: Slide,
+    ) -> Result<(), NoMemory>
+        requires painter { painter ≡ painter_of profile.now }
+        requires fits { Fits profile.now picture.now }
+        requires row { row < picture.now.rows }
+        requires slide { IsSlide picture.now.columns slide }
+        requires deletes { slide.inserts ≡ false }
+        requires has { has profile.now (DeleteChars slide.count) ≡ true }
+        ensures { OnOk result (SlidesRow profile.now picture.now row slide self.old self.new) }
+    {
+        run_laws();
+        grid_laws::<Look>();
+        let _profile = profile.size();
+        let _picture = picture.size();
+        self.come_to(painter, profile, picture, row, slide.column)?;
+        self.add(profile, Op::DeleteChars(slide.count), self.spot, self.pen)
+    }
+
+    // Slides characters of a row.
+    fn slide(
+        &mut self,
+        painter: Painter,
+        profile: &Profile,
+        picture: &Picture,
+        row: u32,
+        slide: Slide,
+    ) -> Result<(), NoMemory>
+        requires painter { painter ≡ painter_of profile.now }
+        requires fits { Fits profile.now picture.now }
+        requires row { row < picture.now.rows }
+        requires slide { IsSlide picture.now.columns slide }
+        requires has { has profile.now (op_of slide) ≡ true }
+        ensures { OnOk result (SlidesRow profile.now picture.now row slide self.old self.new) }
+    {
+        if slide.inserts {
+            self.insert_chars(painter, profile, picture, row, slide)
+        } else {
+            self.delete_chars(painter, profile, picture, row, slide)
+        }
+    }
+
+    // Settles a row that shows `looks` by a slide of its characters.
+    fn settle_slid(
+        &mut self,
+        painter: Painter,
+        profile: &Profile,
+        picture: &Picture,
+        row: u32,
+        looks: &[Look],
+        slide: Slide,
+        runs: &mut Vec<Run>,
+        room: &mut Vec<Look>,
+    ) -> Result<(), NoMemory>
+        requires painter { painter ≡ painter_of profile.now }
+        requires fits { Fits profile.now picture.now }
+        requires row { row < picture.now.rows }
+        requires width { length looks.now ≡ picture.now.columns }
+        requires slide { IsSlide picture.now.columns slide }
+        requires has { has profile.now (op_of slide) ≡ true }
+        ensures { OnOk result ((shift : Option Shift) (grid : List (List LookView)) → IsShownRow picture.now.columns shift grid row (Some looks.now)
+            → Settles profile.now picture.now shift grid row (row + 1) runs.old.items runs.new.items self.old self.new) }
+    {
+        let size = picture.size();
+        self.slide(painter, profile, picture, row, slide)?;
+        slide_into(room, looks, slide)?;
+        painter.add_row(profile, picture, row, Some(room), 0, size.columns, runs)
+    }
+
+    // Settles a row that shows `looks`, and the picture except in columns `from..end`: slides its
+    // characters if that is worth it, and finds its runs.
+    fn settle_over(
+        &mut self,
+        painter: Painter,
+        profile: &Profile,
+        picture: &Picture,
+        row: u32,
+        looks: &[Look],
+        from: u32,
+        end: u32,
+        runs: &mut Vec<Run>,
+        room: &mut Vec<Look>,
+    ) -> Result<(), NoMemory>
+        requires painter { painter ≡ painter_of profile.now }
+        requires fits { Fits profile.now picture.now }
+        requires row { row < picture.now.rows }
+        requires width { length looks.now ≡ picture.now.columns }
+        requires from { from < end }
+        requires end { end ≤ picture.now.columns }
+        ensures { OnOk result ((shift : Option Shift) (grid : List (List LookView)) → IsShownRow picture.now.columns shift grid row (Some looks.now) → ShowsBeside profile.now picture.now shift grid row (Some (from, end - 1))
+            → Settles profile.now picture.now shift grid row (row + 1) runs.old.items runs.new.items self.old self.new) }
+    {
+        let _size = picture.size();
+        match slide_of(painter, profile, picture, &self.cursor(), row, looks, room)? {
+            Some(slide) => {
+                self.settle_slid(painter, profile, picture, row, looks, slide, runs, room)
+            }
+            None => painter.add_row(profile, picture, row, Some(looks), from, end, runs),
+        }
+    }
+
+    // Settles a row.
+    fn settle_row(
+        &mut self,
+        painter: Painter,
+        profile: &Profile,
+        memory: &Memory,
+        wanted: &Virtual,
+        by: Looked,
+        shift: Option<Shift>,
+        row: u32,
+        runs: &mut Vec<Run>,
+        room: &mut Vec<Look>,
+    ) -> Result<(), NoMemory>
+        requires painter { painter ≡ painter_of profile.now }
+        requires fits { Fits profile.now wanted.now.picture }
+        requires size { IsSizeOf wanted.now.picture memory.now }
+        requires same { ShowsOutside (range_by by) profile.now memory.now wanted.now }
+        requires known { is_known memory.now ≡ true }
+        requires shift { IfSome shift (IsShift wanted.now.picture.rows) }
+        requires row { row < wanted.now.picture.rows }
+        ensures { OnOk result (Settles profile.now wanted.now.picture shift memory.now.state.grid row (row + 1) runs.old.items runs.new.items self.old self.new) }
+    {
+        let picture = wanted.picture();
+        let Some((from, last)) = columns_to_look(wanted, by, shift, row) else {
+            return Ok(());
+        };
+        let end = last + 1;
+        match shown_row(memory, shift, row) {
+            Some(looks) => {
+                self.settle_over(painter, profile, picture, row, looks, from, end, runs, room)
+            }
+            None => painter.add_row(profile, picture, row, None, from, end, runs),
+        }
+    }
+
+    // Settles the rows from one on.
+    pub(crate) fn settle_from(
+        &mut self,
+        painter: Painter,
+        profile: &Profile,
+        memory: &Memory,
+        wanted: &Virtual,
+        by: Looked,
+        shift: Option<Shift>,
+        from: u32,
+        runs: &mut Vec<Run>,
+        room: &mut Vec<Look>,
+    ) -> Result<(), NoMemory>
+        requires painter { painter ≡ painter_of profile.now }
+        requires fits { Fits profile.now wanted.now.picture }
+        requires size { IsSizeOf wanted.now.picture memory.now }
+        requires same { ShowsOutside (range_by by) profile.now memory.now wanted.now }
+        requires known { is_known memory.now ≡ true }
+        requires shift { IfSome shift (IsShift wanted.now.picture.rows) }
+        ensures { OnOk result (Settles profile.now wanted.now.picture shift memory.now.state.grid from wanted.now.picture.rows runs.old.items runs.new.items self.old self.new) }
+    {
+        let _size = wanted.size();
+        let (_, end) = by.rows(wanted);
+        let end = end.max(end_of_moved(shift));
+        if from >= end {
+            return Ok(());
+        }
+        drop_from(runs, from);
+        for row in from..end {
+            self.settle_row(painter, profile, memory, wanted, by, shift, row, runs, room)?;
+        }
+        Ok(())
+    }
+
+    // The first row above `end` whose characters are to be slid; `end` if there is none. The runs
+    // are by rows, and over what is remembered.
+    pub(crate) fn first_to_slide(
+        &self,
+        prices: &RowPrices<'_>,
+        memory: &Memory,
+        runs: &[Run],
+        end: u32,
+        room: &mut Vec<Look>,
+    ) -> Result<u32, NoMemory>
+        ensures { IfOk result (λ row. row ≤ end) }
+    {
+        if !can_slide_some(prices) {
+            return Ok(end);
+        }
+        let cursor = self.cursor();
+        let mut at = 0;
+        while at < runs.len() {
+            let row = row_of(runs, at);
+            if row >= end {
+                return Ok(end);
+            }
+            let behind = end_of_row(runs, at);
+            if is_to_slide(prices, &cursor, memory, row, &runs[at..behind], room)? {
+                return Ok(row);
+            }
+            at = behind;
+        }
+        Ok(end)
+    }
+}
+
+// Whether characters of a row are to be slid. The runs are all of the row.
+fn is_to_slide(
+    prices: &RowPrices<'_>,
+    cursor: &Cursor,
+    memory: &Memory,
+    row: u32,
+    runs: &[Run],
+    room: &mut Vec<Look>,
+) -> Result<bool, NoMemory> {
+    if row >= memory.size().rows {
+        return Ok(false);
+    }
+    let looks = memory.looks(row);
+    let part = Part::of_runs(prices, looks, runs);
+    let slide = cheapest_slide(prices, cursor, row, looks, part, room)?;
+    Ok(slide.is_some())
+}
+
+// The slide of a row that is worth sending, if there is one.
+fn slide_of(
+    painter: Painter,
+    profile: &Profile,
+    picture: &Picture,
+    cursor: &Cursor,
+    row: u32,
+    looks: &[Look],
+    room: &mut Vec<Look>,
+) -> Result<Option<Slide>, NoMemory>
+    ensures slide { IfOk result (λ slide. IfSome slide (IsSlide (length looks.now))) }
+    ensures has { IfOk result (λ slide. IfSome slide (λ slide. has profile.now (op_of slide) ≡ true)) }
+{
+    let prices = RowPrices::new(painter, profile, picture);
+    if !can_slide_some(&prices) {
+        return Ok(None);
+    }
+    let part = Part::over(&prices, row, looks);
+    let slide = cheapest_slide(&prices, cursor, row, looks, part, room)?;
+    Ok(if_there(profile, slide))
+}
+
+// A slide, if the terminal has its operation.
+fn if_there(profile: &Profile, slide: Option<Slide>) -> Option<Slide>
+    ensures slide { (columns : ℕ) → IfSome slide (IsSlide columns) → IfSome result (IsSlide columns) }
+    ensures has { IfSome result (λ slide. has profile.now (op_of slide) ≡ true) }
+{
+    match slide {
+        Some(slide) if profile.has(slide.op()) => Some(slide),
+        _ => None,
+    }
+}
+
+// The end of the rows that a shift changes; 0 if there is no shift.
+fn end_of_moved(shift: Option<Shift>) -> u32
+    ensures value { IfSome shift (λ shift. result ≡ shift.end) }
+    ensures inside { (rows : ℕ) → IfSome shift (IsShift rows) → result ≤ rows }
+{
+    match shift {
+        Some(shift) => shift.end,
+        None => 0,
+    }
+}
+
+// The first and the last column of a row that can differ from what is shown after a shift.
+fn columns_to_look(
+    wanted: &Virtual,
+    by: Looked,
+    shift: Option<Shift>,
+    row: u32,
+) -> Option<(u32, u32)>
+    requires { row < wanted.now.picture.rows }
+    ensures inside { IfSome result (IsRange wanted.now.picture.columns) }
+    ensures beside { (profile : ProfileView) (memory : MemoryView) → ShowsOutside (range_by by) profile memory wanted.now → IsSizeOf wanted.now.picture memory → is_known memory ≡ true → ShowsBeside profile wanted.now.picture shift memory.state.grid row result }
+{
+    let size = wanted.size();
+    if is_moved(shift, row) {
+        Some((0, size.columns - 1))
+    } else {
+        by.in_row(wanted, row)
+    }
+}
+
+// The row of a run.
+fn row_of(runs: &[Run], number: usize) -> u32
+    requires { number < length runs.now }
+{
+    runs[number].row
+}
+
+// The end of the runs of one row, the first of which has this number. The runs are by rows.
+fn end_of_row(runs: &[Run], at: usize) -> usize
+    requires { at < length runs.now }
+    ensures more { at < result }
+    ensures end { result ≤ length runs.now }
+{
+    let row = runs[at].row;
+    for behind in at + 1..runs.len() {
+        if runs[behind].row != row {
+            return behind;
+        }
+    }
+    runs.len()
+}
