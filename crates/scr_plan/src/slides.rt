@@ -84,15 +84,10 @@ impl Part {
 
     // The places that differ where a row shows `looks`.
     pub(crate) fn over(prices: &RowPrices<'_>, row: u32, looks: &[Look]) -> Option<Part> {
-        let cells = prices.chooser.cells(row);
         let start = prices.first_unlike(row, looks)?;
-        let mut end = looks.len().min(cells.len());
-        while end > 0 && prices.is_seen(cells[end - 1], looks[end - 1]) {
-            end -= 1;
-        }
         Some(Part {
             start,
-            end: end.min(u32::MAX as usize) as u32,
+            end: end_of_unlike(prices, prices.chooser.cells(row), looks),
             price: prices.over(row, looks),
         })
     }
@@ -163,6 +158,17 @@ fn if_inside(looks: &[Look], slide: Option<Slide>) -> Option<Slide>
         Some(slide) if is_inside(looks, slide) => Some(slide),
         _ => None,
     }
+}
+
+// The end of the looks that are not what is seen of their cells.
+fn end_of_unlike(prices: &RowPrices<'_>, cells: &[Cell], looks: &[Look]) -> u32 {
+    for behind in 0..looks.len() {
+        let column = looks.len() - 1 - behind;
+        if column >= cells.len() || !prices.is_seen(cells[column], looks[column]) {
+            return column.min(FAR as usize) as u32 + 1;
+        }
+    }
+    0
 }
 
 // The end of the places that differ of a run, the last one of a row that shows `looks`.
