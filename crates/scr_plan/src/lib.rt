@@ -31,6 +31,7 @@ mod shifts;
 mod short_plan;
 mod shown;
 mod slides;
+mod sliding;
 mod stretches;
 mod strokes;
 mod turns;

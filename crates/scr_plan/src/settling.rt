@@ -1,17 +1,15 @@
 //! Settling rows one after another, once rows were shifted: characters of a row may slide, and its
 //! runs are found over what it shows then.
-ghost use Rattle.std.specs.Prelude.{ℕ, ◌≡◌, ◌+◌, ◌-◌, ◌≤◌, ◌<◌, IfOk, IfSome, List, OnOk, Option, Some, false, length, true};
+ghost use Rattle.std.specs.Prelude.{ℕ, ◌≡◌, ◌+◌, ◌-◌, ◌≤◌, ◌<◌, IfOk, IfSome, List, OnOk, Option, Some, length, true};
 ghost use Rattle.scr_cells.specs.LookViews.{LookView};
-ghost use Rattle.scr_plan.specs.Code.Drafts.{KeepsAbove};
 ghost use Rattle.scr_plan.specs.Code.Moves.{IsShift, IsSlide};
 ghost use Rattle.scr_plan.specs.Code.Painters.{painter_of};
 ghost use Rattle.scr_plan.specs.Code.Planning.{range_by};
-ghost use Rattle.scr_plan.specs.Code.Settled.{IsShownRow, Settles, ShowsBeside, SlidesRow, op_of};
+ghost use Rattle.scr_plan.specs.Code.Settled.{IsShownRow, Settles, ShowsBeside, op_of};
 ghost use Rattle.scr_plan.specs.Memories.{MemoryView, is_known};
 ghost use Rattle.scr_plan.specs.Repaints.{IsSizeOf, ShowsOutside};
 ghost use Rattle.scr_plan.specs.Scratch.{Fits};
 ghost use Rattle.scr_plan.specs.declared.shifts.Shift.{Shift};
-ghost use Rattle.scr_term.specs.declared.operations.operation.Op.TheVariants.{DeleteChars, InsertChars};
 ghost use Rattle.scr_term.specs.Operations.Profiles.{ProfileView};
 ghost use Rattle.scr_term.specs.Operations.Texts.{has};
 ghost use Rattle.scr_virtual.specs.Ranges.{IsRange};
@@ -24,87 +22,15 @@ use crate::runs::Run;
 use crate::shifts::Shift;
 use crate::shown::{is_moved, shown_row, slide_into};
 use crate::slides::{Part, Slide, can_slide_some, cheapest_slide};
+use crate::sliding::slide_of;
 use crate::strokes::Draft;
 use crate::ways::Cursor;
 use crate::wiping::drop_from;
-use scr_cells::{Look, NoMemory, Picture, grid_laws};
-use scr_term::{Op, Profile, run_laws};
+use scr_cells::{Look, NoMemory, Picture};
+use scr_term::Profile;
 use scr_virtual::Virtual;
 
 impl Draft {
-    // Inserts blanks into a row.
-    fn insert_chars(
-        &mut self,
-        painter: Painter,
-        profile: &Profile,
-        picture: &Picture,
-        row: u32,
-        slide: Slide,
-    ) -> Result<(), NoMemory>
-        requires painter { painter ≡ painter_of profile.now }
-        requires fits { Fits profile.now picture.now }
-        requires row { row < picture.now.rows }
-        requires slide { IsSlide picture.now.columns slide }
-        requires inserts { slide.inserts ≡ true }
-        requires has { has profile.now (InsertChars slide.count) ≡ true }
-        ensures { OnOk result (SlidesRow profile.now picture.now row slide self.old self.new) }
-    {
-        run_laws();
-        grid_laws::<Look>();
-        let _profile = profile.size();
-        let _picture = picture.size();
-        self.come_to(painter, profile, picture, row, slide.column)?;
-        self.add(profile, Op::InsertChars(slide.count), self.spot, self.pen)
-    }
-
-    // Deletes characters of a row.
-    fn delete_chars(
-        &mut self,
-        painter: Painter,
-        profile: &Profile,
-        picture: &Picture,
-        row: u32,
-        slide: Slide,
-    ) -> Result<(), NoMemory>
-        requires painter { painter ≡ painter_of profile.now }
-        requires fits { Fits profile.now picture.now }
-        requires row { row < picture.now.rows }
-        requires slide { IsSlide picture.now.columns slide }
-        requires deletes { slide.inserts ≡ false }
-        requires has { has profile.now (DeleteChars slide.count) ≡ true }
-        ensures { OnOk result (SlidesRow profile.now picture.now row slide self.old self.new) }
-    {
-        run_laws();
-        grid_laws::<Look>();
-        let _profile = profile.size();
-        let _picture = picture.size();
-        self.come_to(painter, profile, picture, row, slide.column)?;
-        self.add(profile, Op::DeleteChars(slide.count), self.spot, self.pen)
-    }
-
-    // Slides characters of a row.
-    fn slide(
-        &mut self,
-        painter: Painter,
-        profile: &Profile,
-        picture: &Picture,
-        row: u32,
-        slide: Slide,
-    ) -> Result<(), NoMemory>
-        requires painter { painter ≡ painter_of profile.now }
-        requires fits { Fits profile.now picture.now }
-        requires row { row < picture.now.rows }
-        requires slide { IsSlide picture.now.columns slide }
-        requires has { has profile.now (op_of slide) ≡ true }
-        ensures { OnOk result (SlidesRow profile.now picture.now row slide self.old self.new) }
-    {
-        if slide.inserts {
-            self.insert_chars(painter, profile, picture, row, slide)
-        } else {
-            self.delete_chars(painter, profile, picture, row, slide)
-        }
-    }
-
     // Settles a row that shows `looks` by a slide of its characters.
     fn settle_slid(
         &mut self,
@@ -186,11 +112,44 @@ impl Draft {
         requires row { row < wanted.now.picture.rows }
         ensures { OnOk result (Settles profile.now wanted.now.picture shift memory.now.state.grid row (row + 1) runs.old.items runs.new.items self.old self.new) }
     {
+        let _size = wanted.size();
         let picture = wanted.picture();
-        let Some((from, last)) = columns_to_look(wanted, by, shift, row) else {
-            return Ok(());
-        };
-        let end = last + 1;
+        match columns_to_look(wanted, by, shift, row) {
+            Some((from, last)) => {
+                let end = last + 1;
+                self.settle_part(
+                    painter, profile, memory, picture, shift, row, from, end, runs, room,
+                )
+            }
+            None => Ok(()),
+        }
+    }
+
+    // Settles a row that shows the picture after a shift, except in columns `from..end`.
+    fn settle_part(
+        &mut self,
+        painter: Painter,
+        profile: &Profile,
+        memory: &Memory,
+        picture: &Picture,
+        shift: Option<Shift>,
+        row: u32,
+        from: u32,
+        end: u32,
+        runs: &mut Vec<Run>,
+        room: &mut Vec<Look>,
+    ) -> Result<(), NoMemory>
+        requires painter { painter ≡ painter_of profile.now }
+        requires fits { Fits profile.now picture.now }
+        requires size { IsSizeOf picture.now memory.now }
+        requires shift { IfSome shift (IsShift picture.now.rows) }
+        requires row { row < picture.now.rows }
+        requires from { from < end }
+        requires end { end ≤ picture.now.columns }
+        requires beside { ShowsBeside profile.now picture.now shift memory.now.state.grid row (Some (from, end - 1)) }
+        ensures { OnOk result (Settles profile.now picture.now shift memory.now.state.grid row (row + 1) runs.old.items runs.new.items self.old self.new) }
+    {
+        let _size = picture.size();
         match shown_row(memory, shift, row) {
             Some(looks) => {
                 self.settle_over(painter, profile, picture, row, looks, from, end, runs, room)
@@ -222,7 +181,7 @@ impl Draft {
     {
         let _size = wanted.size();
         let (_, end) = by.rows(wanted);
-        let end = end.max(end_of_moved(shift));
+        let end = later(end, end_of_moved(shift));
         if from >= end {
             return Ok(());
         }
@@ -283,37 +242,13 @@ fn is_to_slide(
     Ok(slide.is_some())
 }
 
-// The slide of a row that is worth sending, if there is one.
-fn slide_of(
-    painter: Painter,
-    profile: &Profile,
-    picture: &Picture,
-    cursor: &Cursor,
-    row: u32,
-    looks: &[Look],
-    room: &mut Vec<Look>,
-) -> Result<Option<Slide>, NoMemory>
-    ensures slide { IfOk result (λ slide. IfSome slide (IsSlide (length looks.now))) }
-    ensures has { IfOk result (λ slide. IfSome slide (λ slide. has profile.now (op_of slide) ≡ true)) }
+// The later of two rows.
+fn later(one: u32, other: u32) -> u32
+    ensures one { one ≤ result }
+    ensures other { other ≤ result }
+    ensures inside { (rows : ℕ) → one ≤ rows → other ≤ rows → result ≤ rows }
 {
-    let prices = RowPrices::new(painter, profile, picture);
-    if !can_slide_some(&prices) {
-        return Ok(None);
-    }
-    let part = Part::over(&prices, row, looks);
-    let slide = cheapest_slide(&prices, cursor, row, looks, part, room)?;
-    Ok(if_there(profile, slide))
-}
-
-// A slide, if the terminal has its operation.
-fn if_there(profile: &Profile, slide: Option<Slide>) -> Option<Slide>
-    ensures slide { (columns : ℕ) → IfSome slide (IsSlide columns) → IfSome result (IsSlide columns) }
-    ensures has { IfSome result (λ slide. has profile.now (op_of slide) ≡ true) }
-{
-    match slide {
-        Some(slide) if profile.has(slide.op()) => Some(slide),
-        _ => None,
-    }
+    one.max(other)
 }
 
 // The end of the rows that a shift changes; 0 if there is no shift.

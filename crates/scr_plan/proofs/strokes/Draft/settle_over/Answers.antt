@@ -1,0 +1,11 @@
+use Rattle.std.proofs.Common.{Some}
+use Rattle.scr_plan.proofs.MovedLaws.{row_found}
+use Rattle.scr_plan.proofs.WipeLaws.{on_ok_both}
+use Rattle.scr_plan.proofs.strokes.Draft.settle_over.Goals as goal
+
+pub returns-in-None : goal.returns-in-None
+returns-in-None c =
+    on_ok_both c.add_row.result _ _ _
+    (λ kept has shift grid shown beside. row_found c.args.profile.now c.args.picture.now c.args.painter c.requires.painter shift grid c.args.row c.args.from c.args.end (Some c.args.looks.now) c.args.runs.now.items c.add_row.new.runs.items c.args.self.now
+    c.requires.from kept has shown beside)
+    c.add_row.ensures.kept c.add_row.ensures.has

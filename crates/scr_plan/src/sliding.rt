@@ -1,0 +1,124 @@
+//! Slides of a row's characters, as they are sent: characters are inserted or deleted.
+ghost use Rattle.std.specs.Prelude.{ℕ, ◌≡◌, ◌<◌, IfOk, IfSome, OnOk, false, length, true};
+ghost use Rattle.scr_plan.specs.Code.Moves.{IsSlide};
+ghost use Rattle.scr_plan.specs.Code.Painters.{painter_of};
+ghost use Rattle.scr_plan.specs.Code.Settled.{SlidesRow, op_of};
+ghost use Rattle.scr_plan.specs.Scratch.{Fits};
+ghost use Rattle.scr_term.specs.declared.operations.operation.Op.TheVariants.{DeleteChars, InsertChars};
+ghost use Rattle.scr_term.specs.Operations.Texts.{has};
+
+use crate::painting::Painter;
+use crate::row_prices::RowPrices;
+use crate::slides::{Part, Slide, can_slide_some, cheapest_slide};
+use crate::strokes::Draft;
+use crate::ways::Cursor;
+use scr_cells::{Look, NoMemory, Picture, grid_laws};
+use scr_term::{Op, Profile, run_laws};
+
+impl Draft {
+    // Inserts blanks into a row.
+    fn insert_chars(
+        &mut self,
+        painter: Painter,
+        profile: &Profile,
+        picture: &Picture,
+        row: u32,
+        slide: Slide,
+    ) -> Result<(), NoMemory>
+        requires painter { painter ≡ painter_of profile.now }
+        requires fits { Fits profile.now picture.now }
+        requires row { row < picture.now.rows }
+        requires slide { IsSlide picture.now.columns slide }
+        requires inserts { slide.inserts ≡ true }
+        requires has { has profile.now (InsertChars slide.count) ≡ true }
+        ensures { OnOk result (SlidesRow profile.now picture.now row slide self.old self.new) }
+    {
+        run_laws();
+        grid_laws::<Look>();
+        let _profile = profile.size();
+        let _picture = picture.size();
+        self.come_to(painter, profile, picture, row, slide.column)?;
+        self.add(profile, Op::InsertChars(slide.count), self.spot, self.pen)
+    }
+
+    // Deletes characters of a row.
+    fn delete_chars(
+        &mut self,
+        painter: Painter,
+        profile: &Profile,
+        picture: &Picture,
+        row: u32,
+        slide: Slide,
+    ) -> Result<(), NoMemory>
+        requires painter { painter ≡ painter_of profile.now }
+        requires fits { Fits profile.now picture.now }
+        requires row { row < picture.now.rows }
+        requires slide { IsSlide picture.now.columns slide }
+        requires deletes { slide.inserts ≡ false }
+        requires has { has profile.now (DeleteChars slide.count) ≡ true }
+        ensures { OnOk result (SlidesRow profile.now picture.now row slide self.old self.new) }
+    {
+        run_laws();
+        grid_laws::<Look>();
+        let _profile = profile.size();
+        let _picture = picture.size();
+        self.come_to(painter, profile, picture, row, slide.column)?;
+        self.add(profile, Op::DeleteChars(slide.count), self.spot, self.pen)
+    }
+
+    // Slides characters of a row.
+    pub(crate) fn slide(
+        &mut self,
+        painter: Painter,
+        profile: &Profile,
+        picture: &Picture,
+        row: u32,
+        slide: Slide,
+    ) -> Result<(), NoMemory>
+        requires painter { painter ≡ painter_of profile.now }
+        requires fits { Fits profile.now picture.now }
+        requires row { row < picture.now.rows }
+        requires slide { IsSlide picture.now.columns slide }
+        requires has { has profile.now (op_of slide) ≡ true }
+        ensures { OnOk result (SlidesRow profile.now picture.now row slide self.old self.new) }
+    {
+        if slide.inserts {
+            self.insert_chars(painter, profile, picture, row, slide)
+        } else {
+            self.delete_chars(painter, profile, picture, row, slide)
+        }
+    }
+}
+
+// The slide of a row that is worth sending, if there is one.
+pub(crate) fn slide_of(
+    painter: Painter,
+    profile: &Profile,
+    picture: &Picture,
+    cursor: &Cursor,
+    row: u32,
+    looks: &[Look],
+    room: &mut Vec<Look>,
+) -> Result<Option<Slide>, NoMemory>
+    ensures slide { IfOk result (λ slide. IfSome slide (IsSlide (length looks.now))) }
+    ensures has { IfOk result (λ slide. IfSome slide (λ slide. has profile.now (op_of slide) ≡ true)) }
+{
+    let prices = RowPrices::new(painter, profile, picture);
+    if !can_slide_some(&prices) {
+        return Ok(None);
+    }
+    let part = Part::over(&prices, row, looks);
+    let slide = cheapest_slide(&prices, cursor, row, looks, part, room)?;
+    Ok(if_there(profile, slide))
+}
+
+// A slide, if the terminal has its operation.
+fn if_there(profile: &Profile, slide: Option<Slide>) -> Option<Slide>
+    ensures slide { (columns : ℕ) → IfSome slide (IsSlide columns) → IfSome result (IsSlide columns) }
+    ensures has { IfSome result (λ slide. has profile.now (op_of slide) ≡ true) }
+{
+    match slide {
+        Some(slide) if profile.has(slide.op()) => Some(slide),
+        _ => None,
+    }
+}
