@@ -23,13 +23,13 @@ use Rattle.scr_plan.proofs.PartLaws.{row_known}
 use Rattle.scr_plan.proofs.PlaceLaws.{one_run, then_runs}
 use Rattle.scr_plan.proofs.PlainLaws.{look_same, not_false}
 use Rattle.scr_plan.proofs.RunChangeLaws.{not_in}
-use Rattle.scr_plan.specs.Code.Drafts.{Aim, HasChanges, HasDiffering, IsAdded, IsAimed, KeepsAbove, KeepsEvery, KeepsRuns, aim_of, in_runs, is_calm}
+use Rattle.scr_plan.specs.Code.Drafts.{Aim, HasChanges, HasDiffering, IsAdded, IsAimed, KeepsAbove, KeepsEvery, KeepsRuns, in_runs, is_calm}
 use Rattle.scr_plan.specs.Code.Joinings.{counted_up}
-use Rattle.scr_plan.specs.Code.Moves.{IsBegun, IsMoved, IsSent, IsShift, IsSlide, Sends, shifted_at, shown_at}
+use Rattle.scr_plan.specs.Code.Moves.{IsBegun, IsMoved, IsSent, IsSlide, Sends, shifted_at, shown_at}
 use Rattle.scr_plan.specs.Code.Painters.{painter_look, painter_of, row_differs, shown_in}
 use Rattle.scr_plan.specs.Code.Settled.{Aims, IsShownRow, Settles, ShowsBeside, SlidesRow, aim_settled, aim_slid, in_first, is_moved, look_from, look_settled, slid_at}
-use Rattle.scr_plan.specs.Memories.{MemoryView, is_known, is_known_row, moves_rows}
-use Rattle.scr_plan.specs.Repaints.{IsSizeOf, ShowsOutside, look_eq, look_in}
+use Rattle.scr_plan.specs.Memories.{MemoryView, is_known, moves_rows}
+use Rattle.scr_plan.specs.Repaints.{IsSizeOf, ShowsOutside, look_eq}
 use Rattle.scr_plan.specs.Scratch.{Fits, look_at}
 use Rattle.scr_plan.specs.declared.painting.Painter.{Painter}
 use Rattle.scr_plan.specs.declared.runs.Run.{Run}

@@ -1,5 +1,5 @@
-use Rattle.std.proofs.Common.{refl, subst, sym, ◌∙◌}
-use Rattle.scr_plan.specs.Code.Drafts.{HasChanges, Leaves, in_runs}
+use Rattle.std.proofs.Common.{subst, sym}
+use Rattle.scr_plan.specs.Code.Drafts.{in_runs}
 use Rattle.scr_plan.specs.Code.Moves.{IsChanged, IsMoved}
 use Rattle.scr_plan.proofs.ShortPlanLaws.{changes_done}
 use Rattle.scr_plan.proofs.short_plan.short_changes.Goals as goal

@@ -1,8 +1,6 @@
-use Rattle.std.proofs.Common.{None, Some, arith}
-use Rattle.scr_plan.proofs.JoinedRowLaws.{on_ok}
+use Rattle.std.proofs.Common.{None, arith}
 use Rattle.scr_plan.proofs.MovedLaws.{row_found}
 use Rattle.scr_plan.proofs.WipeLaws.{on_ok_both}
-use Rattle.scr_plan.specs.Code.Settled.{Settles}
 use Rattle.scr_plan.proofs.strokes.Draft.settle_part.Goals as goal
 
 pub returns-in-None : goal.returns-in-None

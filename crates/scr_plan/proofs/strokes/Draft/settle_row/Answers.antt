@@ -1,6 +1,4 @@
-use Rattle.std.proofs.Common.{ap, arith, subst, sym, Some, ◌≡◌, ◌+◌, ◌-◌}
 use Rattle.scr_plan.proofs.MovedLaws.{row_left}
-use Rattle.scr_plan.specs.Code.Settled.{ShowsBeside}
 use Rattle.scr_plan.proofs.strokes.Draft.settle_row.Goals as goal
 
 pub returns-in-None : goal.returns-in-None
