@@ -1,6 +1,6 @@
-/* Runs one of the programs, and says after each update how long the output is by then: programs NAME OUTPUT, with the
-   terminal's name in TERM and its size in LINES and COLUMNS. The output is a file. What comes before the first line is
-   not counted: it takes the terminal, and clears it. */
+/* Runs one of the programs, and says after each update how long the output is by then: programs NAME OUTPUT [colors],
+   with the terminal's name in TERM and its size in LINES and COLUMNS. The output is a file. What comes before the first
+   line is not counted: it takes the terminal, and clears it. */
 #define _POSIX_C_SOURCE 200809L
 #include "programs.h"
 
@@ -95,9 +95,7 @@ static void begin_colors(void)
 {
     short color;
 
-    has_pairs = has_colors();
-    if (!has_pairs)
-        return;
+    has_pairs = true;
     start_color();
 #ifdef NCURSES_VERSION
     use_default_colors();
@@ -112,16 +110,17 @@ int main(int argc, char **argv)
     int step;
     FILE *output, *input = fopen("/dev/null", "r");
 
-    while (argc == 3 && each < PROGRAMS && strcmp(argv[1], programs[each].name) != 0)
+    while (argc >= 3 && each < PROGRAMS && strcmp(argv[1], programs[each].name) != 0)
         each++;
-    if (argc != 3 || each == PROGRAMS)
+    if (argc < 3 || each == PROGRAMS)
         return 2;
     output = fopen(argv[2], "w");
     if (!output || !input || !newterm(NULL, output, input))
         return 1;
     typeahead(-1);
     idlok(stdscr, TRUE);
-    begin_colors();
+    if (argc == 4 && has_colors())
+        begin_colors();
     refresh();
     printf("%ld\n", (long)lseek(fileno(output), 0, SEEK_END));
     programs[each].begin();

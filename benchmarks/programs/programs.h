@@ -27,7 +27,7 @@ void draw_bar(int row, chtype attrs, const char *format, ...);
 /* Writes a text at a place, cut off at the margin. */
 void draw_text(int row, int column, chtype attrs, const char *text);
 
-/* The attributes of a colour, from 1 to 7; others where the terminal has no colours. */
+/* The attributes of a colour, from 1 to 7; others where no colours are shown. */
 chtype in_color(int color, chtype others);
 
 /* Each program: what it begins with, and its next step, which it takes by wnoutrefresh(). */
