@@ -28,6 +28,9 @@ void begin_installer(void)
     list = newwin(17, 66, 3, 7);
     progress = newwin(8, 56, 8, 12);
     over = newwin(7, 40, 9, 20);
+    idlok(list, TRUE);
+    idlok(progress, TRUE);
+    idlok(over, TRUE);
 }
 
 /* A window's border and title. */
