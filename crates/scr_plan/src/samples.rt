@@ -5,7 +5,7 @@ use crate::memories::Memory;
 use crate::row_prices::RowPrices;
 use crate::runs::Run;
 use crate::wiping::is_blank;
-use scr_cells::Look;
+use scr_cells::{Cell, Look};
 use scr_term::Op;
 
 // The greatest number of rows that are looked for.
@@ -18,11 +18,13 @@ pub(crate) struct Distance {
     pub(crate) up: bool,
 }
 
-// A row that is looked for, and a column in which it differs from what it showed.
+// A row that is looked for, a column in which it differs from what it showed, and the byte that is
+// wanted there.
 #[derive(Clone, Copy)]
 struct Sample {
     row: u32,
     column: u32,
+    byte: u8,
 }
 
 // The rows that are looked for, and the first and the last row among which they are.
@@ -39,7 +41,11 @@ impl Samples {
     // from each part. The runs are by rows.
     pub(crate) fn of(prices: &RowPrices<'_>, runs: &[Run], first: u32, last: u32) -> Samples {
         let mut samples = Samples {
-            rows: [Sample { row: 0, column: 0 }; 16],
+            rows: [Sample {
+                row: 0,
+                column: 0,
+                byte: b' ',
+            }; 16],
             count: 0,
             first,
             last,
@@ -48,8 +54,9 @@ impl Samples {
         let mut number = 0u32;
         let mut left = None;
         for run in runs {
-            if left != Some(run.row) && !is_blank(&prices.chooser, prices.chooser.cells(run.row)) {
-                samples.add_if_due(number, all, run.row, run.start);
+            let cells = prices.chooser.cells(run.row);
+            if left != Some(run.row) && !is_blank(&prices.chooser, cells) {
+                samples.add_if_due(number, all, sample_at(cells, run));
                 number = number.saturating_add(1);
             }
             left = Some(run.row);
@@ -58,7 +65,7 @@ impl Samples {
     }
 
     // Adds the row with this number among `all` of them, if it is the next to be looked for.
-    fn add_if_due(&mut self, number: u32, all: u32, row: u32, column: u32) {
+    fn add_if_due(&mut self, number: u32, all: u32, sample: Sample) {
         let due = if all <= MOST_SAMPLES {
             number
         } else {
@@ -71,7 +78,7 @@ impl Samples {
         if number != due || self.count >= MOST_SAMPLES {
             return;
         }
-        self.rows[self.count as usize] = Sample { row, column };
+        self.rows[self.count as usize] = sample;
         self.count += 1;
     }
 
@@ -128,15 +135,27 @@ impl Distance {
     }
 }
 
+// The sample of a row with these cells, whose first run is this one.
+fn sample_at(cells: &[Cell], run: &Run) -> Sample {
+    let column = run.start as usize;
+    Sample {
+        row: run.row,
+        column: run.start,
+        byte: if column < cells.len() {
+            cells[column].byte()
+        } else {
+            b' '
+        },
+    }
+}
+
 // Whether looks are just what is wanted in a row; first the byte in one column is compared.
 #[inline(always)]
 fn is_alike(prices: &RowPrices<'_>, looks: &[Look], sample: &Sample) -> bool {
-    let cells = prices.chooser.cells(sample.row);
     let column = sample.column as usize;
-    if column >= looks.len() || column >= cells.len() {
-        return false;
-    }
-    looks[column].byte() == cells[column].byte() && prices.is_shown(sample.row, looks)
+    column < looks.len()
+        && looks[column].byte() == sample.byte
+        && prices.is_shown(sample.row, looks)
 }
 
 // The remembered looks of a row; none if there is no such row.

@@ -58,44 +58,44 @@ fn least_operation(prices: &RowPrices<'_>) -> u32 {
         .min(prices.of(Op::DeleteChars(2)))
 }
 
-// The places of a row that differ: the first, the end behind the last, and the price of the row.
+// The places of a row that differ, if the last is far enough from the first: where they begin, and
+// the price of the row.
 #[derive(Clone, Copy)]
 pub(crate) struct Part {
     pub(crate) start: u32,
-    pub(crate) end: u32,
     pub(crate) price: u32,
 }
 
 impl Part {
     // The places that differ where a row shows `looks`; `runs` are all of its runs over them.
     pub(crate) fn of_runs(prices: &RowPrices<'_>, looks: &[Look], runs: &[Run]) -> Option<Part> {
-        let first = runs.first()?;
-        let last = runs.last()?;
+        let start = runs.first()?.start;
+        let end = end_of_differing(looks, runs.last()?);
+        if !is_wide(start, end) {
+            return None;
+        }
         let mut price = 0u32;
         for run in runs {
             price = price.saturating_add(price_as_it_stands(&prices.chooser, run));
         }
-        Some(Part {
-            start: first.start,
-            end: end_of_differing(looks, last),
-            price,
-        })
+        Some(Part { start, price })
     }
 
     // The places that differ where a row shows `looks`.
     pub(crate) fn over(prices: &RowPrices<'_>, row: u32, looks: &[Look]) -> Option<Part> {
         let start = prices.first_unlike(row, looks)?;
-        Some(Part {
-            start,
-            end: end_of_unlike(prices, prices.chooser.cells(row), looks),
-            price: prices.over(row, looks),
-        })
+        let end = end_of_unlike(prices, prices.chooser.cells(row), looks);
+        if !is_wide(start, end) {
+            return None;
+        }
+        let price = prices.over(row, looks);
+        Some(Part { start, price })
     }
+}
 
-    // Whether it is far enough from the first place to the last.
-    fn is_wide(self) -> bool {
-        self.end.saturating_sub(self.start) >= WORTH_LOOKING
-    }
+// Whether it is far enough from the first place that differs to the last.
+fn is_wide(start: u32, end: u32) -> bool {
+    end.saturating_sub(start) >= WORTH_LOOKING
 }
 
 // The slide of a row that saves most, if one saves enough. The row shows `looks`; `part` is what
@@ -113,9 +113,6 @@ pub(crate) fn cheapest_slide(
     let Some(part) = part else {
         return Ok(None);
     };
-    if !part.is_wide() {
-        return Ok(None);
-    }
     let price = price_without_way(prices, cursor, row, part);
     if price < i64::from(least_operation(prices)).saturating_add(WORTH) {
         return Ok(None);
