@@ -192,7 +192,8 @@ fn price_without_way(prices: &RowPrices<'_>, cursor: &Cursor, row: u32, part: Pa
 }
 
 // The slide to the right that brings the first places from a column on to where they are wanted,
-// if they are.
+// if they are. At least as many places are moved as are inserted: where fewer are, tmux (3.3) leaves
+// places between unchanged that terminfo(5) wants blank.
 fn insertion(prices: &RowPrices<'_>, row: u32, looks: &[Look], column: u32) -> Option<Slide> {
     let cells = prices.chooser.cells(row);
     let from = column as usize;
@@ -204,6 +205,9 @@ fn insertion(prices: &RowPrices<'_>, row: u32, looks: &[Look], column: u32) -> O
     }
     let byte = looks[from].byte();
     for at in from + 1..cells.len() - (PATTERN - 1) {
+        if at - from > cells.len() - at {
+            return None;
+        }
         if cells[at].byte() == byte && are_seen(prices, looks, from, cells, at) {
             return Some(slide_from(column, at - from, true));
         }
