@@ -92,14 +92,15 @@ static void move_rows(void)
 /* Moves the end of a row to the right or to the left. */
 static void move_places(void)
 {
-    int row = below(ROWS), column = below(COLUMNS - 1), count = 1 + below(is_one_of(3) ? 20 : 2);
+    int row = below(ROWS), column = below(COLUMNS - 1), count = 1 + below(is_one_of(3) ? COLUMNS - column : 2);
     size_t kept;
 
     count = count < COLUMNS - column ? count : COLUMNS - column;
     kept = (size_t)(COLUMNS - column - count) * sizeof picture[0][0];
     if (is_one_of(2)) {
         memmove(picture[row] + column + count, picture[row] + column, kept);
-        write_words(row, column, count);
+        clear_places(row, column, column + count);
+        write_words(row, column, 1 + below(count));
     } else {
         memmove(picture[row] + column, picture[row] + column + count, kept);
         clear_places(row, COLUMNS - count, COLUMNS);
