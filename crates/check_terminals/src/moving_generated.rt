@@ -141,11 +141,19 @@ fn shift(model: &mut Model, row: usize, random: &mut Random) {
     let (low, high) = if row < end { (row, end) } else { (end, row) };
     let up = random.below(2) == 0;
     for step in low..high {
-        let one = if up { step } else { low + high - 1 - step };
-        if one + 1 < model.rows.len() && one + 1 < model.reversed.len() {
-            model.rows.swap(one, one + 1);
-            model.reversed.swap(one, one + 1);
-        }
+        let behind = high
+            .saturating_sub(1)
+            .saturating_sub(step.saturating_sub(low));
+        exchange(model, if up { step } else { behind });
+    }
+}
+
+// Exchanges a row and the next one, if both are there.
+fn exchange(model: &mut Model, one: usize) {
+    let next = one.saturating_add(1);
+    if one < next && next < model.rows.len() && next < model.reversed.len() {
+        model.rows.swap(one, next);
+        model.reversed.swap(one, next);
     }
 }
 

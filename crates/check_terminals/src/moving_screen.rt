@@ -3,7 +3,7 @@
 use check_scripts::troubles::Trouble;
 use curses::{Device, Screen, Win};
 use scr_cells::{Attrs, Cell, Pen, Picture, Size};
-use scr_term::{Ops, Profile, Spot, Terminal};
+use scr_term::{Op, Ops, Profile, Spot, Terminal};
 use std::alloc::Global;
 use ti_caps::Entry;
 
@@ -75,7 +75,7 @@ impl MovingScreen {
             return Err(Trouble::NoMemory);
         };
         for op in &sent.begun.0 {
-            if self.terminal.step(&self.profile, *op).is_err() {
+            if !is_stepped(&mut self.terminal, &self.profile, *op) {
                 self.is_defined = false;
             }
         }
@@ -101,6 +101,9 @@ impl MovingScreen {
     }
 
     fn is_row_shown(&self, picture: &Picture, row: u32) -> bool {
+        if row >= self.terminal.size().rows || row >= picture.size().rows {
+            return false;
+        }
         let looks = self.terminal.row(row);
         let cells = picture.row(row);
         for (look, cell) in looks.iter().zip(cells.iter()) {
@@ -115,4 +118,13 @@ impl MovingScreen {
     fn pen_of(&self, cell: Cell) -> Pen {
         Pen::plain().with_attrs(Attrs(self.profile.shows().0 & cell.attrs().0))
     }
+}
+
+// Executes an operation on a terminal, and returns whether it is defined there. The terminal has the profile's size.
+fn is_stepped(terminal: &mut Terminal, profile: &Profile, op: Op) -> bool {
+    let (size, other) = (terminal.size(), profile.size());
+    if size.rows != other.rows || size.columns != other.columns {
+        return false;
+    }
+    terminal.step(profile, op).is_ok()
 }
