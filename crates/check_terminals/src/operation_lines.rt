@@ -14,6 +14,7 @@ pub fn read_op(words: &mut Words<'_>) -> Option<Op> {
     let word = words.name();
     Some(match word {
         "reset" => Op::Reset,
+        "exit_attributes" => Op::ExitAttributes,
         "enter" => Op::Enter(Attrs(words.byte())),
         "set" => Op::Set(Attrs(words.byte())),
         "fore" => Op::Fore(words.byte()),
@@ -100,6 +101,7 @@ fn add_bare_op(op: Op, came: &mut Buffer) {
         Op::EraseLine => add_word("erase_line", came),
         Op::EraseBelow => add_word("erase_below", came),
         Op::Reset => add_word("reset", came),
+        Op::ExitAttributes => add_word("exit_attributes", came),
         _ => add_word("?", came),
     }
 }

@@ -9,7 +9,7 @@ use Rattle.scr_cells.specs.Grids.{IsGrid, grid_at, grid_filled, grid_of, grid_ro
 use Rattle.scr_cells.specs.LookViews.{LookView, blank, blank_grid}
 use Rattle.scr_cells.specs.PenViews.{PenView, is_plain_pen, plain_pen, with_attribute}
 use Rattle.scr_term.specs.declared.operations.operation.Op.{Op}
-use Rattle.scr_term.specs.declared.operations.operation.Op.TheVariants.{Home, Move, Column, Line, Up, Down, Left, Right, Return, Clear, EraseLine, EraseBelow, EraseChars, InsertLines, DeleteLines, InsertChars, DeleteChars, Reset, Enter, Set, Fore, Back, Put}
+use Rattle.scr_term.specs.declared.operations.operation.Op.TheVariants.{Home, Move, Column, Line, Up, Down, Left, Right, Return, Clear, EraseLine, EraseBelow, EraseChars, InsertLines, DeleteLines, InsertChars, DeleteChars, Reset, ExitAttributes, Enter, Set, Fore, Back, Put}
 use Rattle.scr_term.specs.declared.operations.operation.Spot.{Spot}
 use Rattle.scr_term.specs.declared.operations.operation.Spot.TheVariants.{At, Margin}
 use Rattle.scr_term.specs.Operations.Profiles.{ProfileView, IsProfile}
@@ -41,6 +41,7 @@ spot_by columns op spot = spot
 -- what is written with then
 abbrev pub pen_by : Op → PenView → PenView
 pen_by Reset pen = plain_pen
+pen_by ExitAttributes pen = plain_pen
 pen_by (Set attrs) pen = record plain_pen { attrs = attrs.0 }
 pen_by (Enter attribute) pen = with_attribute pen attribute.0
 pen_by (Fore colour) pen = record pen { foreground = Some colour }
@@ -138,6 +139,7 @@ acts profile (DeleteChars k) grid (At r c) pen new e =
     led profile (DeleteChars k) grid (At r c) pen new (whole (grid_of profile.rows profile.columns (places_left r c profile.columns k blank (grid_at blank grid))) (At r c) pen) refl refl refl (when _ _ new (when _ _ new e))
 acts profile (DeleteChars k) grid (Margin r) pen new e = nothing _ new e
 acts profile Reset grid spot pen new e = led profile Reset grid spot pen new (whole grid spot plain_pen) refl refl refl e
+acts profile ExitAttributes grid spot pen new e = led profile ExitAttributes grid spot pen new (whole grid spot plain_pen) refl refl refl (when _ _ new e)
 acts profile (Enter a) grid spot pen new e = led profile (Enter a) grid spot pen new (whole grid spot (with_attribute pen a.0)) refl refl refl e
 acts profile (Set a) grid spot pen new e = led profile (Set a) grid spot pen new (whole grid spot (record plain_pen { attrs = a.0 })) refl refl refl e
 acts profile (Fore k) grid (At r c) pen new e = led profile (Fore k) grid (At r c) pen new (whole grid (At r c) (record pen { foreground = Some k })) refl refl refl e
@@ -223,6 +225,7 @@ rows_same profile (Left n) spot pen a b first second r high still same = same
 rows_same profile (Right n) spot pen a b first second r high still same = same
 rows_same profile Return spot pen a b first second r high still same = same
 rows_same profile Reset spot pen a b first second r high still same = same
+rows_same profile ExitAttributes spot pen a b first second r high still same = same
 rows_same profile (Enter attribute) spot pen a b first second r high still same = same
 rows_same profile (Set attrs) spot pen a b first second r high still same = same
 rows_same profile (Fore colour) spot pen a b first second r high still same = same

@@ -15,7 +15,7 @@ use Rattle.ti_param.specs.ProgramLaws.{AddsOne, WritesDecimal}
 use Rattle.scr_term.specs.declared.operations.capability.Capability.{Capability}
 use Rattle.scr_term.specs.declared.operations.capability.Capability.TheVariants as capability
 use Rattle.scr_term.specs.declared.operations.operation.Op.{Op}
-use Rattle.scr_term.specs.declared.operations.operation.Op.TheVariants.{Home, Move, Column, Line, Up, Down, Left, Right, Return, Clear, EraseLine, EraseBelow, EraseChars, InsertLines, DeleteLines, InsertChars, DeleteChars, Reset, Enter, Set, Fore, Back, Put}
+use Rattle.scr_term.specs.declared.operations.operation.Op.TheVariants.{Home, Move, Column, Line, Up, Down, Left, Right, Return, Clear, EraseLine, EraseBelow, EraseChars, InsertLines, DeleteLines, InsertChars, DeleteChars, Reset, ExitAttributes, Enter, Set, Fore, Back, Put}
 use Rattle.scr_term.specs.declared.operations.operation.Spot.{Spot}
 use Rattle.scr_term.specs.Operations.Pieces.{Piece, Character, Text}
 use Rattle.scr_term.specs.declared.operations.operation.Spot.TheVariants.{At, Margin}
@@ -326,6 +326,11 @@ leads_by profile is law adds old new s Reset had sends h =
     (leads-append profile.rows profile.columns (negative_state old) (negative_state next) (negative_state next) (control_sequence (48 ∷ []) 109) op_bytes
     (digit_leads profile.rows profile.columns (negative_state old) 48 (Some 0 ∷ []) plain_pen refl refl refl)
     (default_leads profile.rows profile.columns (negative_state next))))
+leads_by profile is law adds old new s ExitAttributes had sends h =
+    let next : TerminalState = record old { pen = plain_pen } in
+    subst (λ z. OpLeads profile old z (bytes_of profile ExitAttributes)) (same_some next new (chosen _ (Some next) new h).1)
+    (subst (OpLeads profile old next) (sym (one_text profile is ExitAttributes capability.Sgr0 (nine []) (control_sequence (48 ∷ []) 109) refl sgr0_text))
+    (digit_leads profile.rows profile.columns (negative_state old) 48 (Some 0 ∷ []) plain_pen refl refl refl))
 leads_by profile is law adds old new s (Enter a) had sends h =
     let next : TerminalState = record old { pen = with_attribute old.pen a.0 } in
     let small : old.pen.attrs < 128 = small_set old.pen.attrs (let e : shown_set profile ≡ 127 = every_is_shown profile is in rw e at s.pen.attrs) in

@@ -8,7 +8,7 @@ use Rattle.std.proofs.lemmas.Bool.{eqb-true, false≢true}
 use Rattle.std.proofs.lemmas.Bool.Decides.{nat_tests}
 use Rattle.scr_cells.specs.Attributes.{all_attributes}
 use Rattle.scr_cells.specs.declared.attributes.Attrs.{Attrs}
-use Rattle.scr_term.specs.declared.operations.operation.Op.TheVariants.{Home, Move, Column, Line, Up, Down, Left, Right, Return, Clear, EraseLine, EraseBelow, EraseChars, InsertLines, DeleteLines, InsertChars, DeleteChars, Reset, Enter, Set, Fore, Back, Put}
+use Rattle.scr_term.specs.declared.operations.operation.Op.TheVariants.{Home, Move, Column, Line, Up, Down, Left, Right, Return, Clear, EraseLine, EraseBelow, EraseChars, InsertLines, DeleteLines, InsertChars, DeleteChars, Reset, ExitAttributes, Enter, Set, Fore, Back, Put}
 use Rattle.scr_term.specs.declared.operations.operation.Op.{Op}
 use Rattle.scr_term.specs.declared.operations.capability.Capability.TheVariants.{Sgr0, Setaf, Setab}
 use Rattle.scr_cells.specs.PenViews.{PenView}
@@ -178,6 +178,7 @@ pub next_is_shown : (profile : ProfileView) (pen : PenView) (op : Op) → has pr
 next_is_shown profile pen Reset had is = plain_is_shown (full_abilities profile.rows profile.columns)
 next_is_shown profile pen (Enter a) had is = more_is_shown (full_abilities profile.rows profile.columns) pen a.0 is (entered_is_within profile a had)
 next_is_shown profile pen (Set a) had is = set_is_shown (full_abilities profile.rows profile.columns) a.0 (set_is_within profile a had)
+next_is_shown profile pen ExitAttributes had is = is
 next_is_shown profile pen Home had is = is
 next_is_shown profile pen (Move r k) had is = is
 next_is_shown profile pen (Column k) had is = is

@@ -1,5 +1,5 @@
 -- What steps and runs keep.
-use Rattle.std.proofs.Common.{◌≡◌, ℕ, ◌+◌, ◌-◌, ◌<◌, ◌≤◌, ◌&&◌, ◌||◌, ◌==◌, Bool, true, false, cond, refl, sym, ◌∙◌, ap, subst, arith, List, [], ◌∷◌, ◌++◌, Option, Some, None, option_and_then, bit_and, nat_le, nat_lt}
+use Rattle.std.proofs.Common.{◌≡◌, ℕ, ◌+◌, ◌-◌, ◌<◌, ◌≤◌, ◌&&◌, ◌||◌, ◌==◌, Bool, true, false, cond, refl, sym, ◌∙◌, ap, subst, arith, List, [], ◌∷◌, ◌++◌, Option, Some, None, option_and_then, bit_and, nat_le, nat_lt, is_none}
 use Rattle.std.specs.List.{AllByRecursion}
 use Rattle.std.proofs.lemmas.List.Concat.{flat_map-append}
 use Rattle.std.proofs.lemmas.List.Elements.{All-from_recursion}
@@ -9,7 +9,7 @@ use Rattle.scr_cells.specs.Grids.{grid_at, grid_with, is_in_run, places_left, pl
 use Rattle.scr_cells.specs.LookViews.{LookView, IsLook, blank}
 use Rattle.scr_cells.specs.PenViews.{PenView, is_plain_pen, plain_pen}
 use Rattle.scr_term.specs.declared.operations.operation.Op.{Op}
-use Rattle.scr_term.specs.declared.operations.operation.Op.TheVariants.{Home, Move, Column, Line, Up, Down, Left, Right, Return, Clear, EraseLine, EraseBelow, EraseChars, InsertLines, DeleteLines, InsertChars, DeleteChars, Reset, Enter, Set, Fore, Back, Put}
+use Rattle.scr_term.specs.declared.operations.operation.Op.TheVariants.{Home, Move, Column, Line, Up, Down, Left, Right, Return, Clear, EraseLine, EraseBelow, EraseChars, InsertLines, DeleteLines, InsertChars, DeleteChars, Reset, ExitAttributes, Enter, Set, Fore, Back, Put}
 use Rattle.scr_term.specs.declared.operations.operation.Spot.{Spot}
 use Rattle.scr_term.specs.declared.operations.operation.Spot.TheVariants.{At, Margin}
 use Rattle.scr_term.specs.Operations.Abilities.{Abilities, AreAbilities}
@@ -153,6 +153,8 @@ keeps profile p old s (DeleteChars n) had =
     erasure profile old _ (place_keeps (abilities profile) old.spot _ s.spot (λ r c row_in column_in. tested_keeps (abilities profile) (nat_le (c + n) profile.columns) _
     (λ t. some_keeps (abilities profile) _ (shifted_keeps (abilities profile) old (places_left r c profile.columns n) s (left_is_look r c profile.columns n old.grid s.looks)))))
 keeps profile p old s Reset had = some_keeps (abilities profile) _ (rendered (abilities profile) old plain_pen s (plain_is_shown (abilities profile)))
+keeps profile p old s ExitAttributes had =
+    tested_keeps (abilities profile) (is_none old.pen.foreground && is_none old.pen.background) _ (λ t. some_keeps (abilities profile) _ (rendered (abilities profile) old plain_pen s (plain_is_shown (abilities profile))))
 keeps profile p old s (Enter a) had =
     some_keeps (abilities profile) _ (rendered (abilities profile) old _ s (more_is_shown (abilities profile) old.pen a.0 s.pen (entered_is_shown profile a had)))
 keeps profile p old s (Set a) had =

@@ -57,9 +57,9 @@ impl Terminal {
     ///
     /// - the terminal does not have the operation, or it leads off the screen;
     /// - it erases, inserts or deletes while an attribute or a colour is on, or moves then without
-    ///   `msgr`;
+    ///   `msgr`, or it is `ExitAttributes` while a colour is on;
     /// - the cursor is at the margin and the operation is not `Home`, `Move`, `Clear`, `Reset`,
-    ///   `Enter` or `Set`;
+    ///   `ExitAttributes`, `Enter` or `Set`;
     /// - it is `EraseBelow`, `InsertLines` or `DeleteLines`, and the cursor is not in the first
     ///   column;
     /// - it inserts or deletes more lines or characters than there are from the cursor's on.

@@ -1,13 +1,14 @@
 -- What each operation does to the state of a terminal. terminfo(5), 'Basic Capabilities', 'Cursor Motions', 'Area
 -- Clears', 'Highlighting' and 'Color Handling'.
-use Rattle.std.specs.Prelude.{ℕ, ◌==◌, ◌||◌, List, [], ◌∷◌, Option, Some, None, option_and_then, if◌then◌else◌}
+use Rattle.std.specs.Prelude.{ℕ, ◌==◌, ◌||◌, ◌&&◌, List, [], ◌∷◌, Option, Some, None, option_and_then, if◌then◌else◌}
+use Rattle.std.specs.Option.{is_none}
 use Rattle.scr_cells.specs.LookViews.{blank_grid}
 use Rattle.scr_cells.specs.PenViews.{PenView, is_plain_pen, plain_pen, with_attribute}
 use Rattle.scr_term.specs.Operations.Profiles.{ProfileView}
 use Rattle.scr_term.specs.Operations.States.{TerminalState, character_written, characters_deleted, characters_erased, characters_inserted, erased, from_place, is_from_place, lines_deleted, lines_inserted, moved_down, moved_left, moved_right, moved_to, moved_to_column, moved_to_row, moved_up, rest_of_line_erased}
 use Rattle.scr_term.specs.Operations.Texts.{has}
 use Rattle.scr_term.specs.declared.operations.operation.Op.{Op}
-use Rattle.scr_term.specs.declared.operations.operation.Op.TheVariants.{Home, Move, Column, Line, Up, Down, Left, Right, Return, Clear, EraseLine, EraseBelow, EraseChars, InsertLines, DeleteLines, InsertChars, DeleteChars, Reset, Enter, Set, Fore, Back, Put}
+use Rattle.scr_term.specs.declared.operations.operation.Op.TheVariants.{Home, Move, Column, Line, Up, Down, Left, Right, Return, Clear, EraseLine, EraseBelow, EraseChars, InsertLines, DeleteLines, InsertChars, DeleteChars, Reset, ExitAttributes, Enter, Set, Fore, Back, Put}
 use Rattle.scr_term.specs.declared.operations.operation.Spot.TheVariants.{At}
 
 -- A motion; with an attribute or a colour on, it is defined only if the terminal has `msgr`.
@@ -26,6 +27,10 @@ lines_below_erased rows columns state =
 -- The pen is replaced; undefined at the margin.
 abbrev pub coloured : TerminalState → PenView → Option TerminalState
 coloured state pen = from_place state.spot (λ _ _. Some (record state { pen = pen }))
+
+-- All attributes are turned off; undefined with a colour on, which a terminal may keep or make the default one.
+abbrev pub attributes_exited : TerminalState → Option TerminalState
+attributes_exited state = if is_none state.pen.foreground && is_none state.pen.background then Some (record state { pen = plain_pen }) else None
 
 -- What an operation that the terminal has does.
 abbrev pub act : ProfileView → TerminalState → Op → Option TerminalState
@@ -47,6 +52,7 @@ act profile state (DeleteLines n) = erasure_made state (lines_deleted profile.ro
 act profile state (InsertChars n) = erasure_made state (characters_inserted profile.rows profile.columns state n)
 act profile state (DeleteChars n) = erasure_made state (characters_deleted profile.rows profile.columns state n)
 act profile state Reset = Some (record state { pen = plain_pen })
+act profile state ExitAttributes = attributes_exited state
 act profile state (Enter a) = Some (record state { pen = with_attribute state.pen a.0 })
 act profile state (Set a) = Some (record state { pen = record plain_pen { attrs = a.0 } })
 act profile state (Fore n) = coloured state (record state.pen { foreground = Some n })

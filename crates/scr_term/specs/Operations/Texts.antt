@@ -9,7 +9,7 @@ use Rattle.ti_param.specs.Tree.{Tree, start, value}
 use Rattle.scr_term.specs.declared.operations.capability.Capability.{Capability}
 use Rattle.scr_term.specs.declared.operations.capability.Capability.TheVariants as capability
 use Rattle.scr_term.specs.declared.operations.operation.Op.{Op}
-use Rattle.scr_term.specs.declared.operations.operation.Op.TheVariants.{Home, Move, Column, Line, Up, Down, Left, Right, Return, Clear, EraseLine, EraseBelow, EraseChars, InsertLines, DeleteLines, InsertChars, DeleteChars, Reset, Enter, Set, Fore, Back, Put}
+use Rattle.scr_term.specs.declared.operations.operation.Op.TheVariants.{Home, Move, Column, Line, Up, Down, Left, Right, Return, Clear, EraseLine, EraseBelow, EraseChars, InsertLines, DeleteLines, InsertChars, DeleteChars, Reset, ExitAttributes, Enter, Set, Fore, Back, Put}
 use Rattle.scr_term.specs.Operations.Pieces.{Piece, Character, Text}
 use Rattle.scr_term.specs.Operations.Profiles.{ProfileView, entering, has_colours, is_shown, is_there, program_of, shown_set}
 
@@ -61,6 +61,7 @@ first_piece profile (DeleteLines n) = motion profile capability.Dl1 capability.D
 first_piece profile (InsertChars n) = text_of_one capability.Ich n
 first_piece profile (DeleteChars n) = motion profile capability.Dch1 capability.Dch n
 first_piece profile Reset = text capability.Sgr0
+first_piece profile ExitAttributes = text capability.Sgr0
 first_piece profile (Enter a) = text (entering a.0)
 first_piece profile (Set a) = Text capability.Sgr (renditions_of a.0)
 first_piece profile (Fore n) = text_of_one capability.Setaf n
@@ -121,6 +122,7 @@ is_within profile Clear = true
 is_within profile EraseLine = true
 is_within profile EraseBelow = true
 is_within profile Reset = true
+is_within profile ExitAttributes = true
 
 -- The profile has the operation: it is within these limits, and the terminal has the text.
 unfoldable pub has : ProfileView → Op → Bool

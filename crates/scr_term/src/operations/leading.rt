@@ -6,7 +6,7 @@ ghost use Rattle.scr_term.specs.Operations.States.{IsShownPen, IsSpot};
 ghost use Rattle.scr_term.specs.Operations.Texts.{has};
 
 use crate::displays::Change;
-use crate::operations::steps::{change_of, next_pen};
+use crate::operations::steps::{change_of, next_pen, without_attributes};
 use crate::{Op, Profile, Spot};
 use bitflags::Flags;
 use scr_cells::{Attrs, Pen};
@@ -37,10 +37,12 @@ impl Profile {
     }
 
     /// The pen after an operation that turns attributes on or off or sets a colour, from `spot`
-    /// with `pen`: `Reset`, `Enter`, `Set`, `Fore` or `Back`. The operation changes nothing else.
+    /// with `pen`: `Reset`, `ExitAttributes`, `Enter`, `Set`, `Fore` or `Back`. The operation changes nothing
+    /// else.
     ///
     /// `None` if the operation is none of these, if the terminal does not have it, or if it is
-    /// undefined: it sets a colour while the cursor is at the margin.
+    /// undefined: it sets a colour while the cursor is at the margin, or it is `ExitAttributes` and a
+    /// colour is on.
     #[tactic(auto, unfolding(crate::specs::Operations::Texts::has))]
     pub fn turned(&self, spot: Spot, pen: Pen, op: Op) -> Option<Pen>
         ensures { IfSome result (TurnsTo self.now spot pen op) }
@@ -50,6 +52,7 @@ impl Profile {
         }
         match op {
             Op::Reset | Op::Enter(_) | Op::Set(_) => Some(next_pen(pen, op)),
+            Op::ExitAttributes => without_attributes(pen),
             Op::Fore(colour) => match spot {
                 Spot::At(..) => Some(pen.with_foreground(Some(colour))),
                 Spot::Margin(_) => None,

@@ -50,6 +50,8 @@ pub enum Op {
     /// `sgr0`, then `op` if colours are shown: turns all attributes off and makes the colours
     /// default.
     Reset,
+    /// `sgr0` alone, sent in default colours: turns all attributes off.
+    ExitAttributes,
     /// `smso`, `smul`, `rev`, `blink`, `dim`, `bold` or `invis`: turns on one attribute more, the
     /// only one of the set.
     Enter(Attrs),

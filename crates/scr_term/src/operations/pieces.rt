@@ -49,6 +49,7 @@ impl Profile {
             Op::InsertChars(count) => text_of_one(Capability::Ich, count),
             Op::DeleteChars(count) => self.motion(Capability::Dch1, Capability::Dch, count),
             Op::Reset => text(Capability::Sgr0),
+            Op::ExitAttributes => text(Capability::Sgr0),
             Op::Enter(attribute) => text(entering(attribute)),
             Op::Set(attributes) => Sent::Renditions(attributes),
             Op::Fore(colour) => text_of_one(Capability::Setaf, u32::from(colour)),

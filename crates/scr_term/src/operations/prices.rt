@@ -43,6 +43,7 @@ pub struct Prices {
     address_row: ByDigits,
     address_column: ByDigits,
     reset: u32,
+    exit_attributes: u32,
     fore: u32,
     back: u32,
     // By the index of the attribute in `Attrs::EACH`.
@@ -78,6 +79,7 @@ impl Prices {
             Op::InsertChars(count) => self.insert_chars.with(count),
             Op::DeleteChars(count) => self.delete_chars.by(count),
             Op::Reset => self.reset,
+            Op::ExitAttributes => self.exit_attributes,
             Op::Enter(attribute) => self.enters(attribute),
             Op::Set(attributes) => sum(self.set, &self.set_more, attributes),
             Op::Fore(_) => self.fore,
@@ -134,6 +136,7 @@ impl Prices {
             address_row: number,
             address_column: number,
             reset: FAR,
+            exit_attributes: FAR,
             fore: FAR,
             back: FAR,
             enter: [FAR; 7],
@@ -225,12 +228,24 @@ impl Profile {
             address_row: self.prices_above(address, ADDRESSED_ROWS),
             address_column: self.prices_above(address, ADDRESSED_COLUMNS),
             reset: self.price(Op::Reset),
+            exit_attributes: self.price_of_exit(),
             fore: self.price(Op::Fore(0)),
             back: self.price(Op::Back(0)),
             enter: self.enter_prices(),
             set,
             set_more: self.set_prices(set),
         }
+    }
+
+    // The price of turning attributes off alone. It is there only where lines or characters can be
+    // moved: what other terminals are sent does not change.
+    fn price_of_exit(&self) -> u32 {
+        for spare in Capability::SPARE {
+            if self.is_there(spare) {
+                return self.price(Op::ExitAttributes);
+            }
+        }
+        FAR
     }
 
     // The bytes of an operation, at most `FAR`.

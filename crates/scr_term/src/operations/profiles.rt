@@ -137,7 +137,13 @@ impl Profile {
             Op::Set(attributes) => self.shown.contains(attributes),
             Op::Fore(colour) | Op::Back(colour) => colour < 8 && self.colours,
             Op::Put(byte) => is_character(byte),
-            Op::Home | Op::Return | Op::Clear | Op::EraseLine | Op::EraseBelow | Op::Reset => true,
+            Op::Home
+            | Op::Return
+            | Op::Clear
+            | Op::EraseLine
+            | Op::EraseBelow
+            | Op::Reset
+            | Op::ExitAttributes => true,
         }
     }
 

@@ -1,6 +1,7 @@
 //! What each operation changes on an emulated terminal, except for writing characters.
-ghost use Rattle.std.specs.Prelude.{◌≡◌, ◌≢◌, ◌||◌, ℕ, Some, None, IsTrue, IfSome, if◌then◌else◌};
-ghost use Rattle.scr_cells.specs.PenViews.{is_plain_pen};
+ghost use Rattle.std.specs.Option.{is_none};
+ghost use Rattle.std.specs.Prelude.{◌≡◌, ◌≢◌, ◌||◌, ◌&&◌, ℕ, Some, None, IsTrue, IfSome, if◌then◌else◌};
+ghost use Rattle.scr_cells.specs.PenViews.{is_plain_pen, plain_pen};
 ghost use Rattle.scr_term.specs.declared.operations.operation.Op.TheVariants.{Put};
 ghost use Rattle.scr_term.specs.Operations.Abilities.{full_abilities};
 ghost use Rattle.scr_term.specs.Operations.States.{IsShownPen, IsSpot, from_place};
@@ -48,6 +49,7 @@ pub(crate) fn change_of(profile: &Profile, spot: Spot, pen: Pen, op: Op) -> Opti
         Op::InsertChars(count) => erasure(pen, characters_inserted(size, spot, count)),
         Op::DeleteChars(count) => erasure(pen, characters_deleted(size, spot, count)),
         Op::Reset | Op::Enter(_) | Op::Set(_) => Some(Change::Rendered(next_pen(pen, op))),
+        Op::ExitAttributes => exited(pen),
         Op::Fore(colour) => coloured(spot, pen.with_foreground(Some(colour))),
         Op::Back(colour) => coloured(spot, pen.with_background(Some(colour))),
         Op::Put(_) => None,
@@ -95,6 +97,28 @@ pub(crate) fn next_pen(pen: Pen, op: Op) -> Pen
         Op::Enter(attribute) => pen.with_attrs(pen.attrs().union(attribute)),
         Op::Set(attributes) => Pen::plain().with_attrs(attributes),
         _ => pen,
+    }
+}
+
+// The plain pen, for one without a colour; `None` for one with a colour.
+pub(crate) fn without_attributes(pen: Pen) -> Option<Pen>
+    ensures { result ≡ if is_none pen.foreground && is_none pen.background then Some plain_pen else None }
+{
+    if pen.foreground().is_none() && pen.background().is_none() {
+        Some(Pen::plain())
+    } else {
+        None
+    }
+}
+
+// Turns attributes off. With a colour on, it is undefined.
+fn exited(pen: Pen) -> Option<Change>
+    ensures value { result ≡ if is_none pen.foreground && is_none pen.background then Some (Change.Rendered plain_pen) else None }
+    ensures change { (rows columns : ℕ) → IfSome result (IsChange rows columns) }
+{
+    match without_attributes(pen) {
+        Some(pen) => Some(Change::Rendered(pen)),
+        None => None,
     }
 }
 
