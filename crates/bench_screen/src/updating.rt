@@ -19,6 +19,7 @@ fn show(alloc: Global, screen: &mut Screen, win: Win) -> Result<()> {
 }
 
 // Brings the terminal to the screen, and says how many bytes that took. They are dropped.
+#[inline(always)]
 fn update(alloc: Global, screen: &mut Screen, device: &mut Device<Vec<u8>>) -> Result<u64> {
     let Ok(sent) = screen.doupdate(alloc, device) else {
         bail!("the update ended early");
