@@ -23,7 +23,7 @@ use Rattle.scr_plan.proofs.PartLaws.{row_known}
 use Rattle.scr_plan.proofs.PlaceLaws.{one_run, then_runs}
 use Rattle.scr_plan.proofs.PlainLaws.{look_same, not_false}
 use Rattle.scr_plan.proofs.RunChangeLaws.{not_in}
-use Rattle.scr_plan.specs.Code.Drafts.{Aim, HasChanges, HasDiffering, IsAdded, IsAimed, KeepsAbove, KeepsEvery, KeepsRuns, in_runs, is_calm}
+use Rattle.scr_plan.specs.Code.Drafts.{Aim, HasDiffering, IsAdded, IsAimed, KeepsAbove, KeepsEvery, KeepsRuns, in_runs, is_calm}
 use Rattle.scr_plan.specs.Code.Joinings.{counted_up}
 use Rattle.scr_plan.specs.Code.Moves.{IsBegun, IsMoved, IsSent, IsSlide, Sends, shifted_at, shown_at}
 use Rattle.scr_plan.specs.Code.Painters.{painter_look, painter_of, row_differs, shown_in}
@@ -282,9 +282,9 @@ not_moved (Some shift) at r c e = go shift.up
     go true = ap (λ b. if b then (if ltb (r + shift.count) shift.end then at (r + shift.count) c else blank) else at r c) e
     go false = ap (λ b. if b then (if leb (shift.top + shift.count) r then at (r - shift.count) c else blank) else at r c) e
 
-above_moved : (shift : Option Shift) (end r : ℕ) → IfSome shift (λ shift. end ≡ shift.top) → r < end → is_moved shift r ≡ false
-above_moved None end r is under = refl
-above_moved (Some shift) end r is under = grind (arith, nat_tests)
+above_moved : (shift : Option Shift) (from r : ℕ) → IfSome shift (λ shift. from ≤ shift.top) → r < from → is_moved shift r ≡ false
+above_moved None from r below under = refl
+above_moved (Some shift) from r below under = let top : r < shift.top = omega (arith, below, under) in grind (arith, nat_tests)
 
 below_moved : (shift : Option Shift) (end r : ℕ) → IfSome shift (λ shift. end ≡ shift.end) → end ≤ r → is_moved shift r ≡ false
 below_moved None end r is over = refl
@@ -357,6 +357,10 @@ pub settles_then : (profile : ProfileView) (picture : PictureView) (shift : Opti
     → Settles profile picture shift grid n k some most old new
 settles_then profile picture shift grid n m k some more most old mid new one other paid first start right = other paid first start (one paid first start right)
 
+-- the runs of the row are dropped before it is settled
+pub dropped_settled : (profile : ProfileView) (picture : PictureView) (shift : Option Shift) (grid : List (List LookView)) (n m : ℕ) (some found kept more : List Run) (old new : Draft) → KeepsRuns some found → KeepsAbove n found kept → Settles profile picture shift grid n m kept more old new → Settles profile picture shift grid n m some more old new
+dropped_settled profile picture shift grid n m some found kept more old new keeps above settles = settles_then profile picture shift grid n n m some kept more old old new (above_settled profile picture shift grid n some kept old (λ place under e. above place under (keeps place e))) settles
+
 -- ---- from what is remembered
 
 begun_sent : (profile : ProfileView) (memory : MemoryView) (draft : Draft) → IsBegun memory draft → IsState (abilities profile) memory.state → IsSent profile memory.state memory.state.grid draft
@@ -371,10 +375,12 @@ begun_sent profile memory draft begun is = record {
 }
 
 -- a shift was sent, if any, and the rows from one on are settled
-pub settled_moves : GridLaws LookView → (profile : ProfileView) (picture : PictureView) → Fits profile picture → (memory : MemoryView) → IsState (abilities profile) memory.state → (shift : Option Shift) (end from : ℕ) → IfSome shift (λ shift. end ≡ shift.top) → from ≤ end
-    → (some more : List Run) → HasChanges profile picture memory some picture.rows → (old mid new : Draft) → IsBegun memory old → Sends profile (shown_at shift) old mid → Settles profile picture shift memory.state.grid from picture.rows some more mid new
-    → IsMoved profile picture memory.state (in_runs more) new
-settled_moves grids profile picture fits memory is shift end from end_is above some more found old mid new begun sends settles =
+pub settled_moves : GridLaws LookView → (ranges : VirtualView → ℕ → Option (ℕ × ℕ)) (profile : ProfileView) (memory : MemoryView) (virtual : VirtualView) → Fits profile virtual.picture → ShowsOutside ranges profile memory virtual → IsSizeOf virtual.picture memory → is_known memory ≡ true → IsState (abilities profile) memory.state
+    → (shift : Option Shift) (from : ℕ) → IfSome shift (λ shift. from ≤ shift.top) → ((r : ℕ) → r < from → r < virtual.picture.rows → ranges virtual r ≡ None)
+    → (some more : List Run) (old mid new : Draft) → IsBegun memory old → Sends profile (shown_at shift) old mid → Settles profile virtual.picture shift memory.state.grid from virtual.picture.rows some more mid new
+    → IsMoved profile virtual.picture memory.state (in_runs more) new
+settled_moves grids ranges profile memory virtual fits same size known is shift from above none some more old mid new begun sends settles =
+    let picture : PictureView = virtual.picture in
     let grid : List (List LookView) = memory.state.grid in
     let sent : IsSent profile memory.state (grid_of profile.rows profile.columns (shown_at shift (grid_at blank grid))) mid = sends memory.state grid (begun_sent profile memory old begun is) in
     let paid : ℕ = length (all_bytes profile mid.ops.items) in
@@ -412,13 +418,34 @@ settled_moves grids profile picture fits memory is shift end from end_is above s
       };
     }
   where
-    by : (r c : ℕ) → r < picture.rows → c < picture.columns → in_first from some (r, c) ≡ false → (b : Bool) → ltb r from ≡ b → shown_at shift (grid_at blank memory.state.grid) r c ≡ look_settled profile picture shift memory.state.grid from (r, c)
+    by : (r c : ℕ) → r < virtual.picture.rows → c < virtual.picture.columns → in_first from some (r, c) ≡ false → (b : Bool) → ltb r from ≡ b → shown_at shift (grid_at blank memory.state.grid) r c ≡ look_settled profile virtual.picture shift memory.state.grid from (r, c)
     by r c high wide e true at =
         let under : r < from = grind (arith, nat_tests) in
-        not_moved shift (grid_at blank memory.state.grid) r c (above_moved shift end r end_is (omega (arith, under, above)))
-        ∙ found r high c wide (first_waits from r c some under e)
-        ∙ sym (above_first profile picture shift memory.state.grid from r c under)
-    by r c high wide e false at = let low : from ≤ r = grind (arith, nat_tests) in sym (from_first profile picture shift memory.state.grid from r c low)
+        not_moved shift (grid_at blank memory.state.grid) r c (above_moved shift from r above under)
+        ∙ same r c high wide (row_known memory known r (omega (arith, high, size.known_rows))) (ap (λ range. in_range range c) (none r under high))
+        ∙ sym (above_first profile virtual.picture shift memory.state.grid from r c under)
+    by r c high wide e false at = let low : from ≤ r = grind (arith, nat_tests) in sym (from_first profile virtual.picture shift memory.state.grid from r c low)
+
+-- only the room for operations became another
+pub same_moved : (profile : ProfileView) (picture : PictureView) (start : TerminalState) (waits : ℕ × ℕ → Bool) (old new : Draft) → new.ops.items ≡ old.ops.items → new.bytes ≡ old.bytes → new.spot ≡ old.spot → new.pen ≡ old.pen
+    → IsMoved profile picture start waits old → IsMoved profile picture start waits new
+same_moved profile picture start waits old new ops bytes spot pen moved = record {
+  first = moved.first;
+  mid = moved.mid;
+  led = moved.led;
+  right = record {
+    own = moved.right.own;
+    ops = ops ∙ moved.right.ops;
+    now = moved.right.now;
+    run = moved.right.run;
+    calm = moved.right.calm;
+    state = moved.right.state;
+    bytes = bytes ∙ moved.right.bytes;
+    spot = moved.right.spot ∙ sym spot;
+    pen = moved.right.pen ∙ sym pen;
+    shows = moved.right.shows;
+  };
+}
 
 -- ---- what a row shows
 

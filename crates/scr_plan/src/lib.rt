@@ -37,6 +37,7 @@ mod strokes;
 mod turns;
 mod unknown_rows;
 mod visiting;
+mod walks;
 mod ways;
 mod wiping;
 

@@ -1,8 +1,8 @@
 //! Moving what is on the screen already: a shift of rows, then slides of rows' characters, and the
-//! runs of what they change.
-ghost use Rattle.std.specs.Prelude.{ℕ, ◌≡◌, ◌≤◌, IfSome, OnOk, true};
-ghost use Rattle.scr_plan.specs.Code.Drafts.{HasChanges, in_runs};
-ghost use Rattle.scr_plan.specs.Code.Moves.{IsBegun, IsMoved, IsShift};
+//! runs of what they leave to be painted.
+ghost use Rattle.std.specs.Prelude.{◌≡◌, OnOk, true};
+ghost use Rattle.scr_plan.specs.Code.Drafts.{in_runs};
+ghost use Rattle.scr_plan.specs.Code.Moves.{IsBegun, IsMoved};
 ghost use Rattle.scr_plan.specs.Code.Painters.{painter_of};
 ghost use Rattle.scr_plan.specs.Code.Planning.{range_by};
 ghost use Rattle.scr_plan.specs.Memories.{is_known};
@@ -14,9 +14,8 @@ ghost use Rattle.scr_term.specs.Operations.States.{IsShownPen};
 use crate::memories::Memory;
 use crate::painting::Painter;
 use crate::planning::Looked;
-use crate::row_prices::RowPrices;
 use crate::runs::Run;
-use crate::shifts::Shift;
+use crate::settling::first_to_look;
 use crate::strokes::Draft;
 use scr_cells::{Look, NoMemory, grid_laws};
 use scr_term::Profile;
@@ -24,8 +23,8 @@ use scr_virtual::Virtual;
 use std::alloc::Global;
 
 impl Draft {
-    // Moves rows and characters that the screen shows elsewhere, if that is worth it; the runs are
-    // then those of what it shows after that.
+    // Moves rows and characters that the screen shows elsewhere, if that is worth it, and finds the
+    // runs of what differs then.
     pub(crate) fn move_what_stays(
         &mut self,
         alloc: Global,
@@ -42,31 +41,17 @@ impl Draft {
         requires same { ShowsOutside (range_by by) profile.now memory.now wanted.now }
         requires known { is_known memory.now ≡ true }
         requires pen { IsShownPen (abilities profile.now) memory.now.state.pen }
-        requires found { HasChanges profile.now wanted.now.picture memory.now runs.old.items wanted.now.picture.rows }
         requires begun { IsBegun memory.now self.old }
         ensures { OnOk result (IsMoved profile.now wanted.now.picture memory.now.state (in_runs runs.new.items) self.new) }
     {
         grid_laws::<Look>();
         let _profile = profile.size();
         let _memory = memory.size();
-        let shift = self.shift_if_worth(painter, profile, memory, wanted.picture(), runs)?;
+        let shift = self.shift_if_worth(alloc, painter, profile, memory, wanted, by)?;
         let mut room = Vec::new(alloc);
-        let end = first_moved(shift, memory.size().rows);
-        let prices = RowPrices::new(painter, profile, wanted.picture());
-        let from = self.first_to_slide(&prices, memory, runs, end, &mut room)?;
+        let from = first_to_look(wanted, by, shift);
         self.settle_from(
             painter, profile, memory, wanted, by, shift, from, runs, &mut room,
         )
-    }
-}
-
-// The first row that a shift changes; `rows` if there is no shift.
-fn first_moved(shift: Option<Shift>, rows: u32) -> u32
-    ensures above { IfSome shift (λ shift. result ≡ shift.top) }
-    ensures inside { IfSome shift (IsShift rows) → result ≤ rows }
-{
-    match shift {
-        Some(shift) => shift.top,
-        None => rows,
     }
 }

@@ -1,10 +1,12 @@
-//! Choosing the order of runs: the nearest next, or pen by pen, whichever is cheaper. This only
-//! compares prices: a choice affects nothing but the number of bytes of an update.
+//! Choosing the order of runs: the nearest next, or pen by pen, whichever is cheaper; where rows or
+//! characters were moved, also as they are read. This only compares prices: a choice affects
+//! nothing but the number of bytes of an update.
 
 use crate::least_motions::LeastMotions;
 use crate::links::{Links, NONE};
 use crate::nearest::Nearest;
 use crate::runs::{How, Run};
+use crate::walks::{Task, Walk};
 use crate::ways::{Chooser, Cursor, Stop, Way};
 use scr_cells::{NoMemory, Pen};
 use scr_term::Spot;
@@ -19,28 +21,22 @@ const BACK: u32 = 2;
 // late.
 const WISHED_LAST: u32 = 3;
 
-// The runs in the cheaper of the two orders; the nearest next if they cost the same.
-pub(crate) fn cheaper_order(
+// The runs in the cheapest order; the nearest next if others cost the same. `moved` says whether rows
+// or characters were moved before.
+pub(crate) fn cheapest_order(
     alloc: Global,
     chooser: &Chooser<'_>,
     cursor: &Cursor,
     runs: &[Run],
     wish: Option<(u32, u32)>,
+    moved: bool,
 ) -> Result<Vec<Stop>, NoMemory> {
     let mut stops = Vec::with_capacity(alloc, runs.len())?;
-    if runs.len() < 2 {
-        if !runs.is_empty() {
-            stops.push(Stop {
-                number: 0,
-                way: None,
-            })?;
-        }
-        return Ok(stops);
-    }
     let task = Task {
         chooser,
         runs,
         wish,
+        moved,
         least: LeastMotions::of(chooser.prices, chooser.jump),
     };
     let mut links = Links::new(alloc, runs)?;
@@ -50,7 +46,21 @@ pub(crate) fn cheaper_order(
         stops.clear();
         copy_ordered(&links, runs.len(), &mut stops)?;
     }
+    if moved && task.is_cheaper_read(cursor, price_by_pens.min(price_by_nearness)) {
+        stops.clear();
+        copy_numbers(runs.len(), &mut stops)?;
+    }
     Ok(stops)
+}
+
+// The order in which the runs are, by rows.
+fn copy_numbers(count: usize, stops: &mut Vec<Stop>) -> Result<(), NoMemory> {
+    let mut number = 0u32;
+    for _ in 0..count {
+        stops.push(Stop { number, way: None })?;
+        number = number.saturating_add(1);
+    }
+    Ok(())
 }
 
 // Copies the order that is kept in the links.
@@ -77,65 +87,21 @@ pub(crate) fn run_at(runs: &[Run], number: u32) -> Run {
     }
 }
 
-// What an order is made for: the runs, by rows, and where the cursor is wanted after them.
-#[derive(Clone, Copy)]
-struct Task<'a> {
-    chooser: &'a Chooser<'a>,
-    runs: &'a [Run],
-    wish: Option<(u32, u32)>,
-    least: LeastMotions,
-}
-
-// A priced walk over runs: where the cursor is, which run was painted last, how many were, and how
-// many bytes all took.
-#[derive(Drop)]
-struct Walk {
-    cursor: Cursor,
-    last: u32,
-    count: u32,
-    price: u32,
-}
-
-impl Walk {
-    // No run was painted yet.
-    fn from(cursor: &Cursor) -> Walk {
-        Walk {
-            cursor: *cursor,
-            last: NONE,
-            count: 0,
-            price: 0,
-        }
-    }
-
-    // Paints the run with a number; the price of the way to it is known.
-    fn paint_behind(&mut self, chooser: &Chooser<'_>, number: u32, run: &Run, price_of_way: u32) {
-        self.cursor = chooser.behind(run);
-        self.last = number;
-        self.count = self.count.saturating_add(1);
-        self.price = self
-            .price
-            .saturating_add(price_of_way)
-            .saturating_add(chooser.price_of_painting(run));
-    }
-
-    // Paints the run with a number, as the next one of the order that is kept.
-    fn paint(&mut self, task: &Task<'_>, links: &mut Links, number: u32) {
-        links.set_ordered(self.count, number);
-        let run = run_at(task.runs, number);
-        let way = task.chooser.way(&self.cursor, run.row, run.start, run.pen);
-        links.set_way(number, self.last, way);
-        self.paint_behind(task.chooser, number, &run, way.price);
-    }
-
-    // The price of the walk, with the way to where the cursor is wanted.
-    fn price_to_wish(&self, task: &Task<'_>) -> u32 {
-        match task.wish {
-            Some((row, column)) => {
-                let way = task.chooser.way(&self.cursor, row, column, self.cursor.pen);
-                self.price.saturating_add(way.price)
+// The order in which the runs are read.
+impl<'a> Task<'a> {
+    // Whether painting row by row, each row from the left, costs less than the limit.
+    fn is_cheaper_read(&self, cursor: &Cursor, limit: u32) -> bool {
+        let mut walk = Walk::from(cursor);
+        let mut number = 0u32;
+        for run in self.runs {
+            let way = self.chooser.way(&walk.cursor, run.row, run.start, run.pen);
+            walk.paint_behind(self.chooser, number, run, way.price);
+            if walk.price >= limit {
+                return false;
             }
-            None => self.price,
+            number = number.saturating_add(1);
         }
+        walk.price_to_wish(self) < limit
     }
 }
 

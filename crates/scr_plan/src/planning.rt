@@ -32,10 +32,11 @@ use std::alloc::Global;
 /// Plans an update: operations that bring a terminal from what is remembered of it to the picture,
 /// in few bytes (curs_refresh(3X), doupdate()).
 ///
-/// From every state that agrees with what is remembered, the operations show the picture. All is known after them, if the
-/// remembered state is one that the profile's terminal can be in. They have no more bytes than `scratch`. If all is known
-/// and the screen is not to be painted anew, they have no more than the joined repaint, and none if no place differs and
-/// the cursor is where it is wanted.
+/// From every state that agrees with what is remembered, the operations show the picture. All is
+/// known after them, if the remembered state is one that the profile's terminal can be in. They
+/// have no more bytes than `scratch`. If all is known and the screen is not to be painted anew,
+/// they have no more than the joined repaint, and none if no place differs and the cursor is where
+/// it is wanted.
 ///
 /// Picture and memory have the profile's size, and a known row shows the picture except in the
 /// columns that may have changed (`Virtual::changed`). Fails only when memory runs out.
@@ -166,6 +167,7 @@ fn shows_colours(profile: &Profile, pen: Pen) -> bool
 }
 
 // The plan if not all is known, or the whole screen is to be painted anew.
+#[inline(never)]
 fn anew_or_partly(
     alloc: Global,
     profile: &Profile,
@@ -345,6 +347,7 @@ const FEW_OPERATIONS: usize = 16;
 
 // The number of bytes of the joined repaint. If that is above the limit, it may be any number
 // between the two.
+#[inline(never)]
 fn bytes_of_joined(
     alloc: Global,
     painter: Painter,
@@ -370,6 +373,7 @@ fn bytes_of_joined(
 }
 
 // The joined repaint.
+#[inline(never)]
 fn joined(
     alloc: Global,
     painter: Painter,

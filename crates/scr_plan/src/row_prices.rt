@@ -1,6 +1,6 @@
 //! What it costs to make a row show what is wanted, over whatever it shows. This only compares
 //! prices: a choice affects nothing but the number of bytes of an update.
-ghost use Rattle.std.specs.Prelude.{◌≡◌, ◌<◌, ◌≤◌, length};
+ghost use Rattle.std.specs.Prelude.{◌≡◌, ◌<◌, ◌≤◌, length, true};
 ghost use Rattle.scr_cells.specs.Grids.{grid_row};
 
 use crate::blanks::{
@@ -31,40 +31,31 @@ impl<'a> RowPrices<'a> {
         }
     }
 
-    // Whether the terminal has an operation.
-    pub(crate) fn has(&self, op: Op) -> bool {
-        self.chooser.prices.of(op) < FAR
-    }
-
     // Whether a row of looks is just what is wanted in a row.
     pub(crate) fn is_shown(&self, row: u32, looks: &[Look]) -> bool {
-        let size = self.chooser.picture.size();
-        let is_row = row < size.rows && looks.len() == size.columns as usize;
-        is_row && self.first_unlike(row, looks).is_none()
+        let picture = self.chooser.picture;
+        let columns = picture.size().columns;
+        is_row(picture, row, looks) && self.first_unlike(row, looks, 0, columns).is_none()
     }
 
-    // The first column in which a row of looks is not what is wanted in a row, if there is one.
-    pub(crate) fn first_unlike(&self, row: u32, looks: &[Look]) -> Option<u32> {
+    // The first of columns `from..end` in which a row of looks is not what is wanted in a row, if
+    // there is one.
+    pub(crate) fn first_unlike(
+        &self,
+        row: u32,
+        looks: &[Look],
+        from: u32,
+        end: u32,
+    ) -> Option<u32> {
         let picture = self.chooser.picture;
         let size = picture.size();
-        if row >= size.rows || looks.len() != size.columns as usize {
+        if !is_row(picture, row, looks) || from > end || end > size.columns {
             return None;
         }
         let cells = picture.row(row);
         let painter = self.chooser.painter;
-        let unlike = painter.unlike_from(picture, row, cells, Some(looks), 0, size.columns);
-        if unlike < size.columns {
-            Some(unlike)
-        } else {
-            None
-        }
-    }
-
-    // Whether a look is what is seen of a cell.
-    #[inline(always)]
-    pub(crate) fn is_seen(&self, cell: Cell, look: Look) -> bool {
-        let chooser = &self.chooser;
-        chooser.painter.is_seen(chooser.picture, look, cell)
+        let unlike = painter.unlike_from(picture, row, cells, Some(looks), from, end);
+        if unlike < end { Some(unlike) } else { None }
     }
 
     // The price of a row over a blank one: its places that are not blank, plus an easy motion if
@@ -102,48 +93,55 @@ impl<'a> RowPrices<'a> {
         blanks
     }
 
-    // The price of a row over a row of looks: that of its runs, plus an easy motion for each.
+    // The price of a row over a row of looks.
     pub(crate) fn over(&self, row: u32, looks: &[Look]) -> u32 {
+        self.part_over(row, looks, 0, self.chooser.picture.size().columns)
+    }
+
+    // The price of columns `from..end` of a row over a row of looks: that of their runs, plus an easy
+    // motion for each.
+    pub(crate) fn part_over(&self, row: u32, looks: &[Look], from: u32, end: u32) -> u32 {
         let picture = self.chooser.picture;
         let size = picture.size();
-        if row >= size.rows || looks.len() != size.columns as usize {
+        if !is_row(picture, row, looks) || from > end || end > size.columns {
             return FAR;
         }
         let cells = picture.row(row);
         let painter = self.chooser.painter;
-        let end = size.columns;
-        match painter.erased_rest(self.profile, picture, row, cells, Some(looks), 0, end) {
+        match painter.erased_rest(self.profile, picture, row, cells, Some(looks), from, end) {
             Some(column) => self
-                .part_over(picture, row, cells, looks, column)
+                .stretches_over(picture, row, cells, looks, from, column)
                 .saturating_add(self.chooser.prices.of(Op::EraseLine))
                 .saturating_add(self.chooser.jump),
-            None => self.part_over(picture, row, cells, looks, end),
+            None => self.stretches_over(picture, row, cells, looks, from, end),
         }
     }
 
-    // The price of the columns before `end`.
-    fn part_over(
+    // The price of the stretches of columns `from..end`.
+    fn stretches_over(
         &self,
         picture: &Picture,
         row: u32,
         cells: &[Cell],
         looks: &[Look],
+        from: u32,
         end: u32,
     ) -> u32
         requires cells { cells.now ≡ grid_row picture.now.lines row }
         requires wide { length cells.now ≡ picture.now.columns }
         requires width { length looks.now ≡ picture.now.columns }
+        requires from { from ≤ end }
         requires end { end ≤ picture.now.columns }
     {
         let painter = self.chooser.painter;
+        let profile = self.profile;
         let mut price = 0u32;
-        let mut column = 0;
+        let mut column = from;
         while column < end {
             let start = painter.unlike_from(picture, row, cells, Some(looks), column, end);
             if start >= end {
                 return price;
             }
-            let profile = self.profile;
             let behind = painter.stretch_end(profile, picture, row, cells, Some(looks), start, end);
             price = price.saturating_add(self.of_stretch(cells, start, behind));
             column = behind;
@@ -218,4 +216,65 @@ impl<'a> RowPrices<'a> {
             .of(Op::EraseChars(count))
             .saturating_add(self.chooser.jump)
     }
+}
+
+// How a row of looks becomes another: how many places differ, how many of these become blank, and
+// how many places are not blank then.
+#[derive(Clone, Copy)]
+pub(crate) struct Counts {
+    differing: u32,
+    blanked: u32,
+    filled: u32,
+}
+
+impl Counts {
+    // Of the looks before and after.
+    pub(crate) fn of(before: &[Look], after: &[Look]) -> Counts {
+        let count = before.len().min(after.len());
+        let (before, after) = (&before[..count], &after[..count]);
+        let mut differing = 0u32;
+        let mut blanked = 0u32;
+        let mut filled = 0u32;
+        for place in 0..count {
+            let is_other = before[place] != after[place];
+            let is_filled = after[place] != Look::blank();
+            differing = differing.wrapping_add(u32::from(is_other));
+            blanked = blanked.wrapping_add(u32::from(is_other & !is_filled));
+            filled = filled.wrapping_add(u32::from(is_filled));
+        }
+        Counts {
+            differing,
+            blanked,
+            filled,
+        }
+    }
+
+    // About what the places that differ cost: those that become blank may be erased together.
+    pub(crate) fn price(self, prices: &RowPrices<'_>) -> u32 {
+        if self.differing == 0 {
+            return 0;
+        }
+        let erased = self.blanked.min(prices.chooser.prices.of(Op::EraseLine));
+        self.differing
+            .saturating_sub(self.blanked)
+            .saturating_add(erased)
+            .saturating_add(prices.chooser.jump)
+    }
+
+    // What the row costs over blanks.
+    pub(crate) fn price_on_blanks(self, prices: &RowPrices<'_>) -> u32 {
+        if self.filled == 0 {
+            return 0;
+        }
+        self.filled.saturating_add(prices.chooser.jump)
+    }
+}
+
+// Whether a picture has a row, and there is a look for each of its columns.
+fn is_row(picture: &Picture, row: u32, looks: &[Look]) -> bool
+    ensures inside { result ≡ true → row < picture.now.rows }
+    ensures width { result ≡ true → length looks.now ≡ picture.now.columns }
+{
+    let size = picture.size();
+    row < size.rows && looks.len() == size.columns as usize
 }

@@ -55,13 +55,44 @@ impl Painter {
     {
         let size = picture.size();
         let cells = picture.row(row);
-        match self.erased_rest(profile, picture, row, cells, before, from, end) {
+        let start = self.unlike_from(picture, row, cells, before, from, end);
+        if start >= end {
+            return Ok(());
+        }
+        match self.erased_rest(profile, picture, row, cells, before, start, end) {
             Some(column) => {
-                self.add_part(profile, picture, row, cells, before, from, column, runs)?;
+                if start < column {
+                    self.add_from(profile, picture, row, cells, before, start, column, runs)?;
+                }
                 add(runs, rest_from(row, column, size.columns))
             }
-            None => self.add_part(profile, picture, row, cells, before, from, end, runs),
+            None => self.add_from(profile, picture, row, cells, before, start, end, runs),
         }
+    }
+
+    // Adds the runs of a part of a row that begins in a place that differs.
+    fn add_from(
+        self,
+        profile: &Profile,
+        picture: &Picture,
+        row: u32,
+        cells: &[Cell],
+        before: Option<&[Look]>,
+        start: u32,
+        end: u32,
+        runs: &mut Vec<Run>,
+    ) -> Result<(), NoMemory>
+        requires cells { cells.now ≡ grid_row picture.now.lines row }
+        requires wide { length cells.now ≡ picture.now.columns }
+        requires width { IfSome before (λ looks. length looks.now ≡ picture.now.columns) }
+        requires start { start < end }
+        requires end { end ≤ picture.now.columns }
+        ensures kept { OnOk result (KeepsRuns runs.old.items runs.new.items) }
+        ensures has { OnOk result (HasDiffering self picture.now row (option_map (λ looks. looks.now) before.entry) start end runs.new.items) }
+    {
+        let behind = self.stretch_end(profile, picture, row, cells, before, start, end);
+        self.add_stretch(profile, picture, row, cells, start, behind, runs)?;
+        self.add_part(profile, picture, row, cells, before, behind, end, runs)
     }
 
     // Adds the runs of all places in the rows from `first` on that are not seen blank.
@@ -100,10 +131,13 @@ impl Painter {
         requires end { end ≤ picture.now.columns }
         ensures { IfSome result (λ column. (from ≤ column) × (column < end)) }
     {
+        let price = profile.prices().of(Op::EraseLine);
+        if end - from <= price {
+            return None;
+        }
         let rest = self.blank_rest(picture, row, cells, before, from, end);
         let column = rest.first?;
         let last = rest.last?;
-        let price = profile.prices().of(Op::EraseLine);
         if last.saturating_add(1).saturating_sub(column) <= price {
             return None;
         }

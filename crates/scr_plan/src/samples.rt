@@ -2,11 +2,13 @@
 //! remembered. A choice affects nothing but the number of bytes of an update.
 
 use crate::memories::Memory;
+use crate::planning::Looked;
 use crate::row_prices::RowPrices;
-use crate::runs::Run;
 use crate::wiping::is_blank;
-use scr_cells::{Cell, Look};
-use scr_term::Op;
+use scr_cells::{Cell, Look, NoMemory};
+use scr_term::{FAR, Op, Prices};
+use scr_virtual::Virtual;
+use std::alloc::Global;
 
 // The greatest number of rows that are looked for.
 const MOST_SAMPLES: u32 = 16;
@@ -18,8 +20,8 @@ pub(crate) struct Distance {
     pub(crate) up: bool,
 }
 
-// A row that is looked for, a column in which it differs from what it showed, and the byte that is
-// wanted there.
+// A row that may be looked for, the first column in which it differs from what it showed, and the
+// byte that is wanted there.
 #[derive(Clone, Copy)]
 struct Sample {
     row: u32,
@@ -27,59 +29,73 @@ struct Sample {
     byte: u8,
 }
 
-// The rows that are looked for, and the first and the last row among which they are.
-#[derive(Clone, Copy)]
+// The rows that differ and are not wanted blank, and the first and the last row that differs. Not
+// more of them are looked for than there may be.
+#[derive(Drop)]
 pub(crate) struct Samples {
-    rows: [Sample; 16],
-    count: u32,
-    first: u32,
-    last: u32,
+    found: Vec<Sample>,
+    pub(crate) first: u32,
+    pub(crate) last: u32,
 }
 
 impl Samples {
-    // Of the rows with runs, those that are not wanted blank: all, or as many as there may be, one
-    // from each part. The runs are by rows.
-    pub(crate) fn of(prices: &RowPrices<'_>, runs: &[Run], first: u32, last: u32) -> Samples {
+    // The rows that differ from what is remembered.
+    pub(crate) fn of(
+        alloc: Global,
+        prices: &RowPrices<'_>,
+        memory: &Memory,
+        wanted: &Virtual,
+        by: Looked,
+    ) -> Result<Samples, NoMemory> {
+        let (begin, end) = by.rows(wanted);
+        let found = Vec::with_capacity(alloc, end.saturating_sub(begin) as usize)?;
         let mut samples = Samples {
-            rows: [Sample {
-                row: 0,
-                column: 0,
-                byte: b' ',
-            }; 16],
-            count: 0,
-            first,
-            last,
+            found,
+            first: end,
+            last: begin,
         };
-        let all = rows_to_find(prices, runs);
-        let mut number = 0u32;
-        let mut left = None;
-        for run in runs {
-            let cells = prices.chooser.cells(run.row);
-            if left != Some(run.row) && !is_blank(&prices.chooser, cells) {
-                samples.add_if_due(number, all, sample_at(cells, run));
-                number = number.saturating_add(1);
+        for row in begin..end {
+            if let Some(column) = first_differing(prices, memory, wanted, by, row) {
+                samples.first = samples.first.min(row);
+                samples.last = row;
+                samples.add(prices, row, column)?;
             }
-            left = Some(run.row);
         }
-        samples
+        Ok(samples)
     }
 
-    // Adds the row with this number among `all` of them, if it is the next to be looked for.
-    fn add_if_due(&mut self, number: u32, all: u32, sample: Sample) {
-        let due = if all <= MOST_SAMPLES {
+    // Adds a row that differs from a column on, unless it is wanted blank.
+    fn add(&mut self, prices: &RowPrices<'_>, row: u32, column: u32) -> Result<(), NoMemory> {
+        let cells = prices.chooser.cells(row);
+        if is_blank(&prices.chooser, cells) {
+            return Ok(());
+        }
+        let byte = byte_at(cells, column);
+        self.found.push(Sample { row, column, byte })?;
+        Ok(())
+    }
+
+    // How many rows are looked for.
+    fn count(&self) -> u32 {
+        self.found.len().min(MOST_SAMPLES as usize) as u32
+    }
+
+    // One of the rows that are looked for: of all rows if they are not too many, or one from each of
+    // as many parts.
+    #[inline(always)]
+    fn sample(&self, number: u32) -> Option<Sample> {
+        let all = self.found.len();
+        let number = number as usize;
+        let place = if all <= MOST_SAMPLES as usize {
             number
         } else {
-            self.count
+            number
                 .saturating_mul(2)
                 .saturating_add(1)
                 .saturating_mul(all)
-                / (2 * MOST_SAMPLES)
+                / (2 * MOST_SAMPLES as usize)
         };
-        if number != due || self.count >= MOST_SAMPLES {
-            return;
-        }
-        self.rows[self.count as usize] = sample;
-        self.count += 1;
+        self.found.get(place).copied()
     }
 
     // How many of these rows show, so many rows further down or up, what is wanted in them; or any
@@ -91,14 +107,13 @@ impl Samples {
         distance: Distance,
         least: u32,
     ) -> u32 {
+        let count = self.count();
         let mut votes = 0u32;
-        let mut left = self.count;
-        for sample in &self.rows {
-            if left == 0 || votes.saturating_add(left) <= least {
+        for number in 0..count {
+            if votes.saturating_add(count - number) <= least {
                 return votes;
             }
-            left -= 1;
-            if self.is_vote(prices, memory, distance, sample) {
+            if self.is_vote(prices, memory, distance, number) {
                 votes = votes.saturating_add(1);
             }
         }
@@ -112,11 +127,14 @@ impl Samples {
         prices: &RowPrices<'_>,
         memory: &Memory,
         distance: Distance,
-        sample: &Sample,
+        number: u32,
     ) -> bool {
+        let Some(sample) = self.sample(number) else {
+            return false;
+        };
         match distance.source(sample.row) {
             Some(source) if self.first <= source && source <= self.last => {
-                is_alike(prices, looks_of(memory, source), sample)
+                is_alike(prices, looks_of(memory, source), &sample)
             }
             _ => false,
         }
@@ -135,18 +153,27 @@ impl Distance {
     }
 }
 
-// The sample of a row with these cells, whose first run is this one.
-fn sample_at(cells: &[Cell], run: &Run) -> Sample {
-    let column = run.start as usize;
-    Sample {
-        row: run.row,
-        column: run.start,
-        byte: if column < cells.len() {
-            cells[column].byte()
-        } else {
-            b' '
-        },
+// The byte of the cell in a column; a blank if there is none.
+fn byte_at(cells: &[Cell], column: u32) -> u8 {
+    match cells.get(column as usize) {
+        Some(cell) => cell.byte(),
+        None => b' ',
     }
+}
+
+// The first column in which a row differs from what is remembered of it, if there is one.
+pub(crate) fn first_differing(
+    prices: &RowPrices<'_>,
+    memory: &Memory,
+    wanted: &Virtual,
+    by: Looked,
+    row: u32,
+) -> Option<u32> {
+    if row >= wanted.size().rows {
+        return None;
+    }
+    let (from, last) = by.in_row(wanted, row)?;
+    prices.first_unlike(row, looks_of(memory, row), from, last.saturating_add(1))
 }
 
 // Whether looks are just what is wanted in a row; first the byte in one column is compared.
@@ -168,19 +195,6 @@ pub(crate) fn looks_of(memory: &Memory, row: u32) -> &[Look] {
     }
 }
 
-// How many rows have runs and are not wanted blank. The runs are by rows.
-fn rows_to_find(prices: &RowPrices<'_>, runs: &[Run]) -> u32 {
-    let mut rows = 0u32;
-    let mut left = None;
-    for run in runs {
-        if left != Some(run.row) && !is_blank(&prices.chooser, prices.chooser.cells(run.row)) {
-            rows = rows.saturating_add(1);
-        }
-        left = Some(run.row);
-    }
-    rows
-}
-
 // By how many rows most of the samples moved, if any did: on a tie the fewest rows, and then
 // down. The terminal can insert and delete as many lines.
 pub(crate) fn most_votes(
@@ -188,16 +202,20 @@ pub(crate) fn most_votes(
     memory: &Memory,
     samples: &Samples,
 ) -> Option<Distance> {
+    let count = samples.count();
     let mut best = None;
     let mut most = 0u32;
     for less in 0..samples.last.saturating_sub(samples.first) {
-        if most >= samples.count {
+        if most >= count {
             return best;
         }
-        let count = less.saturating_add(1);
-        if can_shift(prices, count) {
+        let distance = less.saturating_add(1);
+        if can_shift(prices.chooser.prices, distance) {
             for up in [false, true] {
-                let distance = Distance { count, up };
+                let distance = Distance {
+                    count: distance,
+                    up,
+                };
                 let votes = samples.votes(prices, memory, distance, most);
                 if votes > most {
                     most = votes;
@@ -210,6 +228,6 @@ pub(crate) fn most_votes(
 }
 
 // Whether the terminal can insert and delete so many lines.
-pub(crate) fn can_shift(prices: &RowPrices<'_>, count: u32) -> bool {
-    prices.has(Op::InsertLines(count)) && prices.has(Op::DeleteLines(count))
+pub(crate) fn can_shift(prices: &Prices, count: u32) -> bool {
+    prices.of(Op::InsertLines(count)) < FAR && prices.of(Op::DeleteLines(count)) < FAR
 }

@@ -1,6 +1,6 @@
 //! Settling rows one after another, once rows were shifted: characters of a row may slide, and its
 //! runs are found over what it shows then.
-ghost use Rattle.std.specs.Prelude.{ℕ, ◌≡◌, ◌+◌, ◌-◌, ◌≤◌, ◌<◌, IfOk, IfSome, List, OnOk, Option, Some, length, true};
+ghost use Rattle.std.specs.Prelude.{ℕ, ◌≡◌, ◌+◌, ◌-◌, ◌≤◌, ◌<◌, IfSome, List, None, OnOk, Option, Some, length, true};
 ghost use Rattle.scr_cells.specs.LookViews.{LookView};
 ghost use Rattle.scr_plan.specs.Code.Moves.{IsShift, IsSlide};
 ghost use Rattle.scr_plan.specs.Code.Painters.{painter_of};
@@ -17,14 +17,12 @@ ghost use Rattle.scr_virtual.specs.Ranges.{IsRange};
 use crate::memories::Memory;
 use crate::painting::Painter;
 use crate::planning::Looked;
-use crate::row_prices::RowPrices;
 use crate::runs::Run;
 use crate::shifts::Shift;
 use crate::shown::{is_moved, shown_row, slide_into};
-use crate::slides::{Part, Slide, can_slide_some, cheapest_slide};
+use crate::slides::Slide;
 use crate::sliding::slide_of;
 use crate::strokes::Draft;
-use crate::ways::Cursor;
 use crate::wiping::drop_from;
 use scr_cells::{Look, NoMemory, Picture};
 use scr_term::Profile;
@@ -32,6 +30,7 @@ use scr_virtual::Virtual;
 
 impl Draft {
     // Settles a row that shows `looks` by a slide of its characters.
+    #[inline(never)]
     fn settle_slid(
         &mut self,
         painter: Painter,
@@ -58,8 +57,8 @@ impl Draft {
         painter.add_row(profile, picture, row, Some(room), 0, size.columns, runs)
     }
 
-    // Settles a row that shows `looks`, and the picture except in columns `from..end`: slides its
-    // characters if that is worth it, and finds its runs.
+    // Settles a row that shows `looks`, and the picture except in columns `from..end`: finds its
+    // runs, and slides its characters if that is worth it.
     fn settle_over(
         &mut self,
         painter: Painter,
@@ -82,11 +81,16 @@ impl Draft {
             → Settles profile.now picture.now shift grid row (row + 1) runs.old.items runs.new.items self.old self.new) }
     {
         let _size = picture.size();
-        match slide_of(painter, profile, picture, &self.cursor(), row, looks, room)? {
+        let begun = runs.len();
+        painter.add_row(profile, picture, row, Some(looks), from, end, runs)?;
+        let cursor = self.cursor();
+        let found = runs_behind(runs, begun);
+        match slide_of(painter, profile, picture, &cursor, row, looks, found, room)? {
             Some(slide) => {
+                drop_from(runs, row);
                 self.settle_slid(painter, profile, picture, row, looks, slide, runs, room)
             }
-            None => painter.add_row(profile, picture, row, Some(looks), from, end, runs),
+            None => Ok(()),
         }
     }
 
@@ -185,61 +189,32 @@ impl Draft {
         if from >= end {
             return Ok(());
         }
-        drop_from(runs, from);
         for row in from..end {
             self.settle_row(painter, profile, memory, wanted, by, shift, row, runs, room)?;
         }
         Ok(())
     }
+}
 
-    // The first row above `end` whose characters are to be slid; `end` if there is none. The runs
-    // are by rows, and over what is remembered.
-    pub(crate) fn first_to_slide(
-        &self,
-        prices: &RowPrices<'_>,
-        memory: &Memory,
-        runs: &[Run],
-        end: u32,
-        room: &mut Vec<Look>,
-    ) -> Result<u32, NoMemory>
-        ensures { IfOk result (λ row. row ≤ end) }
-    {
-        if !can_slide_some(prices) {
-            return Ok(end);
-        }
-        let cursor = self.cursor();
-        let mut at = 0;
-        while at < runs.len() {
-            let row = row_of(runs, at);
-            if row >= end {
-                return Ok(end);
-            }
-            let behind = end_of_row(runs, at);
-            if is_to_slide(prices, &cursor, memory, row, &runs[at..behind], room)? {
-                return Ok(row);
-            }
-            at = behind;
-        }
-        Ok(end)
+// The runs from one with this number on.
+fn runs_behind(runs: &[Run], begun: usize) -> &[Run] {
+    if begun <= runs.len() {
+        &runs[begun..]
+    } else {
+        &[]
     }
 }
 
-// Whether characters of a row are to be slid. The runs are all of the row.
-fn is_to_slide(
-    prices: &RowPrices<'_>,
-    cursor: &Cursor,
-    memory: &Memory,
-    row: u32,
-    runs: &[Run],
-    room: &mut Vec<Look>,
-) -> Result<bool, NoMemory> {
-    if row >= memory.size().rows {
-        return Ok(false);
+// The first row that can differ from what is shown after a shift.
+pub(crate) fn first_to_look(wanted: &Virtual, by: Looked, shift: Option<Shift>) -> u32
+    ensures moved { IfSome shift (λ shift. result ≤ shift.top) }
+    ensures others { (r : ℕ) → r < result → r < wanted.now.picture.rows → range_by by wanted.now r ≡ None }
+{
+    let (first, _) = by.rows(wanted);
+    match shift {
+        Some(shift) => first.min(shift.top),
+        None => first,
     }
-    let looks = memory.looks(row);
-    let part = Part::of_runs(prices, looks, runs);
-    let slide = cheapest_slide(prices, cursor, row, looks, part, room)?;
-    Ok(slide.is_some())
 }
 
 // The later of two rows.
@@ -279,26 +254,4 @@ fn columns_to_look(
     } else {
         by.in_row(wanted, row)
     }
-}
-
-// The row of a run.
-fn row_of(runs: &[Run], number: usize) -> u32
-    requires { number < length runs.now }
-{
-    runs[number].row
-}
-
-// The end of the runs of one row, the first of which has this number. The runs are by rows.
-fn end_of_row(runs: &[Run], at: usize) -> usize
-    requires { at < length runs.now }
-    ensures more { at < result }
-    ensures end { result ≤ length runs.now }
-{
-    let row = runs[at].row;
-    for behind in at + 1..runs.len() {
-        if runs[behind].row != row {
-            return behind;
-        }
-    }
-    runs.len()
 }

@@ -15,13 +15,15 @@ ghost use Rattle.scr_term.specs.Operations.Texts.{has};
 use crate::memories::Memory;
 use crate::motions::cheapest_motion;
 use crate::painting::Painter;
+use crate::planning::Looked;
 use crate::row_prices::RowPrices;
-use crate::runs::Run;
 use crate::shifts::{Shift, can_shift_some, cheapest_shift};
 use crate::strokes::Draft;
 use crate::ways::Cursor;
 use scr_cells::{Look, NoMemory, Pen, Picture, grid_laws};
 use scr_term::{Op, Profile, Spot, run_laws};
+use scr_virtual::Virtual;
+use std::alloc::Global;
 
 impl Draft {
     // Goes to a place with a plain pen, by a turn and the cheapest motion.
@@ -41,7 +43,9 @@ impl Draft {
         ensures spot { OnOk result (self.new.spot ≡ At row column) }
         ensures plain { OnOk result (is_plain_pen self.new.pen ≡ true) }
     {
-        self.turn_to(profile, Pen::plain())?;
+        if !self.pen.is_plain() {
+            self.turn(profile, Op::Reset)?;
+        }
         let motion = cheapest_motion(profile.prices(), self.spot, row, column);
         self.move_by(profile, motion, row, column)?;
         if self.spot == Spot::At(row, column) && self.pen.is_plain() {
@@ -178,38 +182,48 @@ impl Draft {
     // Shifts rows, if that is worth it.
     pub(crate) fn shift_if_worth(
         &mut self,
+        alloc: Global,
         painter: Painter,
         profile: &Profile,
         memory: &Memory,
-        picture: &Picture,
-        runs: &[Run],
+        wanted: &Virtual,
+        by: Looked,
     ) -> Result<Option<Shift>, NoMemory>
         requires painter { painter ≡ painter_of profile.now }
-        requires fits { Fits profile.now picture.now }
-        requires size { IsSizeOf picture.now memory.now }
-        ensures shift { IfOk result (λ shift. IfSome shift (IsShift picture.now.rows)) }
+        requires fits { Fits profile.now wanted.now.picture }
+        requires size { IsSizeOf wanted.now.picture memory.now }
+        ensures shift { IfOk result (λ shift. IfSome shift (IsShift wanted.now.picture.rows)) }
         ensures sent { IfOk result (λ shift. Sends profile.now (shown_at shift) self.old self.new) }
     {
         grid_laws::<Look>();
-        let prices = RowPrices::new(painter, profile, picture);
-        let Some(shift) = shift_of(&prices, memory, &self.cursor(), runs) else {
+        let cursor = self.cursor();
+        let Some(shift) = shift_of(alloc, painter, profile, memory, wanted, by, &cursor)? else {
             return Ok(None);
         };
         let (deletion, insertion) = (Op::DeleteLines(shift.count), Op::InsertLines(shift.count));
         if !profile.has(deletion) || !profile.has(insertion) {
             return Ok(None);
         }
-        self.shift_rows(painter, profile, picture, shift)?;
+        self.shift_rows(painter, profile, wanted.picture(), shift)?;
         Ok(Some(shift))
     }
 }
 
-// The shift that is worth sending, if the terminal has its operations.
-fn shift_of(prices: &RowPrices<'_>, memory: &Memory, cursor: &Cursor, runs: &[Run]) -> Option<Shift>
-    ensures { IfSome result (IsShift memory.now.rows) }
+// The shift that is worth sending, if the terminal can shift rows.
+fn shift_of(
+    alloc: Global,
+    painter: Painter,
+    profile: &Profile,
+    memory: &Memory,
+    wanted: &Virtual,
+    by: Looked,
+    cursor: &Cursor,
+) -> Result<Option<Shift>, NoMemory>
+    ensures { IfOk result (λ shift. IfSome shift (IsShift memory.now.rows)) }
 {
-    if runs.is_empty() || !can_shift_some(prices) {
-        return None;
+    if !can_shift_some(profile.prices()) {
+        return Ok(None);
     }
-    cheapest_shift(prices, memory, cursor, runs)
+    let prices = RowPrices::new(painter, profile, wanted.picture());
+    cheapest_shift(alloc, &prices, memory, wanted, by, cursor)
 }

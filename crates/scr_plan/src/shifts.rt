@@ -1,27 +1,30 @@
 //! The search for rows that moved: which block of rows is to be shifted, and by how many rows.
 //! Prices alone decide, and the choice affects nothing but the number of bytes of an update.
-ghost use Rattle.std.specs.Prelude.{IfSome};
+ghost use Rattle.std.specs.Prelude.{◌≡◌, IfOk, IfSome, true};
 ghost use Rattle.scr_plan.specs.Code.Moves.{IsShift};
 
 use crate::memories::Memory;
 use crate::motions::cheapest_motion;
-use crate::row_prices::RowPrices;
-use crate::runs::Run;
-use crate::samples::{Distance, Samples, can_shift, looks_of, most_votes};
+use crate::planning::Looked;
+use crate::row_prices::{Counts, RowPrices};
+use crate::samples::{Distance, Samples, can_shift, first_differing, looks_of, most_votes};
 use crate::slides::are_blank;
 use crate::ways::{Chooser, Cursor};
-use crate::wiping::{is_blank, price_as_it_stands, price_as_they_stand, rows_with_runs};
-use scr_cells::{Look, Pen};
-use scr_term::{Op, Spot};
+use crate::wiping::is_blank;
+use scr_cells::{Look, NoMemory, Pen};
+use scr_term::{FAR, Op, Prices, Spot};
+use scr_virtual::Virtual;
+use std::alloc::Global;
 
 // What the rows that differ have to cost, at least, before rows that moved are looked for.
-const WORTH_LOOKING: i64 = 40;
+const WORTH_LOOKING: u32 = 40;
 
 // How many bytes a shift has to save, at least.
 const WORTH: i64 = 4;
 
-// The greatest number of rows of a screen.
-const MOST_ROWS: usize = 500;
+// What no shift costs more than another: blocks that save so much less than the one that saves most
+// are not priced.
+const FAR_LESS: i64 = 64;
 
 // Rows `top..end` that move up or down by `count` among themselves; the rows left free are blank.
 #[derive(Clone, Copy)]
@@ -32,59 +35,98 @@ pub(crate) struct Shift {
     pub(crate) up: bool,
 }
 
-// The shift that saves most, if one saves enough. The runs are by rows; `memory` is what they are
-// painted over.
+// The shift that saves most, if one saves enough. The rows differ from what is remembered in these
+// columns at most.
+#[inline(never)]
 pub(crate) fn cheapest_shift(
+    alloc: Global,
     prices: &RowPrices<'_>,
     memory: &Memory,
+    wanted: &Virtual,
+    by: Looked,
     cursor: &Cursor,
-    runs: &[Run],
-) -> Option<Shift>
-    ensures { IfSome result (IsShift memory.now.rows) }
+) -> Result<Option<Shift>, NoMemory>
+    ensures { IfOk result (λ shift. IfSome shift (IsShift memory.now.rows)) }
 {
-    let (first, last) = rows_worth_looking(prices, runs)?;
-    let samples = Samples::of(prices, runs, first, last);
-    let distance = most_votes(prices, memory, &samples)?;
-    let last = with_blank_rows(prices, last);
-    let blocks = Blocks::new(prices, memory, cursor, distance, first, last);
-    let table = Table::of(prices, runs, first, last);
-    let shift = if distance.up {
-        blocks.best_up(&table)
-    } else {
-        blocks.best_down(&table)
+    if !are_worth_looking(prices, memory, wanted, by) {
+        return Ok(None);
+    }
+    let samples = Samples::of(alloc, prices, memory, wanted, by)?;
+    let Some(distance) = most_votes(prices, memory, &samples) else {
+        return Ok(None);
     };
-    if_inside(shift?, memory.size().rows)
+    let last = with_blank_rows(prices, samples.last);
+    let blocks = Blocks::new(prices, memory, cursor, distance, samples.first, last);
+    let lines = Lines::of(alloc, &blocks, wanted, by)?;
+    Ok(if_inside(blocks.best(&lines), memory.size().rows))
 }
 
 // A shift, if it is one on a screen of this many rows.
-fn if_inside(shift: Shift, rows: u32) -> Option<Shift>
+fn if_inside(shift: Option<Shift>, rows: u32) -> Option<Shift>
     ensures { IfSome result (IsShift rows) }
 {
-    if shift.count > 0
+    match shift {
+        Some(shift) if is_inside(shift, rows) => Some(shift),
+        _ => None,
+    }
+}
+
+// Whether a shift is one on a screen of this many rows.
+fn is_inside(shift: Shift, rows: u32) -> bool
+    ensures { result ≡ true → IsShift rows shift }
+{
+    shift.count > 0
         && shift.end <= rows
         && shift.top < shift.end
         && shift.count < shift.end - shift.top
-    {
-        Some(shift)
-    } else {
-        None
-    }
 }
 
 // Whether the terminal can shift any rows.
-pub(crate) fn can_shift_some(prices: &RowPrices<'_>) -> bool {
+pub(crate) fn can_shift_some(prices: &Prices) -> bool {
     can_shift(prices, 1) || can_shift(prices, 2)
 }
 
-// The first and the last row with runs, if there are two and all runs cost enough. The runs are by
-// rows.
-fn rows_worth_looking(prices: &RowPrices<'_>, runs: &[Run]) -> Option<(u32, u32)> {
-    if rows_with_runs(runs) < 2 || price_as_they_stand(&prices.chooser, runs) < WORTH_LOOKING {
-        return None;
+// Whether at least two rows differ, and they cost enough.
+fn are_worth_looking(
+    prices: &RowPrices<'_>,
+    memory: &Memory,
+    wanted: &Virtual,
+    by: Looked,
+) -> bool {
+    let (begin, end) = by.rows(wanted);
+    let mut rows = 0u32;
+    let mut price = 0u32;
+    for row in begin..end {
+        if first_differing(prices, memory, wanted, by, row).is_some() {
+            rows = rows.saturating_add(1);
+            if price < WORTH_LOOKING {
+                price = price.saturating_add(price_as_it_stands(prices, memory, wanted, by, row));
+            }
+            if rows >= 2 && price >= WORTH_LOOKING {
+                return true;
+            }
+        }
     }
-    let first = runs.first()?;
-    let last = runs.last()?;
-    Some((first.row, last.row))
+    false
+}
+
+// The price of a row over what is remembered of it.
+fn price_as_it_stands(
+    prices: &RowPrices<'_>,
+    memory: &Memory,
+    wanted: &Virtual,
+    by: Looked,
+    row: u32,
+) -> u32 {
+    if row >= wanted.size().rows {
+        return 0;
+    }
+    match by.in_row(wanted, row) {
+        Some((from, last)) => {
+            prices.part_over(row, looks_of(memory, row), from, last.saturating_add(1))
+        }
+        None => 0,
+    }
 }
 
 // The last row of the screen if all rows below one are blank, else that row.
@@ -98,65 +140,62 @@ fn with_blank_rows(prices: &RowPrices<'_>, last: u32) -> u32 {
     rows.saturating_sub(1)
 }
 
-// Prices of rows, by row: what each costs as it stands; and what all before it save by being
-// painted over blanks.
-#[derive(Drop)]
-struct Table {
-    costs: [u32; 500],
-    saved: [i64; 501],
+// What is compared of a row: what it saves by being painted over the row that comes there, and what
+// all rows before it save by being painted over blanks.
+#[derive(Clone, Copy)]
+struct Line {
+    gain: i64,
+    saved: i64,
 }
 
-impl Table {
-    // The prices of rows `first..=last` with these runs.
-    fn of(prices: &RowPrices<'_>, runs: &[Run], first: u32, last: u32) -> Table {
-        let mut table = Table {
-            costs: [0; 500],
-            saved: [0; 501],
-        };
-        for run in runs {
-            table.add(run.row, price_as_it_stands(&prices.chooser, run));
+// What is compared of the rows that blocks may lie in, and behind them what all of them save.
+#[derive(Drop)]
+struct Lines(Vec<Line>);
+
+impl Lines {
+    // Of the rows that blocks may lie in.
+    fn of(
+        alloc: Global,
+        blocks: &Blocks<'_>,
+        wanted: &Virtual,
+        by: Looked,
+    ) -> Result<Lines, NoMemory> {
+        let (first, end) = (blocks.first, blocks.last.saturating_add(1));
+        let count = end.saturating_sub(first).saturating_add(1);
+        let mut lines = Vec::with_capacity(alloc, count as usize)?;
+        let mut saved = 0i64;
+        for row in first..end {
+            let (gain, fresh) = blocks.savings(wanted, by, row);
+            lines.push(Line { gain, saved })?;
+            saved = saved.wrapping_add(fresh);
         }
-        table.add_saved(prices, first, last);
-        table
+        lines.push(Line { gain: 0, saved })?;
+        Ok(Lines(lines))
     }
 
-    // Adds to the price of a row.
-    fn add(&mut self, row: u32, price: u32) {
-        let row = row as usize;
-        if row < MOST_ROWS {
-            self.costs[row] = self.costs[row].saturating_add(price);
+    // How many rows there are.
+    fn count(&self) -> usize {
+        self.0.len().saturating_sub(1)
+    }
+
+    // What the row in a place saves by being painted over the row that comes there.
+    #[inline(always)]
+    fn gain(&self, place: usize) -> i64 {
+        if place < self.0.len() {
+            self.0[place].gain
+        } else {
+            0
         }
     }
 
-    // Adds up what the rows save by being painted over blanks.
-    fn add_saved(&mut self, prices: &RowPrices<'_>, first: u32, last: u32) {
-        let mut sum = 0i64;
-        for row in first..last.saturating_add(1) {
-            let fresh = i64::from(self.cost(row)) - i64::from(prices.on_blanks(row));
-            sum = sum.saturating_add(fresh);
-            let behind = row as usize;
-            if behind < MOST_ROWS {
-                self.saved[behind + 1] = sum;
-            }
+    // What the rows before a place save by being painted over blanks.
+    #[inline(always)]
+    fn saved(&self, place: usize) -> i64 {
+        if place < self.0.len() {
+            self.0[place].saved
+        } else {
+            0
         }
-    }
-
-    // The price of a row as it stands.
-    fn cost(&self, row: u32) -> u32 {
-        let row = row as usize;
-        if row < MOST_ROWS { self.costs[row] } else { 0 }
-    }
-
-    // What rows `from..end` save by being painted over blanks.
-    fn saved_in(&self, from: u32, end: u32) -> i64 {
-        self.saved_before(end)
-            .saturating_sub(self.saved_before(from))
-    }
-
-    // What all rows before a row save.
-    fn saved_before(&self, row: u32) -> i64 {
-        let row = row as usize;
-        if row <= MOST_ROWS { self.saved[row] } else { 0 }
     }
 }
 
@@ -172,11 +211,14 @@ struct Blocks<'a> {
     rows: u32,
 }
 
-// The best block so far, and what it saves.
+// The best block so far, and what it saves; and the most that any block saves, without what its
+// shift costs. Blocks that save less than `least` of that are not priced.
 #[derive(Clone, Copy)]
 struct Best {
     shift: Option<Shift>,
     saved: i64,
+    most: i64,
+    least: i64,
 }
 
 impl<'a> Blocks<'a> {
@@ -200,74 +242,105 @@ impl<'a> Blocks<'a> {
         }
     }
 
+    // The best block. First that is found which saves most, then those near it are priced.
+    fn best(&self, lines: &Lines) -> Option<Shift> {
+        let most = self.best_from(lines, i64::MAX).most;
+        self.best_from(lines, most.saturating_sub(FAR_LESS)).shift
+    }
+
+    // The best block of those that save so much.
+    fn best_from(&self, lines: &Lines, least: i64) -> Best {
+        if self.distance.up {
+            self.best_up(lines, least)
+        } else {
+            self.best_down(lines, least)
+        }
+    }
+
     // The best block that moves up. For each last row that gets another's looks, the first one is
     // the best there is; the blank rows come in below.
-    fn best_up(&self, table: &Table) -> Option<Shift> {
-        let count = self.distance.count;
-        let mut best = Best::none();
-        let mut top = self.first;
+    fn best_up(&self, lines: &Lines, least: i64) -> Best {
+        let count = self.distance.count as usize;
+        let mut best = Best::none(least);
+        let mut top = 0usize;
         let mut sum = 0i64;
-        for row in self.first..self.last.saturating_add(1).saturating_sub(count) {
+        for place in 0..lines.count().saturating_sub(count) {
             if sum <= 0 {
                 sum = 0;
-                top = row;
+                top = place;
             }
-            sum = sum.saturating_add(self.gain(table, row));
-            let behind = row.saturating_add(1);
+            sum = sum.wrapping_add(lines.gain(place));
+            let behind = place + 1;
             let end = behind.saturating_add(count);
-            let saved = sum.saturating_add(table.saved_in(behind, end));
-            best = self.better(best, top, end, saved);
+            let fresh = lines.saved(end).wrapping_sub(lines.saved(behind));
+            best = self.better(best, top, end, sum.wrapping_add(fresh));
         }
-        best.shift
+        best
     }
 
     // The best block that moves down. The blank rows come in above.
-    fn best_down(&self, table: &Table) -> Option<Shift> {
-        let count = self.distance.count;
-        let begin = self.first.saturating_add(count);
-        let mut best = Best::none();
-        let mut top = self.first;
+    fn best_down(&self, lines: &Lines, least: i64) -> Best {
+        let count = self.distance.count as usize;
+        let mut best = Best::none(least);
+        let mut top = 0usize;
         let mut sum = 0i64;
-        for row in begin..self.last.saturating_add(1) {
-            let above = row.saturating_sub(count);
-            let fresh = table.saved_in(above, row);
-            if row == begin || sum <= fresh {
+        for place in count..lines.count() {
+            let above = place.saturating_sub(count);
+            let fresh = lines.saved(place).wrapping_sub(lines.saved(above));
+            if place == count || sum <= fresh {
                 sum = fresh;
                 top = above;
             }
-            sum = sum.saturating_add(self.gain(table, row));
-            best = self.better(best, top, row.saturating_add(1), sum);
+            sum = sum.wrapping_add(lines.gain(place));
+            best = self.better(best, top, place + 1, sum);
         }
-        best.shift
+        best
     }
 
-    // What a row saves by being painted over the row that comes there.
-    fn gain(&self, table: &Table, row: u32) -> i64 {
-        let cost = i64::from(table.cost(row));
-        match self.distance.source(row) {
-            Some(source) => {
-                cost.saturating_sub(i64::from(self.price_over(row, looks_of(self.memory, source))))
-            }
-            None => cost,
+    // What a row saves by being painted over the row that comes there, and over blanks. Where that
+    // row is just what is wanted, the places that differ are counted, and runs are not looked for.
+    fn savings(&self, wanted: &Virtual, by: Looked, row: u32) -> (i64, i64) {
+        let prices = self.prices;
+        let coming = match self.distance.source(row) {
+            Some(source) => looks_of(self.memory, source),
+            None => &[],
+        };
+        if prices.is_shown(row, coming) {
+            let counts = Counts::of(looks_of(self.memory, row), coming);
+            let cost = i64::from(counts.price(prices));
+            return (cost, cost - i64::from(counts.price_on_blanks(prices)));
         }
-    }
-
-    // The price of a row over looks.
-    fn price_over(&self, row: u32, looks: &[Look]) -> u32 {
-        if self.prices.is_shown(row, looks) {
+        let cost = i64::from(price_as_it_stands(prices, self.memory, wanted, by, row));
+        let blank = prices.on_blanks(row);
+        let over = if coming.is_empty() {
             0
-        } else if are_blank(looks) {
-            self.prices.on_blanks(row)
+        } else if are_blank(coming) {
+            blank
         } else {
-            self.prices.over(row, looks)
-        }
+            prices.over(row, coming)
+        };
+        (cost - i64::from(over), cost - i64::from(blank))
     }
 
     // The better of the best block so far and one that saves so much, without what its shift costs.
-    fn better(&self, best: Best, top: u32, end: u32, saved: i64) -> Best {
-        if saved <= best.saved {
+    #[inline(always)]
+    fn better(&self, best: Best, top: usize, end: usize, saved: i64) -> Best {
+        let mut best = best;
+        best.most = best.most.max(saved);
+        if saved < best.least || saved <= best.saved {
             return best;
         }
+        self.priced(best, self.row_in(top), self.row_in(end), saved)
+    }
+
+    // The row in a place.
+    fn row_in(&self, place: usize) -> u32 {
+        self.first.saturating_add(place.min(FAR as usize) as u32)
+    }
+
+    // The better of the best block so far and one whose shift is priced.
+    #[inline(never)]
+    fn priced(&self, best: Best, top: u32, end: u32, saved: i64) -> Best {
         let shift = Shift {
             top,
             end,
@@ -278,15 +351,15 @@ impl<'a> Blocks<'a> {
         if saved <= best.saved {
             return best;
         }
-        Best {
-            shift: Some(shift),
-            saved,
-        }
+        let mut best = best;
+        best.shift = Some(shift);
+        best.saved = saved;
+        best
     }
 
     // The price of a shift: of the turn to a plain pen, and of its motions and operations.
     fn price_of_shift(&self, shift: Shift) -> u32 {
-        let turn = self.chooser().price_of_turn(self.cursor.pen, Pen::plain());
+        let turn = self.chooser().price_of_reset(self.cursor.pen);
         let spot = self.cursor.spot;
         let inner = shift.end.saturating_sub(shift.count);
         let deleted = Op::DeleteLines(shift.count);
@@ -328,10 +401,12 @@ impl<'a> Blocks<'a> {
 
 impl Best {
     // No block yet: the first has to save enough.
-    fn none() -> Best {
+    fn none(least: i64) -> Best {
         Best {
             shift: None,
             saved: WORTH - 1,
+            most: 0,
+            least,
         }
     }
 }

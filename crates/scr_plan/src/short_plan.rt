@@ -26,6 +26,7 @@ use std::alloc::Global;
 const FEW_RUNS: usize = 16;
 
 // The short plan of what differs from what is remembered.
+#[inline(never)]
 pub(crate) fn short_changes(
     alloc: Global,
     painter: Painter,
@@ -45,18 +46,18 @@ pub(crate) fn short_changes(
     let _profile = profile.size();
     let _memory = memory.size();
     let mut runs = Vec::with_capacity(alloc, FEW_RUNS)?;
-    find_changes(painter, profile, memory, wanted, by, &mut runs)?;
     let picture = wanted.picture();
-    let ops = Vec::with_capacity(alloc, room_for(&runs))?;
     let mut draft = Draft {
-        ops,
+        ops: Vec::new(alloc),
         bytes: 0,
         spot: memory.remembered_spot(),
         pen: memory.remembered_pen(),
     };
     draft.move_what_stays(alloc, painter, profile, memory, wanted, by, &mut runs)?;
+    let moved = !draft.ops.is_empty();
+    draft.make_room(&runs)?;
     draft.wipe_if_worth(painter, profile, picture, &mut runs)?;
-    draft.paint_all(alloc, painter, profile, picture, &mut runs)?;
+    draft.paint_all(alloc, painter, profile, picture, &mut runs, moved)?;
     Ok(draft)
 }
 
@@ -84,31 +85,8 @@ pub(crate) fn short_anew(
         spot: Spot::At(0, 0),
         pen: Pen::plain(),
     };
-    draft.paint_all(alloc, painter, profile, picture, &mut runs)?;
+    draft.paint_all(alloc, painter, profile, picture, &mut runs, false)?;
     Ok(draft)
-}
-
-// Finds the runs of all places that differ from what is known of them.
-fn find_changes(
-    painter: Painter,
-    profile: &Profile,
-    memory: &Memory,
-    wanted: &Virtual,
-    by: Looked,
-    runs: &mut Vec<Run>,
-) -> Result<(), NoMemory>
-    requires painter { painter ≡ painter_of profile.now }
-    requires size { IsSizeOf wanted.now.picture memory.now }
-    requires same { ShowsOutside (range_by by) profile.now memory.now wanted.now }
-    requires known { is_known memory.now ≡ true }
-    ensures { OnOk result (HasChanges profile.now wanted.now.picture memory.now runs.new.items wanted.now.picture.rows) }
-{
-    let _size = wanted.size();
-    let (first, end) = by.rows(wanted);
-    for row in first..end {
-        find_in_row(painter, profile, memory, wanted, by, row, runs)?;
-    }
-    Ok(())
 }
 
 // Finds the runs of a row's places that differ from what is known of them.
@@ -140,6 +118,17 @@ pub(crate) fn find_in_row(
 }
 
 impl Draft {
+    // Makes room for the operations of runs.
+    fn make_room(&mut self, runs: &[Run]) -> Result<(), NoMemory>
+        ensures ops { OnOk result (self.new.ops.items ≡ self.old.ops.items) }
+        ensures bytes { OnOk result (self.new.bytes ≡ self.old.bytes) }
+        ensures spot { OnOk result (self.new.spot ≡ self.old.spot) }
+        ensures pen { OnOk result (self.new.pen ≡ self.old.pen) }
+    {
+        self.ops.reserve(room_for(runs))?;
+        Ok(())
+    }
+
     // Whether the short plan is to be sent: it has no more bytes than the joined repaint, whose
     // number is known exactly, and not too many operations.
     pub(crate) fn is_worth(&self, bytes: usize, size: Size) -> bool

@@ -11,7 +11,7 @@ use crate::shown::slide_into;
 use crate::ways::Cursor;
 use crate::wiping::{is_blank, price_as_it_stands};
 use scr_cells::{Cell, Look, NoMemory, Pen};
-use scr_term::{FAR, Op};
+use scr_term::{FAR, Op, Prices};
 
 // How many columns have to lie from the first to the last place of a row that differs, at least.
 const WORTH_LOOKING: u32 = 6;
@@ -45,21 +45,19 @@ impl Slide {
 }
 
 // Whether the terminal can slide any characters.
-pub(crate) fn can_slide_some(prices: &RowPrices<'_>) -> bool {
+pub(crate) fn can_slide_some(prices: &Prices) -> bool {
     least_operation(prices) < FAR
 }
 
 // The least price of an operation that slides characters.
-fn least_operation(prices: &RowPrices<'_>) -> u32 {
-    let prices = prices.chooser.prices;
+fn least_operation(prices: &Prices) -> u32 {
     prices
         .of(Op::InsertChars(1))
         .min(prices.of(Op::DeleteChars(1)))
         .min(prices.of(Op::DeleteChars(2)))
 }
 
-// The places of a row that differ, if the last is far enough from the first: where they begin, and
-// the price of the row.
+// The places of a row that differ: where they begin, and the price of the row.
 #[derive(Clone, Copy)]
 pub(crate) struct Part {
     pub(crate) start: u32,
@@ -67,54 +65,46 @@ pub(crate) struct Part {
 }
 
 impl Part {
-    // The places that differ where a row shows `looks`; `runs` are all of its runs over them.
-    pub(crate) fn of_runs(prices: &RowPrices<'_>, looks: &[Look], runs: &[Run]) -> Option<Part> {
-        let start = runs.first()?.start;
-        let end = end_of_differing(looks, runs.last()?);
-        if !is_wide(start, end) {
-            return None;
-        }
+    // The places that differ of a row with these runs.
+    pub(crate) fn of(prices: &RowPrices<'_>, runs: &[Run]) -> Part {
+        let start = match runs.first() {
+            Some(run) => run.start,
+            None => 0,
+        };
         let mut price = 0u32;
         for run in runs {
             price = price.saturating_add(price_as_it_stands(&prices.chooser, run));
         }
-        Some(Part { start, price })
-    }
-
-    // The places that differ where a row shows `looks`.
-    pub(crate) fn over(prices: &RowPrices<'_>, row: u32, looks: &[Look]) -> Option<Part> {
-        let start = prices.first_unlike(row, looks)?;
-        let end = end_of_unlike(prices, prices.chooser.cells(row), looks);
-        if !is_wide(start, end) {
-            return None;
-        }
-        let price = prices.over(row, looks);
-        Some(Part { start, price })
+        Part { start, price }
     }
 }
 
-// Whether it is far enough from the first place that differs to the last.
-fn is_wide(start: u32, end: u32) -> bool {
-    end.saturating_sub(start) >= WORTH_LOOKING
+// Whether it is far enough from the first place that differs to the last, where a row shows `looks`;
+// `runs` are all of its runs over them.
+pub(crate) fn are_wide(looks: &[Look], runs: &[Run]) -> bool {
+    match (runs.first(), runs.last()) {
+        (Some(first), Some(last)) => {
+            end_of_differing(looks, last).saturating_sub(first.start) >= WORTH_LOOKING
+        }
+        _ => false,
+    }
 }
 
 // The slide of a row that saves most, if one saves enough. The row shows `looks`; `part` is what
 // differs of it. `room` is for a row that is put together.
+#[inline(never)]
 pub(crate) fn cheapest_slide(
     prices: &RowPrices<'_>,
     cursor: &Cursor,
     row: u32,
     looks: &[Look],
-    part: Option<Part>,
+    part: Part,
     room: &mut Vec<Look>,
 ) -> Result<Option<Slide>, NoMemory>
     ensures { IfOk result (λ slide. IfSome slide (IsSlide (length looks.now))) }
 {
-    let Some(part) = part else {
-        return Ok(None);
-    };
     let price = price_without_way(prices, cursor, row, part);
-    if price < i64::from(least_operation(prices)).saturating_add(WORTH) {
+    if price < i64::from(least_operation(prices.chooser.prices)).saturating_add(WORTH) {
         return Ok(None);
     }
     better_slide(prices, row, looks, part.start, price, room)
@@ -157,17 +147,6 @@ fn if_inside(looks: &[Look], slide: Option<Slide>) -> Option<Slide>
     }
 }
 
-// The end of the looks that are not what is seen of their cells.
-fn end_of_unlike(prices: &RowPrices<'_>, cells: &[Cell], looks: &[Look]) -> u32 {
-    for behind in 0..looks.len() {
-        let column = looks.len() - 1 - behind;
-        if column >= cells.len() || !prices.is_seen(cells[column], looks[column]) {
-            return column.min(FAR as usize) as u32 + 1;
-        }
-    }
-    0
-}
-
 // The end of the places that differ of a run, the last one of a row that shows `looks`.
 fn end_of_differing(looks: &[Look], run: &Run) -> u32 {
     if !matches!(run.how, How::EraseLine) {
@@ -186,7 +165,7 @@ fn end_of_differing(looks: &[Look], run: &Run) -> u32 {
 // plain pen.
 fn price_without_way(prices: &RowPrices<'_>, cursor: &Cursor, row: u32, part: Part) -> i64 {
     let chooser = &prices.chooser;
-    let turn = chooser.price_of_turn(cursor.pen, Pen::plain());
+    let turn = chooser.price_of_reset(cursor.pen);
     let motion = cheapest_motion(chooser.prices, cursor.spot, row, part.start).price;
     i64::from(part.price) - i64::from(turn) - i64::from(motion)
 }

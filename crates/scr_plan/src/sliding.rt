@@ -9,7 +9,8 @@ ghost use Rattle.scr_term.specs.Operations.Texts.{has};
 
 use crate::painting::Painter;
 use crate::row_prices::RowPrices;
-use crate::slides::{Part, Slide, can_slide_some, cheapest_slide};
+use crate::runs::Run;
+use crate::slides::{Part, Slide, are_wide, can_slide_some, cheapest_slide};
 use crate::strokes::Draft;
 use crate::ways::Cursor;
 use scr_cells::{Look, NoMemory, Picture, grid_laws};
@@ -90,7 +91,8 @@ impl Draft {
     }
 }
 
-// The slide of a row that is worth sending, if there is one.
+// The slide of a row that is worth sending, if there is one. The row shows `looks`; `runs` are all
+// of its runs over them.
 pub(crate) fn slide_of(
     painter: Painter,
     profile: &Profile,
@@ -98,16 +100,17 @@ pub(crate) fn slide_of(
     cursor: &Cursor,
     row: u32,
     looks: &[Look],
+    runs: &[Run],
     room: &mut Vec<Look>,
 ) -> Result<Option<Slide>, NoMemory>
     ensures slide { IfOk result (λ slide. IfSome slide (IsSlide (length looks.now))) }
     ensures has { IfOk result (λ slide. IfSome slide (λ slide. has profile.now (op_of slide) ≡ true)) }
 {
-    let prices = RowPrices::new(painter, profile, picture);
-    if !can_slide_some(&prices) {
+    if !are_wide(looks, runs) || !can_slide_some(profile.prices()) {
         return Ok(None);
     }
-    let part = Part::over(&prices, row, looks);
+    let prices = RowPrices::new(painter, profile, picture);
+    let part = Part::of(&prices, runs);
     let slide = cheapest_slide(&prices, cursor, row, looks, part, room)?;
     Ok(if_there(profile, slide))
 }

@@ -35,7 +35,7 @@ pub(crate) fn cheapest_turn(prices: &Prices, from: Pen, to: Pen) -> Turn {
     let turn = if keeps(from, to) {
         adding(prices, from, to)
     } else {
-        resetting(prices, to)
+        resetting(prices, from, to)
     };
     if to.attrs().0 == 0 {
         turn
@@ -52,12 +52,18 @@ fn adding(prices: &Prices, from: Pen, to: Pen) -> Turn {
     }
 }
 
-// Everything is turned off first.
-fn resetting(prices: &Prices, to: Pen) -> Turn {
+// Everything is turned off first: attributes alone where no colour is on, if that costs less.
+fn resetting(prices: &Prices, from: Pen, to: Pen) -> Turn {
+    let has_colour = from.foreground().is_some() || from.background().is_some();
+    let first = if !has_colour && prices.of(Op::ExitAttributes) < prices.of(Op::Reset) {
+        Op::ExitAttributes
+    } else {
+        Op::Reset
+    };
     let added = price_of_adding(prices, Pen::plain(), to);
     Turn {
-        first: Some(Op::Reset),
-        price: prices.of(Op::Reset).saturating_add(added),
+        first: Some(first),
+        price: prices.of(first).saturating_add(added),
     }
 }
 

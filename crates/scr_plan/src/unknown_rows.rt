@@ -49,7 +49,7 @@ pub(crate) fn short_partly(
     }
     let mut runs = Vec::new(alloc);
     find_unsettled(painter, profile, memory, wanted, by, &mut runs)?;
-    draft.paint_all(alloc, painter, profile, picture, &mut runs)?;
+    draft.paint_all(alloc, painter, profile, picture, &mut runs, false)?;
     Ok(Some(draft))
 }
 

@@ -9,7 +9,7 @@ ghost use Rattle.scr_plan.specs.Code.Painters.{painter_of};
 ghost use Rattle.scr_plan.specs.Scratch.{Fits};
 ghost use Rattle.scr_plan.specs.declared.runs.Run.{Run};
 
-use crate::orders::cheaper_order;
+use crate::orders::cheapest_order;
 use crate::painting::Painter;
 use crate::runs::{How, Run};
 use crate::strokes::Draft;
@@ -19,8 +19,8 @@ use scr_term::{Op, Profile, Spot, profiles_have, run_laws};
 use std::alloc::Global;
 
 impl Draft {
-    // Paints all runs in the cheaper of two orders, and leads the cursor to where the picture wants
-    // it.
+    // Paints all runs in the cheapest order, and leads the cursor to where the picture wants it.
+    // `moved` says whether rows or characters were moved before.
     pub(crate) fn paint_all(
         &mut self,
         alloc: Global,
@@ -28,15 +28,36 @@ impl Draft {
         profile: &Profile,
         picture: &Picture,
         runs: &mut Vec<Run>,
+        moved: bool,
     ) -> Result<(), NoMemory>
         requires painter { painter ≡ painter_of profile.now }
         requires fits { Fits profile.now picture.now }
         ensures right { OnOk result (Leaves profile.now picture.now runs.old.items [] self.old self.new) }
         ensures spot { OnOk result (IfSome picture.now.wish (λ place. self.new.spot ≡ At place.0 place.1)) }
     {
-        let stops = chosen_order(alloc, painter, profile, picture, self, runs)?;
-        self.visit_all(painter, profile, picture, runs, &stops)?;
+        self.paint_runs(alloc, painter, profile, picture, runs, moved)?;
         self.place(painter, profile, picture)
+    }
+
+    // Paints all runs in the cheapest order.
+    fn paint_runs(
+        &mut self,
+        alloc: Global,
+        painter: Painter,
+        profile: &Profile,
+        picture: &Picture,
+        runs: &mut Vec<Run>,
+        moved: bool,
+    ) -> Result<(), NoMemory>
+        requires painter { painter ≡ painter_of profile.now }
+        requires fits { Fits profile.now picture.now }
+        ensures { OnOk result (Leaves profile.now picture.now runs.old.items [] self.old self.new) }
+    {
+        if runs.len() < 2 {
+            return self.visit_rest(painter, profile, picture, runs);
+        }
+        let stops = chosen_order(alloc, painter, profile, picture, self, runs, moved)?;
+        self.visit_all(painter, profile, picture, runs, &stops)
     }
 
     // Visits these runs one after another, then all that are left.
@@ -345,7 +366,7 @@ impl Draft {
     }
 }
 
-// The runs in the cheaper of two orders.
+// The runs in the cheapest order.
 fn chosen_order(
     alloc: Global,
     painter: Painter,
@@ -353,10 +374,11 @@ fn chosen_order(
     picture: &Picture,
     draft: &Draft,
     runs: &[Run],
+    moved: bool,
 ) -> Result<Vec<Stop>, NoMemory> {
     let chooser = Chooser::new(painter, profile, picture);
     let cursor = draft.cursor();
-    cheaper_order(alloc, &chooser, &cursor, runs, picture.wish())
+    cheapest_order(alloc, &chooser, &cursor, runs, picture.wish(), moved)
 }
 
 // The run with a number.

@@ -125,6 +125,15 @@ impl<'a> Chooser<'a> {
         cheapest_turn(self.prices, from, to).price
     }
 
+    // The price of the reset that comes before a move, unless the pen is plain.
+    pub(crate) fn price_of_reset(&self, pen: Pen) -> u32 {
+        if pen.is_plain() {
+            0
+        } else {
+            self.prices.of(Op::Reset)
+        }
+    }
+
     // By writing the places of the row in between, if this costs less than the limit.
     fn writing(&self, cursor: &Cursor, row: u32, column: u32, pen: Pen, limit: u32) -> Option<Way> {
         let Spot::At(_, from) = cursor.spot else {

@@ -231,7 +231,8 @@ pub(crate) fn is_blank(chooser: &Chooser<'_>, cells: &[Cell]) -> bool {
 
 // Whether a cell is seen blank.
 fn is_blank_cell(chooser: &Chooser<'_>, cell: Cell) -> bool {
-    cell.byte() == b' ' && chooser.painter.pen_of(chooser.picture, cell).is_plain()
+    cell == Cell::blank()
+        || cell.byte() == b' ' && chooser.painter.pen_of(chooser.picture, cell).is_plain()
 }
 
 impl Draft {

@@ -1,6 +1,7 @@
 use Rattle.std.proofs.Common.{subst, sym}
 use Rattle.scr_plan.specs.Code.Drafts.{in_runs}
 use Rattle.scr_plan.specs.Code.Moves.{IsChanged, IsMoved}
+use Rattle.scr_plan.proofs.MovedLaws.{same_moved}
 use Rattle.scr_plan.proofs.ShortPlanLaws.{changes_done}
 use Rattle.scr_plan.proofs.short_plan.short_changes.Goals as goal
 
@@ -9,7 +10,11 @@ returns c =
     let profile = c.args.profile.now in
     let state = c.args.memory.now.state in
     let same = c.picture-picture.ensures in
-    let moved = subst (λ picture. IsMoved profile picture state (in_runs c.move_what_stays.new.runs.items) c.move_what_stays.new.self) (sym same) c.in_ok-move_what_stays.ensures in
+    let roomy = c.in_ok-make_room.ensures in
+    let waits = in_runs c.move_what_stays.new.runs.items in
+    let moved =
+    subst (λ picture. IsMoved profile picture state waits c.make_room.new.self) (sym same)
+    (same_moved profile c.args.wanted.now.picture state waits c.move_what_stays.new.self c.make_room.new.self roomy.ops roomy.bytes roomy.spot roomy.pen c.in_ok-move_what_stays.ensures) in
     subst (λ picture. IsChanged profile picture state c.paint_all.new.self) same
-    (changes_done profile c.picture-picture.result.now state c.move_what_stays.new.runs.items c.wipe_if_worth.new.runs.items c.move_what_stays.new.self c.wipe_if_worth.new.self c.paint_all.new.self
+    (changes_done profile c.picture-picture.result.now state c.move_what_stays.new.runs.items c.wipe_if_worth.new.runs.items c.make_room.new.self c.wipe_if_worth.new.self c.paint_all.new.self
     moved c.in_ok-wipe_if_worth.ensures c.in_ok-paint_all.ensures.right c.in_ok-paint_all.ensures.spot)

@@ -1,5 +1,5 @@
 use Rattle.std.proofs.Common.{arith, inr}
-use Rattle.scr_plan.proofs.MovedLaws.{above_settled, rest_settled, settles_then}
+use Rattle.scr_plan.proofs.MovedLaws.{rest_settled, settles_then}
 use Rattle.scr_plan.specs.Code.Planning.{range_by}
 use Rattle.scr_plan.proofs.strokes.Draft.settle_from.Goals as goal
 
@@ -7,10 +7,6 @@ pub returns-then-from-end : goal.returns-then-from-end
 returns-then-from-end c =
     rest_settled (range_by c.args.by) c.args.profile.now c.args.memory.now c.args.wanted.now c.requires.same c.requires.size c.requires.known c.args.shift c.rows-end.result.1 c.end_of_moved.result c.args.from c.end_of_moved.ensures.value
     (omega (arith, c.later-end.ensures.other, c.if-from-end.true)) (omega (arith, c.later-end.ensures.one, c.if-from-end.true)) (λ r low high. c.rows-end.ensures.others r (inr low) high) c.args.runs.now.items c.args.self.now
-
-pub loop-row-init : goal.loop-row-init
-loop-row-init c =
-    above_settled c.args.profile.now c.args.wanted.now.picture c.args.shift c.args.memory.now.state.grid c.args.from c.args.runs.now.items c.drop_from.new.runs.items c.args.self.now c.drop_from.ensures
 
 pub settle_row-requires-clause-row : goal.settle_row-requires-clause-row
 settle_row-requires-clause-row c =

@@ -1,5 +1,5 @@
 use Rattle.std.proofs.Common.{◌≤◌, ◌-◌}
-use Rattle.scr_plan.proofs.row_prices.RowPrices.part_over.Given as goal
+use Rattle.scr_plan.proofs.row_prices.RowPrices.stretches_over.Given as goal
 
 abbrev pub invariant-loop-column : goal.invariant-loop-column
 invariant-loop-column l = l.column ≤ l.end

@@ -1,0 +1,85 @@
+//! Walks over runs, priced: what orders are compared by. This only compares prices: a choice affects
+//! nothing but the number of bytes of an update.
+
+use crate::least_motions::LeastMotions;
+use crate::links::{Links, NONE};
+use crate::orders::run_at;
+use crate::runs::Run;
+use crate::ways::{Chooser, Cursor};
+
+// What an order is made for: the runs, by rows, where the cursor is wanted after them, and whether
+// something was moved before. If so, the next update is likely to move something too.
+#[derive(Clone, Copy)]
+pub(crate) struct Task<'a> {
+    pub(crate) chooser: &'a Chooser<'a>,
+    pub(crate) runs: &'a [Run],
+    pub(crate) wish: Option<(u32, u32)>,
+    pub(crate) moved: bool,
+    pub(crate) least: LeastMotions,
+}
+
+// A priced walk over runs: where the cursor is, which run was painted last, how many were, and how
+// many bytes all took.
+#[derive(Drop)]
+pub(crate) struct Walk {
+    pub(crate) cursor: Cursor,
+    pub(crate) last: u32,
+    pub(crate) count: u32,
+    pub(crate) price: u32,
+}
+
+impl Walk {
+    // No run was painted yet.
+    pub(crate) fn from(cursor: &Cursor) -> Walk {
+        Walk {
+            cursor: *cursor,
+            last: NONE,
+            count: 0,
+            price: 0,
+        }
+    }
+
+    // Paints the run with a number; the price of the way to it is known.
+    pub(crate) fn paint_behind(
+        &mut self,
+        chooser: &Chooser<'_>,
+        number: u32,
+        run: &Run,
+        price_of_way: u32,
+    ) {
+        self.cursor = chooser.behind(run);
+        self.last = number;
+        self.count = self.count.saturating_add(1);
+        self.price = self
+            .price
+            .saturating_add(price_of_way)
+            .saturating_add(chooser.price_of_painting(run));
+    }
+
+    // Paints the run with a number, as the next one of the order that is kept.
+    pub(crate) fn paint(&mut self, task: &Task<'_>, links: &mut Links, number: u32) {
+        links.set_ordered(self.count, number);
+        let run = run_at(task.runs, number);
+        let way = task.chooser.way(&self.cursor, run.row, run.start, run.pen);
+        links.set_way(number, self.last, way);
+        self.paint_behind(task.chooser, number, &run, way.price);
+    }
+
+    // The price of the walk, with the way to where the cursor is wanted, and with the reset that the
+    // next moves need.
+    pub(crate) fn price_to_wish(&self, task: &Task<'_>) -> u32 {
+        let turn = if task.moved {
+            task.chooser.price_of_reset(self.cursor.pen)
+        } else {
+            0
+        };
+        let price = self.price.saturating_add(turn);
+        match task.wish {
+            Some((row, column)) => {
+                let way = task.chooser.way(&self.cursor, row, column, self.cursor.pen);
+                price.saturating_add(way.price)
+            }
+            None => price,
+        }
+    }
+}
