@@ -1,5 +1,6 @@
 //! Generated updates of screens whose rows and characters move, on entries that can move some of them.
 
+use crate::moving_screen;
 use crate::moving_screen::MovingScreen;
 use check_scripts::random::Random;
 use check_scripts::troubles::Trouble;
@@ -56,18 +57,53 @@ fn shown_on(alloc: Global, subset: u32, updates: u32, random: &mut Random) -> Re
     let Some(size) = Size::new(ROWS, COLUMNS) else {
         return Err(Trouble::Bad("no size"));
     };
-    let mut screen = MovingScreen::open(alloc, &entry_of(alloc, subset)?, size)?;
+    let mut screen = None;
+    open_on(alloc, subset, size, &mut screen)?;
+    match &mut screen {
+        Some(screen) => shown_of(alloc, screen, updates, random),
+        None => Ok(0),
+    }
+}
+
+// Opens a screen on one entry.
+fn open_on(
+    alloc: Global,
+    subset: u32,
+    size: Size,
+    screen: &mut Option<MovingScreen>,
+) -> Result<(), Trouble> {
+    let entry = entry_of(alloc, subset)?;
+    moving_screen::open(alloc, &entry, size, screen)
+}
+
+// Makes updates on a screen, and returns how many of them are shown.
+fn shown_of(
+    alloc: Global,
+    screen: &mut MovingScreen,
+    updates: u32,
+    random: &mut Random,
+) -> Result<u32, Trouble> {
     let mut model = model_of(alloc, random)?;
     let mut shown = 0u32;
     for _ in 0..updates {
-        draw(&mut screen, &model, random)?;
-        let _sent = screen.update(alloc)?;
-        if screen.is_shown() {
+        if is_next_shown(alloc, screen, &mut model, random)? {
             shown = shown.saturating_add(1);
         }
-        change(&mut model, random)?;
     }
     Ok(shown)
+}
+
+// Draws the model, updates, and changes the model. Tells whether the update is shown.
+fn is_next_shown(
+    alloc: Global,
+    screen: &mut MovingScreen,
+    model: &mut Model,
+    random: &mut Random,
+) -> Result<bool, Trouble> {
+    draw(screen, model, random)?;
+    let _sent = screen.update(alloc)?;
+    change(model, random)?;
+    Ok(screen.is_shown())
 }
 
 // The bundled entry with some of the texts.

@@ -1,6 +1,7 @@
 //! Lines about the updates of a screen whose rows and characters move.
 
 use crate::moving_generated::generated;
+use crate::moving_screen;
 use crate::moving_screen::MovingScreen;
 use crate::operation_lines::add_op;
 use check_scripts::answers::{add_number, add_text, add_word, read_size};
@@ -65,11 +66,8 @@ fn open(
         words.fail(Trouble::Bad("no entry"));
         return;
     };
-    match MovingScreen::open(alloc, entry, size) {
-        Ok(opened) => {
-            *moving = Some(opened);
-            add_word("Ok", came)
-        }
+    match moving_screen::open(alloc, entry, size, moving) {
+        Ok(()) => add_word("Ok", came),
         Err(trouble) => words.fail(trouble),
     }
 }

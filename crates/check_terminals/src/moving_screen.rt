@@ -20,23 +20,54 @@ pub struct MovingScreen {
     is_defined: bool,
 }
 
-impl MovingScreen {
-    /// Opens a screen of this size of an entry.
-    pub fn open(alloc: Global, entry: &Entry, size: Size) -> Result<MovingScreen, Trouble> {
-        let Ok(screen) = Screen::open(alloc, entry, Some(size)) else {
-            return Err(Trouble::Bad("no screen is opened"));
-        };
-        let Ok(profile) = Profile::admit(alloc, entry, Some(size)) else {
-            return Err(Trouble::Bad("no profile"));
-        };
-        Ok(MovingScreen {
-            screen,
-            profile,
-            terminal: Terminal::new(alloc, size)?,
-            is_defined: true,
-        })
-    }
+/// Opens a screen of this size of an entry. Each function below owns one part more and has one way out, which keeps
+/// their proofs short.
+pub fn open(
+    alloc: Global,
+    entry: &Entry,
+    size: Size,
+    moving: &mut Option<MovingScreen>,
+) -> Result<(), Trouble> {
+    let terminal = Terminal::new(alloc, size)?;
+    open_with(alloc, entry, size, terminal, moving)
+}
 
+fn open_with(
+    alloc: Global,
+    entry: &Entry,
+    size: Size,
+    terminal: Terminal,
+    moving: &mut Option<MovingScreen>,
+) -> Result<(), Trouble> {
+    match Profile::admit(alloc, entry, Some(size)) {
+        Ok(profile) => open_with_profile(alloc, entry, size, terminal, profile, moving),
+        Err(_) => Err(Trouble::Bad("no profile")),
+    }
+}
+
+fn open_with_profile(
+    alloc: Global,
+    entry: &Entry,
+    size: Size,
+    terminal: Terminal,
+    profile: Profile,
+    moving: &mut Option<MovingScreen>,
+) -> Result<(), Trouble> {
+    match Screen::open(alloc, entry, Some(size)) {
+        Ok(screen) => {
+            *moving = Some(MovingScreen {
+                screen,
+                profile,
+                terminal,
+                is_defined: true,
+            });
+            Ok(())
+        }
+        Err(_) => Err(Trouble::Bad("no screen is opened")),
+    }
+}
+
+impl MovingScreen {
     /// Makes the window blank.
     pub fn clear(&mut self) -> Result<(), Trouble> {
         self.screen
