@@ -72,8 +72,10 @@ fn open_on(
     size: Size,
     screen: &mut Option<MovingScreen>,
 ) -> Result<(), Trouble> {
-    let entry = entry_of(alloc, subset)?;
-    moving_screen::open(alloc, &entry, size, screen)
+    match entry_of(alloc, subset) {
+        Ok(entry) => moving_screen::open(alloc, &entry, size, screen),
+        Err(trouble) => Err(trouble),
+    }
 }
 
 // Makes updates on a screen, and returns how many of them are shown.
