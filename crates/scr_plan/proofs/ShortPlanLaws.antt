@@ -25,7 +25,7 @@ use Rattle.scr_plan.proofs.PlainLaws.{look_same, not_false}
 use Rattle.scr_plan.proofs.RunChangeLaws.{not_in}
 use Rattle.scr_plan.proofs.RunLaws.{leaves_then}
 use Rattle.scr_plan.proofs.ScratchLaws.{cleared_run, grid_is_painted}
-use Rattle.scr_plan.specs.Code.Drafts.{HasChanges, HasMarks, IsDone, IsPartly, IsRight, Leaves, in_runs}
+use Rattle.scr_plan.specs.Code.Drafts.{HasMarks, IsDone, IsPartly, IsRight, Leaves, in_runs}
 use Rattle.scr_plan.specs.Code.Joinings.{counted_up}
 use Rattle.scr_plan.specs.Code.Moves.{IsChanged, IsMoved}
 use Rattle.scr_plan.specs.Code.Painters.{painter_of, row_differs}
@@ -46,27 +46,6 @@ pub state_of : (profile : ProfileView) (memory : MemoryView) → IsMemory memory
 state_of profile memory is rows columns shown =
     let full : IsState (full_abilities profile.rows profile.columns) memory.state = subst (λ n. IsState (full_abilities profile.rows n) memory.state) columns (subst (λ n. IsState (full_abilities n memory.columns) memory.state) rows is.state) in
     record { whole = full.whole; looks = full.looks; spot = full.spot; pen = shown }
-
--- from what is remembered, where nothing moved
-pub begun_moved : (profile : ProfileView) (picture : PictureView) (memory : MemoryView) → IsState (abilities profile) memory.state → (all : List Run) → HasChanges profile picture memory all picture.rows → (draft : Draft)
-    → draft.ops.items ≡ [] → draft.bytes ≡ 0 → draft.spot ≡ memory.state.spot → draft.pen ≡ memory.state.pen → IsMoved profile picture memory.state (in_runs all) draft
-begun_moved profile picture memory is all found draft ops bytes spot pen = record {
-  first = [];
-  mid = memory.state;
-  led = refl;
-  right = record {
-    own = [];
-    ops = ops;
-    now = memory.state;
-    run = refl;
-    calm = refl;
-    state = is;
-    bytes = bytes;
-    spot = sym spot;
-    pen = sym pen;
-    shows = λ r c high wide e. found r high c wide e;
-  };
-}
 
 -- the runs that are left are painted
 pub changes_done : (profile : ProfileView) (picture : PictureView) (start : TerminalState) (all some : List Run) (old mid new : Draft) → IsMoved profile picture start (in_runs all) old

@@ -4,7 +4,7 @@ ghost use Rattle.std.specs.Prelude.{◌≡◌, ◌<◌, ◌≤◌, ◌+◌, ◌*
 ghost use Rattle.scr_term.specs.declared.operations.operation.Op.TheVariants.{Clear};
 ghost use Rattle.scr_term.specs.Operations.Profiles.{abilities};
 ghost use Rattle.scr_term.specs.Operations.States.{IsShownPen, blank_state};
-ghost use Rattle.scr_plan.specs.Code.Drafts.{HasChanges, HasChangesIn, IsDone, KeepsRuns};
+ghost use Rattle.scr_plan.specs.Code.Drafts.{HasChangesIn, IsDone, KeepsRuns};
 ghost use Rattle.scr_plan.specs.Code.Moves.{IsChanged};
 ghost use Rattle.scr_plan.specs.Code.Painters.{painter_of};
 ghost use Rattle.scr_plan.specs.Code.Planning.{range_by};

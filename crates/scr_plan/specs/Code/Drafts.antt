@@ -125,12 +125,9 @@ Leaves profile picture runs left old new = Keeps profile picture (in_runs runs) 
 
 -- ---- what is found, and what is made of it
 
--- a place of a row that is in no run is known to show what is seen of the picture; so in the first n rows
+-- a place of a row that is in no run is known to show what is seen of the picture
 abbrev pub HasChangesIn : ProfileView → PictureView → MemoryView → List Run → ℕ → Type 0
 HasChangesIn profile picture memory runs r = (c : ℕ) → c < picture.columns → in_runs runs (r, c) ≡ false → look_in memory (r, c) ≡ look_at profile picture (r, c)
-
-abbrev pub HasChanges : ProfileView → PictureView → MemoryView → List Run → ℕ → Type 0
-HasChanges profile picture memory runs n = (r : ℕ) → r < n → HasChangesIn profile picture memory runs r
 
 -- every place from a row on up to another that is not seen blank is in a run
 abbrev pub HasMarks : Painter → PictureView → List Run → ℕ → ℕ → Type 0
