@@ -1,7 +1,10 @@
 //! Finding blanks in a row of cells, and whether they are worth an erasure.
-ghost use Rattle.std.specs.Prelude.{◌<◌, ◌≤◌, length};
+ghost use Rattle.std.specs.Prelude.{◌≡◌, ◌<◌, ◌≤◌, IfSome, length};
+ghost use Rattle.scr_cells.specs.Grids.{grid_row};
 
-use scr_cells::Cell;
+use crate::painting::Painter;
+use crate::ways::Chooser;
+use scr_cells::{Cell, Look, Picture};
 use scr_term::{Op, Profile};
 
 // The column of a blank from `from` on, or `end` if none is found. Only one column in `many` is
@@ -81,4 +84,56 @@ pub(crate) fn is_worth_erasing(profile: &Profile, count: u32, goes_on: bool) -> 
         0
     };
     count > erasure.saturating_add(motion)
+}
+
+// Whether cells are all seen blank.
+pub(crate) fn is_blank(chooser: &Chooser<'_>, cells: &[Cell]) -> bool {
+    for cell in cells {
+        if !is_blank_cell(chooser, *cell) {
+            return false;
+        }
+    }
+    true
+}
+
+// Whether a cell is seen blank.
+fn is_blank_cell(chooser: &Chooser<'_>, cell: Cell) -> bool {
+    cell == Cell::blank()
+        || cell.byte() == b' ' && chooser.painter.pen_of(chooser.picture, cell).is_plain()
+}
+
+impl Painter {
+    // The column from which the rest of a row is to be erased, if that costs less than writing it.
+    pub(crate) fn erased_rest(
+        self,
+        profile: &Profile,
+        picture: &Picture,
+        row: u32,
+        cells: &[Cell],
+        before: Option<&[Look]>,
+        from: u32,
+        end: u32,
+    ) -> Option<u32>
+        requires cells { cells.now ≡ grid_row picture.now.lines row }
+        requires wide { length cells.now ≡ picture.now.columns }
+        requires width { IfSome before (λ looks. length looks.now ≡ picture.now.columns) }
+        requires from { from ≤ end }
+        requires end { end ≤ picture.now.columns }
+        ensures { IfSome result (λ column. (from ≤ column) × (column < end)) }
+    {
+        let price = profile.prices().of(Op::EraseLine);
+        if end - from <= price {
+            return None;
+        }
+        let rest = self.blank_rest(picture, row, cells, before, from, end);
+        let column = rest.first?;
+        let last = rest.last?;
+        if last.saturating_add(1).saturating_sub(column) <= price {
+            return None;
+        }
+        if !self.is_blank_from(picture, row, cells, end) {
+            return None;
+        }
+        Some(column)
+    }
 }

@@ -5,11 +5,13 @@
 use crate::least_motions::LeastMotions;
 use crate::links::{Links, NONE};
 use crate::nearest::Nearest;
+use crate::painting::Painter;
 use crate::runs::{How, Run};
+use crate::strokes::Draft;
 use crate::walks::{Task, Walk};
 use crate::ways::{Chooser, Cursor, Stop, Way};
-use scr_cells::{NoMemory, Pen};
-use scr_term::Spot;
+use scr_cells::{NoMemory, Pen, Picture};
+use scr_term::{Profile, Spot};
 use std::alloc::Global;
 
 // How many waiting runs are looked at from the last one's place on, and how many before that.
@@ -21,9 +23,24 @@ const BACK: u32 = 2;
 // late.
 const WISHED_LAST: u32 = 3;
 
+// The runs in the cheapest order, from where a draft leads.
+pub(crate) fn chosen_order(
+    alloc: Global,
+    painter: Painter,
+    profile: &Profile,
+    picture: &Picture,
+    draft: &Draft,
+    runs: &[Run],
+    moved: bool,
+) -> Result<Vec<Stop>, NoMemory> {
+    let chooser = Chooser::new(painter, profile, picture);
+    let cursor = draft.cursor();
+    cheapest_order(alloc, &chooser, &cursor, runs, picture.wish(), moved)
+}
+
 // The runs in the cheapest order; the nearest next if others cost the same. `moved` says whether rows
 // or characters were moved before.
-pub(crate) fn cheapest_order(
+fn cheapest_order(
     alloc: Global,
     chooser: &Chooser<'_>,
     cursor: &Cursor,

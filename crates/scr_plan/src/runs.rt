@@ -10,7 +10,7 @@ use crate::blanks::{
 use crate::looking::is_shown_in;
 use crate::painting::Painter;
 use scr_cells::{Cell, Look, NoMemory, Pen, Picture};
-use scr_term::{Op, Profile};
+use scr_term::Profile;
 
 // How the places of a run are painted.
 #[derive(Clone, Copy)]
@@ -111,40 +111,6 @@ impl Painter {
             self.add_row(profile, picture, row, None, 0, size.columns, runs)?;
         }
         Ok(())
-    }
-
-    // The column from which the rest of a row is to be erased, if that costs less than writing it.
-    pub(crate) fn erased_rest(
-        self,
-        profile: &Profile,
-        picture: &Picture,
-        row: u32,
-        cells: &[Cell],
-        before: Option<&[Look]>,
-        from: u32,
-        end: u32,
-    ) -> Option<u32>
-        requires cells { cells.now ≡ grid_row picture.now.lines row }
-        requires wide { length cells.now ≡ picture.now.columns }
-        requires width { IfSome before (λ looks. length looks.now ≡ picture.now.columns) }
-        requires from { from ≤ end }
-        requires end { end ≤ picture.now.columns }
-        ensures { IfSome result (λ column. (from ≤ column) × (column < end)) }
-    {
-        let price = profile.prices().of(Op::EraseLine);
-        if end - from <= price {
-            return None;
-        }
-        let rest = self.blank_rest(picture, row, cells, before, from, end);
-        let column = rest.first?;
-        let last = rest.last?;
-        if last.saturating_add(1).saturating_sub(column) <= price {
-            return None;
-        }
-        if !self.is_blank_from(picture, row, cells, end) {
-            return None;
-        }
-        Some(column)
     }
 
     // Adds the runs of a part of a row.

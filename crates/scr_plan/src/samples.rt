@@ -1,14 +1,17 @@
 //! By how many rows a picture moved: rows that are wanted are looked for among those that are
 //! remembered. A choice affects nothing but the number of bytes of an update.
 
+use crate::blanks::is_blank;
 use crate::memories::Memory;
 use crate::planning::Looked;
 use crate::row_prices::RowPrices;
-use crate::wiping::is_blank;
 use scr_cells::{Cell, Look, NoMemory};
 use scr_term::{FAR, Op, Prices};
 use scr_virtual::Virtual;
 use std::alloc::Global;
+
+// What the rows that differ have to cost, at least, before rows that moved are looked for.
+const WORTH_LOOKING: u32 = 40;
 
 // The greatest number of rows that are looked for.
 const MOST_SAMPLES: u32 = 16;
@@ -162,7 +165,7 @@ fn byte_at(cells: &[Cell], column: u32) -> u8 {
 }
 
 // The first column in which a row differs from what is remembered of it, if there is one.
-pub(crate) fn first_differing(
+fn first_differing(
     prices: &RowPrices<'_>,
     memory: &Memory,
     wanted: &Virtual,
@@ -174,6 +177,51 @@ pub(crate) fn first_differing(
     }
     let (from, last) = by.in_row(wanted, row)?;
     prices.first_unlike(row, looks_of(memory, row), from, last.saturating_add(1))
+}
+
+// Whether at least two rows differ, and they cost enough.
+pub(crate) fn are_worth_looking(
+    prices: &RowPrices<'_>,
+    memory: &Memory,
+    wanted: &Virtual,
+    by: Looked,
+) -> bool {
+    let (begin, end) = by.rows(wanted);
+    let mut rows = 0u32;
+    let mut price = 0u32;
+    for row in begin..end {
+        if first_differing(prices, memory, wanted, by, row).is_some() {
+            rows = rows.saturating_add(1);
+            if price < WORTH_LOOKING {
+                price = price.saturating_add(price_over_remembered(
+                    prices, memory, wanted, by, row,
+                ));
+            }
+            if rows >= 2 && price >= WORTH_LOOKING {
+                return true;
+            }
+        }
+    }
+    false
+}
+
+// The price of a row over what is remembered of it.
+pub(crate) fn price_over_remembered(
+    prices: &RowPrices<'_>,
+    memory: &Memory,
+    wanted: &Virtual,
+    by: Looked,
+    row: u32,
+) -> u32 {
+    if row >= wanted.size().rows {
+        return 0;
+    }
+    match by.in_row(wanted, row) {
+        Some((from, last)) => {
+            prices.part_over(row, looks_of(memory, row), from, last.saturating_add(1))
+        }
+        None => 0,
+    }
 }
 
 // Whether looks are just what is wanted in a row; first the byte in one column is compared.

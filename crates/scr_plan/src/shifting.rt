@@ -20,7 +20,7 @@ use crate::row_prices::RowPrices;
 use crate::shifts::{Shift, can_shift_some, cheapest_shift};
 use crate::strokes::Draft;
 use crate::ways::Cursor;
-use scr_cells::{Look, NoMemory, Pen, Picture, grid_laws};
+use scr_cells::{Look, NoMemory, Picture, grid_laws};
 use scr_term::{Op, Profile, Spot, run_laws};
 use scr_virtual::Virtual;
 use std::alloc::Global;

@@ -3,27 +3,26 @@
 ghost use Rattle.std.specs.Prelude.{◌≡◌, IfOk, IfSome, true};
 ghost use Rattle.scr_plan.specs.Code.Moves.{IsShift};
 
+use crate::blanks::is_blank;
 use crate::memories::Memory;
 use crate::motions::cheapest_motion;
 use crate::planning::Looked;
 use crate::row_prices::{Counts, RowPrices};
-use crate::samples::{Distance, Samples, can_shift, first_differing, looks_of, most_votes};
+use crate::samples::{
+    Distance, Samples, are_worth_looking, can_shift, looks_of, most_votes, price_over_remembered,
+};
 use crate::slides::are_blank;
 use crate::ways::{Chooser, Cursor};
-use crate::wiping::is_blank;
-use scr_cells::{Look, NoMemory, Pen};
+use scr_cells::NoMemory;
 use scr_term::{FAR, Op, Prices, Spot};
 use scr_virtual::Virtual;
 use std::alloc::Global;
 
-// What the rows that differ have to cost, at least, before rows that moved are looked for.
-const WORTH_LOOKING: u32 = 40;
-
 // How many bytes a shift has to save, at least.
 const WORTH: i64 = 4;
 
-// What no shift costs more than another: blocks that save so much less than the one that saves most
-// are not priced.
+// Blocks that save so much less than the one that saves most are not priced: their shifts are not
+// likely to cost so much less.
 const FAR_LESS: i64 = 64;
 
 // Rows `top..end` that move up or down by `count` among themselves; the rows left free are blank.
@@ -84,49 +83,6 @@ fn is_inside(shift: Shift, rows: u32) -> bool
 // Whether the terminal can shift any rows.
 pub(crate) fn can_shift_some(prices: &Prices) -> bool {
     can_shift(prices, 1) || can_shift(prices, 2)
-}
-
-// Whether at least two rows differ, and they cost enough.
-fn are_worth_looking(
-    prices: &RowPrices<'_>,
-    memory: &Memory,
-    wanted: &Virtual,
-    by: Looked,
-) -> bool {
-    let (begin, end) = by.rows(wanted);
-    let mut rows = 0u32;
-    let mut price = 0u32;
-    for row in begin..end {
-        if first_differing(prices, memory, wanted, by, row).is_some() {
-            rows = rows.saturating_add(1);
-            if price < WORTH_LOOKING {
-                price = price.saturating_add(price_as_it_stands(prices, memory, wanted, by, row));
-            }
-            if rows >= 2 && price >= WORTH_LOOKING {
-                return true;
-            }
-        }
-    }
-    false
-}
-
-// The price of a row over what is remembered of it.
-fn price_as_it_stands(
-    prices: &RowPrices<'_>,
-    memory: &Memory,
-    wanted: &Virtual,
-    by: Looked,
-    row: u32,
-) -> u32 {
-    if row >= wanted.size().rows {
-        return 0;
-    }
-    match by.in_row(wanted, row) {
-        Some((from, last)) => {
-            prices.part_over(row, looks_of(memory, row), from, last.saturating_add(1))
-        }
-        None => 0,
-    }
 }
 
 // The last row of the screen if all rows below one are blank, else that row.
@@ -310,7 +266,7 @@ impl<'a> Blocks<'a> {
             let cost = i64::from(counts.price(prices));
             return (cost, cost - i64::from(counts.price_on_blanks(prices)));
         }
-        let cost = i64::from(price_as_it_stands(prices, self.memory, wanted, by, row));
+        let cost = i64::from(price_over_remembered(prices, self.memory, wanted, by, row));
         let blank = prices.on_blanks(row);
         let over = if coming.is_empty() {
             0

@@ -4,13 +4,14 @@ ghost use Rattle.std.specs.Prelude.{◌≡◌, ◌+◌, ◌≤◌, IfOk, IfSome,
 ghost use Rattle.scr_plan.specs.Code.Moves.{IsSlide};
 ghost use Rattle.scr_plan.specs.Code.Settled.{op_of};
 
+use crate::blanks::is_blank;
 use crate::motions::cheapest_motion;
 use crate::row_prices::RowPrices;
 use crate::runs::{How, Run};
 use crate::shown::slide_into;
 use crate::ways::Cursor;
-use crate::wiping::{is_blank, price_as_it_stands};
-use scr_cells::{Cell, Look, NoMemory, Pen};
+use crate::wiping::price_as_it_stands;
+use scr_cells::{Cell, Look, NoMemory};
 use scr_term::{FAR, Op, Prices};
 
 // How many columns have to lie from the first to the last place of a row that differs, at least.

@@ -9,11 +9,11 @@ ghost use Rattle.scr_plan.specs.Code.Painters.{painter_of};
 ghost use Rattle.scr_plan.specs.Scratch.{Fits};
 ghost use Rattle.scr_plan.specs.declared.runs.Run.{Run};
 
-use crate::orders::cheapest_order;
+use crate::orders::chosen_order;
 use crate::painting::Painter;
 use crate::runs::{How, Run};
 use crate::strokes::Draft;
-use crate::ways::{Chooser, Path, Stop, Way};
+use crate::ways::{Path, Stop, Way};
 use scr_cells::{Look, NoMemory, Pen, Picture, grid_laws};
 use scr_term::{Op, Profile, Spot, profiles_have, run_laws};
 use std::alloc::Global;
@@ -364,21 +364,6 @@ impl Draft {
         let _picture = picture.size();
         self.lead(painter, profile, row, column, Pen::plain())
     }
-}
-
-// The runs in the cheapest order.
-fn chosen_order(
-    alloc: Global,
-    painter: Painter,
-    profile: &Profile,
-    picture: &Picture,
-    draft: &Draft,
-    runs: &[Run],
-    moved: bool,
-) -> Result<Vec<Stop>, NoMemory> {
-    let chooser = Chooser::new(painter, profile, picture);
-    let cursor = draft.cursor();
-    cheapest_order(alloc, &chooser, &cursor, runs, picture.wish(), moved)
 }
 
 // The run with a number.

@@ -6,6 +6,7 @@ ghost use Rattle.scr_plan.specs.Code.Painters.{painter_of};
 ghost use Rattle.scr_plan.specs.Scratch.{Fits};
 ghost use Rattle.scr_plan.specs.declared.runs.Run.{Run};
 
+use crate::blanks::is_blank;
 use crate::orders::run_at;
 use crate::painting::Painter;
 use crate::remembering_laws::memory_runs;
@@ -13,7 +14,7 @@ use crate::runs::Run;
 use crate::stretches::{least_on_blanks, price_on_blanks};
 use crate::strokes::Draft;
 use crate::ways::{Chooser, Cursor};
-use scr_cells::{Cell, Look, NoMemory, Pen, Picture, grid_laws};
+use scr_cells::{Look, NoMemory, Pen, Picture, grid_laws};
 use scr_term::{Op, Profile, Spot, profiles_have, run_laws};
 
 // How many bytes an erasure has to save beyond its own price to be worth it.
@@ -217,22 +218,6 @@ fn erasure(chooser: &Chooser<'_>, cursor: &Cursor, row: u32) -> (Op, u32) {
     } else {
         (Op::EraseBelow, price)
     }
-}
-
-// Whether cells are all seen blank.
-pub(crate) fn is_blank(chooser: &Chooser<'_>, cells: &[Cell]) -> bool {
-    for cell in cells {
-        if !is_blank_cell(chooser, *cell) {
-            return false;
-        }
-    }
-    true
-}
-
-// Whether a cell is seen blank.
-fn is_blank_cell(chooser: &Chooser<'_>, cell: Cell) -> bool {
-    cell == Cell::blank()
-        || cell.byte() == b' ' && chooser.painter.pen_of(chooser.picture, cell).is_plain()
 }
 
 impl Draft {
