@@ -2,7 +2,7 @@
 
 use check_scripts::answers::{add_flag, add_name, add_number, add_text, add_word};
 use check_scripts::buffers::Buffer;
-use check_scripts::checking::{Stage, put};
+use check_scripts::checking::{Subject, put};
 use check_scripts::troubles::Trouble;
 use check_scripts::words::Words;
 use edit_text::{EditFault, NoMemory, Place, Text};
@@ -10,14 +10,14 @@ use std::alloc::Global;
 
 /// The state of a script: a text, if one was made.
 #[derive(Drop)]
-pub struct TextStage {
+pub struct TextSubject {
     alloc: Global,
     text: Option<Text>,
 }
 
-impl Stage for TextStage {
-    fn new(alloc: Global) -> TextStage {
-        TextStage { alloc, text: None }
+impl Subject for TextSubject {
+    fn new(alloc: Global) -> TextSubject {
+        TextSubject { alloc, text: None }
     }
 
     fn answer(&mut self, words: &mut Words<'_>, came: &mut Buffer) {

@@ -7,5 +7,5 @@ mod generated;
 mod keyboards;
 mod pieces;
 mod plain;
-pub mod stages;
 mod streams;
+pub mod subjects;

@@ -3,26 +3,26 @@
 
 use crate::cell_lines::answer_of_cells;
 use crate::compared_rows::{check_rows, is_about_rows};
-use crate::editing::TextStage;
-use crate::keys::stages::KeyStage;
+use crate::editing::TextSubject;
+use crate::keys::subjects::KeySubject;
 use check_scripts::answers::add_word;
 use check_scripts::buffers::Buffer;
-use check_scripts::checking::{Stage, put};
+use check_scripts::checking::{Subject, put};
 use check_scripts::troubles::Trouble;
 use check_scripts::words::Words;
 use std::alloc::Global;
 
 /// The state of a script.
 #[derive(Drop)]
-pub struct KindStage {
+pub struct KindSubject {
     alloc: Global,
-    keys: Option<KeyStage>,
-    texts: Option<TextStage>,
+    keys: Option<KeySubject>,
+    texts: Option<TextSubject>,
 }
 
-impl Stage for KindStage {
-    fn new(alloc: Global) -> KindStage {
-        KindStage {
+impl Subject for KindSubject {
+    fn new(alloc: Global) -> KindSubject {
+        KindSubject {
             alloc,
             keys: None,
             texts: None,
@@ -57,7 +57,7 @@ impl Stage for KindStage {
     }
 
     fn leaves_all(word: &[u8]) -> bool {
-        is_about_rows(word) || KeyStage::leaves_all(word)
+        is_about_rows(word) || KeySubject::leaves_all(word)
     }
 }
 
@@ -73,24 +73,24 @@ fn answer_of_values(alloc: Global, words: &mut Words<'_>, came: &mut Buffer) {
 }
 
 // What lines about keys work on, if this kind is `keys`.
-fn keys_of(alloc: Global, kind: &str) -> Option<KeyStage> {
+fn keys_of(alloc: Global, kind: &str) -> Option<KeySubject> {
     if kind == "keys" {
-        Some(KeyStage::new(alloc))
+        Some(KeySubject::new(alloc))
     } else {
         None
     }
 }
 
 // What lines about texts work on, if this kind is `texts`.
-fn texts_of(alloc: Global, kind: &str) -> Option<TextStage> {
+fn texts_of(alloc: Global, kind: &str) -> Option<TextSubject> {
     if kind == "texts" {
-        Some(TextStage::new(alloc))
+        Some(TextSubject::new(alloc))
     } else {
         None
     }
 }
 
-impl KindStage {
+impl KindSubject {
     // The line `about values`, `about keys` or `about texts`: nothing is there yet for the lines behind it.
     fn begin(&mut self, words: &mut Words<'_>, came: &mut Buffer) {
         let kind = words.name();

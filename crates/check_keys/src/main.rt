@@ -12,9 +12,9 @@ mod kinds;
 mod shown_rows;
 
 use check_scripts::checking::check_input;
-use kinds::KindStage;
+use kinds::KindSubject;
 use std::process::ExitCode;
 
 fn main(rt: HostRuntime) -> ExitCode {
-    check_input::<KindStage>(&rt)
+    check_input::<KindSubject>(&rt)
 }

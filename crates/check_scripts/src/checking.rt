@@ -1,6 +1,6 @@
 //! A script of calls with the answers that are wanted, line by line.
 
-use crate::answers::{add_wanted, add_word};
+use crate::answers::{add_number, add_wanted, add_word};
 use crate::buffers::{Buffer, are_same};
 use crate::troubles::Trouble;
 use crate::words::Words;
@@ -11,7 +11,7 @@ use std::io::Write;
 use std::process::ExitCode;
 
 /// What the lines of a script work on.
-pub trait Stage: Sized {
+pub trait Subject: Sized {
     /// Nothing is there yet.
     fn new(alloc: Global) -> Self;
 
@@ -33,10 +33,10 @@ pub fn put<T: Drop>(place: &mut T, value: T) {
 
 /// A script, and how far it was checked.
 #[derive(Drop)]
-pub struct Checker<'a, S: Stage + Drop> {
+pub struct Checker<'a, S: Subject + Drop> {
     alloc: Global,
     script: &'a [u8],
-    stage: S,
+    subject: S,
     // Room for texts of what is wanted.
     text: Buffer,
     wanted: Buffer,
@@ -44,20 +44,23 @@ pub struct Checker<'a, S: Stage + Drop> {
     /// The number of the line, from 1 on.
     pub line: u32,
     agree: u32,
+    // Whether the last line said how many there are.
+    is_whole: bool,
 }
 
-impl<'a, S: Stage + Drop> Checker<'a, S> {
+impl<'a, S: Subject + Drop> Checker<'a, S> {
     /// A checker before a script's first line.
     pub fn new(alloc: Global, script: &'a [u8]) -> Checker<'a, S> {
         Checker {
             alloc,
             script,
-            stage: S::new(alloc),
+            subject: S::new(alloc),
             text: Buffer::new(alloc),
             wanted: Buffer::new(alloc),
             came: Buffer::new(alloc),
             line: 0,
             agree: 0,
+            is_whole: false,
         }
     }
 
@@ -78,6 +81,11 @@ impl<'a, S: Stage + Drop> Checker<'a, S> {
     /// How many lines agree.
     pub fn agree(&self) -> u32 {
         self.agree
+    }
+
+    /// Whether the last line is `end`, which says how many there are.
+    pub fn is_whole(&self) -> bool {
+        self.is_whole
     }
 
     /// What was wanted of the last line.
@@ -134,7 +142,7 @@ impl<'a, S: Stage + Drop> Checker<'a, S> {
         let mut words = line;
         self.came.clear();
         self.wanted.clear();
-        self.stage.answer(&mut words, &mut self.came);
+        self.answer(&mut words);
         match words.name() {
             "" => {}
             "=" => add_wanted(&mut words, &mut self.text, &mut self.wanted),
@@ -143,6 +151,17 @@ impl<'a, S: Stage + Drop> Checker<'a, S> {
         words.check(self.came.done());
         words.check(self.wanted.done());
         words.done()
+    }
+
+    // Makes the call of a line; `end` answers how many were before it.
+    fn answer(&mut self, words: &mut Words<'_>) {
+        self.is_whole = words.peek() == b"end".as_slice();
+        if self.is_whole {
+            let _end = words.next();
+            add_number(i64::from(self.agree), &mut self.came);
+        } else {
+            self.subject.answer(words, &mut self.came);
+        }
     }
 
     // Whether the state is the one that the lines before this call make anew.
@@ -172,28 +191,28 @@ impl<'a, S: Stage + Drop> Checker<'a, S> {
         Ok(())
     }
 
-    // Whether all that can be seen of another stage is as it is here.
+    // Whether all that can be seen of another subject is as it is here.
     fn looks_like(&self, anew: &S) -> Result<bool, Trouble> {
         let mut before = Buffer::new(self.alloc);
         let mut after = Buffer::new(self.alloc);
         anew.dump(&mut before);
-        self.stage.dump(&mut after);
+        self.subject.dump(&mut after);
         are_same(&before, &after)
     }
 }
 
 // Makes the call of a line, where it is one, as often as it says.
-fn make_line<S: Stage>(stage: &mut S, line: &[u8], came: &mut Buffer) -> Result<(), Trouble> {
+fn make_line<S: Subject>(subject: &mut S, line: &[u8], came: &mut Buffer) -> Result<(), Trouble> {
     if !is_call(line) {
         return Ok(());
     }
     let (times, words) = repeated(line)?;
-    make_again(stage, words, times, came)
+    make_again(subject, words, times, came)
 }
 
 // Makes the call of a line so often, whatever it answers.
-fn make_again<S: Stage>(
-    stage: &mut S,
+fn make_again<S: Subject>(
+    subject: &mut S,
     line: Words<'_>,
     times: u32,
     came: &mut Buffer,
@@ -202,16 +221,20 @@ fn make_again<S: Stage>(
         return Ok(());
     }
     for _ in 0..times {
-        make_once(stage, line, came)?;
+        make_once(subject, line, came)?;
     }
     Ok(())
 }
 
 // Makes the call of a line, whatever it answers.
-fn make_once<S: Stage>(stage: &mut S, line: Words<'_>, came: &mut Buffer) -> Result<(), Trouble> {
+fn make_once<S: Subject>(
+    subject: &mut S,
+    line: Words<'_>,
+    came: &mut Buffer,
+) -> Result<(), Trouble> {
     let mut words = line;
     came.clear();
-    stage.answer(&mut words, came);
+    subject.answer(&mut words, came);
     words.done()
 }
 
@@ -254,7 +277,7 @@ fn begins_with_digit(answer: &[u8]) -> bool {
 
 /// Checks the script that the standard input has, and prints how many lines agree, or the first that does not with what
 /// was wanted and what came.
-pub fn check_input<S: Stage + Drop>(rt: &HostRuntime) -> ExitCode {
+pub fn check_input<S: Subject + Drop>(rt: &HostRuntime) -> ExitCode {
     status(rt, check_script::<S>(rt))
 }
 
@@ -271,10 +294,11 @@ fn status(rt: &HostRuntime, ended: Result<bool, Trouble>) -> ExitCode {
 }
 
 // Reads the script and checks it.
-fn check_script<S: Stage + Drop>(rt: &HostRuntime) -> Result<bool, Trouble> {
+fn check_script<S: Subject + Drop>(rt: &HostRuntime) -> Result<bool, Trouble> {
     let script = read_script(rt)?;
     let mut checker = Checker::<S>::new(rt.alloc(), &script);
     match checker.check() {
+        Ok(true) if checker.is_whole() => return Ok(println!(rt; "all lines agree").is_ok()),
         Ok(true) => return Ok(print_agreed(rt, checker.agree())),
         Ok(false) => print_difference(rt, checker.line, checker.wanted(), checker.came()),
         Err(Trouble::Bad(cause)) => print_bad(rt, checker.line, cause),

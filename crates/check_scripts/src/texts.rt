@@ -6,7 +6,7 @@ use scr_cells::is_character;
 
 // Where in a text its reader is.
 #[derive(Clone, Copy)]
-enum Part {
+enum Position {
     Outside,
     Inside,
     Escaped,
@@ -21,7 +21,7 @@ enum Part {
 #[derive(Drop)]
 struct Reader<'a> {
     bytes: &'a mut Buffer,
-    part: Part,
+    part: Position,
     begin: usize,
 }
 
@@ -61,24 +61,24 @@ pub fn write_byte(byte: u8, text: &mut Buffer) {
     }
 }
 
-fn first_part(word: &[u8]) -> Part {
+fn first_part(word: &[u8]) -> Position {
     if word.starts_with(b"\"") {
-        Part::Outside
+        Position::Outside
     } else {
-        Part::Bad("no text")
+        Position::Bad("no text")
     }
 }
 
 impl Reader<'_> {
     fn take(&mut self, byte: u8) {
         match self.part {
-            Part::Outside => self.take_outside(byte),
-            Part::Inside => self.take_inside(byte),
-            Part::Escaped => self.take_escaped(byte),
-            Part::FirstDigit => self.part = first_digit(byte),
-            Part::SecondDigit(high) => self.take_second_digit(high, byte),
-            Part::Times(count) => self.take_count(count, byte),
-            Part::Bad(_) => {}
+            Position::Outside => self.take_outside(byte),
+            Position::Inside => self.take_inside(byte),
+            Position::Escaped => self.take_escaped(byte),
+            Position::FirstDigit => self.part = first_digit(byte),
+            Position::SecondDigit(high) => self.take_second_digit(high, byte),
+            Position::Times(count) => self.take_count(count, byte),
+            Position::Bad(_) => {}
         }
     }
 
@@ -86,18 +86,18 @@ impl Reader<'_> {
         match byte {
             b'"' => {
                 self.begin = self.bytes.bytes().len();
-                self.part = Part::Inside;
+                self.part = Position::Inside;
             }
-            b'*' => self.part = Part::Times(0),
+            b'*' => self.part = Position::Times(0),
             b'+' => {}
-            _ => self.part = Part::Bad("a text goes on behind its end"),
+            _ => self.part = Position::Bad("a text goes on behind its end"),
         }
     }
 
     fn take_inside(&mut self, byte: u8) {
         match byte {
-            b'"' => self.part = Part::Outside,
-            b'\\' => self.part = Part::Escaped,
+            b'"' => self.part = Position::Outside,
+            b'\\' => self.part = Position::Escaped,
             _ => self.bytes.push(byte),
         }
     }
@@ -108,42 +108,44 @@ impl Reader<'_> {
             b't' => self.add(b'\t'),
             b'e' => self.add(27),
             b'"' | b'\\' => self.add(byte),
-            b'x' => self.part = Part::FirstDigit,
-            _ => self.part = Part::Bad("no such escape"),
+            b'x' => self.part = Position::FirstDigit,
+            _ => self.part = Position::Bad("no such escape"),
         }
     }
 
     fn take_second_digit(&mut self, high: u8, byte: u8) {
         match digit(byte) {
             Some(low) => self.add(high.wrapping_mul(16) | low),
-            None => self.part = Part::Bad("no digit"),
+            None => self.part = Position::Bad("no digit"),
         }
     }
 
     // Adds a byte that was escaped.
     fn add(&mut self, byte: u8) {
-        self.part = Part::Inside;
+        self.part = Position::Inside;
         self.bytes.push(byte);
     }
 
     // Takes a digit of how often a piece is there, or what follows the last.
     fn take_count(&mut self, count: usize, byte: u8) {
         if byte == b'+' {
-            self.part = Part::Outside;
+            self.part = Position::Outside;
             self.repeat(count);
             return;
         }
         self.part = match digit(byte) {
-            Some(digit) => Part::Times(count.saturating_mul(10).saturating_add(usize::from(digit))),
-            None => Part::Bad("no digit"),
+            Some(digit) => Position::Times(
+                count.saturating_mul(10).saturating_add(usize::from(digit)),
+            ),
+            None => Position::Bad("no digit"),
         };
     }
 
     fn end(&mut self) -> Result<(), Trouble> {
         match self.part {
-            Part::Outside => {}
-            Part::Times(count) => self.repeat(count),
-            Part::Bad(cause) => return Err(Trouble::Bad(cause)),
+            Position::Outside => {}
+            Position::Times(count) => self.repeat(count),
+            Position::Bad(cause) => return Err(Trouble::Bad(cause)),
             _ => return Err(Trouble::Bad("a text has no end")),
         }
         self.bytes.done()
@@ -162,10 +164,10 @@ impl Reader<'_> {
 }
 
 // What follows the first hexadecimal digit of a byte.
-fn first_digit(byte: u8) -> Part {
+fn first_digit(byte: u8) -> Position {
     match digit(byte) {
-        Some(high) => Part::SecondDigit(high),
-        None => Part::Bad("no digit"),
+        Some(high) => Position::SecondDigit(high),
+        None => Position::Bad("no digit"),
     }
 }
 

@@ -1,10 +1,11 @@
 //! How many bytes an update may send at most.
 
 use crate::counting::{Row, Tally, price};
+use crate::emulated::Emulated;
 use crate::shown::{is_placed, look_of};
 use check_scripts::troubles::Trouble;
 use scr_cells::{Attrs, Look, Picture, Size};
-use scr_term::{EcmaScreen, Op, Profile, Spot};
+use scr_term::{Op, Profile, Spot};
 use std::alloc::Global;
 
 /// What the terminal shows since an update that ended well.
@@ -56,7 +57,7 @@ impl Left {
         &mut self,
         profile: &Profile,
         picture: &Picture,
-        emulated: &EcmaScreen,
+        emulated: &Emulated,
     ) -> Result<(), Trouble> {
         self.looks.clear();
         for row in 0..picture.size().rows {
@@ -65,7 +66,7 @@ impl Left {
             }
         }
         self.spot = emulated.spot();
-        self.is_plain = emulated.rendition().0 == 0 && emulated.colours() == (None, None);
+        self.is_plain = emulated.is_plain();
         self.allowed = Allowed::Differing;
         Ok(())
     }

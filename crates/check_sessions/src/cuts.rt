@@ -1,11 +1,12 @@
 //! Cuts of an update, the texts of its operations, and what a terminal has to show behind a cut.
 
+use crate::emulated::Emulated;
 use crate::recorded::Recorded;
 use crate::shown::shows;
 use check_scripts::troubles::Trouble;
 use curses::UpdateFault;
-use scr_term::{EcmaScreen, Op, Profile};
-use screen_sessions::{Answer, Failure};
+use scr_term::{Op, Profile};
+use screen_sessions::{Answer, WriterFailure};
 use std::alloc::Global;
 use std::io::ErrorKind;
 
@@ -13,7 +14,7 @@ use std::io::ErrorKind;
 #[derive(Clone, Copy)]
 pub struct Cut {
     /// How the writer fails.
-    pub failure: Failure,
+    pub failure: WriterFailure,
     /// Behind how many bytes of the update.
     pub behind: usize,
 }
@@ -103,10 +104,10 @@ pub fn is_writer_full(answer: &Answer) -> bool {
 
 /// Whether a terminal shows the picture by what the writer took.
 pub fn judge_shown(alloc: Global, opened: &Recorded, taken: &[u8]) -> Verdict {
-    let Ok(mut emulated) = EcmaScreen::new(alloc, opened.profile.size()) else {
+    let Ok(mut emulated) = Emulated::by_bytes(alloc, opened.profile.size()) else {
         return Verdict::NoMemory;
     };
-    let is_fed = emulated.feed(taken).is_ok();
+    let is_fed = emulated.feed(taken);
     if is_fed && shows(&emulated, &opened.profile, opened.screen.picture()) {
         Verdict::Agrees
     } else {

@@ -1,10 +1,11 @@
 //! The terminal of an entry, emulated, with the writer that takes what is sent to it.
 
 use crate::bounds::Left;
+use crate::emulated::Emulated;
 use crate::writers::Planned;
 use check_scripts::troubles::Trouble;
 use scr_cells::Size;
-use scr_term::{EcmaScreen, Profile, ProfileFault};
+use scr_term::{Profile, ProfileFault};
 use std::alloc::Global;
 use ti_caps::Entry;
 
@@ -15,14 +16,14 @@ const ROOM: usize = 8192;
 #[derive(Drop)]
 pub struct Display {
     pub profile: Profile,
-    pub emulated: EcmaScreen,
+    pub emulated: Emulated,
     pub left: Left,
     pub writer: Planned,
 }
 
 /// The terminal of an entry; `None` where the library was refused memory.
 pub fn open_display(alloc: Global, entry: &Entry, size: Size) -> Result<Option<Display>, Trouble> {
-    let Ok(emulated) = EcmaScreen::new(alloc, size) else {
+    let Ok(emulated) = Emulated::new(alloc, entry, size) else {
         return Ok(None);
     };
     match Profile::admit(alloc, entry, Some(size)) {
@@ -36,7 +37,7 @@ fn blank_display(
     alloc: Global,
     size: Size,
     profile: Profile,
-    emulated: EcmaScreen,
+    emulated: Emulated,
 ) -> Result<Display, Trouble> {
     let writer = Planned::new(alloc, ROOM)?;
     Ok(Display {

@@ -1,6 +1,7 @@
 //! All that can be seen of a screen and its terminal, as bytes, so that a refused call can be shown to have changed
 //! nothing.
 
+use crate::emulated::Emulated;
 use crate::recorded::Recorded;
 use crate::shown_lines::add_spot;
 use crate::window_lines::{FIELDS, add_field, is_touched, line_of};
@@ -9,7 +10,6 @@ use check_scripts::buffers::Buffer;
 use check_scripts::dumps::{dump_cells, dump_place};
 use curses::Screen;
 use scr_cells::Picture;
-use scr_term::EcmaScreen;
 use scr_windows::WindowRef;
 
 /// Adds the windows, the picture, what the terminal shows, and what the writer took.
@@ -61,7 +61,7 @@ fn dump_picture(picture: &Picture, bytes: &mut Buffer) {
     }
 }
 
-fn dump_emulated(emulated: &EcmaScreen, bytes: &mut Buffer) {
+fn dump_emulated(emulated: &Emulated, bytes: &mut Buffer) {
     for row in 0..emulated.size().rows {
         for look in emulated.row(row) {
             add_look(*look, bytes);

@@ -14,7 +14,7 @@ use check_scripts::words::Words;
 use curses::{Device, UpdateFault};
 use scr_cells::Size;
 use scr_term::Op;
-use screen_sessions::{Answer, Failure, Faulty, Report};
+use screen_sessions::{Answer, Faulty, Report, WriterFailure};
 use std::alloc::Global;
 use std::io::ErrorKind;
 
@@ -233,7 +233,7 @@ fn cut_each(
         return Ok(Verdict::Agrees);
     }
     let flush = Cut {
-        failure: Failure::Flush,
+        failure: WriterFailure::Flush,
         behind: bytes,
     };
     cut_once(alloc, opened, text, flush, tried, answer)
@@ -249,11 +249,11 @@ fn cut_both(
     answer: &mut Buffer,
 ) -> Result<Verdict, Trouble> {
     let error = Cut {
-        failure: Failure::Error,
+        failure: WriterFailure::Error,
         behind,
     };
     let zero = Cut {
-        failure: Failure::Zero,
+        failure: WriterFailure::Zero,
         behind,
     };
     let verdict = cut_once(alloc, opened, text, error, tried, answer)?;
@@ -277,9 +277,9 @@ fn cut_once(
     if matches!(verdict, Verdict::Differs) {
         add_word(
             match cut.failure {
-                Failure::Error => "error",
-                Failure::Zero => "zero",
-                Failure::Flush => "flush",
+                WriterFailure::Error => "error",
+                WriterFailure::Zero => "zero",
+                WriterFailure::Flush => "flush",
             },
             answer,
         );
@@ -359,13 +359,13 @@ fn are_wanted(
 // Whether an update answered that it was cut so, and began these operations.
 fn is_cut(answer: &Answer, cut: Cut, ops: &[Op]) -> bool {
     match (answer, cut.failure) {
-        (Answer::Failed(UpdateFault::Write { begun, sent, kind }), Failure::Error) => {
+        (Answer::Failed(UpdateFault::Write { begun, sent, kind }), WriterFailure::Error) => {
             *kind == ErrorKind::Other && *sent == cut.behind as u64 && begun.0.as_slice() == ops
         }
-        (Answer::Failed(UpdateFault::Write { begun, sent, kind }), Failure::Zero) => {
+        (Answer::Failed(UpdateFault::Write { begun, sent, kind }), WriterFailure::Zero) => {
             *kind == ErrorKind::WriteZero && *sent == cut.behind as u64 && begun.0.as_slice() == ops
         }
-        (Answer::Failed(UpdateFault::Flush { begun, sent, kind }), Failure::Flush) => {
+        (Answer::Failed(UpdateFault::Flush { begun, sent, kind }), WriterFailure::Flush) => {
             *kind == ErrorKind::Other && *sent == cut.behind as u64 && begun.0.as_slice() == ops
         }
         _ => false,

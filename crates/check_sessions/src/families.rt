@@ -18,7 +18,7 @@ struct Place {
 
 /// A part of a window that has no parent.
 #[derive(Clone, Copy)]
-pub struct Part {
+pub struct Covered {
     /// The window.
     pub root: Win,
     /// The first row.
@@ -31,7 +31,7 @@ pub struct Part {
     pub columns: u32,
 }
 
-impl Part {
+impl Covered {
     /// Whether a place of the window lies in it.
     pub fn holds(&self, row: u32, column: u32) -> bool {
         let (down, across) = (row.checked_sub(self.row), column.checked_sub(self.column));
@@ -124,9 +124,9 @@ impl Families {
     }
 
     /// The part that a window has of the first window of its family.
-    pub fn part(&self, screen: &Screen, win: Win) -> Option<Part> {
+    pub fn part(&self, screen: &Screen, win: Win) -> Option<Covered> {
         let (rows, columns) = screen.size(win).ok()?;
-        let mut part = Part {
+        let mut part = Covered {
             root: win,
             row: 0,
             column: 0,

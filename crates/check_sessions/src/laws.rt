@@ -3,7 +3,7 @@
 //! cells, those of that window, whose lines it touches.
 
 use crate::dumps::dump_windows;
-use crate::families::{Families, Part};
+use crate::families::{Covered, Families};
 use crate::window_lines::{is_touched, line_of};
 use check_scripts::buffers::{Buffer, are_same};
 use check_scripts::troubles::Trouble;
@@ -109,7 +109,7 @@ impl Before {
     }
 
     // Whether no cell changed but in a part, if one may.
-    fn is_kept_outside(&self, screen: &Screen, part: Option<Part>) -> bool {
+    fn is_kept_outside(&self, screen: &Screen, part: Option<Covered>) -> bool {
         for root in &self.roots {
             if let Ok(window) = screen.window(root.win)
                 && !self.is_window_kept(&window, *root, part)
@@ -121,7 +121,7 @@ impl Before {
     }
 
     // Whether no cell of a window changed but in a part, if that is one of this window.
-    fn is_window_kept(&self, window: &WindowRef<'_>, root: Root, part: Option<Part>) -> bool {
+    fn is_window_kept(&self, window: &WindowRef<'_>, root: Root, part: Option<Covered>) -> bool {
         let (rows, columns) = window.size();
         for row in 0..rows {
             for column in 0..columns {
@@ -136,7 +136,7 @@ impl Before {
     }
 
     // Whether each line of a window is touched in whose part of its family's first window a cell changed.
-    fn is_touched_inside(&self, screen: &Screen, win: Win, part: Part) -> bool {
+    fn is_touched_inside(&self, screen: &Screen, win: Win, part: Covered) -> bool {
         let (Ok(window), Ok(first)) = (screen.window(win), screen.window(part.root)) else {
             return false;
         };
@@ -178,7 +178,7 @@ impl Before {
 }
 
 // Whether a place of a window lies in a part.
-fn is_in(part: Option<Part>, win: Win, row: u32, column: u32) -> bool {
+fn is_in(part: Option<Covered>, win: Win, row: u32, column: u32) -> bool {
     match part {
         Some(part) => part.root == win && part.holds(row, column),
         None => false,

@@ -3,18 +3,19 @@
 //! (status 1).
 //!
 //! What an update sends goes into a writer that fails where a line says so, and what that took is fed to an emulated
-//! screen.
+//! terminal, or the operations, where an entry can insert and delete lines and characters.
 #![tactic(auto)]
 
 mod answers;
 mod bounds;
-mod call_lines;
+mod calls;
 mod changing;
 mod composing;
 mod counting;
 mod cuts;
 mod displays;
 mod dumps;
+mod emulated;
 mod ends;
 mod entries;
 mod every_cut;
@@ -23,18 +24,20 @@ mod generated;
 mod generating;
 mod laws;
 mod listed;
+mod moving;
+mod read_calls;
 mod recorded;
 mod refusals;
 mod shown;
 mod shown_lines;
-mod stages;
+mod subjects;
 mod window_lines;
 mod writers;
 
 use check_scripts::checking::check_input;
-use stages::SessionStage;
 use std::process::ExitCode;
+use subjects::SessionSubject;
 
 fn main(rt: HostRuntime) -> ExitCode {
-    check_input::<SessionStage>(&rt)
+    check_input::<SessionSubject>(&rt)
 }

@@ -1,8 +1,9 @@
-//! A screen whose calls and answers are kept, and the emulated screen that is fed what its updates send.
+//! A screen whose calls and answers are kept, and the emulated terminal that takes what its updates send.
 
 use crate::answers::{add_answer, add_answers, ran_out};
 use crate::bounds::Left;
 use crate::displays::{Display, open_display};
+use crate::emulated::Emulated;
 use crate::ends::{End, add_sent, has_ends};
 use crate::listed::make_listed;
 use crate::shown::shows;
@@ -13,7 +14,7 @@ use check_scripts::checking::put;
 use check_scripts::troubles::Trouble;
 use curses::{Counted, Device, OpenFault, Screen, UpdateFault};
 use scr_cells::Size;
-use scr_term::{EcmaScreen, Op, Ops, Profile};
+use scr_term::{Op, Ops, Profile};
 use screen_sessions::{Answer, Call, Report, make_call, session};
 use std::alloc::Global;
 use ti_caps::{Entry, bundled};
@@ -29,7 +30,7 @@ pub struct Recorded {
     /// The screen.
     pub screen: Screen,
     /// What the terminal shows.
-    pub emulated: EcmaScreen,
+    pub emulated: Emulated,
     // What the last update left there.
     left: Left,
     device: Device<Planned>,
@@ -156,10 +157,10 @@ impl Recorded {
             let _uncalled = self.add_calls(came);
         }
         let fed = !has_ends(&self.entry);
-        if fed && !self.feed()? {
+        if fed && !self.emulated.feed(&self.device.writer.taken) {
             add_word("and an undefined text", came);
         }
-        if fed { Ok(()) } else { self.keep_sent() }
+        self.keep_sent()
     }
 
     /// Adds what the writer took, how often it failed, and whether the last update ended well.
@@ -182,7 +183,7 @@ impl Recorded {
     /// Feeds the terminal what others write.
     pub fn others(&mut self, text: &[u8], came: &mut Buffer) {
         let fed = self.emulated.feed(text);
-        add_word(if fed.is_ok() { "Ok" } else { "Undefined" }, came);
+        add_word(if fed { "Ok" } else { "Undefined" }, came);
     }
 
     /// Makes the calls by one session with a writer that fails so, and adds `agrees` where its answers, its bytes and
@@ -263,7 +264,7 @@ impl Recorded {
             Answer::Sent(sent) => self.keep_last(&sent.begun.0)?,
             Answer::Failed(UpdateFault::Write { begun, .. } | UpdateFault::Flush { begun, .. }) =>
                 self.keep_last(&begun.0)?,
-            _ => {}
+            _ => self.last.0.clear(),
         }
         Ok(end_of(&answer))
     }
@@ -296,11 +297,12 @@ impl Recorded {
         Ok(())
     }
 
-    // Feeds the terminal what the writer took, and tells whether that is defined.
+    // Has the terminal take what the last update sent, and tells whether that is defined.
     fn feed(&mut self) -> Result<bool, Trouble> {
-        let fed = self.emulated.feed(&self.device.writer.taken);
+        let taken = &self.device.writer.taken;
+        let is_fed = self.emulated.take(&self.profile, taken, &self.last.0);
         self.keep_sent()?;
-        Ok(fed.is_ok())
+        Ok(is_fed)
     }
 
     // Keeps what the writer took.

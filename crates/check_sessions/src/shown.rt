@@ -1,17 +1,17 @@
 //! What a terminal has to show of a picture, and whether it does.
 
+use crate::emulated::Emulated;
 use scr_cells::{Attrs, Cell, Look, Picture};
-use scr_term::{EcmaScreen, Profile, Spot};
+use scr_term::{Profile, Spot};
 
-/// Whether an emulated screen shows what a terminal shows of a picture, with the cursor where it is wished. A terminal
-/// shows standout as reverse video (`smso` of the bundled entry is SGR 7).
-pub fn shows(emulated: &EcmaScreen, profile: &Profile, picture: &Picture) -> bool {
+/// Whether an emulated terminal shows what a terminal shows of a picture, with the cursor where it is wished.
+pub fn shows(emulated: &Emulated, profile: &Profile, picture: &Picture) -> bool {
     let (size, other) = (emulated.size(), picture.size());
     if size.rows != other.rows || size.columns != other.columns {
         return false;
     }
     for row in 0..size.rows {
-        if !row_shows(profile, picture, emulated.row(row), picture.row(row)) {
+        if !row_shows(emulated, profile, picture, row) {
             return false;
         }
     }
@@ -42,28 +42,23 @@ pub fn look_of(profile: &Profile, picture: &Picture, cell: Cell) -> Look {
     Look::new(cell.byte(), attrs, foreground, background).unwrap_or(Look::blank())
 }
 
-fn row_shows(profile: &Profile, picture: &Picture, looks: &[Look], cells: &[Cell]) -> bool {
+fn row_shows(emulated: &Emulated, profile: &Profile, picture: &Picture, row: u32) -> bool {
+    if row >= picture.size().rows {
+        return false;
+    }
+    let (looks, cells) = (emulated.row(row), picture.row(row));
     for (look, cell) in looks.iter().zip(cells.iter()) {
-        if !is_seen(*look, look_of(profile, picture, *cell)) {
+        if !is_seen(emulated, *look, look_of(profile, picture, *cell)) {
             return false;
         }
     }
     looks.len() == cells.len()
 }
 
-// Whether a look is another, but for standout as reverse video.
-fn is_seen(look: Look, wanted: Look) -> bool {
+// Whether a look is the one that is wanted.
+fn is_seen(emulated: &Emulated, look: Look, wanted: Look) -> bool {
     look.byte() == wanted.byte()
-        && look.attrs().0 == without_standout(wanted.attrs())
+        && look.attrs().0 == emulated.seen(wanted.attrs())
         && look.foreground() == wanted.foreground()
         && look.background() == wanted.background()
-}
-
-fn without_standout(attrs: Attrs) -> u8 {
-    let rest = attrs.0 & 0b111_1110;
-    if attrs.0 & Attrs::STANDOUT.0 == 0 {
-        rest
-    } else {
-        rest | Attrs::REVERSE.0
-    }
 }

@@ -1,17 +1,19 @@
 //! Lines about what the terminal shows, and what it is to show.
 ghost use Rattle.std.specs.Prelude.{◌≡◌};
 
+use crate::emulated::Emulated;
 use crate::recorded::Recorded;
 use check_scripts::answers::{
     add_cell, add_look, add_name, add_number, add_place, add_text, add_text_of, add_text_shown,
     add_word, read_size,
 };
 use check_scripts::buffers::Buffer;
+use check_scripts::texts::write_byte;
 use check_scripts::troubles::Trouble;
 use check_scripts::words::Words;
 use scr_cells::{Attrs, NoMemory, Picture, Size};
 use scr_plan::{Memory, plan, up_to_date_laws};
-use scr_term::{EcmaScreen, Op, Ops, Profile, Spot};
+use scr_term::{Op, Ops, Profile, Spot};
 use scr_virtual::Virtual;
 use scr_windows::{Desk, Win, WinFault};
 use std::alloc::Global;
@@ -55,20 +57,18 @@ pub fn add_spot(spot: Spot, came: &mut Buffer) {
 }
 
 // Adds the bytes of each row.
-fn add_rows(emulated: &EcmaScreen, came: &mut Buffer) {
+fn add_rows(emulated: &Emulated, came: &mut Buffer) {
     for row in 0..emulated.size().rows {
         add_text_shown(emulated.row(row), came);
     }
 }
 
-fn add_shown(emulated: &EcmaScreen, words: &mut Words<'_>, came: &mut Buffer) {
+fn add_shown(emulated: &Emulated, words: &mut Words<'_>, came: &mut Buffer) {
     let (row, column) = (words.number(), words.number());
-    let size = emulated.size();
-    if row >= size.rows || column >= size.columns {
-        words.fail(Trouble::Bad("no place of the screen"));
-        return;
+    match emulated.row(row).get(column as usize) {
+        Some(look) => add_look(*look, came),
+        None => words.fail(Trouble::Bad("no place of the screen")),
     }
-    add_look(emulated.cell(row, column), came);
 }
 
 fn add_picture_rows(picture: &Picture, came: &mut Buffer) {
@@ -101,14 +101,34 @@ fn add_most(most: Option<usize>, came: &mut Buffer) {
     }
 }
 
-// Adds operations, or `none`.
+// Adds operations, with characters one after another as a text, or `none`.
 fn add_begun(ops: &[Op], came: &mut Buffer) {
     if ops.is_empty() {
         add_word("none", came);
     }
+    let mut is_text = false;
     for op in ops {
-        add_name(op, came);
+        is_text = add_op(*op, is_text, came);
     }
+    if is_text {
+        came.push(b'"');
+    }
+}
+
+// Adds an operation behind a text that has not ended, or not, and tells whether it is a character of a text.
+fn add_op(op: Op, is_text: bool, came: &mut Buffer) -> bool {
+    if let Op::Put(byte) = op {
+        if !is_text {
+            came.extend(b" \"");
+        }
+        write_byte(byte, came);
+        return true;
+    }
+    if is_text {
+        came.push(b'"');
+    }
+    add_name(&op, came);
+    false
 }
 
 fn add_first_sent(opened: &Recorded, words: &mut Words<'_>, came: &mut Buffer) {

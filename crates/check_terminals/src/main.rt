@@ -8,9 +8,6 @@ mod dumps;
 mod emulated_lines;
 mod entry_lines;
 mod joining_lines;
-mod moving_generated;
-mod moving_lines;
-mod moving_screen;
 mod operation_lines;
 mod painting_lines;
 mod picture_lines;
@@ -18,14 +15,14 @@ mod plain_lines;
 mod plain_screen;
 mod screen_lines;
 mod script_lines;
-mod stages;
+mod subjects;
 mod terminal_lines;
 mod text_lines;
 
 use check_scripts::checking::check_input;
-use stages::TerminalStage;
 use std::process::ExitCode;
+use subjects::TerminalSubject;
 
 fn main(rt: HostRuntime) -> ExitCode {
-    check_input::<TerminalStage>(&rt)
+    check_input::<TerminalSubject>(&rt)
 }

@@ -14,13 +14,13 @@ mod mutated;
 mod programs;
 mod reading;
 mod sources;
-mod stages;
+mod subjects;
 mod table;
 
 use check_scripts::checking::check_input;
-use stages::TerminfoStage;
 use std::process::ExitCode;
+use subjects::TerminfoSubject;
 
 fn main(rt: HostRuntime) -> ExitCode {
-    check_input::<TerminfoStage>(&rt)
+    check_input::<TerminfoSubject>(&rt)
 }

@@ -60,14 +60,14 @@ fn least_operation(prices: &Prices) -> u32 {
 
 // The places of a row that differ: where they begin, and the price of the row.
 #[derive(Clone, Copy)]
-pub(crate) struct Part {
+pub(crate) struct DifferingRow {
     pub(crate) start: u32,
     pub(crate) price: u32,
 }
 
-impl Part {
+impl DifferingRow {
     // The places that differ of a row with these runs.
-    pub(crate) fn of(prices: &RowPrices<'_>, runs: &[Run]) -> Part {
+    pub(crate) fn of(prices: &RowPrices<'_>, runs: &[Run]) -> DifferingRow {
         let start = match runs.first() {
             Some(run) => run.start,
             None => 0,
@@ -76,7 +76,7 @@ impl Part {
         for run in runs {
             price = price.saturating_add(price_as_it_stands(&prices.chooser, run));
         }
-        Part { start, price }
+        DifferingRow { start, price }
     }
 }
 
@@ -99,7 +99,7 @@ pub(crate) fn cheapest_slide(
     cursor: &Cursor,
     row: u32,
     looks: &[Look],
-    part: Part,
+    part: DifferingRow,
     room: &mut Vec<Look>,
 ) -> Result<Option<Slide>, NoMemory>
     ensures { IfOk result (λ slide. IfSome slide (IsSlide (length looks.now))) }
@@ -164,7 +164,7 @@ fn end_of_differing(looks: &[Look], run: &Run) -> u32 {
 
 // The price of a row as it stands, less that of going to the first of its places that differ with a
 // plain pen.
-fn price_without_way(prices: &RowPrices<'_>, cursor: &Cursor, row: u32, part: Part) -> i64 {
+fn price_without_way(prices: &RowPrices<'_>, cursor: &Cursor, row: u32, part: DifferingRow) -> i64 {
     let chooser = &prices.chooser;
     let turn = chooser.price_of_reset(cursor.pen);
     let motion = cheapest_motion(chooser.prices, cursor.spot, row, part.start).price;

@@ -10,7 +10,7 @@ ghost use Rattle.scr_term.specs.Operations.Texts.{has};
 use crate::painting::Painter;
 use crate::row_prices::RowPrices;
 use crate::runs::Run;
-use crate::slides::{Part, Slide, are_wide, can_slide_some, cheapest_slide};
+use crate::slides::{DifferingRow, Slide, are_wide, can_slide_some, cheapest_slide};
 use crate::strokes::Draft;
 use crate::ways::Cursor;
 use scr_cells::{Look, NoMemory, Picture, grid_laws};
@@ -110,7 +110,7 @@ pub(crate) fn slide_of(
         return Ok(None);
     }
     let prices = RowPrices::new(painter, profile, picture);
-    let part = Part::of(&prices, runs);
+    let part = DifferingRow::of(&prices, runs);
     let slide = cheapest_slide(&prices, cursor, row, looks, part, room)?;
     Ok(if_there(profile, slide))
 }

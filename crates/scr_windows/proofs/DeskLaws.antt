@@ -18,7 +18,7 @@ use Rattle.scr_windows.proofs.SheetLaws.{all_put, has_sheet, sheets_put, sizes_p
 use Rattle.scr_surfaces.specs.declared.drawings.Drawing.{Drawing}
 use Rattle.scr_surfaces.specs.Drawings.{drawn}
 use Rattle.scr_surfaces.specs.SurfaceLaws.{SurfaceLaws}
-use Rattle.scr_windows.specs.Code.Pens.{IsKept, lines_drawn}
+use Rattle.scr_windows.specs.Code.Canvases.{IsKept, lines_drawn}
 use Rattle.scr_windows.specs.Changes.{fill, with_window, marked, marked_lines, write}
 use Rattle.scr_windows.specs.Calls.Reading.{at, row_at, contents}
 use Rattle.scr_windows.specs.Lending.{lines_in}

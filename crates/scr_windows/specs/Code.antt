@@ -1,4 +1,4 @@
 -- Definitions that only private functions use.
 pub mod Families
 pub mod NewFrames
-pub mod Pens
+pub mod Canvases

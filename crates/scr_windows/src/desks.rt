@@ -3,11 +3,11 @@
 //! The calls are in the files of their kinds: `making`, `adding`, `erasing` and the others.
 ghost use Rattle.std.specs.Prelude.{◌≡◌, ◌<◌, length, IfOk, MatchResult};
 ghost use Rattle.scr_windows.specs.DeskViews.{IsDesk, IsState, IsThere, window_at};
-ghost use Rattle.scr_windows.specs.Code.Pens.{IsPen, IsPenAt};
+ghost use Rattle.scr_windows.specs.Code.Canvases.{IsCanvas, IsCanvasAt};
 ghost use Rattle.scr_windows.specs.Changes.{index_of, with_window, marked};
 
 use crate::faults::{Win, WinFault};
-use crate::frames::{Pen, WindowState};
+use crate::frames::{Canvas, WindowState};
 use crate::sheets::Sheet;
 use crate::windows::{Window, index_of_number};
 use std::fmt;
@@ -67,12 +67,12 @@ impl Desk {
     }
 
     // The index of a window, its area and what the calls set in it.
-    pub(crate) fn pen(&self, win: Win) -> Result<Pen, WinFault>
-        ensures { MatchResult result (IsPen self.now win.0) (λ fault. index_of self.now win.0 ≡ Err fault) }
+    pub(crate) fn canvas(&self, win: Win) -> Result<Canvas, WinFault>
+        ensures { MatchResult result (IsCanvas self.now win.0) (λ fault. index_of self.now win.0 ≡ Err fault) }
     {
         let index = self.index_of(win)?;
         let window = self.window_at(index);
-        Ok(Pen {
+        Ok(Canvas {
             index,
             area: window.frame().area,
             state: window.state(),
@@ -81,13 +81,13 @@ impl Desk {
 
     // The same, of the window at an index.
     #[inline(always)]
-    pub(crate) fn pen_at(&self, index: usize) -> Pen
+    pub(crate) fn canvas_at(&self, index: usize) -> Canvas
         requires { index < length self.now.windows }
         ensures index { result.index ≡ index }
-        ensures pen { IsPenAt self.now result }
+        ensures canvas { IsCanvasAt self.now result }
     {
         let window = self.window_at(index);
-        Pen {
+        Canvas {
             index,
             area: window.frame().area,
             state: window.state(),

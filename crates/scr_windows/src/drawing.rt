@@ -5,7 +5,7 @@ ghost use Rattle.std.specs.Prelude.{◌≡◌, ◌+◌, ◌<◌, ◌≤◌, leng
 ghost use Rattle.scr_surfaces.specs.Drawings.{IsFitting, drawn};
 ghost use Rattle.scr_surfaces.specs.Formulas.{run_put};
 ghost use Rattle.scr_windows.specs.DeskViews.{window_at};
-ghost use Rattle.scr_windows.specs.Code.Pens.{IsKept, lines_drawn};
+ghost use Rattle.scr_windows.specs.Code.Canvases.{IsKept, lines_drawn};
 ghost use Rattle.scr_windows.specs.Changes.{write};
 
 use crate::desks::Desk;

@@ -40,7 +40,7 @@ pub struct WindowState {
 
 /// What a call that draws starts from.
 #[derive(Clone, Copy)]
-pub struct Pen {
+pub struct Canvas {
     /// The index of the window among the desk's.
     pub index: usize,
     /// Its part of its surface.

@@ -7,9 +7,7 @@ use Rattle.scr_term.specs.Operations.Steps.{runs}
 use Rattle.scr_plan.specs.Memories.{Agrees, MemoryLaws, MemoryView, disturbed, forgotten, is_known}
 use Rattle.scr_plan.specs.MemoryRuns.{MemoryRuns}
 use Rattle.scr_windows.specs.Calls.Reading.{screen_rows_answer, size_answer}
-use Rattle.scr_cells.specs.CellViews.{CellView}
 use Rattle.scr_windows.specs.declared.faults.Win.{Win}
-use Rattle.scr_windows.specs.declared.faults.Added.{Added as AddedView}
 use Rattle.scr_windows.specs.declared.faults.WinFault.{WinFault}
 use Rattle.scr_windows.specs.declared.faults.WinFault.TheVariants as win_faults
 use Rattle.scr_windows.specs.DeskViews.{DeskView}
@@ -17,8 +15,8 @@ use Rattle.scr_virtual.specs.VirtualViews.{VirtualView}
 use Rattle.screen_sessions.specs.declared.answers.Answer.{Answer}
 use Rattle.screen_sessions.specs.declared.answers.Answer.TheVariants.{Nothing, Refused, Sent, Made, Added, Seen, Pair, Touched, Failed}
 use Rattle.screen_sessions.specs.declared.calls.Call.{Call}
-use Rattle.screen_sessions.specs.declared.calls.Call.TheVariants.{NewWindow, NewPad, Derive, Sub, SubPad, Copy, Overlay, Overwrite, Delete, MoveWindow, MoveDerived, TouchWindow, Untouch, TouchLines, SyncUp, SyncDown, AddByte, AddText, InsertByte, LineAcross, LineDown, Border, ClearToEol, ClearToBottom, Erase, Clear, DeleteByte, InsertDeleteLines, Scroll, ChangeBackground, MoveCursor, SetRegion, ScrollOk, ClearOk, LeaveOk, AttrOn, AttrOff, AttrSet, ColorSet, SetBackground, CellAt, Cursor, Size, Origin, LineTouched, WindowTouched, RedrawWindow, RedrawLines, SetPair, Noutrefresh, PadNoutrefresh, Doupdate}
-use Rattle.screen_sessions.specs.Calls.{OnDeskOrRefused, answered, is_refusal, window_call}
+use Rattle.screen_sessions.specs.declared.calls.Call.TheVariants.{RedrawWindow, RedrawLines, Doupdate}
+use Rattle.screen_sessions.specs.Calls.{OnDeskOrRefused, answered, is_refusal, is_told, window_call}
 use Rattle.curses.specs.Cuts.{IsCut}
 use Rattle.curses.specs.declared.faults.Sent.{Sent as SentView}
 use Rattle.curses.specs.declared.faults.UpdateFault.{UpdateFault}
@@ -311,104 +309,32 @@ failed_made laws old new (update_faults.Flush begun count kind) before after fai
 
 -- ---- calls on windows
 
--- what a call on windows answers says nothing of an update
-quiet_made : (came : Result Win WinFault) → Quiet (answered (λ win. Made win) came)
-quiet_made (Ok win) = record { knows = λ before call e. first_of before (not (redraws call)) e; begun = refl; count = refl; well = refl; cut = refl; unfinished = refl }
-quiet_made (Err fault) = record { knows = λ before call e. e; begun = refl; count = refl; well = refl; cut = refl; unfinished = refl }
-
-quiet_added : (came : Result AddedView WinFault) → Quiet (answered (λ all. Added all) came)
-quiet_added (Ok all) = record { knows = λ before call e. first_of before (not (redraws call)) e; begun = refl; count = refl; well = refl; cut = refl; unfinished = refl }
-quiet_added (Err fault) = record { knows = λ before call e. e; begun = refl; count = refl; well = refl; cut = refl; unfinished = refl }
-
-quiet_seen : (came : Result CellView WinFault) → Quiet (answered (λ cell. Seen cell) came)
-quiet_seen (Ok cell) = record { knows = λ before call e. first_of before (not (redraws call)) e; begun = refl; count = refl; well = refl; cut = refl; unfinished = refl }
-quiet_seen (Err fault) = record { knows = λ before call e. e; begun = refl; count = refl; well = refl; cut = refl; unfinished = refl }
-
-quiet_pair : (came : Result (ℕ × ℕ) WinFault) → Quiet (answered (λ pair. Pair pair.0 pair.1) came)
-quiet_pair (Ok pair) = record { knows = λ before call e. first_of before (not (redraws call)) e; begun = refl; count = refl; well = refl; cut = refl; unfinished = refl }
-quiet_pair (Err fault) = record { knows = λ before call e. e; begun = refl; count = refl; well = refl; cut = refl; unfinished = refl }
-
-quiet_touched : (came : Result Bool WinFault) → Quiet (answered (λ touched. Touched touched) came)
-quiet_touched (Ok touched) = record { knows = λ before call e. first_of before (not (redraws call)) e; begun = refl; count = refl; well = refl; cut = refl; unfinished = refl }
-quiet_touched (Err fault) = record { knows = λ before call e. e; begun = refl; count = refl; well = refl; cut = refl; unfinished = refl }
+-- what a call that is no update answers says nothing of one
+quiet_told : (answer : Answer) → is_told answer ≡ true → Quiet answer
+quiet_told Nothing told = quiet_done (Ok tt)
+quiet_told (Made win) told = record { knows = λ before call e. first_of before (not (redraws call)) e; begun = refl; count = refl; well = refl; cut = refl; unfinished = refl }
+quiet_told (Added all) told = record { knows = λ before call e. first_of before (not (redraws call)) e; begun = refl; count = refl; well = refl; cut = refl; unfinished = refl }
+quiet_told (Seen cell) told = record { knows = λ before call e. first_of before (not (redraws call)) e; begun = refl; count = refl; well = refl; cut = refl; unfinished = refl }
+quiet_told (Pair a b) told = record { knows = λ before call e. first_of before (not (redraws call)) e; begun = refl; count = refl; well = refl; cut = refl; unfinished = refl }
+quiet_told (Touched touched) told = record { knows = λ before call e. first_of before (not (redraws call)) e; begun = refl; count = refl; well = refl; cut = refl; unfinished = refl }
+quiet_told (Refused fault) told = record { knows = λ before call e. e; begun = refl; count = refl; well = refl; cut = refl; unfinished = refl }
+quiet_told (Sent sent) told = absurd (untrue told)
+quiet_told (Failed fault) told = absurd (untrue told)
 
 -- a call that is none of the screen's own
-pub record IsOther (call : Call) : Type 0 where
-  pub not_redraw_window : (win : Win) → call ≡ (RedrawWindow win) → ⊥
-  pub not_redraw_lines : (win : Win) (first n : ℕ) → call ≡ (RedrawLines win first n) → ⊥
-  pub not_set_pair : (pair foreground background : ℕ) → call ≡ (SetPair pair foreground background) → ⊥
-  pub not_noutrefresh : (win : Win) → call ≡ (Noutrefresh win) → ⊥
-  pub not_pad_noutrefresh : (win : Win) (row column top left bottom right : ℕ) → call ≡ (PadNoutrefresh win row column top left bottom right) → ⊥
-  pub not_doupdate : call ≡ Doupdate → ⊥
-
 pub record IsOnWindows (drawn : Drawn) (call : Call) : Type 0 where
   pub called : screen_call drawn call ≡ windows_told drawn.virtual (window_call drawn.desk call)
   pub updates : is_update call ≡ false
   pub marks : marked_by drawn.desk call ≡ None
-  pub quiet : Quiet (window_call drawn.desk call).1
-
-pub is_on_windows : (drawn : Drawn) (call : Call) → IsOther call → IsOnWindows drawn call
-is_on_windows drawn (NewWindow a b c d) other = record { called = refl; updates = refl; marks = refl; quiet = quiet_made _ }
-is_on_windows drawn (NewPad a b) other = record { called = refl; updates = refl; marks = refl; quiet = quiet_made _ }
-is_on_windows drawn (Derive a b c d e) other = record { called = refl; updates = refl; marks = refl; quiet = quiet_made _ }
-is_on_windows drawn (Sub a b c d e) other = record { called = refl; updates = refl; marks = refl; quiet = quiet_made _ }
-is_on_windows drawn (SubPad a b c d e) other = record { called = refl; updates = refl; marks = refl; quiet = quiet_made _ }
-is_on_windows drawn (Copy a b c d e f g h i) other = record { called = refl; updates = refl; marks = refl; quiet = quiet_done _ }
-is_on_windows drawn (Overlay a b) other = record { called = refl; updates = refl; marks = refl; quiet = quiet_done _ }
-is_on_windows drawn (Overwrite a b) other = record { called = refl; updates = refl; marks = refl; quiet = quiet_done _ }
-is_on_windows drawn (Delete a) other = record { called = refl; updates = refl; marks = refl; quiet = quiet_done _ }
-is_on_windows drawn (MoveWindow a b c) other = record { called = refl; updates = refl; marks = refl; quiet = quiet_done _ }
-is_on_windows drawn (MoveDerived a b c) other = record { called = refl; updates = refl; marks = refl; quiet = quiet_done _ }
-is_on_windows drawn (TouchWindow a) other = record { called = refl; updates = refl; marks = refl; quiet = quiet_done _ }
-is_on_windows drawn (Untouch a) other = record { called = refl; updates = refl; marks = refl; quiet = quiet_done _ }
-is_on_windows drawn (TouchLines a b c d) other = record { called = refl; updates = refl; marks = refl; quiet = quiet_done _ }
-is_on_windows drawn (SyncUp a) other = record { called = refl; updates = refl; marks = refl; quiet = quiet_done _ }
-is_on_windows drawn (SyncDown a) other = record { called = refl; updates = refl; marks = refl; quiet = quiet_done _ }
-is_on_windows drawn (AddByte a b c) other = record { called = refl; updates = refl; marks = refl; quiet = quiet_added _ }
-is_on_windows drawn (AddText a b) other = record { called = refl; updates = refl; marks = refl; quiet = quiet_added _ }
-is_on_windows drawn (InsertByte a b c) other = record { called = refl; updates = refl; marks = refl; quiet = quiet_done _ }
-is_on_windows drawn (LineAcross a b c) other = record { called = refl; updates = refl; marks = refl; quiet = quiet_done _ }
-is_on_windows drawn (LineDown a b c) other = record { called = refl; updates = refl; marks = refl; quiet = quiet_done _ }
-is_on_windows drawn (Border a b) other = record { called = refl; updates = refl; marks = refl; quiet = quiet_done _ }
-is_on_windows drawn (ClearToEol a) other = record { called = refl; updates = refl; marks = refl; quiet = quiet_done _ }
-is_on_windows drawn (ClearToBottom a) other = record { called = refl; updates = refl; marks = refl; quiet = quiet_done _ }
-is_on_windows drawn (Erase a) other = record { called = refl; updates = refl; marks = refl; quiet = quiet_done _ }
-is_on_windows drawn (Clear a) other = record { called = refl; updates = refl; marks = refl; quiet = quiet_done _ }
-is_on_windows drawn (DeleteByte a) other = record { called = refl; updates = refl; marks = refl; quiet = quiet_done _ }
-is_on_windows drawn (InsertDeleteLines a b) other = record { called = refl; updates = refl; marks = refl; quiet = quiet_done _ }
-is_on_windows drawn (Scroll a b) other = record { called = refl; updates = refl; marks = refl; quiet = quiet_done _ }
-is_on_windows drawn (ChangeBackground a b) other = record { called = refl; updates = refl; marks = refl; quiet = quiet_done _ }
-is_on_windows drawn (MoveCursor a b c) other = record { called = refl; updates = refl; marks = refl; quiet = quiet_done _ }
-is_on_windows drawn (SetRegion a b c) other = record { called = refl; updates = refl; marks = refl; quiet = quiet_done _ }
-is_on_windows drawn (ScrollOk a b) other = record { called = refl; updates = refl; marks = refl; quiet = quiet_done _ }
-is_on_windows drawn (ClearOk a b) other = record { called = refl; updates = refl; marks = refl; quiet = quiet_done _ }
-is_on_windows drawn (LeaveOk a b) other = record { called = refl; updates = refl; marks = refl; quiet = quiet_done _ }
-is_on_windows drawn (AttrOn a b) other = record { called = refl; updates = refl; marks = refl; quiet = quiet_done _ }
-is_on_windows drawn (AttrOff a b) other = record { called = refl; updates = refl; marks = refl; quiet = quiet_done _ }
-is_on_windows drawn (AttrSet a b) other = record { called = refl; updates = refl; marks = refl; quiet = quiet_done _ }
-is_on_windows drawn (ColorSet a b) other = record { called = refl; updates = refl; marks = refl; quiet = quiet_done _ }
-is_on_windows drawn (SetBackground a b) other = record { called = refl; updates = refl; marks = refl; quiet = quiet_done _ }
-is_on_windows drawn (CellAt a b c) other = record { called = refl; updates = refl; marks = refl; quiet = quiet_seen _ }
-is_on_windows drawn (Cursor a) other = record { called = refl; updates = refl; marks = refl; quiet = quiet_pair _ }
-is_on_windows drawn (Size a) other = record { called = refl; updates = refl; marks = refl; quiet = quiet_pair _ }
-is_on_windows drawn (Origin a) other = record { called = refl; updates = refl; marks = refl; quiet = quiet_pair _ }
-is_on_windows drawn (LineTouched a b) other = record { called = refl; updates = refl; marks = refl; quiet = quiet_touched _ }
-is_on_windows drawn (WindowTouched a) other = record { called = refl; updates = refl; marks = refl; quiet = quiet_touched _ }
-is_on_windows drawn (RedrawWindow a) other = absurd (other.not_redraw_window a refl)
-is_on_windows drawn (RedrawLines a b c) other = absurd (other.not_redraw_lines a b c refl)
-is_on_windows drawn (SetPair a b c) other = absurd (other.not_set_pair a b c refl)
-is_on_windows drawn (Noutrefresh a) other = absurd (other.not_noutrefresh a refl)
-is_on_windows drawn (PadNoutrefresh a b c d e f g) other = absurd (other.not_pad_noutrefresh a b c d e f g refl)
-is_on_windows drawn Doupdate other = absurd (other.not_doupdate refl)
 
 -- a call on windows
-pub windows_made : (old new : ScreenState) (call : Call) (answer : Answer) (w : WriterView) → IsOnWindows (drawn_of old) call → OnDeskOrRefused old new answer call → IsMade old new call answer w w
-windows_made old new call answer w is (inl made) =
-    made_so old new call answer w is.updates (subst Quiet (sym made.1) is.quiet) (ap (λ s. s.profile) made.0) (ap (λ s. s.keys) made.0) (ap (λ s. s.opening) made.0) (ap (λ s. s.closing) made.0) (ap (λ s. s.owed) made.0)
+pub windows_made : (old new : ScreenState) (call : Call) (answer : Answer) (w : WriterView) → IsOnWindows (drawn_of old) call → is_told answer ≡ true → OnDeskOrRefused old new answer call → IsMade old new call answer w w
+windows_made old new call answer w is told (inl made) =
+    made_so old new call answer w is.updates (quiet_told answer told) (ap (λ s. s.profile) made.0) (ap (λ s. s.keys) made.0) (ap (λ s. s.opening) made.0) (ap (λ s. s.closing) made.0) (ap (λ s. s.owed) made.0)
     (ap (λ s. s.memory) made.0 ∙ sym (memory_kept old.profile old.desk old.memory call answer is.updates is.marks)) (still_same old.profile old.memory new.memory (ap (λ s. s.memory) made.0))
-    (λ before knew e. knows_on old new (ap (λ s. s.owed) made.0) (ap (λ s. s.memory) made.0) (knew ((subst Quiet (sym made.1) is.quiet).knows before call e)))
+    (λ before knew e. knows_on old new (ap (λ s. s.owed) made.0) (ap (λ s. s.memory) made.0) (knew ((quiet_told answer told).knows before call e)))
     (ap drawn_of made.0 ∙ sym (ap (λ c. c.0) is.called)) (made.1 ∙ sym (ap (λ c. c.1) is.called))
-windows_made old new call answer w is (inr refused) =
+windows_made old new call answer w is told (inr refused) =
     let own : Answer = (screen_call (drawn_of old) call).1 in
     let suits : is_refusal own ≡ false = ap (λ c. is_refusal c.1) is.called ∙ refused.2 in
     let out : ran_out own (Refused win_faults.NoMemory) ≡ true = ap not suits in

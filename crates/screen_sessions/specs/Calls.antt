@@ -29,6 +29,12 @@ abbrev pub answered : {A : Type 0} → (A → Answer) → Result A WinFault → 
 answered give (Ok x) = give x
 answered give (Err fault) = answers.Refused fault
 
+-- The answer of a call that is no update: what it gives, or why it was refused.
+abbrev pub is_told : Answer → Bool
+is_told (answers.Sent sent) = false
+is_told (answers.Failed fault) = false
+is_told answer = true
+
 -- The windows after a call, and its answer.
 abbrev pub told : {A : Type 0} → (A → Answer) → DeskView × Result A WinFault → DeskView × Answer
 told give call = (call.0, answered give call.1)

@@ -4,14 +4,14 @@ use Rattle.std.specs.IoError.{error_kind}
 use Rattle.std.specs.declared.io.Error.{Error}
 use Rattle.std.specs.declared.io.ErrorKind.{ErrorKind}
 use Rattle.std.specs.declared.io.ErrorKind.TheVariants.{Other, OutOfMemory}
-use Rattle.screen_sessions.specs.declared.faulty.Failure.{Failure}
-use Rattle.screen_sessions.specs.declared.faulty.Failure.TheVariants as failures
+use Rattle.screen_sessions.specs.declared.faulty.WriterFailure.{WriterFailure}
+use Rattle.screen_sessions.specs.declared.faulty.WriterFailure.TheVariants as failures
 
 -- The bytes taken so far; how many it takes before it fails; how it fails, and how many failures are left.
 pub record FaultyView : Type 0 where
   pub taken : List ℕ
   pub limit : ℕ
-  pub failure : Failure
+  pub failure : WriterFailure
   pub left : ℕ
 
 -- The limit is reached and failures are left.
@@ -32,7 +32,7 @@ abbrev pub taking : FaultyView → List ℕ → ℕ → FaultyView × Result ℕ
 taking writer piece count = (record writer { taken = writer.taken ++ take count piece }, Ok count)
 
 -- What a write does when a failure is due (`true`) or not.
-abbrev pub write_that : Bool → Failure → FaultyView → List ℕ → FaultyView × Result ℕ ErrorKind
+abbrev pub write_that : Bool → WriterFailure → FaultyView → List ℕ → FaultyView × Result ℕ ErrorKind
 write_that true failures.Error writer piece = (failed_once writer, Err Other)
 write_that true failures.Zero writer piece = (failed_once writer, Ok 0)
 write_that due failure writer piece = taking writer piece (room_for writer (length piece))
@@ -42,7 +42,7 @@ abbrev pub write_call : FaultyView → List ℕ → FaultyView × Result ℕ Err
 write_call writer piece = write_that (is_due writer) writer.failure writer piece
 
 -- What a flush does when a failure is due (`true`) or not.
-abbrev pub flush_that : Bool → Failure → FaultyView → FaultyView × Result (Unit {0}) ErrorKind
+abbrev pub flush_that : Bool → WriterFailure → FaultyView → FaultyView × Result (Unit {0}) ErrorKind
 flush_that true failures.Flush writer = (failed_once writer, Err Other)
 flush_that due failure writer = (writer, Ok tt)
 

@@ -1,6 +1,6 @@
 //! What calls answer, as values.
-ghost use Rattle.std.specs.Prelude.{◌≡◌};
-ghost use Rattle.screen_sessions.specs.Calls.{answered};
+ghost use Rattle.std.specs.Prelude.{◌≡◌, true};
+ghost use Rattle.screen_sessions.specs.Calls.{answered, is_told};
 ghost use Rattle.screen_sessions.specs.declared.answers.Answer.TheVariants as answers;
 
 use curses::{Sent, UpdateFault};
@@ -32,7 +32,8 @@ pub enum Answer {
 
 /// The answer of a call that has no result.
 pub(crate) fn done_answer(came: Result<(), WinFault>) -> Answer
-    ensures { result ≡ answered (λ _. answers.Nothing) came }
+    ensures value { result ≡ answered (λ _. answers.Nothing) came }
+    ensures told { is_told result ≡ true }
 {
     match came {
         Ok(()) => Answer::Nothing,
@@ -42,7 +43,8 @@ pub(crate) fn done_answer(came: Result<(), WinFault>) -> Answer
 
 /// The answer of a call that makes a window.
 pub(crate) fn made_answer(came: Result<Win, WinFault>) -> Answer
-    ensures { result ≡ answered (λ win. answers.Made win) came }
+    ensures value { result ≡ answered (λ win. answers.Made win) came }
+    ensures told { is_told result ≡ true }
 {
     match came {
         Ok(win) => Answer::Made(win),
@@ -52,7 +54,8 @@ pub(crate) fn made_answer(came: Result<Win, WinFault>) -> Answer
 
 /// The answer of a call that adds bytes.
 pub(crate) fn added_answer(came: Result<Added, WinFault>) -> Answer
-    ensures { result ≡ answered (λ all. answers.Added all) came }
+    ensures value { result ≡ answered (λ all. answers.Added all) came }
+    ensures told { is_told result ≡ true }
 {
     match came {
         Ok(all) => Answer::Added(all),
@@ -62,7 +65,8 @@ pub(crate) fn added_answer(came: Result<Added, WinFault>) -> Answer
 
 /// The answer of a call that reads a cell.
 pub(crate) fn seen_answer(came: Result<Cell, WinFault>) -> Answer
-    ensures { result ≡ answered (λ cell. answers.Seen cell) came }
+    ensures value { result ≡ answered (λ cell. answers.Seen cell) came }
+    ensures told { is_told result ≡ true }
 {
     match came {
         Ok(cell) => Answer::Seen(cell),
@@ -72,7 +76,8 @@ pub(crate) fn seen_answer(came: Result<Cell, WinFault>) -> Answer
 
 /// The answer of a call that gives a row and a column, or the numbers of rows and columns.
 pub(crate) fn pair_answer(came: Result<(u32, u32), WinFault>) -> Answer
-    ensures { result ≡ answered (λ pair. answers.Pair pair.0 pair.1) came }
+    ensures value { result ≡ answered (λ pair. answers.Pair pair.0 pair.1) came }
+    ensures told { is_told result ≡ true }
 {
     match came {
         Ok(pair) => Answer::Pair(pair.0, pair.1),
@@ -82,7 +87,8 @@ pub(crate) fn pair_answer(came: Result<(u32, u32), WinFault>) -> Answer
 
 /// The answer of a call that says whether lines are touched.
 pub(crate) fn touched_answer(came: Result<bool, WinFault>) -> Answer
-    ensures { result ≡ answered (λ touched. answers.Touched touched) came }
+    ensures value { result ≡ answered (λ touched. answers.Touched touched) came }
+    ensures told { is_told result ≡ true }
 {
     match came {
         Ok(touched) => Answer::Touched(touched),

@@ -11,7 +11,7 @@ use std::marker::Model;
 
 /// How a writer for tests fails.
 #[derive(Clone, Copy, Debug, PartialEq, Eq)]
-pub enum Failure {
+pub enum WriterFailure {
     /// A write fails with an error of kind `Other`.
     Error,
     /// A write takes nothing and gives 0.
@@ -28,7 +28,7 @@ pub enum Failure {
 pub struct Faulty {
     taken: Vec<u8>,
     limit: usize,
-    failure: Failure,
+    failure: WriterFailure,
     left: usize,
 }
 
@@ -42,7 +42,7 @@ impl Model for Faulty {
 
 impl Faulty {
     /// A writer that takes `limit` bytes, and then fails in this way `times` times.
-    pub fn new(alloc: Global, limit: usize, failure: Failure, times: usize) -> Faulty
+    pub fn new(alloc: Global, limit: usize, failure: WriterFailure, times: usize) -> Faulty
         ensures { result ≡ record { taken = []; limit = limit; failure = failure; left = times } }
     {
         Faulty {
@@ -87,10 +87,10 @@ impl Write for Faulty {
         ensures bytes { WriteAppends (Some self.old.taken) (Some self.new.taken) result piece.now }
         ensures answered { IsAnswered self.old self.new result (write_call self.old piece.now) }
     {
-        if self.is_due() && self.failure != Failure::Flush {
+        if self.is_due() && self.failure != WriterFailure::Flush {
             self.left -= 1;
             return match self.failure {
-                Failure::Zero => Ok(0),
+                WriterFailure::Zero => Ok(0),
                 _ => Err(io::Error::from(ErrorKind::Other)),
             };
         }
@@ -103,7 +103,7 @@ impl Write for Faulty {
         ensures bytes { Keeps (Some self.old.taken) (Some self.new.taken) }
         ensures answered { IsAnswered self.old self.new result (flush_call self.old) }
     {
-        if self.is_due() && self.failure == Failure::Flush {
+        if self.is_due() && self.failure == WriterFailure::Flush {
             self.left -= 1;
             return Err(io::Error::from(ErrorKind::Other));
         }

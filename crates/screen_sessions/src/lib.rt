@@ -4,11 +4,10 @@
 
 mod answers;
 mod calls;
-mod dispatch;
 mod faulty;
 mod sessions;
 
 pub use answers::Answer;
 pub use calls::Call;
-pub use faulty::{Failure, Faulty};
+pub use faulty::{Faulty, WriterFailure};
 pub use sessions::{Answers, Report, disturbed_rows_hold_again, make_call, make_calls, session};

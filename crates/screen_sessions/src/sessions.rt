@@ -7,8 +7,7 @@ ghost use Rattle.curses.specs.Opening.{IsUnopened};
 ghost use Rattle.screen_sessions.specs.Sessions.{AreMade, DisturbedRowsHoldAgain, IsReport, ended_well};
 
 use crate::answers::{Answer, done_answer};
-use crate::calls::Call;
-use crate::dispatch::make_window_call;
+use crate::calls::{Call, make_window_call};
 use curses::{Counted, OpenFault, Screen};
 use scr_cells::{NoMemory, Size};
 use scr_plan::{known_memories, memory_laws, memory_runs};

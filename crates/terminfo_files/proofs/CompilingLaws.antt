@@ -8,7 +8,7 @@ use Rattle.std.proofs.lemmas.Grind.{flat_map-append}
 use Rattle.ti_caps.specs.Description.{Description}
 use Rattle.ti_source.specs.Described.{Described}
 use Rattle.ti_source.specs.Resolving.Uses.{Resolve, Resolved}
-use Rattle.terminfo_files.specs.declared.fault.TicFault.{TicFault}
+use Rattle.terminfo_files.specs.declared.faults.TicFault.{TicFault}
 use Rattle.terminfo_files.specs.declared.compiled_entry.CompiledEntry.{CompiledEntry}
 use Rattle.terminfo_files.specs.Compiling.{AreCompiled, IsFirstRefused, Refused, files_of, names_of, refusal_of, size_of}
 use Rattle.terminfo_files.specs.EntryCompiling.{EntryCompiling, IsCompiledNext}

@@ -6,8 +6,8 @@ use Rattle.ti_caps.specs.Description.{Description}
 use Rattle.ti_source.specs.Described.{Described}
 use Rattle.ti_source.specs.Resolving.Uses.{Resolve, nothing, more, Resolved, ResolveOnce, FaultOnce, ResolveOrFault}
 use Rattle.terminfo_files.specs.declared.compiler.Compiled.{Compiled}
-use Rattle.terminfo_files.specs.declared.fault.TicFault.{TicFault}
-use Rattle.terminfo_files.specs.declared.fault.TicFault.TheVariants.{Source, NoMemory}
+use Rattle.terminfo_files.specs.declared.faults.TicFault.{TicFault}
+use Rattle.terminfo_files.specs.declared.faults.TicFault.TheVariants.{Source, NoMemory}
 use Rattle.terminfo_files.specs.Compiling.{CanBeCompiled, IsFaulty, IsFirstRefused, Refused, files_of, names_of, refusal_of, size_of}
 use Rattle.terminfo_files.specs.Once.{CompileOnce, FaultyOnce, CompiledOrFaulty}
 

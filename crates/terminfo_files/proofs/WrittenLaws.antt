@@ -4,8 +4,8 @@ use Rattle.std.specs.List.{list_all}
 use Rattle.ti_caps.specs.Description.{Description}
 use Rattle.ti_caps.specs.Names.{first_name, reference_names}
 use Rattle.ti_binary.specs.Canonical.{canonical}
-use Rattle.terminfo_files.specs.declared.fault.TicFault.{TicFault}
-use Rattle.terminfo_files.specs.declared.fault.TicFault.TheVariants.{BadFileName}
+use Rattle.terminfo_files.specs.declared.faults.TicFault.{TicFault}
+use Rattle.terminfo_files.specs.declared.faults.TicFault.TheVariants.{BadFileName}
 use Rattle.terminfo_files.specs.declared.written.Written.{Written}
 use Rattle.terminfo_files.specs.Compiling.{encoding_refusal, files_of, files_under, refusal_of, size_of}
 use Rattle.terminfo_files.specs.FileNames.{is_file_name}

@@ -6,13 +6,13 @@ use Rattle.ti_caps.specs.Names.{first_name, reference_names}
 use Rattle.ti_caps.specs.Description.{Description}
 use Rattle.ti_binary.specs.Canonical.{canonical}
 use Rattle.ti_binary.specs.declared.encoder.EncFault.TheVariants.{NamesTooLong, TooLarge}
-use Rattle.ti_source.specs.declared.fault.SourceFault.{SourceFault}
+use Rattle.ti_source.specs.declared.faults.SourceFault.{SourceFault}
 use Rattle.ti_source.specs.Described.{Described}
 use Rattle.ti_source.specs.Reading.Sources.{Whole, source_of}
 use Rattle.ti_source.specs.Resolving.Uses.{Resolve, Resolved, Unresolved}
 use Rattle.terminfo_files.specs.declared.compiler.Compiled.{Compiled}
-use Rattle.terminfo_files.specs.declared.fault.TicFault.{TicFault}
-use Rattle.terminfo_files.specs.declared.fault.TicFault.TheVariants.{Source, Encode, BadFileName}
+use Rattle.terminfo_files.specs.declared.faults.TicFault.{TicFault}
+use Rattle.terminfo_files.specs.declared.faults.TicFault.TheVariants.{Source, Encode, BadFileName}
 use Rattle.terminfo_files.specs.FileNames.{is_file_name, path_of}
 
 -- The names by which the entries are listed, in order.

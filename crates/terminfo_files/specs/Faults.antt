@@ -4,10 +4,10 @@ use Rattle.ti_binary.specs.declared.encoder.EncFault.{EncFault}
 use Rattle.ti_binary.specs.declared.encoder.EncFault.TheVariants as encoding
 use Rattle.ti_binary.specs.declared.faults.BinFault.{BinFault}
 use Rattle.ti_binary.specs.declared.faults.BinFault.TheVariants as decoding
-use Rattle.ti_source.specs.declared.fault.SourceFault.{SourceFault}
-use Rattle.ti_source.specs.declared.fault.SourceFault.TheVariants as source
-use Rattle.terminfo_files.specs.declared.fault.TicFault.{TicFault}
-use Rattle.terminfo_files.specs.declared.fault.TicFault.TheVariants.{Source, Encode, Decode, NoMemory}
+use Rattle.ti_source.specs.declared.faults.SourceFault.{SourceFault}
+use Rattle.ti_source.specs.declared.faults.SourceFault.TheVariants as source
+use Rattle.terminfo_files.specs.declared.faults.TicFault.{TicFault}
+use Rattle.terminfo_files.specs.declared.faults.TicFault.TheVariants.{Source, Encode, Decode, NoMemory}
 
 -- A fault of reading or resolving a source.
 abbrev pub of_source : SourceFault → TicFault

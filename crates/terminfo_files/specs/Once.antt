@@ -1,7 +1,7 @@
 -- What holds of compiling by its definition alone.
 use Rattle.std.specs.Prelude.{◌≡◌, ℕ, List}
 use Rattle.terminfo_files.specs.declared.compiler.Compiled.{Compiled}
-use Rattle.terminfo_files.specs.declared.fault.TicFault.{TicFault}
+use Rattle.terminfo_files.specs.declared.faults.TicFault.{TicFault}
 use Rattle.terminfo_files.specs.Compiling.{IsCompiled, IsFaulty}
 
 -- A source is compiled to at most one thing.

@@ -13,7 +13,7 @@ ghost use Rattle.terminfo_files.specs.EntryCompiling.{IsCompiledOf};
 ghost use Rattle.terminfo_files.specs.Faults.{IsPlain};
 
 use crate::compiled_entry::{CompiledEntry, compiled_entry};
-use crate::fault::TicFault;
+use crate::faults::TicFault;
 use std::alloc::Global;
 use ti_caps::Entry;
 use ti_source::{Resolver, Source, entries_pass_on};

@@ -9,7 +9,7 @@ ghost use Rattle.terminfo_files.specs.EntryCompiling.{IsCompiledOf};
 ghost use Rattle.terminfo_files.specs.FileNames.{path_of};
 ghost use Rattle.terminfo_files.specs.Faults.{IsPlain};
 
-use crate::fault::TicFault;
+use crate::faults::TicFault;
 use crate::file_names::{are_file_names, path_of, reference_names};
 use std::alloc::{AllocError, Global};
 use std::marker::Model;

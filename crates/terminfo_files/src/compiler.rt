@@ -7,7 +7,7 @@ ghost use Rattle.terminfo_files.specs.Compiling.{AreCompiled, CanBeCompiled, IsC
 ghost use Rattle.terminfo_files.specs.Faults.{IsPlain};
 ghost use Rattle.terminfo_files.specs.Progress.{with_entry, written_of};
 
-use crate::fault::TicFault;
+use crate::faults::TicFault;
 use crate::laws::compiled_sources_have_no_fault;
 use crate::written::{Files, Sizes, Written};
 use std::alloc::Global;

@@ -7,7 +7,7 @@ ghost use Rattle.terminfo_files.specs.Faults.{IsPlain};
 
 use crate::alike::{Alike, compiled_of};
 use crate::compiled_entry::CompiledEntry;
-use crate::fault::TicFault;
+use crate::faults::TicFault;
 use std::alloc::Global;
 use std::marker::Model;
 use ti_source::{Resolver, Source};

@@ -9,7 +9,7 @@ ghost use Rattle.ti_source.specs.Printing.Print.{printed};
 ghost use Rattle.ti_source.specs.Printing.ReadBack.{ReadsBack};
 ghost use Rattle.terminfo_files.specs.Faults.{IsPlain};
 
-use crate::fault::TicFault;
+use crate::faults::TicFault;
 use std::alloc::Global;
 use ti_binary::{decode, files_are_not_refused};
 use ti_caps::Bytes;

@@ -7,7 +7,7 @@ ghost use Rattle.terminfo_files.specs.Faults.{IsPlain};
 ghost use Rattle.terminfo_files.specs.Progress.{with_entry};
 
 use crate::compiled_entry::file_of;
-use crate::fault::TicFault;
+use crate::faults::TicFault;
 use crate::file_names::path_of;
 use std::alloc::{AllocError, Global};
 use std::marker::Model;

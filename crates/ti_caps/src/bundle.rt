@@ -4,10 +4,10 @@ ghost use Rattle.std.specs.Prelude.{◌≡◌, ◌≤◌, ◌<◌, All, IfErr, I
 ghost use Rattle.std.specs.List.{AllPass};
 ghost use Rattle.ti_caps.specs.Bundled.{IsBundled, bundled_texts};
 ghost use Rattle.ti_caps.specs.Settings.{FitsNumber, fits_text, flags_set, numbers_set, texts_set};
-ghost use Rattle.ti_caps.specs.declared.fault.CapFault.TheVariants.{NoMemory};
+ghost use Rattle.ti_caps.specs.declared.faults.CapFault.TheVariants.{NoMemory};
 
 use crate::entry::Entry;
-use crate::fault::CapFault;
+use crate::faults::CapFault;
 use crate::slots::{
     AM, BLINK, BOLD, CLEAR, COLORS, COLS, CR, CUB, CUB1, CUD, CUD1, CUF, CUF1, CUP, CUU, CUU1, DIM,
     ECH, ED, EL, HOME, HPA, INVIS, KBS, KCUB1, KCUD1, KCUF1, KCUU1, LINES, MSGR, OP, PAIRS, REV,

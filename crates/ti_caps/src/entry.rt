@@ -6,7 +6,7 @@ ghost use Rattle.ti_caps.specs.Table.{name_at};
 ghost use Rattle.ti_caps.specs.Description.{AreBytes, IsDescription, bare, text_has_nul, flag_at, has_nul, number_at, text_at, unnamed_count, unnamed_from};
 
 use crate::bytes::Bytes;
-use crate::fault::CapFault;
+use crate::faults::CapFault;
 use crate::names::are_names;
 use crate::table::{Kind, Slot, name_of};
 use std::alloc::{AllocError, Global};

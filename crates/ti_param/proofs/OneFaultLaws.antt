@@ -3,7 +3,7 @@ use Rattle.std.proofs.Common.{◌≡◌, ◌≢◌, ℕ, ◌-◌, ◌⊎◌, inl
 use Rattle.std.proofs.lemmas.List.{append-nil}
 use Rattle.ti_param.specs.declared.tokens.Token.{Token}
 use Rattle.ti_param.specs.declared.tokens.Flaw.TheVariants.{Cut, Wrong, Text}
-use Rattle.ti_param.specs.declared.marks.Part.{Part}
+use Rattle.ti_param.specs.declared.marks.Section.{Section}
 use Rattle.ti_param.specs.declared.marks.Misfit.{Misfit}
 use Rattle.ti_param.specs.declared.marks.Misfit.TheVariants.{Misplaced, Deep}
 use Rattle.ti_param.specs.declared.faults.ParamFault.{ParamFault}
@@ -41,7 +41,7 @@ compared (t ∷ a) (u ∷ b) text r s x y =
     go head (inr z) = inr (ahead_more u t b a s r (sym head) z)
 
 -- where the scan stops, nothing fits
-no_more : (fault : ParamFault) (t : Token) (rest more : List ℕ) (parts out : List Part) (index : ℕ) → Stops fault rest parts index → token rest ≡ Ok (t, more) → entered t parts ≡ Ok out → ⊥
+no_more : (fault : ParamFault) (t : Token) (rest more : List ℕ) (parts out : List Section) (index : ℕ) → Stops fault rest parts index → token rest ≡ Ok (t, more) → entered t parts ≡ Ok out → ⊥
 no_more (Truncated at) t rest more parts out index s e o = ok_or_err (token rest) (t, more) Cut e s.1
 no_more (BadDirective at) t rest more parts out index (h, inl s) e o = ok_or_err (token rest) (t, more) Wrong e s
 no_more (BadDirective at) t rest more parts out index (h, inr m) e o =
@@ -54,18 +54,18 @@ no_more TooDeep t rest more parts out index m e o =
 no_more NoMemory t rest more parts out index s e o = s
 
 -- the fault with which the scan stops
-abbrev placed : Result (List Part) Misfit → ℕ → ParamFault
+abbrev placed : Result (List Section) Misfit → ℕ → ParamFault
 placed (Ok parts) index = NoMemory
 placed (Err Misplaced) index = BadDirective index
 placed (Err Deep) index = TooDeep
 
-abbrev fault_at : Reading → List Part → ℕ → ParamFault
+abbrev fault_at : Reading → List Section → ℕ → ParamFault
 fault_at (Err Cut) parts index = Truncated index
 fault_at (Err Wrong) parts index = BadDirective index
 fault_at (Err Text) parts index = StringOperator index
 fault_at (Ok r) parts index = placed (entered r.0 parts) index
 
-stop_is : (fault : ParamFault) (rest : List ℕ) (parts : List Part) (index : ℕ) → Stops fault rest parts index → fault ≡ fault_at (token rest) parts index
+stop_is : (fault : ParamFault) (rest : List ℕ) (parts : List Section) (index : ℕ) → Stops fault rest parts index → fault ≡ fault_at (token rest) parts index
 stop_is (Truncated at) rest parts index s = ap Truncated s.0 ∙ sym (ap (λ r. fault_at r parts index) s.1)
 stop_is (BadDirective at) rest parts index (h, inl e) = ap BadDirective h ∙ sym (ap (λ r. fault_at r parts index) e)
 stop_is (BadDirective at) rest parts index (h, inr m) =

@@ -6,7 +6,7 @@ use Rattle.ti_param.specs.declared.directives.Directive.TheVariants.{Literal, Nu
 use Rattle.ti_param.specs.declared.tokens.Token.{Token}
 use Rattle.ti_param.specs.declared.tokens.Token.TheVariants.{Do, If, Then, Else, EndIf}
 use Rattle.ti_param.specs.declared.tokens.Flaw.TheVariants.{Cut, Wrong, Text}
-use Rattle.ti_param.specs.declared.marks.Part.{Part}
+use Rattle.ti_param.specs.declared.marks.Section.{Section}
 use Rattle.ti_param.specs.declared.marks.Misfit.{Misfit}
 use Rattle.ti_param.specs.declared.marks.Misfit.TheVariants.{Misplaced, Deep}
 use Rattle.ti_param.specs.declared.faults.ParamFault.{ParamFault}
@@ -57,18 +57,18 @@ shorter t text more e =
 
 -- ---- one step of the scan
 
-abbrev Goes : List ℕ → List Part → Type 0
-Goes rest parts = (t : Token) × (more : List ℕ) × (out : List Part) × (token rest ≡ Ok (t, more)) × (entered t parts ≡ Ok out)
+abbrev Goes : List ℕ → List Section → Type 0
+Goes rest parts = (t : Token) × (more : List ℕ) × (out : List Section) × (token rest ≡ Ok (t, more)) × (entered t parts ≡ Ok out)
 
-abbrev Faulty : List ℕ → List Part → ℕ → Type 0
+abbrev Faulty : List ℕ → List Section → ℕ → Type 0
 Faulty rest parts index = (fault : ParamFault) × (fault ≢ NoMemory) × Stops fault rest parts index
 
-entered_or_not : (t : Token) (rest more : List ℕ) (parts : List Part) (index : ℕ) (q : Result (List Part) Misfit) → token rest ≡ Ok (t, more) → entered t parts ≡ q → Goes rest parts ⊎ Faulty rest parts index
+entered_or_not : (t : Token) (rest more : List ℕ) (parts : List Section) (index : ℕ) (q : Result (List Section) Misfit) → token rest ≡ Ok (t, more) → entered t parts ≡ q → Goes rest parts ⊎ Faulty rest parts index
 entered_or_not t rest more parts index (Ok out) e h = inl (t, more, out, e, h)
 entered_or_not t rest more parts index (Err Misplaced) e h = inr (BadDirective index, λ x. cc, (refl, inr (t, (more, e, h))))
 entered_or_not t rest more parts index (Err Deep) e h = inr (TooDeep, λ x. cc, (t, (more, e, h)))
 
-goes_or_not : (rest : List ℕ) (parts : List Part) (index : ℕ) (r : Reading) → token rest ≡ r → Goes rest parts ⊎ Faulty rest parts index
+goes_or_not : (rest : List ℕ) (parts : List Section) (index : ℕ) (r : Reading) → token rest ≡ r → Goes rest parts ⊎ Faulty rest parts index
 goes_or_not rest parts index (Ok (t, more)) e = entered_or_not t rest more parts index (entered t parts) e refl
 goes_or_not rest parts index (Err Cut) e = inr (Truncated index, λ x. cc, (refl, e))
 goes_or_not rest parts index (Err Wrong) e = inr (BadDirective index, λ x. cc, (refl, inl e))
@@ -79,7 +79,7 @@ goes_or_not rest parts index (Err Text) e = inr (StringOperator index, λ x. cc,
 abbrev Either : List ℕ → Type 0
 Either text = ((tree : Tree) × IsText tree text) ⊎ ((fault : ParamFault) × (fault ≢ NoMemory) × FaultOf fault text)
 
-scanned : (n : ℕ) (text rest : List ℕ) (front : List Token) (parts : List Part) → length rest ≤ n → Scanned front text rest → opened front [] ≡ Ok parts → Either text
+scanned : (n : ℕ) (text rest : List ℕ) (front : List Token) (parts : List Section) → length rest ≤ n → Scanned front text rest → opened front [] ≡ Ok parts → Either text
 scanned n text [] front parts le s o =
     let t = scan_spells text (front ++ replicate (length parts) EndIf) (record { front = front; parts = parts; scanned = s; fits = o; whole = refl }) in
     inl (t.0, t.1)

@@ -11,9 +11,9 @@ use std::marker::Model;
 /// How many conditionals may be open at once.
 pub const NESTING: usize = 32;
 
-/// A part of a conditional.
+/// A section of a conditional: its test, or what is sent when it holds or fails.
 #[derive(Clone, Copy, PartialEq, Eq)]
-pub enum Part {
+pub enum Section {
     Test,
     First,
     Second,
@@ -31,15 +31,15 @@ pub enum Misfit {
 /// The parts of the open conditionals, at the end of the array, the innermost first.
 #[derive(Drop)]
 pub struct Marks {
-    parts: [Part; NESTING],
+    parts: [Section; NESTING],
     first: usize,
 }
 
 impl Model for Marks {
     ghost use Rattle.std.specs.Prelude.{◌≡◌, List, ◌≤◌, drop, length};
-    ghost use Rattle.ti_param.specs.declared.marks.Part.{Part};
+    ghost use Rattle.ti_param.specs.declared.marks.Section.{Section};
 
-    ghost Value = { List Part };
+    ghost Value = { List Section };
 
     ghost view = { λ m. drop m.first m.parts };
 
@@ -52,7 +52,7 @@ impl Marks {
         ensures { result ≡ [] }
     {
         Marks {
-            parts: [Part::Test; NESTING],
+            parts: [Section::Test; NESTING],
             first: NESTING,
         }
     }
@@ -85,7 +85,7 @@ impl Marks {
             return Err(Misfit::Deep);
         }
         self.first -= 1;
-        self.parts[self.first] = Part::Test;
+        self.parts[self.first] = Section::Test;
         Ok(())
     }
 
@@ -93,10 +93,10 @@ impl Marks {
     fn begin_first(&mut self) -> Result<(), Misfit>
         ensures { Enters result self.new (entered Token.Then self.old) }
     {
-        if self.first == NESTING || self.parts[self.first] == Part::First {
+        if self.first == NESTING || self.parts[self.first] == Section::First {
             return Err(Misfit::Misplaced);
         }
-        self.parts[self.first] = Part::First;
+        self.parts[self.first] = Section::First;
         Ok(())
     }
 
@@ -104,10 +104,10 @@ impl Marks {
     fn begin_second(&mut self) -> Result<(), Misfit>
         ensures { Enters result self.new (entered Token.Else self.old) }
     {
-        if self.first == NESTING || self.parts[self.first] != Part::First {
+        if self.first == NESTING || self.parts[self.first] != Section::First {
             return Err(Misfit::Misplaced);
         }
-        self.parts[self.first] = Part::Second;
+        self.parts[self.first] = Section::Second;
         Ok(())
     }
 

@@ -5,7 +5,7 @@ use Rattle.std.specs.List.{list_any}
 use Rattle.std.proofs.lemmas.Bool.{eqb-true, ltb-true}
 use Rattle.std.proofs.lemmas.Option.{slice_get-get_or}
 use Rattle.ti_caps.specs.Description.{Description}
-use Rattle.ti_source.specs.declared.fault.SourceFault.TheVariants.{UnknownName}
+use Rattle.ti_source.specs.declared.faults.SourceFault.TheVariants.{UnknownName}
 use Rattle.ti_source.specs.declared.reading.statement.Statement.{Statement}
 use Rattle.ti_source.specs.Described.{Described}
 use Rattle.ti_source.specs.Resolving.Named.{has_name, index_of}

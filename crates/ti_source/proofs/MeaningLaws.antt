@@ -7,8 +7,8 @@ use Rattle.std.proofs.lemmas.List.Folds.{list_any-append}
 use Rattle.ti_caps.specs.declared.table.Kind.{Kind}
 use Rattle.ti_caps.specs.declared.table.Kind.TheVariants.{Flag, Number, Text}
 use Rattle.ti_caps.specs.Table.{same_kind, capability_of}
-use Rattle.ti_source.specs.declared.fault.SourceFault.{SourceFault}
-use Rattle.ti_source.specs.declared.fault.SourceFault.TheVariants.{BadNumber}
+use Rattle.ti_source.specs.declared.faults.SourceFault.{SourceFault}
+use Rattle.ti_source.specs.declared.faults.SourceFault.TheVariants.{BadNumber}
 use Rattle.ti_source.specs.declared.note.Cause.TheVariants.{Repeated, TooGreat}
 use Rattle.ti_source.specs.declared.note.Note.{Note}
 use Rattle.ti_source.specs.declared.reading.statement.FieldValue.{FieldValue}

@@ -1,6 +1,6 @@
 -- Reading step by step.
 use Rattle.std.proofs.Common.{◌≡◌, ◌∙◌, ℕ, List, [], ◌∷◌, Result, Ok, inl, inr, refl, sym, ap, subst}
-use Rattle.ti_source.specs.declared.fault.SourceFault.{SourceFault}
+use Rattle.ti_source.specs.declared.faults.SourceFault.{SourceFault}
 use Rattle.ti_source.specs.Reading.Field.{Form, form_of}
 use Rattle.ti_source.specs.Reading.Line.{Line, line_of}
 use Rattle.ti_source.specs.Reading.Sources.{next_line}

@@ -4,7 +4,7 @@ use Rattle.std.specs.List.{flat_map}
 use Rattle.std.proofs.lemmas.List.{map-append}
 use Rattle.std.proofs.lemmas.Grind.{flat_map-append}
 use Rattle.ti_caps.specs.Names.{are_names}
-use Rattle.ti_source.specs.declared.fault.SourceFault.{SourceFault}
+use Rattle.ti_source.specs.declared.faults.SourceFault.{SourceFault}
 use Rattle.ti_source.specs.Reading.Line.{Line, Skipped, NonAscii, Continues, Begins, line_of, lines}
 use Rattle.ti_source.specs.Reading.Sources.{NumberedField, WrittenEntry, each_after, each_beside, field_fault, described, notes_on, numbered_fields, continuing, written_entries, is_taken, continued_faults, begun_faults, line_faults, next_line, numbered, source_lines, unless_faulty, source_of}
 use Rattle.ti_source.specs.Code.Steps.{ReaderState, all_entries, filled, continued, begun, with_fields, with_line, with_lines, whole, read_through}

@@ -3,8 +3,8 @@ use Rattle.std.proofs.Common.{◌≡◌, ◌≢◌, ◌∙◌, ℕ, zero, suc, �
 use Rattle.std.specs.List.{list_any}
 use Rattle.std.proofs.lemmas.List.{length-set, length-append, length-map, length-replicate}
 use Rattle.std.proofs.lemmas.Bool.Decides.{nat_tests}
-use Rattle.ti_source.specs.declared.fault.SourceFault.{SourceFault}
-use Rattle.ti_source.specs.declared.fault.SourceFault.TheVariants.{UnknownName, UseCycle}
+use Rattle.ti_source.specs.declared.faults.SourceFault.{SourceFault}
+use Rattle.ti_source.specs.declared.faults.SourceFault.TheVariants.{UnknownName, UseCycle}
 use Rattle.ti_source.specs.declared.reading.statement.Statement.{Statement}
 use Rattle.ti_source.specs.declared.resolving.walk.Mark.{Mark}
 use Rattle.ti_source.specs.declared.resolving.walk.Mark.TheVariants.{New, Open, Done, Faulty}

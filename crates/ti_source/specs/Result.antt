@@ -1,7 +1,7 @@
 -- Results of reading: the next step, and what a call that takes memory answers.
 use Rattle.std.specs.Prelude.{◌≡◌, ◌⊎◌, Result, Ok, Err}
-use Rattle.ti_source.specs.declared.fault.SourceFault.{SourceFault}
-use Rattle.ti_source.specs.declared.fault.SourceFault.TheVariants.{NoMemory}
+use Rattle.ti_source.specs.declared.faults.SourceFault.{SourceFault}
+use Rattle.ti_source.specs.declared.faults.SourceFault.TheVariants.{NoMemory}
 
 -- What follows a step that may fail.
 infixl 10 ◌>>=◌

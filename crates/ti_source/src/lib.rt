@@ -1,7 +1,7 @@
 //! Terminfo source, as in terminfo(5): reading, resolving and printing it.
 #![tactic(auto)]
 
-mod fault;
+mod faults;
 mod note;
 mod ordinals;
 mod printing;
@@ -9,7 +9,7 @@ mod reading;
 mod resolving;
 mod source;
 
-pub use fault::SourceFault;
+pub use faults::SourceFault;
 pub use note::{Cause, Note};
 pub use printing::printer::{
     Printed, numbers_read_back, print, printed_reads_back, texts_read_back,

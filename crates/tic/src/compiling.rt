@@ -4,7 +4,7 @@
 //! written once all entries are known to be good. Until then they are held in memory if they are
 //! few; otherwise the entries are compiled again.
 
-use crate::failure::Failure;
+use crate::failures::Failure;
 use crate::input::input_of;
 use crate::output::{print, write_files};
 use crate::places::{index_of_many_uses, place_of};

@@ -1,6 +1,6 @@
 //! Reading the input: a file, or the standard input.
 
-use crate::failure::Failure;
+use crate::failures::Failure;
 use program_input::{InputFault, read_input};
 use std::fs;
 

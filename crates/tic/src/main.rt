@@ -12,7 +12,7 @@
 #![tactic(auto)]
 
 mod compiling;
-mod failure;
+mod failures;
 mod input;
 mod output;
 mod places;
@@ -22,7 +22,7 @@ mod words;
 use clap::ArgMatches;
 use clap::error::ErrorKind;
 use compiling::{Purpose, compile};
-use failure::Failure;
+use failures::Failure;
 use input::input_of;
 use output::print;
 use report::add_left_out;

@@ -1,6 +1,6 @@
 //! Writing to the standard output, and writing compiled files below a folder.
 
-use crate::failure::Failure;
+use crate::failures::Failure;
 use std::alloc::Global;
 use std::io::{ErrorKind, Write};
 use std::path::{Path, PathBuf};

@@ -3,9 +3,9 @@ ghost use Rattle.std.specs.Prelude.{◌≡◌};
 ghost use Rattle.scr_windows.specs.Calls.Reading.{window_answer};
 ghost use Rattle.huttavel_c.specs.Asking.{Asked, reading};
 ghost use Rattle.huttavel_c.specs.Giving.{unchanged};
-ghost use Rattle.huttavel_c.specs.Lending.{part_of_lent, part_reply};
+ghost use Rattle.huttavel_c.specs.Lending.{property_of_lent, property_reply};
 ghost use Rattle.huttavel_c.specs.Replies.{refused};
-ghost use Rattle.huttavel_c.specs.declared.calls.lending.Part.TheVariants as parts;
+ghost use Rattle.huttavel_c.specs.declared.calls.lending.Property.TheVariants as properties;
 
 use crate::answers::{Reply, one, refused, three, two};
 use crate::faults::{CLOSED, NO_PARENT, window_number};
@@ -15,7 +15,7 @@ use std::alloc::Global;
 
 // What is asked of a window.
 #[derive(Clone, Copy)]
-enum Part {
+enum Property {
     Parent,
     Attrs,
     Background,
@@ -26,29 +26,29 @@ enum Part {
 }
 
 // This of a window that is lent.
-fn part_of_lent(lent: &WindowRef<'_>, part: Part) -> Reply
-    ensures { result ≡ part_of_lent part lent.now }
+fn property_of_lent(lent: &WindowRef<'_>, property: Property) -> Reply
+    ensures { result ≡ property_of_lent property lent.now }
 {
-    match part {
-        Part::Parent => match lent.parent() {
+    match property {
+        Property::Parent => match lent.parent() {
             Some(win) => one(win.0),
             None => refused(NO_PARENT),
         },
-        Part::Attrs => two((u32::from(lent.attrs().0), lent.pair())),
-        Part::Background => three(lent.background()),
-        Part::Region => two(lent.region()),
-        Part::ScrollOk => one(u32::from(lent.scroll_ok())),
-        Part::ClearOk => one(u32::from(lent.clear_ok())),
-        Part::LeaveOk => one(u32::from(lent.leave_ok())),
+        Property::Attrs => two((u32::from(lent.attrs().0), lent.pair())),
+        Property::Background => three(lent.background()),
+        Property::Region => two(lent.region()),
+        Property::ScrollOk => one(u32::from(lent.scroll_ok())),
+        Property::ClearOk => one(u32::from(lent.clear_ok())),
+        Property::LeaveOk => one(u32::from(lent.leave_ok())),
     }
 }
 
 // This of a window.
-fn read_part(screen: &Screen, window: u32, part: Part) -> Reply
-    ensures { result ≡ part_reply part (window_answer screen.now.desk window) }
+fn read_property(screen: &Screen, window: u32, property: Property) -> Reply
+    ensures { result ≡ property_reply property (window_answer screen.now.desk window) }
 {
     match screen.window(Win(window)) {
-        Ok(lent) => part_of_lent(&lent, part),
+        Ok(lent) => property_of_lent(&lent, property),
         Err(fault) => refused(window_number(fault)),
     }
 }
@@ -56,12 +56,12 @@ fn read_part(screen: &Screen, window: u32, part: Part) -> Reply
 /// The number of the window that a window is a subwindow of. Refused: NO_WINDOW; NO_PARENT.
 #[unsafe(no_mangle)]
 pub extern "C" fn huttavel_held_parent(alloc: Global, handle: &mut Handle, window: u32) -> Reply
-    ensures { Asked (λ screen. reading screen (part_reply parts.Parent (window_answer screen.desk window))) unchanged (refused 1) handle.old.held.value handle.new.held.value result }
+    ensures { Asked (λ screen. reading screen (property_reply properties.Parent (window_answer screen.desk window))) unchanged (refused 1) handle.old.held.value handle.new.held.value result }
 {
     let Some(session) = handle.take(alloc) else {
         return refused(CLOSED);
     };
-    let answer = read_part(&session.screen, window, Part::Parent);
+    let answer = read_property(&session.screen, window, Property::Parent);
     handle.put(session);
     answer
 }
@@ -73,12 +73,12 @@ pub extern "C" fn huttavel_held_written_attrs(
     handle: &mut Handle,
     window: u32,
 ) -> Reply
-    ensures { Asked (λ screen. reading screen (part_reply parts.Attrs (window_answer screen.desk window))) unchanged (refused 1) handle.old.held.value handle.new.held.value result }
+    ensures { Asked (λ screen. reading screen (property_reply properties.Attrs (window_answer screen.desk window))) unchanged (refused 1) handle.old.held.value handle.new.held.value result }
 {
     let Some(session) = handle.take(alloc) else {
         return refused(CLOSED);
     };
-    let answer = read_part(&session.screen, window, Part::Attrs);
+    let answer = read_property(&session.screen, window, Property::Attrs);
     handle.put(session);
     answer
 }
@@ -86,12 +86,12 @@ pub extern "C" fn huttavel_held_written_attrs(
 /// The byte, attributes and colour pair of the background. Refused: NO_WINDOW.
 #[unsafe(no_mangle)]
 pub extern "C" fn huttavel_held_background(alloc: Global, handle: &mut Handle, window: u32) -> Reply
-    ensures { Asked (λ screen. reading screen (part_reply parts.Background (window_answer screen.desk window))) unchanged (refused 1) handle.old.held.value handle.new.held.value result }
+    ensures { Asked (λ screen. reading screen (property_reply properties.Background (window_answer screen.desk window))) unchanged (refused 1) handle.old.held.value handle.new.held.value result }
 {
     let Some(session) = handle.take(alloc) else {
         return refused(CLOSED);
     };
-    let answer = read_part(&session.screen, window, Part::Background);
+    let answer = read_property(&session.screen, window, Property::Background);
     handle.put(session);
     answer
 }
@@ -99,12 +99,12 @@ pub extern "C" fn huttavel_held_background(alloc: Global, handle: &mut Handle, w
 /// The first and the last row of the scrolling region. Refused: NO_WINDOW.
 #[unsafe(no_mangle)]
 pub extern "C" fn huttavel_held_region(alloc: Global, handle: &mut Handle, window: u32) -> Reply
-    ensures { Asked (λ screen. reading screen (part_reply parts.Region (window_answer screen.desk window))) unchanged (refused 1) handle.old.held.value handle.new.held.value result }
+    ensures { Asked (λ screen. reading screen (property_reply properties.Region (window_answer screen.desk window))) unchanged (refused 1) handle.old.held.value handle.new.held.value result }
 {
     let Some(session) = handle.take(alloc) else {
         return refused(CLOSED);
     };
-    let answer = read_part(&session.screen, window, Part::Region);
+    let answer = read_property(&session.screen, window, Property::Region);
     handle.put(session);
     answer
 }
@@ -116,12 +116,12 @@ pub extern "C" fn huttavel_held_is_scroll_ok(
     handle: &mut Handle,
     window: u32,
 ) -> Reply
-    ensures { Asked (λ screen. reading screen (part_reply parts.ScrollOk (window_answer screen.desk window))) unchanged (refused 1) handle.old.held.value handle.new.held.value result }
+    ensures { Asked (λ screen. reading screen (property_reply properties.ScrollOk (window_answer screen.desk window))) unchanged (refused 1) handle.old.held.value handle.new.held.value result }
 {
     let Some(session) = handle.take(alloc) else {
         return refused(CLOSED);
     };
-    let answer = read_part(&session.screen, window, Part::ScrollOk);
+    let answer = read_property(&session.screen, window, Property::ScrollOk);
     handle.put(session);
     answer
 }
@@ -133,12 +133,12 @@ pub extern "C" fn huttavel_held_is_clear_ok(
     handle: &mut Handle,
     window: u32,
 ) -> Reply
-    ensures { Asked (λ screen. reading screen (part_reply parts.ClearOk (window_answer screen.desk window))) unchanged (refused 1) handle.old.held.value handle.new.held.value result }
+    ensures { Asked (λ screen. reading screen (property_reply properties.ClearOk (window_answer screen.desk window))) unchanged (refused 1) handle.old.held.value handle.new.held.value result }
 {
     let Some(session) = handle.take(alloc) else {
         return refused(CLOSED);
     };
-    let answer = read_part(&session.screen, window, Part::ClearOk);
+    let answer = read_property(&session.screen, window, Property::ClearOk);
     handle.put(session);
     answer
 }
@@ -150,12 +150,12 @@ pub extern "C" fn huttavel_held_is_leave_ok(
     handle: &mut Handle,
     window: u32,
 ) -> Reply
-    ensures { Asked (λ screen. reading screen (part_reply parts.LeaveOk (window_answer screen.desk window))) unchanged (refused 1) handle.old.held.value handle.new.held.value result }
+    ensures { Asked (λ screen. reading screen (property_reply properties.LeaveOk (window_answer screen.desk window))) unchanged (refused 1) handle.old.held.value handle.new.held.value result }
 {
     let Some(session) = handle.take(alloc) else {
         return refused(CLOSED);
     };
-    let answer = read_part(&session.screen, window, Part::LeaveOk);
+    let answer = read_property(&session.screen, window, Property::LeaveOk);
     handle.put(session);
     answer
 }

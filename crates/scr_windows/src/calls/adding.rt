@@ -64,17 +64,17 @@ impl Desk {
     pub fn insert_byte(&mut self, win: Win, byte: u8, attrs: Attrs) -> Result<(), WinFault>
         ensures { (self.new, result) ≡ insert_byte_call self.old win.0 byte attrs }
     {
-        let pen = self.pen(win)?;
+        let canvas = self.canvas(win)?;
         if !is_character(byte) {
             return Err(WinFault::NotAscii);
         }
-        let (row, column) = pen.state.cursor;
+        let (row, column) = canvas.state.cursor;
         self.draw(
-            pen.index,
+            canvas.index,
             &Drawing::Opened {
                 row,
                 column,
-                cell: written_form(byte, attrs, pen.state),
+                cell: written_form(byte, attrs, canvas.state),
             },
         );
         Ok(())
@@ -88,16 +88,16 @@ impl Desk {
     pub fn line_across(&mut self, win: Win, byte: u8, n: u32) -> Result<(), WinFault>
         ensures { (self.new, result) ≡ line_across_call self.old win.0 byte n }
     {
-        let pen = self.pen(win)?;
+        let canvas = self.canvas(win)?;
         if !is_character(byte) {
             return Err(WinFault::NotAscii);
         }
-        let (row, column) = pen.state.cursor;
+        let (row, column) = canvas.state.cursor;
         if n > 0 {
-            let end = end_of(column, n, pen.area.columns);
-            let cell = written_form(byte, Attrs(0), pen.state);
+            let end = end_of(column, n, canvas.area.columns);
+            let cell = written_form(byte, Attrs(0), canvas.state);
             self.draw(
-                pen.index,
+                canvas.index,
                 &Drawing::Run {
                     row,
                     from: column,
@@ -117,16 +117,16 @@ impl Desk {
     pub fn line_down(&mut self, win: Win, byte: u8, n: u32) -> Result<(), WinFault>
         ensures { (self.new, result) ≡ line_down_call self.old win.0 byte n }
     {
-        let pen = self.pen(win)?;
+        let canvas = self.canvas(win)?;
         if !is_character(byte) {
             return Err(WinFault::NotAscii);
         }
-        let (row, column) = pen.state.cursor;
+        let (row, column) = canvas.state.cursor;
         if n > 0 {
-            let end = end_of(row, n, pen.area.rows);
-            let cell = written_form(byte, Attrs(0), pen.state);
+            let end = end_of(row, n, canvas.area.rows);
+            let cell = written_form(byte, Attrs(0), canvas.state);
             self.draw(
-                pen.index,
+                canvas.index,
                 &Drawing::Column {
                     column,
                     first: row,
@@ -161,8 +161,8 @@ impl Desk {
         ensures added { (self.new, result) ≡ byte_added self.old index byte attrs }
         ensures there { index < length self.new.windows }
     {
-        let pen = self.pen_at(index);
-        let (row, column) = pen.state.cursor;
+        let canvas = self.canvas_at(index);
+        let (row, column) = canvas.state.cursor;
         match byte {
             10 => self.add_newline(index),
             9 => self.add_tab(index),
@@ -196,12 +196,12 @@ impl Desk {
         ensures added { (self.new, result) ≡ character_added self.old index byte attrs }
         ensures there { index < length self.new.windows }
     {
-        let pen = self.pen_at(index);
-        let (row, column) = pen.state.cursor;
-        let cell = written_form(byte, attrs, pen.state);
+        let canvas = self.canvas_at(index);
+        let (row, column) = canvas.state.cursor;
+        let cell = written_form(byte, attrs, canvas.state);
         self.put(index, row, column, cell);
         let end = column + 1;
-        if end < pen.area.columns {
+        if end < canvas.area.columns {
             self.go_to(index, row, end)
         } else {
             self.begin_line(index)
@@ -216,8 +216,8 @@ impl Desk {
         ensures added { (self.new, result) ≡ newline_added self.old index }
         ensures there { index < length self.new.windows }
     {
-        let pen = self.pen_at(index);
-        self.erase_up_to(index, pen.area.columns);
+        let canvas = self.canvas_at(index);
+        self.erase_up_to(index, canvas.area.columns);
         self.begin_line(index)
     }
 
@@ -229,10 +229,10 @@ impl Desk {
         ensures added { (self.new, result) ≡ tab_added self.old index }
         ensures there { index < length self.new.windows }
     {
-        let pen = self.pen_at(index);
-        let (row, column) = pen.state.cursor;
+        let canvas = self.canvas_at(index);
+        let (row, column) = canvas.state.cursor;
         let end = (column / 8 + 1) * 8;
-        if end >= pen.area.columns {
+        if end >= canvas.area.columns {
             return self.add_newline(index);
         }
         self.erase_up_to(index, end);
@@ -260,11 +260,11 @@ impl Desk {
         ensures added { (self.new, result) ≡ line_begun self.old index }
         ensures there { index < length self.new.windows }
     {
-        let pen = self.pen_at(index);
-        let row = pen.state.cursor.0;
-        let (top, bottom) = pen.state.region;
+        let canvas = self.canvas_at(index);
+        let row = canvas.state.cursor.0;
+        let (top, bottom) = canvas.state.region;
         if row == bottom {
-            if !pen.state.scroll_ok {
+            if !canvas.state.scroll_ok {
                 return Added::Stayed;
             }
             self.draw(
@@ -273,11 +273,11 @@ impl Desk {
                     first: top,
                     end: bottom + 1,
                     count: 1,
-                    cell: pen.state.background,
+                    cell: canvas.state.background,
                 },
             );
             self.go_to(index, row, 0)
-        } else if row + 1 == pen.area.rows {
+        } else if row + 1 == canvas.area.rows {
             Added::Stayed
         } else {
             self.go_to(index, row + 1, 0)

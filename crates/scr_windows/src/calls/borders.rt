@@ -22,11 +22,14 @@ impl Desk {
     pub fn border(&mut self, win: Win, bytes: [u8; 8]) -> Result<(), WinFault>
         ensures { (self.new, result) ≡ border_call self.old win.0 bytes }
     {
-        let pen = self.pen(win)?;
+        let canvas = self.canvas(win)?;
         if !are_characters(&bytes) {
             return Err(WinFault::NotAscii);
         }
-        self.draw(pen.index, &Drawing::Edges(border_of(&bytes, &pen.state)));
+        self.draw(
+            canvas.index,
+            &Drawing::Edges(border_of(&bytes, &canvas.state)),
+        );
         Ok(())
     }
 }

@@ -40,8 +40,8 @@ impl Desk {
     ) -> Result<(), WinFault>
         ensures { Allocated self.old (copy_call self.old source.0 target.0 row column top left bottom right overlay) (self.new, result) }
     {
-        let from = self.pen(source)?;
-        let to = self.pen(target)?;
+        let from = self.canvas(source)?;
+        let to = self.canvas(target)?;
         if top > bottom || left > right || bottom >= to.area.rows || right >= to.area.columns {
             return Err(WinFault::OutOfWindow);
         }

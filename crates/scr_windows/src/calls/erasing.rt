@@ -1,7 +1,7 @@
 //! Calls that erase. The definitions are in `specs/Calls/Erasing.antt`.
 ghost use Rattle.std.specs.Prelude.{◌≡◌, ◌<◌, ◌≤◌, length};
 ghost use Rattle.scr_windows.specs.DeskViews.{window_at};
-ghost use Rattle.scr_windows.specs.Code.Pens.{IsKept};
+ghost use Rattle.scr_windows.specs.Code.Canvases.{IsKept};
 ghost use Rattle.scr_windows.specs.Calls.Erasing.{erased_up_to, clear_to_eol_call, clear_to_bottom_call, erase_call, clear_call};
 
 use crate::desks::Desk;
@@ -16,8 +16,8 @@ impl Desk {
     pub fn clear_to_eol(&mut self, win: Win) -> Result<(), WinFault>
         ensures { (self.new, result) ≡ clear_to_eol_call self.old win.0 }
     {
-        let pen = self.pen(win)?;
-        self.erase_up_to(pen.index, pen.area.columns);
+        let canvas = self.canvas(win)?;
+        self.erase_up_to(canvas.index, canvas.area.columns);
         Ok(())
     }
 
@@ -29,14 +29,14 @@ impl Desk {
     pub fn clear_to_bottom(&mut self, win: Win) -> Result<(), WinFault>
         ensures { (self.new, result) ≡ clear_to_bottom_call self.old win.0 }
     {
-        let pen = self.pen(win)?;
-        let (row, column) = pen.state.cursor;
+        let canvas = self.canvas(win)?;
+        let (row, column) = canvas.state.cursor;
         self.draw(
-            pen.index,
+            canvas.index,
             &Drawing::Below {
                 row,
                 column,
-                cell: pen.state.background,
+                cell: canvas.state.background,
             },
         );
         Ok(())
@@ -49,18 +49,18 @@ impl Desk {
     pub fn erase(&mut self, win: Win) -> Result<(), WinFault>
         ensures { (self.new, result) ≡ erase_call self.old win.0 }
     {
-        let pen = self.pen(win)?;
-        let mut state = pen.state;
+        let canvas = self.canvas(win)?;
+        let mut state = canvas.state;
         self.draw(
-            pen.index,
+            canvas.index,
             &Drawing::Rows {
                 first: 0,
-                end: pen.area.rows,
+                end: canvas.area.rows,
                 cell: state.background,
             },
         );
         state.cursor = (0, 0);
-        self.set_state(pen.index, state);
+        self.set_state(canvas.index, state);
         Ok(())
     }
 
@@ -72,19 +72,19 @@ impl Desk {
     pub fn clear(&mut self, win: Win) -> Result<(), WinFault>
         ensures { (self.new, result) ≡ clear_call self.old win.0 }
     {
-        let pen = self.pen(win)?;
-        let mut cleared = pen.state;
+        let canvas = self.canvas(win)?;
+        let mut cleared = canvas.state;
         self.draw(
-            pen.index,
+            canvas.index,
             &Drawing::Rows {
                 first: 0,
-                end: pen.area.rows,
+                end: canvas.area.rows,
                 cell: cleared.background,
             },
         );
         cleared.cursor = (0, 0);
         cleared.clear_ok = true;
-        self.set_state(pen.index, cleared);
+        self.set_state(canvas.index, cleared);
         Ok(())
     }
 
@@ -96,15 +96,15 @@ impl Desk {
         ensures erased { self.new ≡ erased_up_to self.old index end }
         ensures kept { IsKept self.old self.new index }
     {
-        let pen = self.pen_at(index);
-        let (row, column) = pen.state.cursor;
+        let canvas = self.canvas_at(index);
+        let (row, column) = canvas.state.cursor;
         self.draw(
             index,
             &Drawing::Run {
                 row,
                 from: column,
                 end,
-                cell: pen.state.background,
+                cell: canvas.state.background,
             },
         );
     }

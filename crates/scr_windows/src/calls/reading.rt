@@ -63,11 +63,11 @@ impl Desk {
     pub fn cell_at(&self, win: Win, row: u32, column: u32) -> Result<Cell, WinFault>
         ensures { result ≡ cell_at_answer self.now win.0 row column }
     {
-        let pen = self.pen(win)?;
-        if row >= pen.area.rows || column >= pen.area.columns {
+        let canvas = self.canvas(win)?;
+        if row >= canvas.area.rows || column >= canvas.area.columns {
             return Err(WinFault::OutOfWindow);
         }
-        let cells = self.row_of(pen.index, row);
+        let cells = self.row_of(canvas.index, row);
         Ok(cells[column as usize])
     }
 
@@ -78,7 +78,7 @@ impl Desk {
     pub fn cursor(&self, win: Win) -> Result<(u32, u32), WinFault>
         ensures { result ≡ cursor_answer self.now win.0 }
     {
-        Ok(self.pen(win)?.state.cursor)
+        Ok(self.canvas(win)?.state.cursor)
     }
 
     /// How many rows and columns a window has.
@@ -88,8 +88,8 @@ impl Desk {
     pub fn size(&self, win: Win) -> Result<(u32, u32), WinFault>
         ensures { result ≡ size_answer self.now win.0 }
     {
-        let pen = self.pen(win)?;
-        Ok((pen.area.rows, pen.area.columns))
+        let canvas = self.canvas(win)?;
+        Ok((canvas.area.rows, canvas.area.columns))
     }
 
     /// The row and the column of the screen where a window's first place is.
@@ -132,11 +132,11 @@ impl Desk {
     pub fn line_touched(&self, win: Win, row: u32) -> Result<bool, WinFault>
         ensures { result ≡ line_touched_answer self.now win.0 row }
     {
-        let pen = self.pen(win)?;
-        if row >= pen.area.rows {
+        let canvas = self.canvas(win)?;
+        if row >= canvas.area.rows {
             return Err(WinFault::OutOfWindow);
         }
-        Ok(self.window_at(pen.index).is_touched(row))
+        Ok(self.window_at(canvas.index).is_touched(row))
     }
 
     /// Whether any line of a window is touched.
@@ -158,11 +158,11 @@ impl Desk {
         ensures cells { MatchResult result (λ cells. row_answer self.now win.0 row ≡ Ok cells.now) (λ fault. row_answer self.now win.0 row ≡ Err fault) }
         ensures width { IfOk result (λ cells. (i : ℕ) → index_of self.now win.0 ≡ Ok i → length cells.now ≡ (window_at self.now i).frame.area.columns) }
     {
-        let pen = self.pen(win)?;
-        if row >= pen.area.rows {
+        let canvas = self.canvas(win)?;
+        if row >= canvas.area.rows {
             return Err(WinFault::OutOfWindow);
         }
-        Ok(self.row_of(pen.index, row))
+        Ok(self.row_of(canvas.index, row))
     }
 
     // Lends the window at an index.

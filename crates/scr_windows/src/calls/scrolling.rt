@@ -17,14 +17,14 @@ impl Desk {
     pub fn delete_byte(&mut self, win: Win) -> Result<(), WinFault>
         ensures { (self.new, result) ≡ delete_byte_call self.old win.0 }
     {
-        let pen = self.pen(win)?;
-        let (row, column) = pen.state.cursor;
+        let canvas = self.canvas(win)?;
+        let (row, column) = canvas.state.cursor;
         self.draw(
-            pen.index,
+            canvas.index,
             &Drawing::Closed {
                 row,
                 column,
-                cell: pen.state.background,
+                cell: canvas.state.background,
             },
         );
         Ok(())
@@ -38,27 +38,27 @@ impl Desk {
     pub fn insert_delete_lines(&mut self, win: Win, n: i32) -> Result<(), WinFault>
         ensures { (self.new, result) ≡ insert_delete_lines_call self.old win.0 n }
     {
-        let pen = self.pen(win)?;
-        let (first, end) = lines_from(pen.state.cursor, pen.area.rows);
+        let canvas = self.canvas(win)?;
+        let (first, end) = lines_from(canvas.state.cursor, canvas.area.rows);
         let many = n.unsigned_abs();
         if n > 0 {
             self.draw(
-                pen.index,
+                canvas.index,
                 &Drawing::Down {
                     first,
                     end,
                     count: many,
-                    cell: pen.state.background,
+                    cell: canvas.state.background,
                 },
             );
         } else if n < 0 {
             self.draw(
-                pen.index,
+                canvas.index,
                 &Drawing::Up {
                     first,
                     end,
                     count: many,
-                    cell: pen.state.background,
+                    cell: canvas.state.background,
                 },
             );
         }
@@ -73,30 +73,30 @@ impl Desk {
     pub fn scroll(&mut self, win: Win, n: i32) -> Result<(), WinFault>
         ensures { (self.new, result) ≡ scroll_call self.old win.0 n }
     {
-        let pen = self.pen(win)?;
-        if !pen.state.scroll_ok {
+        let canvas = self.canvas(win)?;
+        if !canvas.state.scroll_ok {
             return Err(WinFault::NoScroll);
         }
-        let (top, bottom) = pen.state.region;
+        let (top, bottom) = canvas.state.region;
         let many = n.unsigned_abs();
         if n > 0 {
             self.draw(
-                pen.index,
+                canvas.index,
                 &Drawing::Up {
                     first: top,
                     end: bottom + 1,
                     count: many,
-                    cell: pen.state.background,
+                    cell: canvas.state.background,
                 },
             );
         } else if n < 0 {
             self.draw(
-                pen.index,
+                canvas.index,
                 &Drawing::Down {
                     first: top,
                     end: bottom + 1,
                     count: many,
-                    cell: pen.state.background,
+                    cell: canvas.state.background,
                 },
             );
         }

@@ -17,12 +17,12 @@ impl Desk {
     pub fn move_cursor(&mut self, win: Win, row: u32, column: u32) -> Result<(), WinFault>
         ensures { (self.new, result) ≡ move_cursor_call self.old win.0 row column }
     {
-        let mut pen = self.pen(win)?;
-        if row >= pen.area.rows || column >= pen.area.columns {
+        let mut canvas = self.canvas(win)?;
+        if row >= canvas.area.rows || column >= canvas.area.columns {
             return Err(WinFault::OutOfWindow);
         }
-        pen.state.cursor = (row, column);
-        self.set_state(pen.index, pen.state);
+        canvas.state.cursor = (row, column);
+        self.set_state(canvas.index, canvas.state);
         Ok(())
     }
 
@@ -34,12 +34,12 @@ impl Desk {
     pub fn set_region(&mut self, win: Win, top: u32, bottom: u32) -> Result<(), WinFault>
         ensures { (self.new, result) ≡ set_region_call self.old win.0 top bottom }
     {
-        let mut pen = self.pen(win)?;
-        if top > bottom || bottom >= pen.area.rows {
+        let mut canvas = self.canvas(win)?;
+        if top > bottom || bottom >= canvas.area.rows {
             return Err(WinFault::BadRegion);
         }
-        pen.state.region = (top, bottom);
-        self.set_state(pen.index, pen.state);
+        canvas.state.region = (top, bottom);
+        self.set_state(canvas.index, canvas.state);
         Ok(())
     }
 
@@ -50,9 +50,9 @@ impl Desk {
     pub fn scroll_ok(&mut self, win: Win, on: bool) -> Result<(), WinFault>
         ensures { (self.new, result) ≡ scroll_ok_call self.old win.0 on }
     {
-        let mut pen = self.pen(win)?;
-        pen.state.scroll_ok = on;
-        self.set_state(pen.index, pen.state);
+        let mut canvas = self.canvas(win)?;
+        canvas.state.scroll_ok = on;
+        self.set_state(canvas.index, canvas.state);
         Ok(())
     }
 
@@ -63,9 +63,9 @@ impl Desk {
     pub fn clear_ok(&mut self, win: Win, on: bool) -> Result<(), WinFault>
         ensures { (self.new, result) ≡ clear_ok_call self.old win.0 on }
     {
-        let mut pen = self.pen(win)?;
-        pen.state.clear_ok = on;
-        self.set_state(pen.index, pen.state);
+        let mut canvas = self.canvas(win)?;
+        canvas.state.clear_ok = on;
+        self.set_state(canvas.index, canvas.state);
         Ok(())
     }
 
@@ -76,9 +76,9 @@ impl Desk {
     pub fn leave_ok(&mut self, win: Win, on: bool) -> Result<(), WinFault>
         ensures { (self.new, result) ≡ leave_ok_call self.old win.0 on }
     {
-        let mut pen = self.pen(win)?;
-        pen.state.leave_ok = on;
-        self.set_state(pen.index, pen.state);
+        let mut canvas = self.canvas(win)?;
+        canvas.state.leave_ok = on;
+        self.set_state(canvas.index, canvas.state);
         Ok(())
     }
 
@@ -89,9 +89,9 @@ impl Desk {
     pub fn attr_on(&mut self, win: Win, attrs: Attrs) -> Result<(), WinFault>
         ensures { (self.new, result) ≡ attr_on_call self.old win.0 attrs }
     {
-        let mut pen = self.pen(win)?;
-        pen.state.attrs = pen.state.attrs.union(attrs);
-        self.set_state(pen.index, pen.state);
+        let mut canvas = self.canvas(win)?;
+        canvas.state.attrs = canvas.state.attrs.union(attrs);
+        self.set_state(canvas.index, canvas.state);
         Ok(())
     }
 
@@ -102,9 +102,9 @@ impl Desk {
     pub fn attr_off(&mut self, win: Win, attrs: Attrs) -> Result<(), WinFault>
         ensures { (self.new, result) ≡ attr_off_call self.old win.0 attrs }
     {
-        let mut pen = self.pen(win)?;
-        pen.state.attrs = pen.state.attrs.difference(attrs);
-        self.set_state(pen.index, pen.state);
+        let mut canvas = self.canvas(win)?;
+        canvas.state.attrs = canvas.state.attrs.difference(attrs);
+        self.set_state(canvas.index, canvas.state);
         Ok(())
     }
 
@@ -115,9 +115,9 @@ impl Desk {
     pub fn attr_set(&mut self, win: Win, attrs: Attrs) -> Result<(), WinFault>
         ensures { (self.new, result) ≡ attr_set_call self.old win.0 attrs }
     {
-        let mut pen = self.pen(win)?;
-        pen.state.attrs = attrs;
-        self.set_state(pen.index, pen.state);
+        let mut canvas = self.canvas(win)?;
+        canvas.state.attrs = attrs;
+        self.set_state(canvas.index, canvas.state);
         Ok(())
     }
 
@@ -128,12 +128,12 @@ impl Desk {
     pub fn color_set(&mut self, win: Win, pair: u32) -> Result<(), WinFault>
         ensures { (self.new, result) ≡ color_set_call self.old win.0 pair }
     {
-        let mut pen = self.pen(win)?;
+        let mut canvas = self.canvas(win)?;
         if pair > Cell::MOST_PAIR {
             return Err(WinFault::BadPair);
         }
-        pen.state.pair = pair;
-        self.set_state(pen.index, pen.state);
+        canvas.state.pair = pair;
+        self.set_state(canvas.index, canvas.state);
         Ok(())
     }
 
@@ -144,9 +144,9 @@ impl Desk {
     pub fn set_background(&mut self, win: Win, cell: Cell) -> Result<(), WinFault>
         ensures { (self.new, result) ≡ set_background_call self.old win.0 cell }
     {
-        let mut pen = self.pen(win)?;
-        pen.state.background = cell;
-        self.set_state(pen.index, pen.state);
+        let mut canvas = self.canvas(win)?;
+        canvas.state.background = cell;
+        self.set_state(canvas.index, canvas.state);
         Ok(())
     }
 
@@ -159,17 +159,17 @@ impl Desk {
     pub fn change_background(&mut self, win: Win, cell: Cell) -> Result<(), WinFault>
         ensures { (self.new, result) ≡ change_background_call self.old win.0 cell }
     {
-        let pen = self.pen(win)?;
-        let mut state = pen.state;
+        let canvas = self.canvas(win)?;
+        let mut state = canvas.state;
         self.draw(
-            pen.index,
+            canvas.index,
             &Drawing::Exchanged {
                 old: state.background,
                 new: cell,
             },
         );
         state.background = cell;
-        self.set_state(pen.index, state);
+        self.set_state(canvas.index, state);
         Ok(())
     }
 }

@@ -14,8 +14,8 @@ impl Desk {
     pub fn touch_window(&mut self, win: Win) -> Result<(), WinFault>
         ensures { (self.new, result) ≡ touch_all_call self.old win.0 true }
     {
-        let pen = self.pen(win)?;
-        self.mark(pen.index, 0, pen.area.rows, true);
+        let canvas = self.canvas(win)?;
+        self.mark(canvas.index, 0, canvas.area.rows, true);
         Ok(())
     }
 
@@ -26,8 +26,8 @@ impl Desk {
     pub fn untouch(&mut self, win: Win) -> Result<(), WinFault>
         ensures { (self.new, result) ≡ touch_all_call self.old win.0 false }
     {
-        let pen = self.pen(win)?;
-        self.mark(pen.index, 0, pen.area.rows, false);
+        let canvas = self.canvas(win)?;
+        self.mark(canvas.index, 0, canvas.area.rows, false);
         Ok(())
     }
 
@@ -45,11 +45,11 @@ impl Desk {
     ) -> Result<(), WinFault>
         ensures { (self.new, result) ≡ touch_lines_call self.old win.0 first n changed }
     {
-        let pen = self.pen(win)?;
-        if first > pen.area.rows || n > pen.area.rows - first {
+        let canvas = self.canvas(win)?;
+        if first > canvas.area.rows || n > canvas.area.rows - first {
             return Err(WinFault::OutOfWindow);
         }
-        self.mark(pen.index, first, first + n, changed);
+        self.mark(canvas.index, first, first + n, changed);
         Ok(())
     }
 
@@ -61,14 +61,14 @@ impl Desk {
     pub fn take_lines(&mut self, win: Win, first: u32, n: u32) -> Result<bool, WinFault>
         ensures { (self.new, result) ≡ take_lines_call self.old win.0 first n }
     {
-        let pen = self.pen(win)?;
-        if first > pen.area.rows || n > pen.area.rows - first {
+        let canvas = self.canvas(win)?;
+        if first > canvas.area.rows || n > canvas.area.rows - first {
             return Err(WinFault::OutOfWindow);
         }
-        self.mark(pen.index, first, first + n, false);
-        let mut state = pen.state;
+        self.mark(canvas.index, first, first + n, false);
+        let mut state = canvas.state;
         state.clear_ok = false;
-        self.set_state(pen.index, state);
-        Ok(pen.state.clear_ok)
+        self.set_state(canvas.index, state);
+        Ok(canvas.state.clear_ok)
     }
 }

@@ -4,8 +4,8 @@ use Rattle.std.specs.List.{list_any}
 use Rattle.ti_caps.specs.declared.table.Kind.{Kind}
 use Rattle.ti_caps.specs.Description.{Description}
 use Rattle.ti_caps.specs.Table.{or_else}
-use Rattle.ti_source.specs.declared.fault.SourceFault.{SourceFault}
-use Rattle.ti_source.specs.declared.fault.SourceFault.TheVariants.{NoMemory}
+use Rattle.ti_source.specs.declared.faults.SourceFault.{SourceFault}
+use Rattle.ti_source.specs.declared.faults.SourceFault.TheVariants.{NoMemory}
 use Rattle.ti_source.specs.declared.resolving.walk.Mark.{Mark}
 use Rattle.ti_source.specs.declared.resolving.walk.Mark.TheVariants.{New, Open, Done, Faulty}
 use Rattle.ti_source.specs.declared.resolving.walk.Task.{Task}

@@ -5,8 +5,8 @@ use Rattle.ti_caps.specs.declared.table.Kind.{Kind}
 use Rattle.ti_caps.specs.declared.table.Kind.TheVariants.{Flag, Number, Text}
 use Rattle.ti_caps.specs.Table.{same_kind, capability_of}
 use Rattle.ti_caps.specs.Names.{alternatives, are_names}
-use Rattle.ti_source.specs.declared.fault.SourceFault.{SourceFault}
-use Rattle.ti_source.specs.declared.fault.SourceFault.TheVariants.{NotAscii, FieldBeforeEntry, BadNames, BadNumber, DuplicateName, TooManyUses}
+use Rattle.ti_source.specs.declared.faults.SourceFault.{SourceFault}
+use Rattle.ti_source.specs.declared.faults.SourceFault.TheVariants.{NotAscii, FieldBeforeEntry, BadNames, BadNumber, DuplicateName, TooManyUses}
 use Rattle.ti_source.specs.declared.note.Cause.{Cause}
 use Rattle.ti_source.specs.declared.note.Cause.TheVariants.{Unknown, WrongKind, TooGreat, Repeated}
 use Rattle.ti_source.specs.declared.note.Note.{Note}

@@ -11,8 +11,8 @@ use Rattle.ti_source.specs.declared.reading.statement.Statement.{Statement}
 use Rattle.ti_source.specs.Described.{Described}
 use Rattle.ti_source.specs.Resolving.Named.{found_from}
 use Rattle.ti_source.specs.Reading.Sources.{concerns}
-use Rattle.ti_source.specs.declared.fault.SourceFault.{SourceFault}
-use Rattle.ti_source.specs.declared.fault.SourceFault.TheVariants.{UnknownName, UseCycle}
+use Rattle.ti_source.specs.declared.faults.SourceFault.{SourceFault}
+use Rattle.ti_source.specs.declared.faults.SourceFault.TheVariants.{UnknownName, UseCycle}
 
 -- What an entry says of a capability.
 abbrev pub value_of_capability : Kind → ℕ → List Statement → Option FieldValue

@@ -8,7 +8,7 @@ ghost use Rattle.ti_source.specs.Reading.Number.{number};
 ghost use Rattle.ti_source.specs.Printing.Print.{flag_line, lines_from, number_line, printed, text_line};
 ghost use Rattle.ti_source.specs.Printing.ReadBack.{EachReadsBack, ReadsBack};
 
-use crate::fault::SourceFault;
+use crate::faults::SourceFault;
 use std::alloc::{AllocError, Global};
 use ti_caps::{Bytes, Entry, Kind, Slot, name_of, names_stand_once};
 

@@ -8,7 +8,7 @@ ghost use Rattle.ti_source.specs.Resolving.Named.{has_name, named, index_of, ind
 ghost use Rattle.ti_source.specs.Reading.Sources.{is_taken};
 ghost use Rattle.ti_source.specs.Result.{Gives};
 
-use crate::fault::SourceFault;
+use crate::faults::SourceFault;
 use crate::reading::keyed_hasher::KeyedHasher;
 use crate::reading::stored_entry::{Names, StoredEntry};
 use crate::reading::wanted::Wanted;

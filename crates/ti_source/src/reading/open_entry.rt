@@ -9,7 +9,7 @@ ghost use Rattle.ti_source.specs.Result.{Becomes};
 ghost use Rattle.ti_source.specs.Described.{IsGood};
 ghost use Rattle.ti_source.specs.Code.Seen.{seen_form};
 
-use crate::fault::SourceFault;
+use crate::faults::SourceFault;
 use crate::note::{Cause, Note};
 use crate::reading::escape::decode;
 use crate::reading::field::{Form, form_of, split_field};

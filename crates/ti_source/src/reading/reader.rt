@@ -8,7 +8,7 @@ ghost use Rattle.ti_source.specs.Reading.Line.{line_of};
 ghost use Rattle.ti_source.specs.Result.{Becomes, Gives};
 ghost use Rattle.ti_source.specs.Code.Seen.{seen_line};
 
-use crate::fault::SourceFault;
+use crate::faults::SourceFault;
 use crate::reading::entries::Entries;
 use crate::reading::keyed_hasher::KeyedHasher;
 use crate::reading::line::{Line, line_of};

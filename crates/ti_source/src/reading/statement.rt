@@ -10,7 +10,7 @@ ghost use Rattle.ti_source.specs.Code.Marked.{AreMarked};
 ghost use Rattle.ti_caps.specs.Table.{same_kind};
 ghost use Rattle.ti_caps.specs.Names.{are_names};
 
-use crate::fault::SourceFault;
+use crate::faults::SourceFault;
 use crate::ordinals::{CAPABILITIES, ordinal};
 use crate::reading::stored_entry::StoredEntry;
 use smallvec::SmallVec;

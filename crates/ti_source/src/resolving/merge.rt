@@ -3,13 +3,13 @@
 ghost use Rattle.std.specs.Prelude.{◌≡◌, ◌≤◌, [], Some, None, IfOk, IfErr, IfSome, OnOk, option_map, false, true};
 ghost use Rattle.ti_caps.specs.Description.{has_nul};
 ghost use Rattle.ti_caps.specs.Names.{are_names};
-ghost use Rattle.ti_caps.specs.declared.fault.CapFault.TheVariants as cap;
+ghost use Rattle.ti_caps.specs.declared.faults.CapFault.TheVariants as cap;
 ghost use Rattle.ti_source.specs.Described.{IsGood};
 ghost use Rattle.ti_source.specs.Resolving.Uses.{flag_by, merged, number_by, text_by};
 ghost use Rattle.ti_source.specs.Code.Laid.{IsLaid};
 ghost use Rattle.ti_source.specs.Code.Walk.{of_fields};
 
-use crate::fault::SourceFault;
+use crate::faults::SourceFault;
 use crate::ordinals::room;
 use crate::reading::statement::{FieldValue, Statement};
 use crate::resolving::fields::Fields;

@@ -9,7 +9,7 @@ ghost use Rattle.ti_source.specs.Resolving.Passing.{PassBack, PassOn};
 ghost use Rattle.ti_source.specs.Result.{Stops};
 ghost use Rattle.ti_source.specs.Code.Walk.{FaultAt, ResolvedAt};
 
-use crate::fault::SourceFault;
+use crate::faults::SourceFault;
 use crate::reading::entries::Entries;
 use crate::reading::stored_entry::StoredEntry;
 use crate::resolving::fields::Fields;

@@ -5,7 +5,7 @@ ghost use Rattle.ti_source.specs.Code.Walk.{AreKnown, FaultAt, Gathers, IsReady,
 ghost use Rattle.ti_source.specs.Resolving.Named.{index_of};
 ghost use Rattle.ti_source.specs.Result.{Stops};
 
-use crate::fault::SourceFault;
+use crate::faults::SourceFault;
 use crate::reading::entries::Entries;
 use crate::reading::stored_entry::StoredEntry;
 use crate::resolving::fields::Fields;

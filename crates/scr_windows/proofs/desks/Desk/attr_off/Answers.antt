@@ -6,5 +6,5 @@ use Rattle.scr_windows.proofs.desks.Desk.attr_off.Goals as goal
 pub returns : goal.returns
 unfolding attr_off_call
 returns c =
-    let pen = c.in_ok-pen.pen in
-    set_in c.args.self.now _ c.args.win.0 pen _ (λ s. record s { attrs = record { 0 = bit_and s.attrs.0 (255 - c.args.attrs.0) } }) c.in_ok-pen.ensures c.set_state.ensures (λ j. record pen.state { attrs = record { 0 = c.difference-pen.ensures tt j } })
+    let canvas = c.in_ok-canvas.canvas in
+    set_in c.args.self.now _ c.args.win.0 canvas _ (λ s. record s { attrs = record { 0 = bit_and s.attrs.0 (255 - c.args.attrs.0) } }) c.in_ok-canvas.ensures c.set_state.ensures (λ j. record canvas.state { attrs = record { 0 = c.difference-canvas.ensures tt j } })

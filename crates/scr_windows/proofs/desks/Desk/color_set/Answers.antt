@@ -9,6 +9,6 @@ use Rattle.scr_windows.proofs.desks.Desk.color_set.Goals as goal
 pub returns : goal.returns
 unfolding color_set_call
 returns c =
-    let pen = c.in_ok-pen.pen in
+    let canvas = c.in_ok-canvas.canvas in
     let inside : (ltb c.args.pair 64) ≡ true = grind (arith, nat_tests) in
-    set_where c.args.self.now _ c.args.win.0 pen _ (λ area. ltb c.args.pair 64) (λ s. record s { pair = c.args.pair }) BadPair c.in_ok-pen.ensures inside c.set_state.ensures refl
+    set_where c.args.self.now _ c.args.win.0 canvas _ (λ area. ltb c.args.pair 64) (λ s. record s { pair = c.args.pair }) BadPair c.in_ok-canvas.ensures inside c.set_state.ensures refl

@@ -5,4 +5,4 @@ use Rattle.scr_windows.proofs.desks.Desk.erase.Goals as goal
 
 pub returns : goal.returns
 unfolding erase_call
-returns c = rewritten c.args.self.now _ _ c.args.win.0 c.in_ok-pen.pen (λ s rows. rows_put 0 rows s.background) (λ s. record s { cursor = (0, 0) }) c.in_ok-pen.ensures c.draw.ensures.drawn c.set_state.ensures
+returns c = rewritten c.args.self.now _ _ c.args.win.0 c.in_ok-canvas.canvas (λ s rows. rows_put 0 rows s.background) (λ s. record s { cursor = (0, 0) }) c.in_ok-canvas.ensures c.draw.ensures.drawn c.set_state.ensures

@@ -10,8 +10,8 @@ use Rattle.scr_windows.proofs.desks.Desk.insert_byte.Goals as goal
 pub returns : goal.returns
 unfolding insert_byte_call
 returns c =
-    let pen = c.in_ok-pen.pen in
+    let canvas = c.in_ok-canvas.canvas in
     let graphic : is_character c.args.byte ≡ true = search rules in
-    changed_where c.args.self.now _ c.args.win.0 pen (λ area. is_character c.args.byte) (λ i s. write c.args.self.now i s.cursor.0 (s.cursor.0 + 1) (row_opened s.cursor.0 s.cursor.1 (written_form c.args.byte c.args.attrs s))) (λ s. tt) NotAscii
-    c.in_ok-pen.ensures graphic
-    (c.draw.ensures.drawn ∙ ap (λ cell. write c.args.self.now pen.index pen.state.cursor.0 (pen.state.cursor.0 + 1) (row_opened pen.state.cursor.0 pen.state.cursor.1 cell)) c.written_form.ensures)
+    changed_where c.args.self.now _ c.args.win.0 canvas (λ area. is_character c.args.byte) (λ i s. write c.args.self.now i s.cursor.0 (s.cursor.0 + 1) (row_opened s.cursor.0 s.cursor.1 (written_form c.args.byte c.args.attrs s))) (λ s. tt) NotAscii
+    c.in_ok-canvas.ensures graphic
+    (c.draw.ensures.drawn ∙ ap (λ cell. write c.args.self.now canvas.index canvas.state.cursor.0 (canvas.state.cursor.0 + 1) (row_opened canvas.state.cursor.0 canvas.state.cursor.1 cell)) c.written_form.ensures)

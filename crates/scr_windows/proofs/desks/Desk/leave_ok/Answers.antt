@@ -5,4 +5,4 @@ use Rattle.scr_windows.proofs.desks.Desk.leave_ok.Goals as goal
 
 pub returns : goal.returns
 unfolding leave_ok_call
-returns c = set_in c.args.self.now _ c.args.win.0 c.in_ok-pen.pen _ (λ s. record s { leave_ok = c.args.on }) c.in_ok-pen.ensures c.set_state.ensures refl
+returns c = set_in c.args.self.now _ c.args.win.0 c.in_ok-canvas.canvas _ (λ s. record s { leave_ok = c.args.on }) c.in_ok-canvas.ensures c.set_state.ensures refl

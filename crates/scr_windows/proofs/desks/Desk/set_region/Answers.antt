@@ -9,6 +9,6 @@ use Rattle.scr_windows.proofs.desks.Desk.set_region.Goals as goal
 pub returns : goal.returns
 unfolding set_region_call
 returns c =
-    let pen = c.in_ok-pen.pen in
-    let inside : (leb c.args.top c.args.bottom && ltb c.args.bottom pen.area.rows) ≡ true = grind (arith, nat_tests) in
-    set_where c.args.self.now _ c.args.win.0 pen _ (λ area. leb c.args.top c.args.bottom && ltb c.args.bottom area.rows) (λ s. record s { region = (c.args.top, c.args.bottom) }) BadRegion c.in_ok-pen.ensures inside c.set_state.ensures refl
+    let canvas = c.in_ok-canvas.canvas in
+    let inside : (leb c.args.top c.args.bottom && ltb c.args.bottom canvas.area.rows) ≡ true = grind (arith, nat_tests) in
+    set_where c.args.self.now _ c.args.win.0 canvas _ (λ area. leb c.args.top c.args.bottom && ltb c.args.bottom area.rows) (λ s. record s { region = (c.args.top, c.args.bottom) }) BadRegion c.in_ok-canvas.ensures inside c.set_state.ensures refl

@@ -12,7 +12,7 @@ use Rattle.scr_windows.proofs.desks.Desk.take_lines.Goals as goal
 pub returns : goal.returns
 unfolding take_lines_call
 returns c =
-    let pen = c.in_ok-pen.pen in
-    let inside : leb (c.args.first + c.args.n) pen.area.rows ≡ true = grind (arith, nat_tests) in
-    changed_where c.args.self.now _ c.args.win.0 pen (λ area. leb (c.args.first + c.args.n) area.rows) (λ i s. with_state (with_window c.args.self.now i (marked c.args.first (c.args.first + c.args.n) false (window_at c.args.self.now i))) i (record s { clear_ok = false })) (λ s. s.clear_ok) OutOfWindow c.in_ok-pen.ensures inside
-    (c.set_state.ensures ∙ ap (λ v. with_state v pen.index (record pen.state { clear_ok = false })) c.mark.ensures)
+    let canvas = c.in_ok-canvas.canvas in
+    let inside : leb (c.args.first + c.args.n) canvas.area.rows ≡ true = grind (arith, nat_tests) in
+    changed_where c.args.self.now _ c.args.win.0 canvas (λ area. leb (c.args.first + c.args.n) area.rows) (λ i s. with_state (with_window c.args.self.now i (marked c.args.first (c.args.first + c.args.n) false (window_at c.args.self.now i))) i (record s { clear_ok = false })) (λ s. s.clear_ok) OutOfWindow c.in_ok-canvas.ensures inside
+    (c.set_state.ensures ∙ ap (λ v. with_state v canvas.index (record canvas.state { clear_ok = false })) c.mark.ensures)

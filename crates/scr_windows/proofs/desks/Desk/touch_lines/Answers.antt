@@ -11,7 +11,7 @@ use Rattle.scr_windows.proofs.desks.Desk.touch_lines.Goals as goal
 pub returns : goal.returns
 unfolding touch_lines_call
 returns c =
-    let pen = c.in_ok-pen.pen in
-    let inside : leb (c.args.first + c.args.n) pen.area.rows ≡ true = grind (arith, nat_tests) in
-    changed_where c.args.self.now _ c.args.win.0 pen (λ area. leb (c.args.first + c.args.n) area.rows) (λ i s. with_window c.args.self.now i (marked c.args.first (c.args.first + c.args.n) c.args.changed (window_at c.args.self.now i))) (λ s. tt) OutOfWindow c.in_ok-pen.ensures inside
+    let canvas = c.in_ok-canvas.canvas in
+    let inside : leb (c.args.first + c.args.n) canvas.area.rows ≡ true = grind (arith, nat_tests) in
+    changed_where c.args.self.now _ c.args.win.0 canvas (λ area. leb (c.args.first + c.args.n) area.rows) (λ i s. with_window c.args.self.now i (marked c.args.first (c.args.first + c.args.n) c.args.changed (window_at c.args.self.now i))) (λ s. tt) OutOfWindow c.in_ok-canvas.ensures inside
     c.mark.ensures

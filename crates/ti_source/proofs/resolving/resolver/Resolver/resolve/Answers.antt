@@ -1,6 +1,6 @@
 use Rattle.std.specs.Prelude.{is_none}
 use Rattle.std.proofs.Common.{◌≡◌, ◌∙◌, ap, false, inr, subst, sym, rules}
-use Rattle.ti_source.specs.declared.fault.SourceFault.TheVariants.{UnknownName}
+use Rattle.ti_source.specs.declared.faults.SourceFault.TheVariants.{UnknownName}
 use Rattle.ti_source.specs.Resolving.Named.{index_of}
 use Rattle.ti_source.specs.Resolving.Uses.{Unresolved}
 use Rattle.ti_source.proofs.AloneLaws.{has-index, no-name}

@@ -1,12 +1,13 @@
 //! What the lines of a script work on: one screen with its terminal, from the line that opens it on.
 
 use crate::answers::add_count;
-use crate::call_lines::read_call;
 use crate::dumps::dump_recorded;
 use crate::ends::read_end;
 use crate::entries::read_entry;
 use crate::every_cut::{check_cuts, check_every_cut};
 use crate::generated::{check_generated, check_updates};
+use crate::moving::{check_moving, open_moving};
+use crate::read_calls::read_call;
 use crate::recorded::Recorded;
 use crate::refusals::add_refusal;
 use crate::shown_lines::{answer_of_shown, check_changed};
@@ -14,7 +15,7 @@ use crate::window_lines::answer_of_windows;
 use crate::writers::Fails;
 use check_scripts::answers::{add_word, read_size};
 use check_scripts::buffers::{Buffer, are_same};
-use check_scripts::checking::Stage;
+use check_scripts::checking::Subject;
 use check_scripts::troubles::Trouble;
 use check_scripts::words::Words;
 use scr_windows::Win;
@@ -27,16 +28,16 @@ const FIRST: Win = Win(0);
 
 /// The state of a script.
 #[derive(Drop)]
-pub struct SessionStage {
+pub struct SessionSubject {
     alloc: Global,
     opened: Option<Recorded>,
     // The screen of the lines that try many calls at once.
     tried: Option<Recorded>,
 }
 
-impl Stage for SessionStage {
-    fn new(alloc: Global) -> SessionStage {
-        SessionStage {
+impl Subject for SessionSubject {
+    fn new(alloc: Global) -> SessionSubject {
+        SessionSubject {
             alloc,
             opened: None,
             tried: None,
@@ -48,9 +49,11 @@ impl Stage for SessionStage {
         let done = match word {
             "screen" => open(alloc, &mut self.opened, words, came),
             "drawn" => open_drawn(alloc, &mut self.opened, words, came),
+            "moving" => open_moving(alloc, &mut self.opened, words, came),
             "every_cut" => check_every_cut(alloc, &mut self.tried, words, came),
             "generated" => check_generated(alloc, &mut self.tried, words, came),
             "updates" => check_updates(alloc, &mut self.tried, words, came),
+            "moving_updates" => check_moving(alloc, &mut self.tried, words, came),
             "changed" => check_changed(alloc, words, came),
             "refusal" => {
                 add_refusal(alloc, words, came);
@@ -74,7 +77,16 @@ impl Stage for SessionStage {
     fn leaves_all(word: &[u8]) -> bool {
         matches!(
             str::from_utf8(word),
-            Ok("changed" | "cuts" | "every_cut" | "generated" | "refusal" | "session" | "updates")
+            Ok(
+                "changed"
+                    | "cuts"
+                    | "every_cut"
+                    | "generated"
+                    | "moving_updates"
+                    | "refusal"
+                    | "session"
+                    | "updates"
+            )
         )
     }
 }
@@ -168,7 +180,7 @@ fn call(
     if let Some((end, fails)) = read_end(word, words) {
         return opened.send_end(end, fails, came);
     }
-    if let Some(call) = read_call(alloc, word, words) {
+    if let Some(call) = read_call(alloc, word, words)? {
         return opened.call(call, came);
     }
     if !answer_of_shown(opened, word, words, came)

@@ -8,7 +8,7 @@ use crate::keys::pieces::check_pieces;
 use crate::keys::streams::{check_cuts, take_all};
 use check_scripts::answers::add_word;
 use check_scripts::buffers::Buffer;
-use check_scripts::checking::Stage;
+use check_scripts::checking::Subject;
 use check_scripts::troubles::Trouble;
 use check_scripts::words::Words;
 use scr_keys::KeyFault;
@@ -17,7 +17,7 @@ use ti_caps::Entry;
 
 /// The state of a script.
 #[derive(Drop)]
-pub struct KeyStage {
+pub struct KeySubject {
     alloc: Global,
     entry: Option<Entry>,
     keyboard: Option<Keyboard>,
@@ -25,9 +25,9 @@ pub struct KeyStage {
     beside: Option<Keyboard>,
 }
 
-impl Stage for KeyStage {
-    fn new(alloc: Global) -> KeyStage {
-        KeyStage {
+impl Subject for KeySubject {
+    fn new(alloc: Global) -> KeySubject {
+        KeySubject {
             alloc,
             entry: None,
             keyboard: None,

@@ -28,7 +28,7 @@ pub enum TicFault {
 
 impl From<AllocError> for TicFault {
     ghost use Rattle.std.specs.Prelude.{◌≡◌};
-    ghost use Rattle.terminfo_files.specs.declared.fault.TicFault.TheVariants.{NoMemory};
+    ghost use Rattle.terminfo_files.specs.declared.faults.TicFault.TheVariants.{NoMemory};
 
     ghost from_gives = { λ _ e. e ≡ NoMemory };
 
@@ -39,7 +39,7 @@ impl From<AllocError> for TicFault {
 
 impl<T: Drop> From<AllocFailed<T>> for TicFault {
     ghost use Rattle.std.specs.Prelude.{◌≡◌};
-    ghost use Rattle.terminfo_files.specs.declared.fault.TicFault.TheVariants.{NoMemory};
+    ghost use Rattle.terminfo_files.specs.declared.faults.TicFault.TheVariants.{NoMemory};
 
     ghost from_gives = { λ _ e. e ≡ NoMemory };
 

@@ -6,8 +6,6 @@ use crate::dumps::{dump_entry, dump_picture, dump_profile};
 use crate::emulated_lines::{answer_of_emulated, dump_terminal};
 use crate::entry_lines::answer_of_entry;
 use crate::joining_lines::answer_of_joining;
-use crate::moving_lines::answer_of_moving;
-use crate::moving_screen::MovingScreen;
 use crate::painting_lines::answer_of_painting;
 use crate::picture_lines::answer_of_picture;
 use crate::plain_lines::{answer_of_plain, dump_memory};
@@ -16,7 +14,7 @@ use crate::script_lines::answer_of_script;
 use crate::terminal_lines::answer_of_terminal;
 use crate::text_lines::answer_of_texts;
 use check_scripts::buffers::Buffer;
-use check_scripts::checking::Stage;
+use check_scripts::checking::Subject;
 use check_scripts::troubles::Trouble;
 use check_scripts::words::Words;
 use scr_cells::Picture;
@@ -27,12 +25,11 @@ use ti_caps::Entry;
 
 /// The state of a script.
 #[derive(Drop)]
-pub struct TerminalStage {
+pub struct TerminalSubject {
     alloc: Global,
     entry: Option<Entry>,
     profile: Option<Profile>,
     terminal: Option<Terminal>,
-    moving: Option<MovingScreen>,
     memory: Option<Memory>,
     picture: Option<Picture>,
     screen: Option<EcmaScreen>,
@@ -41,14 +38,13 @@ pub struct TerminalStage {
     other_text: Buffer,
 }
 
-impl Stage for TerminalStage {
-    fn new(alloc: Global) -> TerminalStage {
-        TerminalStage {
+impl Subject for TerminalSubject {
+    fn new(alloc: Global) -> TerminalSubject {
+        TerminalSubject {
             alloc,
             entry: None,
             profile: None,
             terminal: None,
-            moving: None,
             memory: None,
             picture: None,
             screen: None,
@@ -90,7 +86,7 @@ impl Stage for TerminalStage {
     }
 }
 
-impl TerminalStage {
+impl TerminalSubject {
     // Makes the call of a line that is about an entry, a profile or a terminal, and tells whether it is one.
     fn answer_of_profiles(&mut self, word: &str, words: &mut Words<'_>, came: &mut Buffer) -> bool {
         let (alloc, entry, profile) = (self.alloc, &mut self.entry, &mut self.profile);
@@ -98,15 +94,6 @@ impl TerminalStage {
             || answer_of_texts(alloc, entry, word, came)
             || answer_of_terminal(alloc, profile, word, words, came)
             || answer_of_emulated(alloc, &mut self.terminal, profile, word, words, came)
-            || answer_of_moving(
-                alloc,
-                &mut self.moving,
-                entry,
-                &mut self.text,
-                word,
-                words,
-                came,
-            )
     }
 
     // Makes the call of a line that is about a picture, a screen or a script, and tells whether it is one.

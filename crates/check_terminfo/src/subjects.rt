@@ -49,7 +49,7 @@ use crate::sources::{add_list, answer_of_meaning, answer_of_source, resolve};
 use crate::table::answer_of_table;
 use check_scripts::answers::{add_name, add_text, add_word};
 use check_scripts::buffers::Buffer;
-use check_scripts::checking::Stage;
+use check_scripts::checking::Subject;
 use check_scripts::troubles::Trouble;
 use check_scripts::words::Words;
 use std::alloc::Global;
@@ -78,7 +78,7 @@ const CHANGING: [&str; 14] = [
 
 /// What earlier lines have made.
 #[derive(Drop)]
-pub struct TerminfoStage {
+pub struct TerminfoSubject {
     alloc: Global,
     // The entry that was made, resolved or decoded last.
     entry: Option<Entry>,
@@ -94,9 +94,9 @@ pub struct TerminfoStage {
     text: Buffer,
 }
 
-impl Stage for TerminfoStage {
-    fn new(alloc: Global) -> TerminfoStage {
-        TerminfoStage {
+impl Subject for TerminfoSubject {
+    fn new(alloc: Global) -> TerminfoSubject {
+        TerminfoSubject {
             alloc,
             entry: None,
             source: None,
@@ -143,7 +143,7 @@ impl Stage for TerminfoStage {
     }
 }
 
-impl TerminfoStage {
+impl TerminfoSubject {
     // Makes the call of a line that goes on with what is there. Tells whether a line is one of them.
     fn is_answered(&mut self, word: &str, words: &mut Words<'_>, came: &mut Buffer) -> bool {
         let (alloc, text) = (self.alloc, &mut self.text);

@@ -1,23 +1,23 @@
 -- Words of private functions: what they know of the window that a call is about, and the lines that a drawing writes.
 use Rattle.std.specs.Prelude.{ℕ, ◌≡◌, ◌+◌, ◌<◌, length, Ok}
-use Rattle.scr_windows.specs.declared.frames.Pen.{Pen}
+use Rattle.scr_windows.specs.declared.frames.Canvas.{Canvas}
 use Rattle.scr_surfaces.specs.declared.drawings.Drawing.{Drawing}
 use Rattle.scr_surfaces.specs.declared.drawings.Drawing.TheVariants.{Run, Rows, Below, Column, Opened, Closed, Up, Down, Exchanged, Edges}
 use Rattle.scr_windows.specs.DeskViews.{DeskView, window_at, IsThere}
 use Rattle.scr_windows.specs.Changes.{index_of}
 
--- the pen of the window at an index
-pub record IsPenAt (desk : DeskView) (pen : Pen) : Type 0 where
-  pub area_is : pen.area ≡ (window_at desk pen.index).frame.area
-  pub state_is : pen.state ≡ (window_at desk pen.index).state
-  pub placed : IsThere desk pen.index
+-- the canvas of the window at an index
+pub record IsCanvasAt (desk : DeskView) (canvas : Canvas) : Type 0 where
+  pub area_is : canvas.area ≡ (window_at desk canvas.index).frame.area
+  pub state_is : canvas.state ≡ (window_at desk canvas.index).state
+  pub placed : IsThere desk canvas.index
 
--- the pen of a window that is there
-pub record IsPen (desk : DeskView) (number : ℕ) (pen : Pen) : Type 0 where
-  pub index_is : index_of desk number ≡ Ok pen.index
-  pub area_is : pen.area ≡ (window_at desk pen.index).frame.area
-  pub state_is : pen.state ≡ (window_at desk pen.index).state
-  pub placed : IsThere desk pen.index
+-- the canvas of a window that is there
+pub record IsCanvas (desk : DeskView) (number : ℕ) (canvas : Canvas) : Type 0 where
+  pub index_is : index_of desk number ≡ Ok canvas.index
+  pub area_is : canvas.area ≡ (window_at desk canvas.index).frame.area
+  pub state_is : canvas.state ≡ (window_at desk canvas.index).state
+  pub placed : IsThere desk canvas.index
 
 -- a window that is still there, in its frame and with what was set in it
 pub record IsKept (old new : DeskView) (i : ℕ) : Type 0 where

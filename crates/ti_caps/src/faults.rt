@@ -22,7 +22,7 @@ pub enum CapFault {
 
 impl From<AllocError> for CapFault {
     ghost use Rattle.std.specs.Prelude.{◌≡◌};
-    ghost use Rattle.ti_caps.specs.declared.fault.CapFault.TheVariants.{NoMemory};
+    ghost use Rattle.ti_caps.specs.declared.faults.CapFault.TheVariants.{NoMemory};
 
     ghost from_gives = { λ _ e. e ≡ NoMemory };
 
@@ -33,7 +33,7 @@ impl From<AllocError> for CapFault {
 
 impl<T: Drop> From<AllocFailed<T>> for CapFault {
     ghost use Rattle.std.specs.Prelude.{◌≡◌};
-    ghost use Rattle.ti_caps.specs.declared.fault.CapFault.TheVariants.{NoMemory};
+    ghost use Rattle.ti_caps.specs.declared.faults.CapFault.TheVariants.{NoMemory};
 
     ghost from_gives = { λ _ e. e ≡ NoMemory };
 

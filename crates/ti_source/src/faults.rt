@@ -37,7 +37,7 @@ pub enum SourceFault {
 
 impl From<AllocError> for SourceFault {
     ghost use Rattle.std.specs.Prelude.{◌≡◌};
-    ghost use Rattle.ti_source.specs.declared.fault.SourceFault.TheVariants.{NoMemory};
+    ghost use Rattle.ti_source.specs.declared.faults.SourceFault.TheVariants.{NoMemory};
 
     ghost from_gives = { λ _ e. e ≡ NoMemory };
 
@@ -48,7 +48,7 @@ impl From<AllocError> for SourceFault {
 
 impl<T: Drop> From<AllocFailed<T>> for SourceFault {
     ghost use Rattle.std.specs.Prelude.{◌≡◌};
-    ghost use Rattle.ti_source.specs.declared.fault.SourceFault.TheVariants.{NoMemory};
+    ghost use Rattle.ti_source.specs.declared.faults.SourceFault.TheVariants.{NoMemory};
 
     ghost from_gives = { λ _ e. e ≡ NoMemory };
 
