@@ -25,7 +25,7 @@ mod generating;
 mod laws;
 mod listed;
 mod moving;
-mod read_calls;
+mod read_arguments;
 mod recorded;
 mod refusals;
 mod shown;

@@ -1,13 +1,13 @@
 //! What the lines of a script work on: one screen with its terminal, from the line that opens it on.
 
 use crate::answers::add_count;
+use crate::calls::call_of;
 use crate::dumps::dump_recorded;
 use crate::ends::read_end;
 use crate::entries::read_entry;
 use crate::every_cut::{check_cuts, check_every_cut};
 use crate::generated::{check_generated, check_updates};
 use crate::moving::{check_moving, open_moving};
-use crate::read_calls::read_call;
 use crate::recorded::Recorded;
 use crate::refusals::add_refusal;
 use crate::shown_lines::{answer_of_shown, check_changed};
@@ -25,6 +25,18 @@ use ti_caps::Bytes;
 
 // The window that there is from the beginning.
 const FIRST: Win = Win(0);
+
+// The lines that leave the screen as it is.
+const ALONE: [&str; 8] = [
+    "changed",
+    "cuts",
+    "every_cut",
+    "generated",
+    "moving_updates",
+    "refusal",
+    "session",
+    "updates",
+];
 
 /// The state of a script.
 #[derive(Drop)]
@@ -75,19 +87,11 @@ impl Subject for SessionSubject {
     }
 
     fn leaves_all(word: &[u8]) -> bool {
-        matches!(
-            str::from_utf8(word),
-            Ok(
-                "changed"
-                    | "cuts"
-                    | "every_cut"
-                    | "generated"
-                    | "moving_updates"
-                    | "refusal"
-                    | "session"
-                    | "updates"
-            )
-        )
+        let mut leaves = false;
+        for name in ALONE {
+            leaves = leaves || word == name.as_bytes();
+        }
+        leaves
     }
 }
 
@@ -180,7 +184,7 @@ fn call(
     if let Some((end, fails)) = read_end(word, words) {
         return opened.send_end(end, fails, came);
     }
-    if let Some(call) = read_call(alloc, word, words)? {
+    if let Some(call) = call_of(alloc, word, words)? {
         return opened.call(call, came);
     }
     if !answer_of_shown(opened, word, words, came)

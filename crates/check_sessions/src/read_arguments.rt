@@ -1,24 +1,14 @@
-//! Calls that a line has: their arguments, in the order of the method's; a flag is 0 or 1.
+//! The arguments of a call that a line has; a flag is 0 or 1.
 
-use crate::calls::{Arguments, call_of};
+use crate::calls::Arguments;
 use check_scripts::answers::read_parts;
 use check_scripts::buffers::Buffer;
 use check_scripts::troubles::Trouble;
 use check_scripts::words::Words;
 use scr_cells::{Attrs, Cell};
 use scr_windows::Win;
-use screen_sessions::Call;
 use std::alloc::Global;
 use ti_caps::Bytes;
-
-/// Reads the call of a line. `None` where the word names none, or an update.
-pub fn read_call(
-    alloc: Global,
-    word: &str,
-    words: &mut Words<'_>,
-) -> Result<Option<Call>, Trouble> {
-    call_of(alloc, word, words)
-}
 
 impl Arguments for Words<'_> {
     fn win(&mut self) -> Win {
