@@ -4,8 +4,10 @@ use crate::counting::{Row, Tally, price};
 use crate::emulated::Emulated;
 use crate::shown::{is_placed, look_of};
 use check_scripts::troubles::Trouble;
+use curses::Screen;
 use scr_cells::{Attrs, Look, Picture, Size};
 use scr_term::{Op, Profile, Spot};
+use screen_sessions::Call;
 use std::alloc::Global;
 
 /// What the terminal shows since an update that ended well.
@@ -168,4 +170,17 @@ fn look_price(profile: &Profile, look: Look) -> usize {
         sum = sum.saturating_add(price(profile, Op::Back(colour)));
     }
     sum
+}
+
+/// Whether an update behind a call may paint more than what differs: a redrawing, or a window that wishes the whole
+/// screen anew.
+pub fn may_paint_all(screen: &Screen, call: &Call) -> bool {
+    match call {
+        Call::RedrawWindow(_) | Call::RedrawLines(..) => true,
+        Call::Noutrefresh(win) | Call::PadNoutrefresh(win, ..) => match screen.window(*win) {
+            Ok(window) => window.clear_ok(),
+            Err(_) => false,
+        },
+        _ => false,
+    }
 }

@@ -1,9 +1,10 @@
 //! The terminal of an entry, emulated: by the bytes that it is sent, or by the operations.
 
+use crate::moving::TEXTS;
 use scr_cells::{Attrs, Look, NoMemory, Size};
 use scr_term::{EcmaScreen, Op, Profile, Spot, Terminal};
 use std::alloc::Global;
-use ti_caps::{Entry, slots};
+use ti_caps::Entry;
 
 /// An emulated terminal.
 #[derive(Drop)]
@@ -127,15 +128,7 @@ fn is_stepped(terminal: &mut Terminal, profile: &Profile, op: Op) -> bool {
 
 // Whether an entry has a text that inserts or deletes lines or characters.
 fn moves_something(entry: &Entry) -> bool {
-    for slot in [
-        slots::IL1,
-        slots::IL,
-        slots::DL1,
-        slots::DL,
-        slots::ICH,
-        slots::DCH1,
-        slots::DCH,
-    ] {
+    for (slot, _text) in TEXTS {
         if entry.text(slot).is_some() {
             return true;
         }

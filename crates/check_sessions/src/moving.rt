@@ -21,8 +21,8 @@ const COLUMNS: u32 = 40;
 // The window that is changed.
 const FIRST: Win = Win(0);
 
-// The texts that insert and delete lines and characters.
-const TEXTS: [(Slot, &[u8]); 7] = [
+/// The texts that insert and delete lines and characters.
+pub const TEXTS: [(Slot, &[u8]); 7] = [
     (slots::IL1, b"\x1b[L"),
     (slots::IL, b"\x1b[%p1%dL"),
     (slots::DL1, b"\x1b[M"),

@@ -1,7 +1,7 @@
 //! A screen whose calls and answers are kept, and the emulated terminal that takes what its updates send.
 
 use crate::answers::{add_answer, add_answers, ran_out};
-use crate::bounds::Left;
+use crate::bounds::{Left, may_paint_all};
 use crate::displays::{Display, open_display};
 use crate::emulated::Emulated;
 use crate::ends::{End, add_sent, has_ends};
@@ -363,19 +363,6 @@ fn end_of(answer: &Answer) -> Ended {
         Answer::Sent(sent) => Ended::Well(sent.bytes),
         answer if ran_out(answer) => Ended::RanOut,
         _ => Ended::Failed,
-    }
-}
-
-// Whether an update behind a call may paint more than what differs: a redrawing, or a window that wishes the whole
-// screen anew.
-fn may_paint_all(screen: &Screen, call: &Call) -> bool {
-    match call {
-        Call::RedrawWindow(_) | Call::RedrawLines(..) => true,
-        Call::Noutrefresh(win) | Call::PadNoutrefresh(win, ..) => match screen.window(*win) {
-            Ok(window) => window.clear_ok(),
-            Err(_) => false,
-        },
-        _ => false,
     }
 }
 
