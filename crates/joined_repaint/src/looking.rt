@@ -11,7 +11,7 @@ ghost use Rattle.scr_plan.specs.Repaints.{blank_column, differing_from, differs,
 ghost use Rattle.scr_plan.specs.Scratch.{look_at};
 ghost use Rattle.joined_repaint.specs.Shown.{IsOf, known_of};
 
-use scr_cells::{Attrs, Cell, Pen, Picture};
+use scr_cells::{Cell, Pen, Picture};
 use scr_term::{Op, Profile, Terminal};
 
 // The cell in a place.
@@ -29,16 +29,8 @@ pub(crate) fn seen_at(profile: &Profile, picture: &Picture, row: u32, column: u3
     ensures pen { result.1 ≡ (look_at profile.now picture.now (row, column)).pen }
 {
     let cell = cell_at(picture, row, column);
-    let pen = Pen::plain().with_attrs(Attrs(profile.shows().0 & cell.attrs().0));
-    let pair = if profile.colours() { cell.pair() } else { 0 };
-    match picture.pair(pair) {
-        Some((foreground, background)) => (
-            cell.byte(),
-            pen.with_foreground(Some(foreground))
-                .with_background(Some(background)),
-        ),
-        None => (cell.byte(), pen),
-    }
+    let pen = picture.seen_pen(cell, profile.shows(), profile.colours());
+    (cell.byte(), pen)
 }
 
 // Whether the terminal does not show what is seen of the picture in a place.

@@ -3,10 +3,11 @@ ghost use Rattle.std.specs.Prelude.{◌≡◌, ◌↔◌, ◌+◌, ◌-◌, ◌<
 ghost use Rattle.std.specs.Option.{ForSome};
 ghost use Rattle.scr_cells.specs.CellViews.{IsCell, IsPair};
 ghost use Rattle.scr_cells.specs.Grids.{grid_row, grid_with, grid_with_run};
+ghost use Rattle.scr_cells.specs.LookViews.{seen_pen};
 ghost use Rattle.scr_cells.specs.PenViews.{IsColour, first_pairs, pair_colours};
 ghost use Rattle.scr_cells.specs.PictureViews.{AreColours, IsPicture, IsPlace, blank_picture};
 
-use crate::{Cell, Grid, NoMemory, Size, grid_laws};
+use crate::{Attrs, Cell, Grid, NoMemory, Pen, Size, grid_laws};
 use std::alloc::Global;
 use std::marker::Model;
 
@@ -112,6 +113,24 @@ impl Picture {
             Some(self.pairs[pair as usize - 1])
         } else {
             None
+        }
+    }
+
+    /// The pen that a cell is shown with on a terminal that shows these attributes, and colours or none: those of its
+    /// attributes that are shown, and the colours of its pair.
+    #[inline(always)]
+    pub fn seen_pen(&self, cell: Cell, shown: Attrs, colours: bool) -> Pen
+        ensures { result ≡ seen_pen shown.0 colours self.now.pairs cell }
+    {
+        let pen = Pen::plain().with_attrs(Attrs(shown.0 & cell.attrs().0));
+        if cell.pair() == 0 || !colours {
+            return pen;
+        }
+        match self.pair(cell.pair()) {
+            Some((foreground, background)) => pen
+                .with_foreground(Some(foreground))
+                .with_background(Some(background)),
+            None => pen,
         }
     }
 

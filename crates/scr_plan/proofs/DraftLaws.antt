@@ -35,7 +35,7 @@ use Rattle.scr_plan.specs.Code.Painters.{painter_begins, painter_goes, painter_l
 use Rattle.scr_plan.specs.Repaints.{look_eq}
 use Rattle.scr_plan.specs.Scratch.{Fits, enter, goes, look_at, renders, sets_background, sets_foreground}
 use Rattle.scr_plan.specs.declared.painting.Painter.{Painter}
-use Rattle.scr_plan.specs.declared.runs.Run.{Run}
+use Rattle.scr_choices.specs.declared.runs.Run.{Run}
 use Rattle.scr_plan.specs.declared.strokes.Draft.{Draft}
 
 -- ---- whatever is added

@@ -3,7 +3,6 @@ ghost use Rattle.std.specs.Prelude.{◌≡◌, ◌<◌, ◌≤◌, IfSome, lengt
 ghost use Rattle.scr_cells.specs.Grids.{grid_row};
 
 use crate::painting::Painter;
-use crate::ways::Chooser;
 use scr_cells::{Cell, Look, Picture};
 use scr_term::{Op, Profile};
 
@@ -84,22 +83,6 @@ pub(crate) fn is_worth_erasing(profile: &Profile, count: u32, goes_on: bool) -> 
         0
     };
     count > erasure.saturating_add(motion)
-}
-
-// Whether cells are all seen blank.
-pub(crate) fn is_blank(chooser: &Chooser<'_>, cells: &[Cell]) -> bool {
-    for cell in cells {
-        if !is_blank_cell(chooser, *cell) {
-            return false;
-        }
-    }
-    true
-}
-
-// Whether a cell is seen blank.
-fn is_blank_cell(chooser: &Chooser<'_>, cell: Cell) -> bool {
-    cell == Cell::blank()
-        || cell.byte() == b' ' && chooser.painter.pen_of(chooser.picture, cell).is_plain()
 }
 
 impl Painter {

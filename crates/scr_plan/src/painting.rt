@@ -193,16 +193,7 @@ impl Painter {
     pub(crate) fn pen_of(self, picture: &Picture, cell: Cell) -> Pen
         ensures { result ≡ (painter_sees self picture.now.pairs cell).pen }
     {
-        let pen = Pen::plain().with_attrs(Attrs(self.shown.0 & cell.attrs().0));
-        if cell.pair() == 0 || !self.colours {
-            return pen;
-        }
-        match picture.pair(cell.pair()) {
-            Some((foreground, background)) => pen
-                .with_foreground(Some(foreground))
-                .with_background(Some(background)),
-            None => pen,
-        }
+        picture.seen_pen(cell, self.shown, self.colours)
     }
 
     // Adds what moves the cursor to a place, with no attribute and default colours.

@@ -5,12 +5,10 @@ ghost use Rattle.scr_plan.specs.Code.Drafts.{KeepsAll, KeepsEvery};
 ghost use Rattle.scr_plan.specs.Code.Painters.{painter_of};
 ghost use Rattle.scr_plan.specs.Scratch.{Fits};
 
-use crate::motions::{Motion, Steps};
 use crate::painting::Painter;
 use crate::strokes::Draft;
-use crate::turns::{Turn, cheapest_turn};
-use crate::ways::{Chooser, Path};
 use scr_cells::{Attrs, NoMemory, Pen, Picture};
+use scr_choices::{Chooser, Motion, Path, Steps, Turn, cheapest_turn};
 use scr_term::{Op, Profile};
 
 impl Draft {
@@ -201,7 +199,7 @@ impl Draft {
         column: u32,
         pen: Pen,
     ) -> Path {
-        let chooser = Chooser::new(painter, profile, picture);
+        let chooser = Chooser::new(profile, picture);
         chooser.way(&self.cursor(), row, column, pen).path
     }
 

@@ -7,14 +7,15 @@ use crate::blanks::{
     blank_of_many, blanks_begin, blanks_end, is_worth_erasing, least_worth_erasing,
 };
 use crate::painting::Painter;
-use crate::ways::Chooser;
 use scr_cells::{Cell, Look, Picture};
+use scr_choices::Chooser;
 use scr_term::{FAR, Op, Profile};
 
-// What prices of rows need: a chooser, and the profile that it is for.
+// What prices of rows need: a chooser, the profile that it is for, and how that shows cells.
 #[derive(Clone, Copy)]
 pub(crate) struct RowPrices<'a> {
     pub(crate) chooser: Chooser<'a>,
+    pub(crate) painter: Painter,
     pub(crate) profile: &'a Profile,
 }
 
@@ -26,7 +27,8 @@ impl<'a> RowPrices<'a> {
         picture: &'a Picture,
     ) -> RowPrices<'a> {
         RowPrices {
-            chooser: Chooser::new(painter, profile, picture),
+            chooser: Chooser::new(profile, picture),
+            painter,
             profile,
         }
     }
@@ -53,7 +55,7 @@ impl<'a> RowPrices<'a> {
             return None;
         }
         let cells = picture.row(row);
-        let painter = self.chooser.painter;
+        let painter = self.painter;
         let unlike = painter.unlike_from(picture, row, cells, Some(looks), from, end);
         if unlike < end { Some(unlike) } else { None }
     }
@@ -83,10 +85,7 @@ impl<'a> RowPrices<'a> {
         let chooser = &self.chooser;
         let mut blanks = 0u32;
         for cell in cells {
-            if *cell != Cell::blank()
-                && cell.byte() == b' '
-                && chooser.painter.pen_of(chooser.picture, *cell).is_plain()
-            {
+            if *cell != Cell::blank() && cell.byte() == b' ' && chooser.pen_of(*cell).is_plain() {
                 blanks = blanks.saturating_add(1);
             }
         }
@@ -107,7 +106,7 @@ impl<'a> RowPrices<'a> {
             return FAR;
         }
         let cells = picture.row(row);
-        let painter = self.chooser.painter;
+        let painter = self.painter;
         match painter.erased_rest(self.profile, picture, row, cells, Some(looks), from, end) {
             Some(column) => self
                 .stretches_over(picture, row, cells, looks, from, column)
@@ -133,7 +132,7 @@ impl<'a> RowPrices<'a> {
         requires from { from ≤ end }
         requires end { end ≤ picture.now.columns }
     {
-        let painter = self.chooser.painter;
+        let painter = self.painter;
         let profile = self.profile;
         let mut price = 0u32;
         let mut column = from;
@@ -154,7 +153,7 @@ impl<'a> RowPrices<'a> {
         requires wide { end ≤ length cells.now }
         requires start { start < end }
     {
-        let painter = self.chooser.painter;
+        let painter = self.painter;
         let (_, pen) = painter.seen_in(self.chooser.picture, cells, start);
         if pen.is_plain() {
             self.of_pieces(cells, start, end)

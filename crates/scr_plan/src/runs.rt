@@ -10,28 +10,8 @@ use crate::blanks::{
 use crate::looking::is_shown_in;
 use crate::painting::Painter;
 use scr_cells::{Cell, Look, NoMemory, Pen, Picture};
+use scr_choices::{How, Run};
 use scr_term::Profile;
-
-// How the places of a run are painted.
-#[derive(Clone, Copy)]
-pub(crate) enum How {
-    // Each place is written.
-    Write,
-    // The rest of the line is erased.
-    EraseLine,
-    // The places are erased as characters.
-    EraseChars,
-}
-
-// Columns of a row, `start..end`, that are painted with one pen.
-#[derive(Clone, Copy)]
-pub(crate) struct Run {
-    pub(crate) row: u32,
-    pub(crate) start: u32,
-    pub(crate) end: u32,
-    pub(crate) pen: Pen,
-    pub(crate) how: How,
-}
 
 impl Painter {
     // Adds the runs of the places in columns `from..end` that differ from what the row shows:

@@ -17,7 +17,6 @@ ghost use Rattle.scr_virtual.specs.Ranges.{IsRange};
 use crate::memories::Memory;
 use crate::painting::Painter;
 use crate::planning::Looked;
-use crate::runs::Run;
 use crate::shifts::Shift;
 use crate::shown::{is_moved, shown_row, slide_into};
 use crate::slides::Slide;
@@ -25,6 +24,7 @@ use crate::sliding::slide_of;
 use crate::strokes::Draft;
 use crate::wiping::drop_from;
 use scr_cells::{Look, NoMemory, Picture};
+use scr_choices::Run;
 use scr_term::Profile;
 use scr_virtual::Virtual;
 

@@ -13,14 +13,13 @@ ghost use Rattle.scr_term.specs.declared.operations.operation.Spot.TheVariants.{
 ghost use Rattle.scr_term.specs.Operations.Texts.{has};
 
 use crate::memories::Memory;
-use crate::motions::cheapest_motion;
 use crate::painting::Painter;
 use crate::planning::Looked;
 use crate::row_prices::RowPrices;
 use crate::shifts::{Shift, can_shift_some, cheapest_shift};
 use crate::strokes::Draft;
-use crate::ways::Cursor;
 use scr_cells::{Look, NoMemory, Picture, grid_laws};
+use scr_choices::{Cursor, cheapest_motion};
 use scr_term::{Op, Profile, Spot, run_laws};
 use scr_virtual::Virtual;
 use std::alloc::Global;

@@ -3,17 +3,15 @@
 ghost use Rattle.std.specs.Prelude.{◌≡◌, IfOk, IfSome, true};
 ghost use Rattle.scr_plan.specs.Code.Moves.{IsShift};
 
-use crate::blanks::is_blank;
 use crate::memories::Memory;
-use crate::motions::cheapest_motion;
 use crate::planning::Looked;
 use crate::row_prices::{Counts, RowPrices};
 use crate::samples::{
     Distance, Samples, are_worth_looking, can_shift, looks_of, most_votes, price_over_remembered,
 };
 use crate::slides::are_blank;
-use crate::ways::{Chooser, Cursor};
 use scr_cells::NoMemory;
+use scr_choices::{Chooser, Cursor, cheapest_motion, is_blank};
 use scr_term::{FAR, Op, Prices, Spot};
 use scr_virtual::Virtual;
 use std::alloc::Global;

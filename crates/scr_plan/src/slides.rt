@@ -4,14 +4,10 @@ ghost use Rattle.std.specs.Prelude.{◌≡◌, ◌+◌, ◌≤◌, IfOk, IfSome,
 ghost use Rattle.scr_plan.specs.Code.Moves.{IsSlide};
 ghost use Rattle.scr_plan.specs.Code.Settled.{op_of};
 
-use crate::blanks::is_blank;
-use crate::motions::cheapest_motion;
 use crate::row_prices::RowPrices;
-use crate::runs::{How, Run};
 use crate::shown::slide_into;
-use crate::ways::Cursor;
-use crate::wiping::price_as_it_stands;
 use scr_cells::{Cell, Look, NoMemory};
+use scr_choices::{Cursor, How, Run, cheapest_motion, is_blank};
 use scr_term::{FAR, Op, Prices};
 
 // How many columns have to lie from the first to the last place of a row that differs, at least.
@@ -74,7 +70,7 @@ impl DifferingRow {
         };
         let mut price = 0u32;
         for run in runs {
-            price = price.saturating_add(price_as_it_stands(&prices.chooser, run));
+            price = price.saturating_add(prices.chooser.price_as_it_stands(run));
         }
         DifferingRow { start, price }
     }
@@ -236,13 +232,10 @@ fn are_seen(prices: &RowPrices<'_>, looks: &[Look], from: usize, cells: &[Cell],
     requires looks { from + 12 ≤ length looks.now }
     requires cells { at + 12 ≤ length cells.now }
 {
-    let chooser = &prices.chooser;
+    let picture = prices.chooser.picture;
     for place in 0..PATTERN {
         let cell = cells[at + place];
-        if !chooser
-            .painter
-            .is_seen(chooser.picture, looks[from + place], cell)
-        {
+        if !prices.painter.is_seen(picture, looks[from + place], cell) {
             return false;
         }
     }

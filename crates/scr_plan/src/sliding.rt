@@ -9,11 +9,10 @@ ghost use Rattle.scr_term.specs.Operations.Texts.{has};
 
 use crate::painting::Painter;
 use crate::row_prices::RowPrices;
-use crate::runs::Run;
 use crate::slides::{DifferingRow, Slide, are_wide, can_slide_some, cheapest_slide};
 use crate::strokes::Draft;
-use crate::ways::Cursor;
 use scr_cells::{Look, NoMemory, Picture, grid_laws};
+use scr_choices::{Cursor, Run};
 use scr_term::{Op, Profile, run_laws};
 
 impl Draft {

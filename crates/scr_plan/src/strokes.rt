@@ -11,8 +11,8 @@ ghost use Rattle.scr_plan.specs.Scratch.{Fits};
 use crate::joining::{behind, price_of, price_of_one};
 use crate::looking::cell_in;
 use crate::painting::Painter;
-use crate::ways::Cursor;
 use scr_cells::{Cell, Look, NoMemory, Pen, Picture, grid_laws};
+use scr_choices::Cursor;
 use scr_term::{Op, Profile, Spot, profiles_have, run_laws};
 
 // A plan in the making: its operations, how many bytes they have, and where they lead.

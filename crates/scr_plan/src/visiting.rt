@@ -7,14 +7,12 @@ ghost use Rattle.scr_term.specs.Operations.Texts.{has};
 ghost use Rattle.scr_plan.specs.Code.Drafts.{Covers, KeepsAll, KeepsEvery, Leaves, in_part, is_in, no_run};
 ghost use Rattle.scr_plan.specs.Code.Painters.{painter_of};
 ghost use Rattle.scr_plan.specs.Scratch.{Fits};
-ghost use Rattle.scr_plan.specs.declared.runs.Run.{Run};
+ghost use Rattle.scr_choices.specs.declared.runs.Run.{Run};
 
-use crate::orders::chosen_order;
 use crate::painting::Painter;
-use crate::runs::{How, Run};
 use crate::strokes::Draft;
-use crate::ways::{Path, Stop, Way};
 use scr_cells::{Look, NoMemory, Pen, Picture, grid_laws};
+use scr_choices::{Chooser, How, Path, Run, Stop, Way, cheapest_order};
 use scr_term::{Op, Profile, Spot, profiles_have, run_laws};
 use std::alloc::Global;
 
@@ -56,7 +54,8 @@ impl Draft {
         if runs.len() < 2 {
             return self.visit_rest(painter, profile, picture, runs);
         }
-        let stops = chosen_order(alloc, painter, profile, picture, self, runs, moved)?;
+        let chooser = Chooser::new(profile, picture);
+        let stops = cheapest_order(alloc, &chooser, &self.cursor(), runs, moved)?;
         self.visit_all(painter, profile, picture, runs, &stops)
     }
 

@@ -12,7 +12,7 @@ use Rattle.scr_plan.specs.Code.Drafts.{Aim, IsAimed, in_runs}
 use Rattle.scr_plan.specs.Code.Moves.{shown_at}
 use Rattle.scr_plan.specs.Code.Painters.{shown_in}
 use Rattle.scr_plan.specs.Scratch.{look_at}
-use Rattle.scr_plan.specs.declared.runs.Run.{Run}
+use Rattle.scr_choices.specs.declared.runs.Run.{Run}
 use Rattle.scr_plan.specs.declared.shifts.Shift.{Shift}
 use Rattle.scr_plan.specs.declared.slides.Slide.{Slide}
 use Rattle.scr_plan.specs.declared.strokes.Draft.{Draft}

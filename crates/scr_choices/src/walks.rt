@@ -1,5 +1,4 @@
-//! Walks over runs, priced: what orders are compared by. This only compares prices: a choice affects
-//! nothing but the number of bytes of an update.
+//! Walks over runs, priced: what orders are compared by.
 
 use crate::least_motions::LeastMotions;
 use crate::links::{Links, NONE};

@@ -1,15 +1,16 @@
-//! The cheapest turn from one pen to another. This only compares prices: a choice affects nothing
-//! but the number of bytes of an update.
+//! The cheapest turn from one pen to another.
 
 use scr_cells::{Attrs, Pen};
 use scr_term::{Op, Prices};
 
-// How a pen becomes another: what is sent first, if anything. After that, each attribute that is
-// missing is turned on, and each colour that differs is set.
+/// How a pen becomes another: what is sent first, if anything. After that, each attribute that is
+/// missing is turned on, and each colour that differs is set.
 #[derive(Clone, Copy)]
-pub(crate) struct Turn {
-    pub(crate) first: Option<Op>,
-    pub(crate) price: u32,
+pub struct Turn {
+    /// What is sent first: `Reset`, `ExitAttributes` or `Set`.
+    pub first: Option<Op>,
+    /// How many bytes all of it has.
+    pub price: u32,
 }
 
 impl Turn {
@@ -23,9 +24,9 @@ impl Turn {
     }
 }
 
-// The cheapest turn from one pen to another: by adding to it, by a reset if adding is not enough,
-// or by setting all attributes at once.
-pub(crate) fn cheapest_turn(prices: &Prices, from: Pen, to: Pen) -> Turn {
+/// The cheapest turn from one pen to another: by adding to it, by a reset if adding is not enough,
+/// or by setting all attributes at once.
+pub fn cheapest_turn(prices: &Prices, from: Pen, to: Pen) -> Turn {
     if from == to {
         return Turn {
             first: None,

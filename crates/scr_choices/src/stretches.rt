@@ -1,7 +1,6 @@
 //! The price of a row on a blank screen: its stretches and what they cost.
 ghost use Rattle.std.specs.Prelude.{◌<◌, ◌≤◌, length};
 
-use crate::looking::{are_alike, is_that_pen};
 use crate::ways::Chooser;
 use scr_cells::{Cell, Pen};
 
@@ -32,7 +31,7 @@ impl Stretches {
         stretches.blanks = self
             .blanks
             .saturating_add(count.min(u32::MAX as usize) as u32);
-        if !is_that_pen(self.pen, Pen::plain()) || stretches.blanks > self.jump {
+        if self.pen != Some(Pen::plain()) || stretches.blanks > self.jump {
             stretches.pen = None;
         }
         stretches
@@ -45,7 +44,7 @@ impl Stretches {
             return self.with_blanks(count);
         }
         let mut stretches = self;
-        let before = if is_that_pen(self.pen, pen) {
+        let before = if self.pen == Some(pen) {
             self.blanks
         } else {
             self.jump
@@ -83,7 +82,7 @@ pub(crate) fn price_on_blanks(chooser: &Chooser<'_>, cells: &[Cell]) -> u32 {
         } else {
             let cell = cells[column];
             let end = alike_behind(cells, column);
-            let pen = chooser.painter.pen_of(chooser.picture, cell);
+            let pen = chooser.pen_of(cell);
             stretches = stretches.with(pen, cell.byte() == b' ' && pen.is_plain(), end - column);
             column = end;
         }
@@ -120,4 +119,10 @@ fn alike_behind(cells: &[Cell], column: usize) -> usize
         }
     }
     cells.len()
+}
+
+// Whether two cells have the same attributes and the same colour pair.
+#[inline(always)]
+fn are_alike(a: Cell, b: Cell) -> bool {
+    a.attrs() == b.attrs() && a.pair() == b.pair()
 }

@@ -1,19 +1,19 @@
 //! The cheapest way to a place with a pen: by a motion and a turn, or by writing places with what
-//! they are to show. This only compares prices: a choice affects nothing but the number of bytes of
-//! an update.
+//! they are to show.
 
 use crate::motions::{Motion, cheapest_motion};
-use crate::painting::Painter;
 use crate::runs::{How, Run};
 use crate::turns::cheapest_turn;
-use scr_cells::{Cell, Pen, Picture};
+use scr_cells::{Attrs, Cell, Pen, Picture};
 use scr_term::{Op, Prices, Profile, Spot};
 
-// Where the cursor is, and its pen.
+/// Where the cursor is, and its pen.
 #[derive(Clone, Copy)]
-pub(crate) struct Cursor {
-    pub(crate) spot: Spot,
-    pub(crate) pen: Pen,
+pub struct Cursor {
+    /// Where it is.
+    pub spot: Spot,
+    /// What it writes with.
+    pub pen: Pen,
 }
 
 impl Cursor {
@@ -25,31 +25,35 @@ impl Cursor {
     }
 }
 
-// How a place is reached with a pen. If motions need no attribute and default colours, a turn to
-// these comes before each of them.
+/// How a place is reached with a pen. If motions need no attribute and default colours, a turn to
+/// these comes before each of them.
 #[derive(Clone, Copy)]
-pub(crate) enum Path {
-    // Move to the place, then turn to the pen.
+pub enum Path {
+    /// Move to the place, then turn to the pen.
     Moving(Motion),
-    // Write the places of the row from this column on with the current pen, then turn to the pen.
+    /// Write the places of the row from this column on with the current pen, then turn to the pen.
     Writing(u32),
-    // Move to the first column of the row, turn to the pen, and write the places before the place
-    // with it.
+    /// Move to the first column of the row, turn to the pen, and write the places before the place
+    /// with it.
     MovingToWrite(Motion),
 }
 
-// A path, and how many bytes it has.
+/// A path, and how many bytes it has.
 #[derive(Clone, Copy)]
-pub(crate) struct Way {
-    pub(crate) path: Path,
-    pub(crate) price: u32,
+pub struct Way {
+    /// The path.
+    pub path: Path,
+    /// How many bytes it has.
+    pub price: u32,
 }
 
-// The number of a run, and the way to it, if one was chosen together with the order.
+/// The number of a run, and the way to it, if one was chosen together with the order.
 #[derive(Clone, Copy)]
-pub(crate) struct Stop {
-    pub(crate) number: u32,
-    pub(crate) way: Option<Way>,
+pub struct Stop {
+    /// The number of the run among those that were given, counted from 0.
+    pub number: u32,
+    /// The way to it from the run before.
+    pub way: Option<Way>,
 }
 
 impl Way {
@@ -62,33 +66,38 @@ impl Way {
     }
 }
 
-// What choices need to know of a profile and a picture, fetched once.
+/// What choices need to know of a profile and a picture, fetched once.
 #[derive(Clone, Copy)]
-pub(crate) struct Chooser<'a> {
-    pub(crate) painter: Painter,
-    pub(crate) prices: &'a Prices,
-    pub(crate) picture: &'a Picture,
-    pub(crate) columns: u32,
+pub struct Chooser<'a> {
+    /// The prices of operations.
+    pub prices: &'a Prices,
+    /// What is to be shown.
+    pub picture: &'a Picture,
+    columns: u32,
+    shown: Attrs,
+    colours: bool,
     moves_in_any_rendition: bool,
-    pub(crate) jump: u32,
+    /// The price of an easy motion: what a motion in a row usually costs.
+    pub jump: u32,
 }
 
 impl<'a> Chooser<'a> {
-    // The chooser for a profile and a picture.
-    pub(crate) fn new(painter: Painter, profile: &'a Profile, picture: &'a Picture) -> Chooser<'a> {
+    /// The chooser for a profile and a picture.
+    pub fn new(profile: &'a Profile, picture: &'a Picture) -> Chooser<'a> {
         let prices = profile.prices();
         Chooser {
-            painter,
             prices,
             picture,
             columns: picture.size().columns,
+            shown: profile.shows(),
+            colours: profile.colours(),
             moves_in_any_rendition: profile.moves_in_any_rendition(),
             jump: prices.easy_motion(),
         }
     }
 
-    // The cheapest way to a place with a pen.
-    pub(crate) fn way(&self, cursor: &Cursor, row: u32, column: u32, pen: Pen) -> Way {
+    /// The cheapest way to a place with a pen.
+    pub fn way(&self, cursor: &Cursor, row: u32, column: u32, pen: Pen) -> Way {
         let moving = self.moving(cursor, row, column, pen);
         if cursor.row() == row {
             moving.or(self.writing(cursor, row, column, pen, moving.price))
@@ -125,8 +134,8 @@ impl<'a> Chooser<'a> {
         cheapest_turn(self.prices, from, to).price
     }
 
-    // The price of the reset that comes before a move, unless the pen is plain.
-    pub(crate) fn price_of_reset(&self, pen: Pen) -> u32 {
+    /// The price of the reset that comes before a move, unless the pen is plain.
+    pub fn price_of_reset(&self, pen: Pen) -> u32 {
         if pen.is_plain() {
             0
         } else {
@@ -177,8 +186,8 @@ impl<'a> Chooser<'a> {
         })
     }
 
-    // The cells of a row; none if there is no such row.
-    pub(crate) fn cells(&self, row: u32) -> &'a [Cell] {
+    /// The cells of a row; none if there is no such row.
+    pub fn cells(&self, row: u32) -> &'a [Cell] {
         if row < self.picture.size().rows {
             self.picture.row(row)
         } else {
@@ -198,11 +207,17 @@ impl<'a> Chooser<'a> {
     // Whether cells are all seen with a pen.
     fn have_pen(&self, cells: &[Cell], pen: Pen) -> bool {
         for cell in cells {
-            if self.painter.pen_of(self.picture, *cell) != pen {
+            if self.pen_of(*cell) != pen {
                 return false;
             }
         }
         true
+    }
+
+    /// The pen that a cell is seen with.
+    #[inline(always)]
+    pub fn pen_of(&self, cell: Cell) -> Pen {
+        self.picture.seen_pen(cell, self.shown, self.colours)
     }
 
     // The price of a run once the cursor is at its first place with its pen.
@@ -213,6 +228,11 @@ impl<'a> Chooser<'a> {
             How::EraseLine => self.prices.of(Op::EraseLine),
             How::EraseChars => self.prices.of(Op::EraseChars(count)),
         }
+    }
+
+    /// The price of a run as it stands, plus an easy motion.
+    pub fn price_as_it_stands(&self, run: &Run) -> u32 {
+        self.price_of_painting(run).saturating_add(self.jump)
     }
 
     // The cursor after a run.

@@ -1,15 +1,15 @@
-//! The cheapest motion of the cursor to a place. This only compares prices: a choice affects
-//! nothing but the number of bytes of an update.
+//! The cheapest motion of the cursor to a place.
 
 use scr_term::{FAR, Op, Prices, Spot};
 
-// How the cursor goes to a place, and how many bytes that takes. `steps` gives the operations.
+/// How the cursor goes to a place, and how many bytes that takes. `steps` gives the operations.
 #[derive(Clone, Copy)]
-pub(crate) struct Motion {
+pub struct Motion {
     start: Start,
     rows: Rows,
     columns: Columns,
-    pub(crate) price: u32,
+    /// How many bytes it has.
+    pub price: u32,
 }
 
 // Where a motion begins.
@@ -45,19 +45,24 @@ enum Columns {
     Column,
 }
 
-// The operations of a motion, in order; that of the columns is repeated.
+/// The operations of a motion, in order.
 #[derive(Clone, Copy)]
-pub(crate) struct Steps {
-    pub(crate) first: Option<Op>,
-    pub(crate) rows: Option<Op>,
-    pub(crate) columns: Option<Op>,
-    pub(crate) times: u32,
-    pub(crate) behind: Option<Op>,
+pub struct Steps {
+    /// Where it begins: `Home`, or `Move` where that is all.
+    pub first: Option<Op>,
+    /// What changes the row.
+    pub rows: Option<Op>,
+    /// What changes the column.
+    pub columns: Option<Op>,
+    /// How many times that is sent.
+    pub times: u32,
+    /// What changes the column then.
+    pub behind: Option<Op>,
 }
 
-// The cheapest motion to a place: to it at once, along rows and columns from the cursor's place, or
-// along them from the first place of the screen. From behind the last column, no motion goes along.
-pub(crate) fn cheapest_motion(prices: &Prices, spot: Spot, row: u32, column: u32) -> Motion {
+/// The cheapest motion to a place: to it at once, along rows and columns from the cursor's place, or
+/// along them from the first place of the screen. From behind the last column, no motion goes along.
+pub fn cheapest_motion(prices: &Prices, spot: Spot, row: u32, column: u32) -> Motion {
     if spot == Spot::At(row, column) {
         return Motion::none();
     }
@@ -99,13 +104,13 @@ impl Motion {
         }
     }
 
-    // Whether nothing is sent, because the cursor is in the place.
-    pub(crate) fn is_none(self) -> bool {
+    /// Whether nothing is sent, because the cursor is in the place.
+    pub fn is_none(self) -> bool {
         self.price == 0
     }
 
-    // Whether `Move` leads to the place.
-    pub(crate) fn is_direct(self) -> bool {
+    /// Whether `Move` leads to the place.
+    pub fn is_direct(self) -> bool {
         matches!(self.start, Start::Direct)
     }
 
@@ -137,8 +142,8 @@ impl Motion {
         }
     }
 
-    // The operations of this motion, from a spot to a place.
-    pub(crate) fn steps(self, spot: Spot, row: u32, column: u32) -> Steps {
+    /// The operations of this motion, from a spot to a place.
+    pub fn steps(self, spot: Spot, row: u32, column: u32) -> Steps {
         match self.start {
             Start::Direct => Steps::only(Op::Move(row, column)),
             Start::Home => self.steps_along(Some(Op::Home), (0, 0), (row, column)),

@@ -1,17 +1,14 @@
 //! Choosing the order of runs: the nearest next, or pen by pen, whichever is cheaper; where rows or
-//! characters were moved, also as they are read. This only compares prices: a choice affects
-//! nothing but the number of bytes of an update.
+//! characters were moved, also as they are read.
 
 use crate::least_motions::LeastMotions;
 use crate::links::{Links, NONE};
 use crate::nearest::Nearest;
-use crate::painting::Painter;
 use crate::runs::{How, Run};
-use crate::strokes::Draft;
 use crate::walks::{Task, Walk};
 use crate::ways::{Chooser, Cursor, Stop, Way};
-use scr_cells::{NoMemory, Pen, Picture};
-use scr_term::{Profile, Spot};
+use scr_cells::{NoMemory, Pen};
+use scr_term::Spot;
 use std::alloc::Global;
 
 // How many waiting runs are looked at from the last one's place on, and how many before that.
@@ -23,36 +20,21 @@ const BACK: u32 = 2;
 // late.
 const WISHED_LAST: u32 = 3;
 
-// The runs in the cheapest order, from where a draft leads.
-pub(crate) fn chosen_order(
-    alloc: Global,
-    painter: Painter,
-    profile: &Profile,
-    picture: &Picture,
-    draft: &Draft,
-    runs: &[Run],
-    moved: bool,
-) -> Result<Vec<Stop>, NoMemory> {
-    let chooser = Chooser::new(painter, profile, picture);
-    let cursor = draft.cursor();
-    cheapest_order(alloc, &chooser, &cursor, runs, picture.wish(), moved)
-}
-
-// The runs in the cheapest order; the nearest next if others cost the same. `moved` says whether rows
-// or characters were moved before.
-fn cheapest_order(
+/// The runs in the cheapest order from where the cursor is, to where the picture wants it; the nearest next if others
+/// cost the same. The runs are by rows, each row from the left. `moved` says whether rows or characters were moved
+/// before. Fails only when memory runs out.
+pub fn cheapest_order(
     alloc: Global,
     chooser: &Chooser<'_>,
     cursor: &Cursor,
     runs: &[Run],
-    wish: Option<(u32, u32)>,
     moved: bool,
 ) -> Result<Vec<Stop>, NoMemory> {
     let mut stops = Vec::with_capacity(alloc, runs.len())?;
     let task = Task {
         chooser,
         runs,
-        wish,
+        wish: chooser.picture.wish(),
         moved,
         least: LeastMotions::of(chooser.prices, chooser.jump),
     };

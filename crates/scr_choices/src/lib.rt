@@ -1,0 +1,27 @@
+//! Choices by price alone: the cheapest motion of the cursor, turn of the pen and way to a place, the cheapest order of
+//! runs, and whether many lines are to be erased first.
+//!
+//! Nothing here promises anything but that it is safe: a choice affects nothing but the number of bytes of an update.
+//! What follows a choice looks before it acts (`scr_plan`).
+#![tactic(auto)]
+
+mod blanks;
+mod least_motions;
+mod links;
+mod motions;
+mod nearest;
+mod orders;
+mod runs;
+mod stretches;
+mod turns;
+mod walks;
+mod ways;
+mod wipings;
+
+pub use blanks::is_blank;
+pub use motions::{Motion, Steps, cheapest_motion};
+pub use orders::cheapest_order;
+pub use runs::{How, Run};
+pub use turns::{Turn, cheapest_turn};
+pub use ways::{Chooser, Cursor, Path, Stop, Way};
+pub use wipings::{Wiping, cheapest_wiping};

@@ -1,0 +1,29 @@
+//! Runs: places of a row that one visit paints with one pen.
+
+use scr_cells::Pen;
+
+/// How the places of a run are painted.
+#[derive(Clone, Copy)]
+pub enum How {
+    /// Each place is written.
+    Write,
+    /// The rest of the line is erased.
+    EraseLine,
+    /// The places are erased as characters.
+    EraseChars,
+}
+
+/// Columns of a row, `start..end`, that are painted with one pen.
+#[derive(Clone, Copy)]
+pub struct Run {
+    /// The row, counted from 0 at the top.
+    pub row: u32,
+    /// The first column.
+    pub start: u32,
+    /// The column behind the last one.
+    pub end: u32,
+    /// The pen that all of them are painted with.
+    pub pen: Pen,
+    /// How they are painted.
+    pub how: How,
+}
