@@ -10,9 +10,9 @@ ghost use Rattle.scr_plan.specs.Repaints.{IsSizeOf, ShowsOutside, cleared, diffe
 ghost use Rattle.scr_plan.specs.Scratch.{Fits, places_cursor, resets, row_places};
 
 use crate::joining::Joining;
+use crate::looked::Looked;
 use crate::memories::Memory;
 use crate::painting::Painter;
-use crate::planning::Looked;
 use scr_cells::{NoMemory, Picture};
 use scr_term::{Profile, run_laws};
 use scr_virtual::Virtual;

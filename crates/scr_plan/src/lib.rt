@@ -6,6 +6,7 @@ mod joined_changes;
 mod joined_rows;
 mod joining;
 mod known_rows;
+mod looked;
 mod looking;
 mod memories;
 mod moving;

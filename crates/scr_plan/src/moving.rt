@@ -11,9 +11,9 @@ ghost use Rattle.scr_plan.specs.Scratch.{Fits};
 ghost use Rattle.scr_term.specs.Operations.Profiles.{abilities};
 ghost use Rattle.scr_term.specs.Operations.States.{IsShownPen};
 
+use crate::looked::Looked;
 use crate::memories::Memory;
 use crate::painting::Painter;
-use crate::planning::Looked;
 use crate::settling::first_to_look;
 use crate::strokes::Draft;
 use scr_cells::{Look, NoMemory, grid_laws};

@@ -6,11 +6,10 @@ ghost use Rattle.scr_term.specs.declared.operations.capability.Capability.TheVar
 ghost use Rattle.scr_term.specs.Operations.Profiles.{abilities, has_colours, is_there, shown_set};
 ghost use Rattle.scr_term.specs.Operations.States.{IsShownPen};
 ghost use Rattle.scr_term.specs.Operations.Texts.{all_bytes};
-ghost use Rattle.scr_virtual.specs.Ranges.{IsRange};
 ghost use Rattle.scr_virtual.specs.VirtualViews.{range_at};
 ghost use Rattle.scr_plan.specs.Code.Joinings.{counted_up};
 ghost use Rattle.scr_plan.specs.Code.Painters.{painter_of};
-ghost use Rattle.scr_plan.specs.Code.Planning.{AreNoneByOutside, painted_anew, range_by};
+ghost use Rattle.scr_plan.specs.Code.Planning.{painted_anew, range_by};
 ghost use Rattle.scr_plan.specs.Memories.{is_known};
 ghost use Rattle.scr_plan.specs.Plans.{IsPlan};
 ghost use Rattle.scr_plan.specs.Repaints.{IsSizeOf, IsUpToDate, ShowsOutside, anew_of, differing, is_none_left, is_placed, joined_of};
@@ -18,6 +17,7 @@ ghost use Rattle.scr_plan.specs.Scratch.{Fits};
 
 use crate::joined_changes::differs;
 use crate::joining::{Joining, price_of};
+use crate::looked::Looked;
 use crate::memories::Memory;
 use crate::painting::Painter;
 use crate::plan_laws::{joined_is_cheap, plans_are_made};
@@ -69,41 +69,6 @@ pub fn plan_altered(
     ensures { IfOk result (IsPlan profile.now memory.now wanted.now) }
 {
     plan_by(alloc, profile, memory, wanted, Looked::Altered)
-}
-
-// Which columns of a known row are looked at.
-#[derive(Clone, Copy)]
-pub(crate) enum Looked {
-    // The columns that may have changed.
-    Changed,
-    // The columns that may look different.
-    Altered,
-}
-
-impl Looked {
-    // The first and the last of these columns in a row; `None` if there are none.
-    pub(crate) fn in_row(self, wanted: &Virtual, row: u32) -> Option<(u32, u32)>
-        requires { row < wanted.now.picture.rows }
-        ensures value { result ≡ range_by self wanted.now row }
-        ensures inside { IfSome result (IsRange wanted.now.picture.columns) }
-    {
-        match self {
-            Looked::Changed => wanted.changed(row),
-            Looked::Altered => wanted.altered(row),
-        }
-    }
-
-    // The first row that has any of these columns, and the end of the rows that do.
-    pub(crate) fn rows(self, wanted: &Virtual) -> (u32, u32)
-        ensures order { result.0 ≤ result.1 }
-        ensures end { result.1 ≤ wanted.now.picture.rows }
-        ensures others { AreNoneByOutside self wanted.now result.0 result.1 }
-    {
-        match self {
-            Looked::Changed => (0, wanted.size().rows),
-            Looked::Altered => wanted.altered_rows(),
-        }
-    }
 }
 
 // Plans an update; a known row shows the picture except in these columns.

@@ -1,8 +1,8 @@
 //! By how many rows a picture moved: rows that are wanted are looked for among those that are
 //! remembered. A choice affects nothing but the number of bytes of an update.
 
+use crate::looked::Looked;
 use crate::memories::Memory;
-use crate::planning::Looked;
 use crate::row_prices::RowPrices;
 use scr_cells::{Cell, Look, NoMemory};
 use scr_choices::is_blank;

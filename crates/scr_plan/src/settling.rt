@@ -14,9 +14,9 @@ ghost use Rattle.scr_term.specs.Operations.Profiles.{ProfileView};
 ghost use Rattle.scr_term.specs.Operations.Texts.{has};
 ghost use Rattle.scr_virtual.specs.Ranges.{IsRange};
 
+use crate::looked::Looked;
 use crate::memories::Memory;
 use crate::painting::Painter;
-use crate::planning::Looked;
 use crate::shifts::Shift;
 use crate::shown::{is_moved, shown_row, slide_into};
 use crate::slides::Slide;

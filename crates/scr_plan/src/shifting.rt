@@ -12,9 +12,9 @@ ghost use Rattle.scr_term.specs.declared.operations.operation.Op.TheVariants.{De
 ghost use Rattle.scr_term.specs.declared.operations.operation.Spot.TheVariants.{At};
 ghost use Rattle.scr_term.specs.Operations.Texts.{has};
 
+use crate::looked::Looked;
 use crate::memories::Memory;
 use crate::painting::Painter;
-use crate::planning::Looked;
 use crate::row_prices::RowPrices;
 use crate::shifts::{Shift, can_shift_some, cheapest_shift};
 use crate::strokes::Draft;

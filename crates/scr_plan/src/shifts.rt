@@ -3,8 +3,8 @@
 ghost use Rattle.std.specs.Prelude.{◌≡◌, IfOk, IfSome, true};
 ghost use Rattle.scr_plan.specs.Code.Moves.{IsShift};
 
+use crate::looked::Looked;
 use crate::memories::Memory;
-use crate::planning::Looked;
 use crate::row_prices::{Counts, RowPrices};
 use crate::samples::{
     Distance, Samples, are_worth_looking, can_shift, looks_of, most_votes, price_over_remembered,

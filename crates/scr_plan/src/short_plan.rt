@@ -12,9 +12,9 @@ ghost use Rattle.scr_plan.specs.Memories.{is_known, is_known_row};
 ghost use Rattle.scr_plan.specs.Repaints.{IsSizeOf, ShowsOutside};
 ghost use Rattle.scr_plan.specs.Scratch.{Fits, resets};
 
+use crate::looked::Looked;
 use crate::memories::Memory;
 use crate::painting::Painter;
-use crate::planning::Looked;
 use crate::runs::room_for;
 use crate::strokes::Draft;
 use scr_cells::{NoMemory, Pen, Picture, Size};

@@ -11,9 +11,10 @@ ghost use Rattle.scr_plan.specs.Repaints.{IsSizeOf, ShowsOutside};
 ghost use Rattle.scr_plan.specs.Scratch.{Fits};
 ghost use Rattle.scr_term.specs.Operations.Profiles.{abilities};
 
+use crate::looked::Looked;
 use crate::memories::Memory;
 use crate::painting::Painter;
-use crate::planning::{Looked, room_of};
+use crate::planning::room_of;
 use crate::remembering_laws::memory_runs;
 use crate::short_plan::find_in_row;
 use crate::strokes::Draft;

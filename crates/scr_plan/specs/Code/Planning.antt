@@ -7,8 +7,8 @@ use Rattle.scr_term.specs.Operations.States.{blank_state}
 use Rattle.scr_virtual.specs.VirtualViews.{VirtualView, altered_at, range_at}
 use Rattle.scr_plan.specs.Repaints.{cleared, joined_places, without_idle}
 use Rattle.scr_plan.specs.Scratch.{places_cursor, resets}
-use Rattle.scr_plan.specs.declared.planning.Looked.{Looked}
-use Rattle.scr_plan.specs.declared.planning.Looked.TheVariants.{Altered, Changed}
+use Rattle.scr_plan.specs.declared.looked.Looked.{Looked}
+use Rattle.scr_plan.specs.declared.looked.Looked.TheVariants.{Altered, Changed}
 
 -- the columns of a row that are looked at
 abbrev pub range_by : Looked → VirtualView → ℕ → Option (ℕ × ℕ)
