@@ -37,6 +37,11 @@ pub fn add_answers(report: &Report, answers: &mut Buffer) -> bool {
     true
 }
 
+/// Whether the words of an answer end in that it got no memory.
+pub fn ends_in_no_memory(answer: &Buffer) -> bool {
+    answer.bytes().ends_with(b" NoMemory")
+}
+
 /// Whether a call wanted memory and got none.
 pub fn ran_out(answer: &Answer) -> bool {
     matches!(

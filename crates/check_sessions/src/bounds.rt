@@ -1,21 +1,20 @@
 //! How many bytes an update may send at most.
 
-use crate::counting::{Row, Tally, price};
-use crate::emulated::Emulated;
-use crate::shown::{is_placed, look_of};
+use crate::emulated::are_stepped;
 use check_scripts::troubles::Trouble;
 use curses::Screen;
-use scr_cells::{Attrs, Look, Picture, Size};
-use scr_term::{Op, Profile, Spot};
+use joined_repaint::joined;
+use scr_cells::{NoMemory, Picture, Size};
+use scr_plan::scratch_bytes;
+use scr_term::{Op, Profile, Terminal};
 use screen_sessions::Call;
 use std::alloc::Global;
 
-/// What the terminal shows since an update that ended well.
+/// What the terminal shows since an update that ended well: another terminal executes the operations of each.
 #[derive(Drop)]
 pub struct Left {
-    looks: Vec<Look>,
-    spot: Spot,
-    is_plain: bool,
+    alloc: Global,
+    terminal: Terminal,
     allowed: Allowed,
 }
 
@@ -32,12 +31,10 @@ enum Allowed {
 
 impl Left {
     /// Nothing is known yet of a terminal of this size.
-    pub fn unknown(alloc: Global, size: Size) -> Result<Left, Trouble> {
-        let places = (size.rows as usize).saturating_mul(size.columns as usize);
+    pub fn unknown(alloc: Global, size: Size) -> Result<Left, NoMemory> {
         Ok(Left {
-            looks: Vec::with_capacity(alloc, places)?,
-            spot: Spot::At(0, 0),
-            is_plain: false,
+            alloc,
+            terminal: Terminal::new(alloc, size)?,
             allowed: Allowed::Anew,
         })
     }
@@ -54,122 +51,41 @@ impl Left {
         self.allowed = Allowed::Owed;
     }
 
-    /// An update ended well: this terminal shows the picture.
-    pub fn learn(
-        &mut self,
-        profile: &Profile,
-        picture: &Picture,
-        emulated: &Emulated,
-    ) -> Result<(), Trouble> {
-        self.looks.clear();
-        for row in 0..picture.size().rows {
-            for cell in picture.row(row) {
-                self.looks.push(look_of(profile, picture, *cell))?;
-            }
-        }
-        self.spot = emulated.spot();
-        self.is_plain = emulated.is_plain();
+    /// An update ended well, which sent these operations. Tells whether all of them are defined.
+    pub fn learn(&mut self, profile: &Profile, ops: &[Op]) -> bool {
         self.allowed = Allowed::Differing;
-        Ok(())
+        are_stepped(&mut self.terminal, profile, ops)
     }
 
     /// How many bytes an update to a picture may send, as far as that is known: where only what differs may be sent,
     /// those of the joined repaint, else those of painting from scratch.
-    pub fn most(&self, profile: &Profile, picture: &Picture) -> Option<usize> {
+    pub fn most(&self, profile: &Profile, picture: &Picture) -> Result<Option<usize>, Trouble> {
+        let (size, other, own) = (picture.size(), profile.size(), self.terminal.size());
+        if size.rows != other.rows || size.columns != other.columns {
+            return Err(Trouble::Bad("the profile has another size"));
+        }
+        if size.rows != own.rows || size.columns != own.columns {
+            return Err(Trouble::Bad("the terminal has another size"));
+        }
         match self.allowed {
-            Allowed::Owed => None,
-            Allowed::Anew => Some(scratch_bytes(profile, picture)),
-            Allowed::Differing => Some(self.joined_bytes(profile, picture)),
-        }
-    }
-
-    // Nothing where no place differs and the cursor is as wished; else a reset, the places that differ, a reset, and
-    // the cursor.
-    fn joined_bytes(&self, profile: &Profile, picture: &Picture) -> usize {
-        let wish = picture.wish();
-        if !self.differs(profile, picture) && is_placed(self.spot, wish) {
-            return 0;
-        }
-        let mut tally = Tally::new(profile, self.spot, self.is_plain);
-        tally.reset();
-        for number in 0..picture.size().rows {
-            tally.paint(&self.row(profile, picture, number));
-        }
-        tally.reset();
-        if let Some((row, column)) = wish {
-            tally.go(row, column);
-        }
-        tally.bytes
-    }
-
-    // Whether a place differs.
-    fn differs(&self, profile: &Profile, picture: &Picture) -> bool {
-        let size = picture.size();
-        for number in 0..size.rows {
-            let row = self.row(profile, picture, number);
-            for column in 0..size.columns {
-                if row.differs(column) {
-                    return true;
-                }
+            Allowed::Owed => Ok(None),
+            Allowed::Anew => Ok(Some(scratch_bytes(self.alloc, profile, picture)?.len())),
+            Allowed::Differing => {
+                let mut terminal = self.terminal.try_clone(self.alloc)?;
+                let ops = joined(self.alloc, profile, &mut terminal, picture)?;
+                Ok(Some(bytes_of(profile, &ops.0)))
             }
         }
-        false
-    }
-
-    // A row of a picture, and what is shown of it.
-    fn row<'a>(&'a self, profile: &'a Profile, picture: &'a Picture, number: u32) -> Row<'a> {
-        let size = picture.size();
-        let from = (number as usize).saturating_mul(size.columns as usize);
-        Row {
-            profile,
-            picture,
-            number,
-            cells: if number < size.rows {
-                picture.row(number)
-            } else {
-                &[]
-            },
-            shown: self.looks.get(from..).unwrap_or(&[]),
-        }
     }
 }
 
-// How many bytes painting from scratch has: two resets, a blank screen, for each place the cursor there, a reset, its
-// attributes and colours and its byte, and the cursor.
-fn scratch_bytes(profile: &Profile, picture: &Picture) -> usize {
-    let resets = price(profile, Op::Reset).saturating_mul(2);
-    let mut sum = resets.saturating_add(price(profile, Op::Clear));
-    for row in 0..picture.size().rows {
-        let mut column: u32 = 0;
-        for cell in picture.row(row) {
-            let look = look_of(profile, picture, *cell);
-            sum = sum
-                .saturating_add(price(profile, Op::Move(row, column)))
-                .saturating_add(look_price(profile, look));
-            column = column.saturating_add(1);
-        }
+// How many bytes operations have.
+fn bytes_of(profile: &Profile, ops: &[Op]) -> usize {
+    let mut bytes: usize = 0;
+    for op in ops {
+        bytes = bytes.saturating_add(profile.cost(*op).unwrap_or(0));
     }
-    match picture.wish() {
-        Some((row, column)) => sum.saturating_add(price(profile, Op::Move(row, column))),
-        None => sum,
-    }
-}
-
-// The price of a reset, what a look has to turn on, and its byte.
-fn look_price(profile: &Profile, look: Look) -> usize {
-    let mut sum = price(profile, Op::Reset).saturating_add(price(profile, Op::Put(look.byte())));
-    for attribute in Attrs::EACH {
-        if look.attrs().0 & attribute.0 != 0 {
-            sum = sum.saturating_add(price(profile, Op::Enter(attribute)));
-        }
-    }
-    if let Some(colour) = look.foreground() {
-        sum = sum.saturating_add(price(profile, Op::Fore(colour)));
-    }
-    if let Some(colour) = look.background() {
-        sum = sum.saturating_add(price(profile, Op::Back(colour)));
-    }
-    sum
+    bytes
 }
 
 /// Whether an update behind a call may paint more than what differs: a redrawing, or a window that wishes the whole

@@ -1,5 +1,6 @@
 //! Sessions that are made up: what a program does between two updates with windows, a pad, colours, marks and wishes.
 
+use crate::answers::ends_in_no_memory;
 use crate::changing::next_change;
 use crate::generating::{next_call, next_window};
 use crate::recorded::Recorded;
@@ -43,13 +44,13 @@ pub fn compose(
     for _ in 0..random.below(6) {
         let call = next(alloc, &opened.screen, size, random)?;
         opened.call(call, answer)?;
-        if answer.bytes().ends_with(b" NoMemory") {
+        if ends_in_no_memory(answer) {
             return Ok(false);
         }
     }
     let taking = next_taking(&opened.screen, size, random);
     opened.call(taking, answer)?;
-    Ok(!answer.bytes().ends_with(b" NoMemory"))
+    Ok(!ends_in_no_memory(answer))
 }
 
 // The next call.

@@ -72,15 +72,6 @@ impl Emulated {
         }
     }
 
-    /// Whether no attribute is on, and the colours are the default ones.
-    pub fn is_plain(&self) -> bool {
-        let (attrs, colours) = match self {
-            Emulated::Bytes(screen) => (screen.rendition(), screen.colours()),
-            Emulated::Operations(terminal) => (terminal.attrs(), terminal.colours()),
-        };
-        attrs.0 == 0 && colours == (None, None)
-    }
-
     /// Whether it waits for the rest of a text.
     pub fn waiting(&self) -> bool {
         match self {
@@ -108,8 +99,8 @@ fn without_standout(attrs: Attrs) -> u8 {
     }
 }
 
-// Executes operations on a terminal of the profile's size, and tells whether all are defined.
-fn are_stepped(terminal: &mut Terminal, profile: &Profile, ops: &[Op]) -> bool {
+/// Executes operations on a terminal of the profile's size, and tells whether all are defined.
+pub fn are_stepped(terminal: &mut Terminal, profile: &Profile, ops: &[Op]) -> bool {
     for op in ops {
         if !is_stepped(terminal, profile, *op) {
             return false;

@@ -1,6 +1,6 @@
 //! Generated sessions, each of whose updates is cut at every byte.
 
-use crate::answers::{add_count, ran_out};
+use crate::answers::{add_count, ends_in_no_memory, ran_out};
 use crate::composing::{begin, compose};
 use crate::cuts::{Cut, Ended, Text, Verdict, ended_at, is_writer_full, judge_shown, render_all};
 use crate::entries::{pass_names, read_entry};
@@ -158,7 +158,7 @@ fn check_opened(
 ) -> Result<Verdict, Trouble> {
     begin(alloc, opened, answer)?;
     for number in 0..sessions.updates {
-        if answer.bytes().ends_with(b" NoMemory") {
+        if ends_in_no_memory(answer) {
             return Ok(Verdict::NoMemory);
         }
         answer.clear();
@@ -183,7 +183,7 @@ fn check_update(
         return Ok(Verdict::NoMemory);
     }
     let is_well = opened.update(Fails::Never, answer)?;
-    if answer.bytes().ends_with(b" NoMemory") {
+    if ends_in_no_memory(answer) {
         Ok(Verdict::NoMemory)
     } else if is_well {
         cut_update(alloc, opened, &mut sessions.tried, answer)

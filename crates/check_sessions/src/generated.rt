@@ -1,6 +1,6 @@
 //! Generated calls on a screen, and generated updates.
 
-use crate::answers::ran_out;
+use crate::answers::{ends_in_no_memory, ran_out};
 use crate::changing::next_change;
 use crate::entries::read_entry;
 use crate::families::Families;
@@ -146,7 +146,7 @@ fn make_each(
         answer.clear();
         let is_well = step(alloc, opened, made, &mut seen, &mut random, answer)?;
         answer.done()?;
-        if answer.bytes().ends_with(b" NoMemory") {
+        if ends_in_no_memory(answer) {
             add_word("NoMemory", came);
             return Ok(false);
         }
@@ -210,7 +210,7 @@ fn make_update(
     let size = opened.profile.size();
     for _ in 0..random.below(6) {
         opened.call(next_change(alloc, size, random)?, answer)?;
-        if answer.bytes().ends_with(b" NoMemory") {
+        if ends_in_no_memory(answer) {
             return Ok(true);
         }
     }

@@ -11,7 +11,6 @@ mod bounds;
 mod calls;
 mod changing;
 mod composing;
-mod counting;
 mod cuts;
 mod displays;
 mod dumps;

@@ -1,5 +1,6 @@
 //! Screens of entries that can insert and delete some of lines and characters, and updates that move these.
 
+use crate::answers::ends_in_no_memory;
 use crate::recorded::Recorded;
 use crate::writers::Fails;
 use check_scripts::answers::{add_number, add_word, read_size};
@@ -140,7 +141,7 @@ fn make_all(
     for number in 0..count {
         answer.clear();
         let is_well = update(alloc, opened, &mut random, &mut answer)?;
-        if !is_well || ran_out(&answer) {
+        if !is_well || ends_in_no_memory(&answer) {
             add_number(i64::from(number), came);
             came.extend(answer.bytes());
             return Ok(false);
@@ -157,10 +158,6 @@ fn make_all(
     }
     answer.done()?;
     Ok(agrees)
-}
-
-fn ran_out(answer: &Buffer) -> bool {
-    answer.bytes().ends_with(b" NoMemory")
 }
 
 // Whether an operation inserts or deletes something.
@@ -198,7 +195,7 @@ fn update(
 ) -> Result<bool, Trouble> {
     for _ in 0..=random.below(3) {
         change(alloc, opened, random, answer)?;
-        if ran_out(answer) {
+        if ends_in_no_memory(answer) {
             return Ok(true);
         }
     }
@@ -220,7 +217,7 @@ fn change(
     for _ in 0..=random.below(3) {
         let call = next(alloc, kind, random)?;
         opened.call(call, answer)?;
-        if ran_out(answer) {
+        if ends_in_no_memory(answer) {
             return Ok(());
         }
     }

@@ -221,7 +221,7 @@ impl Recorded {
     }
 
     /// How many bytes the next update may send, as far as that is known.
-    pub fn most(&self) -> Option<usize> {
+    pub fn most(&self) -> Result<Option<usize>, Trouble> {
         self.left.most(&self.profile, self.screen.picture())
     }
 
@@ -316,20 +316,23 @@ impl Recorded {
 
     // Adds what is wrong with an update that ended well, and tells whether nothing is.
     fn end_well(&mut self, bytes: u64, came: &mut Buffer) -> Result<bool, Trouble> {
-        let trouble = self.trouble_of(bytes);
+        let most = self.most()?;
         self.last_ok = true;
-        self.left
-            .learn(&self.profile, self.screen.picture(), &self.emulated)?;
+        let is_defined = self.left.learn(&self.profile, &self.last.0);
+        let trouble = if is_defined {
+            self.trouble_of(bytes, most)
+        } else {
+            Some("and an undefined operation")
+        };
         if let Some(words) = trouble {
             add_word(words, came);
         }
         Ok(trouble.is_none())
     }
 
-    // What is wrong with an update that ended well, and sent so many bytes.
-    fn trouble_of(&self, bytes: u64) -> Option<&'static str> {
+    // What is wrong with an update that ended well, sent so many bytes, and may have sent `most`.
+    fn trouble_of(&self, bytes: u64, most: Option<usize>) -> Option<&'static str> {
         let picture = self.screen.picture();
-        let most = self.most();
         if !shows(&self.emulated, &self.profile, picture) {
             Some("and the terminal shows something else")
         } else if most.is_some_and(|most| bytes > most as u64) {

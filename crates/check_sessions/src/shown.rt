@@ -18,28 +18,18 @@ pub fn shows(emulated: &Emulated, profile: &Profile, picture: &Picture) -> bool 
     is_placed(emulated.spot(), picture.wish())
 }
 
-/// Whether a cursor is where it is wished, if anywhere.
-pub fn is_placed(spot: Spot, wish: Option<(u32, u32)>) -> bool {
+// Whether a cursor is where it is wished, if anywhere.
+fn is_placed(spot: Spot, wish: Option<(u32, u32)>) -> bool {
     match wish {
         Some((row, column)) => spot == Spot::At(row, column),
         None => true,
     }
 }
 
-/// What a terminal shows of a cell: of its attributes those that it can show, and, where it shows colours, those of the
-/// cell's pair, which are the default ones for pair 0.
-pub fn look_of(profile: &Profile, picture: &Picture, cell: Cell) -> Look {
-    let colours = if profile.colours() {
-        picture.pair(cell.pair())
-    } else {
-        None
-    };
-    let (foreground, background) = match colours {
-        Some((foreground, background)) => (Some(foreground), Some(background)),
-        None => (None, None),
-    };
-    let attrs = Attrs(cell.attrs().0 & profile.shows().0);
-    Look::new(cell.byte(), attrs, foreground, background).unwrap_or(Look::blank())
+// What a terminal shows of a cell.
+fn look_of(profile: &Profile, picture: &Picture, cell: Cell) -> Look {
+    let pen = picture.seen_pen(cell, profile.shows(), profile.colours());
+    Look::written(cell.byte(), pen).unwrap_or(Look::blank())
 }
 
 fn row_shows(emulated: &Emulated, profile: &Profile, picture: &Picture, row: u32) -> bool {

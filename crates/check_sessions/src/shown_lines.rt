@@ -36,7 +36,7 @@ pub fn answer_of_shown(
         "picture_rows" => add_picture_rows(picture, came),
         "picture_at" => add_picture_at(picture, words, came),
         "wish" => add_wish(picture, came),
-        "most" => add_most(opened.most(), came),
+        "most" => words.check(add_most(opened, came)),
         "sent" => add_text(opened.last_sent(), came),
         "first_sent" => add_first_sent(opened, words, came),
         "begun" => add_begun(opened.last_begun(), came),
@@ -94,11 +94,12 @@ fn add_wish(picture: &Picture, came: &mut Buffer) {
     }
 }
 
-fn add_most(most: Option<usize>, came: &mut Buffer) {
-    match most {
+fn add_most(opened: &Recorded, came: &mut Buffer) -> Result<(), Trouble> {
+    match opened.most()? {
         Some(bytes) => add_number(i64::try_from(bytes).unwrap_or(-1), came),
         None => add_word("unknown", came),
     }
+    Ok(())
 }
 
 // Adds operations, with characters one after another as a text, or `none`.

@@ -56,6 +56,19 @@ impl<T: Copy> Grid<T> {
         })
     }
 
+    /// Makes a grid of the same elements. Fails only when memory runs out.
+    pub fn try_clone(&self, alloc: Global) -> Result<Grid<T>, NoMemory>
+        ensures { IfOk result (λ grid. grid ≡ self.now) }
+    {
+        let mut items = Vec::with_capacity(alloc, self.items.len())?;
+        items.extend_from_slice(&self.items)?;
+        Ok(Grid {
+            rows: self.rows,
+            columns: self.columns,
+            items,
+        })
+    }
+
     /// Adds a row of as many elements as there are columns at the end. Fails only when memory runs out, and nothing is
     /// changed then.
     pub fn push_row(&mut self, row: &[T]) -> Result<(), NoMemory>

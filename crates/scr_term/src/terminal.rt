@@ -50,6 +50,16 @@ impl Terminal {
         Ok(Terminal { display })
     }
 
+    /// A terminal that shows the same, with the same cursor and pen. Fails only when memory runs
+    /// out.
+    pub fn try_clone(&self, alloc: Global) -> Result<Terminal, NoMemory>
+        ensures { IfOk result (λ terminal. terminal ≡ self.now) }
+    {
+        Ok(Terminal {
+            display: self.display.try_clone(alloc)?,
+        })
+    }
+
     /// Does what an operation means on a terminal of this profile, which has to be of this
     /// terminal's size.
     ///

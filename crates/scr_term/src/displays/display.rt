@@ -48,6 +48,17 @@ impl Display {
         })
     }
 
+    /// A display that is the same in everything. Fails only when memory runs out.
+    pub(crate) fn try_clone(&self, alloc: Global) -> Result<Display, NoMemory>
+        ensures { IfOk result (λ display. display ≡ self.now) }
+    {
+        Ok(Display {
+            grid: self.grid.try_clone(alloc)?,
+            spot: self.spot,
+            pen: self.pen,
+        })
+    }
+
     /// The number of rows and columns.
     pub(crate) fn size(&self) -> Size
         ensures rows { result.rows ≡ self.now.rows }
