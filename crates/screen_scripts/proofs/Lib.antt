@@ -2,7 +2,6 @@ pub mod CutLaws
 pub mod FieldLaws
 pub mod LineLaws
 pub mod NumberLaws
-pub mod CallLaws
 pub mod MakingLaws
 pub mod StageLaws
 pub mod OutputLaws

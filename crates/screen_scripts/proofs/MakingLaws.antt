@@ -1,5 +1,5 @@
 -- What a call of a script does to its screen.
-use Rattle.std.proofs.Common.{◌≡◌, ◌≢◌, ℕ, Bool, true, false, refl, sym, ◌∙◌, ap, subst, List, [], ◌∷◌, ◌++◌, Option, Some, None, Result, Ok, Err, IfOk, Vec, Global, inl, inr, length, ◌==◌, option_map, if◌then◌else◌}
+use Rattle.std.proofs.Common.{rules, ◌≡◌, ◌≢◌, ℕ, Bool, true, false, refl, sym, ◌∙◌, ap, subst, List, [], ◌∷◌, ◌++◌, Option, Some, None, Result, Ok, Err, IfOk, Vec, Global, inl, inr, length, ◌==◌, option_map, if◌then◌else◌}
 use Rattle.std.proofs.lemmas.List.{append-nil}
 use Rattle.std.specs.Io.KnownBytes.{Appends}
 use Rattle.std.specs.Option.{is_some}
@@ -14,7 +14,7 @@ use Rattle.scr_plan.specs.MemoryRuns.{MemoryRuns}
 use Rattle.scr_windows.specs.declared.faults.WinFault.{WinFault}
 use Rattle.scr_windows.specs.declared.faults.WinFault.TheVariants as faults
 use Rattle.screen_sessions.specs.declared.answers.Answer.{Answer}
-use Rattle.screen_sessions.specs.declared.answers.Answer.TheVariants.{Nothing, Refused, Sent, Made, Added, Seen, Pair, Touched, Failed}
+use Rattle.screen_sessions.specs.declared.answers.Answer.TheVariants.{Refused}
 use Rattle.screen_sessions.specs.declared.calls.Call.{Call}
 use Rattle.screen_sessions.specs.declared.calls.Call.TheVariants.{AddText, MoveCursor, Noutrefresh}
 use Rattle.curses.specs.declared.faults.Sent.{Sent as SentView}
@@ -32,30 +32,7 @@ use Rattle.screen_scripts.specs.Showing.{IsQuiet, IsReady, IsRefusalOf, IsSendin
 
 -- an answer that is no want of memory says nothing of memory
 not_short : (own answer : Answer) → answer ≢ Refused faults.NoMemory → ran_out own answer ≡ false
-not_short own Nothing other = refl
-not_short own (Made w) other = refl
-not_short own (Added a) other = refl
-not_short own (Seen c) other = refl
-not_short own (Pair a b) other = refl
-not_short own (Touched b) other = refl
-not_short own (Sent s) other = refl
-not_short own (Failed f) other = refl
-not_short own (Refused faults.NoMemory) other = absurd (other refl)
-not_short own (Refused faults.NoWindow) other = refl
-not_short own (Refused faults.IsPad) other = refl
-not_short own (Refused faults.NotPad) other = refl
-not_short own (Refused faults.IsSub) other = refl
-not_short own (Refused faults.HasChildren) other = refl
-not_short own (Refused faults.NotAscii) other = refl
-not_short own (Refused faults.OutOfWindow) other = refl
-not_short own (Refused faults.OffScreen) other = refl
-not_short own (Refused faults.NotInParent) other = refl
-not_short own (Refused faults.BadRegion) other = refl
-not_short own (Refused faults.NoScroll) other = refl
-not_short own (Refused faults.TooBig) other = refl
-not_short own (Refused faults.TooMany) other = refl
-not_short own (Refused faults.BadPair) other = refl
-not_short own (Refused faults.BadColour) other = refl
+not_short own answer other = search rules
 
 -- the answer is then the call's own
 own_answer : (profile : ProfileView) (memory : MemoryView) (drawn : Drawn) (call : Call) (answer : Answer) → is_update call ≡ false → RightAnswer (is_update call) profile memory drawn call answer → answer ≢ Refused faults.NoMemory

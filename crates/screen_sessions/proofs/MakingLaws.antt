@@ -68,34 +68,9 @@ knows_on old new owed memory knows = record { owed = owed ∙ knows.owed; memory
 own_answer : (own answer : Answer) → answer ≡ own → ran_out own answer ≡ false
 own_answer own answer same = ap (λ a. ran_out a answer) (sym same) ∙ itself answer
   where
-    of_fault : (fault : WinFault) → ran_out (Refused fault) (Refused fault) ≡ false
-    of_fault win_faults.NoMemory = refl
-    of_fault win_faults.NoWindow = refl
-    of_fault win_faults.IsPad = refl
-    of_fault win_faults.NotPad = refl
-    of_fault win_faults.IsSub = refl
-    of_fault win_faults.HasChildren = refl
-    of_fault win_faults.NotAscii = refl
-    of_fault win_faults.OutOfWindow = refl
-    of_fault win_faults.OffScreen = refl
-    of_fault win_faults.NotInParent = refl
-    of_fault win_faults.BadRegion = refl
-    of_fault win_faults.NoScroll = refl
-    of_fault win_faults.TooBig = refl
-    of_fault win_faults.TooMany = refl
-    of_fault win_faults.BadPair = refl
-    of_fault win_faults.BadColour = refl
-
     itself : (a : Answer) → ran_out a a ≡ false
-    itself Nothing = refl
-    itself (Made w) = refl
-    itself (Added a) = refl
-    itself (Seen c) = refl
-    itself (Pair a b) = refl
-    itself (Touched b) = refl
-    itself (Refused fault) = of_fault fault
-    itself (Sent s) = refl
-    itself (Failed f) = refl
+    itself (Refused win_faults.NoMemory) = refl
+    itself a = refl
 
 -- a call that is neither an update nor a mark
 memory_kept : (profile : ProfileView) (desk : DeskView) (memory : MemoryView) (call : Call) (answer : Answer) → is_update call ≡ false → marked_by desk call ≡ None → memory_behind profile desk memory call answer ≡ memory
