@@ -317,13 +317,17 @@ fn add(runs: &mut Vec<Run>, run: Run) -> Result<(), NoMemory>
     Ok(())
 }
 
+// The least room for operations. Lists of one size are taken from where the last one was given back;
+// a smaller one took the allocator's slow way on screens of some sizes.
+const LEAST_ROOM: usize = 16;
+
 // Room for the operations of runs: their characters, and what usually leads to each.
 pub(crate) fn room_for(runs: &[Run]) -> usize {
     let mut room = 4usize;
     for run in runs {
         room = room.saturating_add(run.end.saturating_sub(run.start) as usize + 4);
     }
-    room
+    room.max(LEAST_ROOM)
 }
 
 // A run that is written.
