@@ -68,7 +68,7 @@ pub trait Arguments {
 }
 
 /// The names of the calls other than an update, and how often each is made up.
-pub const NAMES: [(&str, u32); 51] = [
+pub static NAMES: [(&str, u32); 51] = [
     ("new_window", 5),
     ("new_pad", 3),
     ("derive", 7),

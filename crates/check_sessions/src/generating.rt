@@ -75,16 +75,27 @@ pub fn next_call(alloc: Global, screen: &Screen, random: &mut Random) -> Result<
 
 // The name of a call, each as often as the table says.
 fn next_name(random: &mut Random) -> &'static str {
+    let count = count_of(&NAMES);
+    name_at(&NAMES, random.below(count))
+}
+
+// How many names there are in a table, each as often as it says.
+fn count_of(names: &[(&'static str, u32)]) -> u32 {
     let mut count = 0u32;
-    for (_, often) in NAMES {
-        count = count.saturating_add(often);
+    for (_, often) in names {
+        count = count.saturating_add(*often);
     }
-    let mut left = random.below(count);
-    for (name, often) in NAMES {
-        if left < often {
+    count
+}
+
+// The name in a place of a table that has each as often as it says.
+fn name_at(names: &[(&'static str, u32)], place: u32) -> &'static str {
+    let mut left = place;
+    for (name, often) in names {
+        if left < *often {
             return name;
         }
-        left = left.saturating_sub(often);
+        left = left.saturating_sub(*often);
     }
     "erase"
 }
