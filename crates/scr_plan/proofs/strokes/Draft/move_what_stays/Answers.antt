@@ -1,4 +1,4 @@
-use Rattle.std.proofs.Common.{◌∙◌, inl}
+use Rattle.std.proofs.Common.{◌∙◌}
 use Rattle.scr_plan.proofs.JoinedRowLaws.{on_ok}
 use Rattle.scr_plan.proofs.MovedLaws.{settled_moves}
 use Rattle.scr_plan.proofs.ShortPlanLaws.{state_of}
