@@ -1,27 +1,29 @@
 //! Numbers that look random, and are the same in each run.
 
+use rand_core::Rng;
+use rand_pcg::Pcg32;
+
+// Which of the generator's sequences the numbers are of.
+const STREAM: u64 = 54;
+
 /// What the next numbers come from.
 #[derive(Drop)]
 pub struct Random {
-    state: u64,
+    words: Pcg32,
 }
 
 impl Random {
     /// The numbers that follow a seed.
     pub fn new(seed: u32) -> Random {
         Random {
-            state: u64::from(seed),
+            words: Pcg32::new(u64::from(seed), STREAM),
         }
     }
 
     /// A number below a bound, 0 where the bound is 0.
     pub fn below(&mut self, bound: u32) -> u32 {
-        self.state = self
-            .state
-            .wrapping_mul(6_364_136_223_846_793_005)
-            .wrapping_add(1_442_695_040_888_963_407);
-        let high = u32::try_from(self.state >> 33).unwrap_or(0);
-        if bound == 0 { 0 } else { high % bound }
+        let word = self.words.next_u32();
+        if bound == 0 { 0 } else { word % bound }
     }
 
     /// A byte: most often a graphic character, and now and then a blank, a tab or a new line.

@@ -12,7 +12,8 @@ use check_scripts::buffers::Buffer;
 use check_scripts::troubles::Trouble;
 use check_scripts::words::Words;
 use scr_cells::{NoMemory, Picture};
-use scr_plan::{Memory, plain};
+use scr_memory::Memory;
+use scr_plan::plain;
 use scr_term::Profile;
 use std::alloc::Global;
 

@@ -18,7 +18,7 @@ use check_scripts::checking::Subject;
 use check_scripts::troubles::Trouble;
 use check_scripts::words::Words;
 use scr_cells::Picture;
-use scr_plan::Memory;
+use scr_memory::Memory;
 use scr_term::{EcmaScreen, Profile, Terminal};
 use std::alloc::Global;
 use ti_caps::Entry;

@@ -5,8 +5,8 @@ use Rattle.scr_term.specs.Operations.Laws.{BlankLaws}
 use Rattle.scr_term.specs.Operations.Profiles.{ProfileView, IsProfile, abilities}
 use Rattle.scr_term.specs.Operations.States.{TerminalState, blank_state}
 use Rattle.scr_cells.specs.PictureViews.{IsPicture}
-use Rattle.scr_plan.specs.Memories.{Agrees, MemoryLaws, MemoryView, all_followed, disturbed, forgotten, unknown}
-use Rattle.scr_plan.specs.MemoryRuns.{MemoryRuns}
+use Rattle.scr_memory.specs.Memories.{Agrees, MemoryLaws, MemoryView, all_followed, disturbed, forgotten, unknown}
+use Rattle.scr_memory.specs.MemoryRuns.{MemoryRuns}
 use Rattle.scr_plan.specs.Plans.{IsPlan, UpToDateLaws}
 use Rattle.scr_plan.specs.Scratch.{Fits}
 use Rattle.scr_virtual.specs.Laws.{HoldsChanges}

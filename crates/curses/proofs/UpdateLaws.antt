@@ -11,7 +11,7 @@ use Rattle.scr_term.specs.Operations.Profiles.{ProfileView, IsProfile, abilities
 use Rattle.scr_term.specs.Operations.States.{TerminalState, IsState}
 use Rattle.scr_term.specs.Operations.Steps.{runs}
 use Rattle.scr_term.specs.Operations.Texts.{all_bytes, has}
-use Rattle.scr_plan.specs.Memories.{Agrees, MemoryView, all_followed, is_known}
+use Rattle.scr_memory.specs.Memories.{Agrees, MemoryView, all_followed, is_known}
 use Rattle.scr_plan.specs.Plans.{IsPlan}
 use Rattle.curses.specs.Cuts.{IsCut}
 use Rattle.curses.specs.Updates.{BeginsPlan, IsDefined, IsDefinedAnew, IsOfOneText, IsSent}

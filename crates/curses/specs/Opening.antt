@@ -9,7 +9,7 @@ use Rattle.scr_term.specs.declared.operations.profile_faults.ProfileFault.TheVar
 use Rattle.scr_term.specs.Operations.Admission.{IsAdmitted, refusal}
 use Rattle.scr_windows.specs.DeskViews.{first_desk}
 use Rattle.scr_virtual.specs.VirtualViews.{blank_virtual}
-use Rattle.scr_plan.specs.Memories.{unknown}
+use Rattle.scr_memory.specs.Memories.{unknown}
 use Rattle.scr_keys.specs.Tables.{AreKeysOf, too_long}
 use Rattle.curses.specs.declared.faults.OpenFault.{OpenFault}
 use Rattle.curses.specs.declared.faults.OpenFault.TheVariants.{KeyTooLong, NoMemory, Profile}

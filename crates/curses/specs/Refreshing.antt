@@ -4,7 +4,7 @@
 use Rattle.std.specs.Prelude.{ℕ, ◌≡◌, Result, Ok, Err}
 use Rattle.scr_windows.specs.declared.faults.WinFault.{WinFault}
 use Rattle.scr_windows.specs.DeskViews.{DeskView}
-use Rattle.scr_plan.specs.Memories.{MemoryView, disturbed}
+use Rattle.scr_memory.specs.Memories.{MemoryView, disturbed}
 use Rattle.scr_windows.specs.Calls.Reading.{screen_rows_answer, size_answer}
 use Rattle.scr_virtual.specs.VirtualViews.{VirtualView, marked_rows}
 use Rattle.curses.specs.ScreenStates.{ScreenState}

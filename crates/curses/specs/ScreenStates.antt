@@ -7,7 +7,7 @@ use Rattle.scr_windows.specs.DeskViews.{DeskView}
 use Rattle.scr_term.specs.declared.operations.operation.Op.{Op}
 use Rattle.scr_term.specs.Operations.Profiles.{ProfileView, abilities}
 use Rattle.scr_term.specs.Operations.Texts.{bytes_of}
-use Rattle.scr_plan.specs.Memories.{Agrees, MemoryView}
+use Rattle.scr_memory.specs.Memories.{Agrees, MemoryView}
 use Rattle.scr_plan.specs.Repaints.{IsSizeOf, IsUpToDate}
 use Rattle.scr_plan.specs.Scratch.{Fits}
 use Rattle.scr_keys.specs.Readers.{ReaderView}

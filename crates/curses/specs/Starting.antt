@@ -11,7 +11,7 @@ use Rattle.scr_term.specs.Operations.Profiles.{ProfileView, IsProfile, abilities
 use Rattle.scr_term.specs.Operations.States.{TerminalState, IsState, negative_state}
 use Rattle.scr_term.specs.Operations.Steps.{runs}
 use Rattle.scr_term.specs.Operations.Texts.{all_bytes}
-use Rattle.scr_plan.specs.Memories.{forgotten}
+use Rattle.scr_memory.specs.Memories.{forgotten}
 use Rattle.scr_plan.specs.Scratch.{resets}
 use Rattle.curses.specs.Cuts.{IsCut}
 use Rattle.curses.specs.declared.faults.SendFault.{SendFault}

@@ -6,7 +6,7 @@ use Rattle.scr_term.specs.Operations.Profiles.{ProfileView, abilities}
 use Rattle.scr_term.specs.Operations.States.{TerminalState, IsState}
 use Rattle.scr_term.specs.Operations.Steps.{runs}
 use Rattle.scr_term.specs.Operations.Texts.{all_bytes, bytes_of}
-use Rattle.scr_plan.specs.Memories.{Agrees, MemoryView, all_followed, forgotten, is_known}
+use Rattle.scr_memory.specs.Memories.{Agrees, MemoryView, all_followed, forgotten, is_known}
 use Rattle.scr_plan.specs.Plans.{IsPlan}
 use Rattle.curses.specs.Cuts.{IsCut}
 use Rattle.curses.specs.Writers.{WriterView, counted}

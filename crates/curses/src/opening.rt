@@ -8,14 +8,15 @@ ghost use Rattle.ti_caps.specs.declared.slots.TheConstants.{RMCUP, RMKX, SMCUP, 
 ghost use Rattle.scr_term.specs.Operations.Admission.{IsAdmitted};
 ghost use Rattle.scr_windows.specs.DeskViews.{first_desk};
 ghost use Rattle.scr_virtual.specs.VirtualViews.{blank_virtual};
-ghost use Rattle.scr_plan.specs.Memories.{unknown};
+ghost use Rattle.scr_memory.specs.Memories.{unknown};
 
 use crate::faults::OpenFault;
 use crate::screens::Screen;
 use crate::texts::texts_or_none;
 use scr_cells::{NoMemory, Size};
 use scr_keys::{KeyFault, KeyReader, KeyTable};
-use scr_plan::{Memory, memory_runs, up_to_date_laws};
+use scr_memory::{Memory, memory_runs};
+use scr_plan::up_to_date_laws;
 use scr_term::{Profile, ProfileFault, blank_laws};
 use scr_virtual::Virtual;
 use scr_windows::Desk;

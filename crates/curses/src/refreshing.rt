@@ -8,7 +8,8 @@ ghost use Rattle.curses.specs.Refreshing.{OnBoth, OnTerminal, OnVirtual, lines_d
 
 use crate::screens::Screen;
 use scr_cells::Picture;
-use scr_plan::{memory_laws, up_to_date_laws};
+use scr_memory::memory_laws;
+use scr_plan::up_to_date_laws;
 use scr_virtual::{ranges_hold_changes, sizes_stay};
 use scr_windows::{Win, WinFault};
 

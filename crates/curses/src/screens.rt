@@ -3,7 +3,7 @@
 //!
 //! The calls on its windows are in the files of their kinds in `calls/`.
 use scr_keys::KeyReader;
-use scr_plan::Memory;
+use scr_memory::Memory;
 use scr_term::Profile;
 use scr_virtual::Virtual;
 use scr_windows::Desk;

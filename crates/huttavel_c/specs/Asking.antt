@@ -1,7 +1,7 @@
 -- The functions of the C library: each is one call on the screen that the handle holds.
 use Rattle.std.specs.Prelude.{◌≡◌, ◌⊎◌, Option, Some, None, Result, IsOk}
 use Rattle.scr_keys.specs.Readers.{ReaderView}
-use Rattle.scr_plan.specs.Memories.{MemoryView}
+use Rattle.scr_memory.specs.Memories.{MemoryView}
 use Rattle.scr_virtual.specs.VirtualViews.{VirtualView}
 use Rattle.scr_windows.specs.DeskViews.{DeskView}
 use Rattle.curses.specs.ScreenStates.{ScreenState}

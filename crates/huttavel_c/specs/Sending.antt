@@ -1,6 +1,6 @@
 -- Bytes that a screen made, and that wait until the terminal has taken them.
 use Rattle.std.specs.Prelude.{ℕ, ◌≡◌, ◌++◌, List, Option, Some, None, Result, Ok, Err, MatchOption, MatchResult, drop, length, min, nat_le, take, if◌then◌else◌}
-use Rattle.scr_plan.specs.Memories.{forgotten}
+use Rattle.scr_memory.specs.Memories.{forgotten}
 use Rattle.curses.specs.ScreenStates.{ScreenState}
 use Rattle.curses.specs.Starting.{IsClosed, IsNotClosed, IsNotStarted, IsStarted}
 use Rattle.curses.specs.Updates.{IsFailed, IsShown}

@@ -4,7 +4,7 @@ use Rattle.std.specs.List.{range_with_len}
 use Rattle.scr_cells.specs.PenViews.{pen_eq}
 use Rattle.scr_cells.specs.PictureViews.{PictureView}
 use Rattle.scr_term.specs.Operations.Profiles.{ProfileView}
-use Rattle.scr_plan.specs.Memories.{MemoryView}
+use Rattle.scr_memory.specs.Memories.{MemoryView}
 use Rattle.scr_plan.specs.Repaints.{differs, joins_left}
 use Rattle.scr_plan.specs.Scratch.{look_at}
 

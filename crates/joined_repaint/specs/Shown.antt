@@ -2,7 +2,7 @@
 use Rattle.std.specs.Prelude.{◌≡◌}
 use Rattle.scr_cells.specs.PictureViews.{PictureView}
 use Rattle.scr_term.specs.Displays.{DisplayView}
-use Rattle.scr_plan.specs.Memories.{MemoryView, remembered}
+use Rattle.scr_memory.specs.Memories.{MemoryView, remembered}
 
 abbrev pub known_of : DisplayView → MemoryView
 known_of display = remembered display.rows display.columns display.state

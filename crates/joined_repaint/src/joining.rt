@@ -2,7 +2,8 @@
 ghost use Rattle.std.specs.Prelude.{◌≡◌, ◌<◌, ◌++◌, ◌&&◌, IfOk, OnOk, filter, true, if◌then◌else◌, []};
 ghost use Rattle.std.specs.List.{flat_map};
 ghost use Rattle.scr_cells.specs.PictureViews.{IsPlace};
-ghost use Rattle.scr_plan.specs.Repaints.{differing, differs, erased_column, is_none_left, is_placed, joined_of, joined_place, joined_places};
+ghost use Rattle.scr_memory.specs.Memories.{is_placed};
+ghost use Rattle.scr_plan.specs.Repaints.{differing, differs, erased_column, is_none_left, joined_of, joined_place, joined_places};
 ghost use Rattle.scr_plan.specs.Scratch.{Fits, places_cursor, resets, row_places};
 ghost use Rattle.joined_repaint.specs.Shown.{IsOf, known_of};
 ghost use Rattle.joined_repaint.specs.Walking.{place_of};

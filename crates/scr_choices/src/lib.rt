@@ -1,17 +1,22 @@
 //! Choices by price alone: the cheapest motion of the cursor, turn of the pen and way to a place, the cheapest order of
-//! runs, and whether many lines are to be erased first.
+//! runs, whether many lines are to be erased first, and which rows, or characters of a row, are to be moved.
 //!
 //! Nothing here promises anything but that it is safe: a choice affects nothing but the number of bytes of an update.
 //! What follows a choice looks before it acts (`scr_plan`).
 #![tactic(auto)]
 
 mod blanks;
+mod counts;
 mod least_motions;
 mod links;
 mod motions;
 mod nearest;
 mod orders;
+mod rows;
 mod runs;
+mod samples;
+mod shifts;
+mod slides;
 mod stretches;
 mod turns;
 mod walks;
@@ -21,7 +26,10 @@ mod wipings;
 pub use blanks::is_blank;
 pub use motions::{Motion, Steps, cheapest_motion};
 pub use orders::cheapest_order;
+pub use rows::{KnownRows, RowPrices};
 pub use runs::{How, Run};
+pub use shifts::{Shift, can_shift_some, cheapest_shift};
+pub use slides::{DifferingRow, Slide, are_wide, can_slide_some, cheapest_slide};
 pub use turns::{Turn, cheapest_turn};
 pub use ways::{Chooser, Cursor, Path, Stop, Way};
 pub use wipings::{Wiping, cheapest_wiping};

@@ -17,12 +17,12 @@ use Rattle.scr_term.specs.Operations.Laws.{ProfilesHave, RunLaws}
 use Rattle.scr_term.specs.Operations.Profiles.{ProfileView, IsProfile, abilities}
 use Rattle.scr_term.specs.Operations.States.{TerminalState, IsState, spot_after, written_at}
 use Rattle.scr_term.specs.Operations.Steps.{act, runs}
-use Rattle.scr_plan.proofs.MemoryRunLaws.{run_before}
+use Rattle.scr_plan.proofs.RememberedPlanLaws.{run_before}
 use Rattle.scr_plan.proofs.PartLaws.{part_more}
 use Rattle.scr_plan.proofs.PlaceLaws.{cell_of, one_run}
 use Rattle.scr_plan.proofs.PlainLaws.{both, pen_same}
 use Rattle.scr_plan.specs.Code.Painters.{part_places}
-use Rattle.scr_plan.specs.Memories.{MemoryView}
+use Rattle.scr_memory.specs.Memories.{MemoryView}
 use Rattle.scr_plan.specs.Repaints.{brief_place, differs, joins_left}
 use Rattle.scr_plan.specs.Scratch.{PlaceIsPainted, goes, look_at, paints_place, renders}
 

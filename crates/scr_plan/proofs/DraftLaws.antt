@@ -21,7 +21,7 @@ use Rattle.scr_term.specs.Operations.Profiles.{ProfileView, IsProfile}
 use Rattle.scr_term.specs.Operations.States.{TerminalState, characters_erased, erased, from_place, rest_of_line_erased, spot_after, written_at}
 use Rattle.scr_term.specs.Operations.Steps.{act, runs, step}
 use Rattle.scr_term.specs.Operations.Texts.{all_bytes, has}
-use Rattle.scr_plan.proofs.ActLaws.{still_rows}
+use Rattle.scr_plan.proofs.StillLaws.{still_rows}
 use Rattle.scr_plan.proofs.JoinedPriceLaws.{price, price_is, put_price}
 use Rattle.scr_plan.proofs.PlaceLaws.{at_place, begun_run, cell_of, goes_by, one_run, plain, then_runs}
 use Rattle.scr_plan.proofs.LookingLaws.{not_blank}
@@ -29,7 +29,7 @@ use Rattle.scr_plan.proofs.PlacesLaws.{is_here}
 use Rattle.scr_plan.proofs.PlainLaws.{look_same}
 use Rattle.scr_plan.proofs.ScratchLaws.{place_changed, shown_after}
 use Rattle.scr_plan.specs.Code.Drafts.{Aim, Covers, IsAdded, IsAimed, IsPaid, Keeps, KeepsAll, KeepsEvery, aim_of, in_part, is_calm, is_in, without}
-use Rattle.scr_plan.specs.Memories.{moves_rows}
+use Rattle.scr_memory.specs.Memories.{moves_rows}
 use Rattle.scr_plan.specs.Code.Joinings.{counted_up}
 use Rattle.scr_plan.specs.Code.Painters.{painter_begins, painter_goes, painter_look, painter_of}
 use Rattle.scr_plan.specs.Repaints.{look_eq}

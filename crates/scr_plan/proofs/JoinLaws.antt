@@ -18,7 +18,7 @@ use Rattle.scr_term.specs.Operations.Profiles.{ProfileView}
 use Rattle.scr_plan.specs.declared.painting.Painter.{Painter}
 use Rattle.scr_plan.specs.Code.Joinings.{ShowsRow}
 use Rattle.scr_plan.specs.Code.Painters.{is_that_pen, painter_look, painter_of, painter_sees, painter_writes, part_places, pen_before, row_differs, row_paints, shown_in}
-use Rattle.scr_plan.specs.Memories.{MemoryView, is_known_row}
+use Rattle.scr_memory.specs.Memories.{MemoryView, is_known_row}
 use Rattle.scr_plan.specs.Repaints.{brief_place, cleared, differs, joins_left, look_eq, look_in}
 use Rattle.scr_plan.specs.Scratch.{goes, look_at, renders}
 use Rattle.scr_plan.proofs.PartLaws.{look_refl, none_in_part, part_joined}

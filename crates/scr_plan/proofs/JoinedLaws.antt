@@ -20,9 +20,8 @@ use Rattle.scr_term.specs.Operations.Profiles.{ProfileView, IsProfile, abilities
 use Rattle.scr_term.specs.Operations.States.{TerminalState, IsState, blank_state, erased, from_place, rest_of_line_erased}
 use Rattle.scr_term.specs.Operations.Steps.{act, runs, step}
 use Rattle.scr_term.specs.Operations.Texts.{has}
-use Rattle.scr_plan.proofs.ActLaws.{Acts, acts}
 use Rattle.scr_plan.proofs.BriefLaws.{behind_last, row_same}
-use Rattle.scr_plan.proofs.MemoryRunLaws.{agrees_itself}
+use Rattle.scr_plan.proofs.RememberedPlanLaws.{agrees_itself}
 use Rattle.scr_plan.proofs.PartLaws.{part_joined, row_more}
 use Rattle.scr_plan.proofs.PlaceLaws.{at_place, goes_by, one_run, plain, resets_run, then_runs}
 use Rattle.scr_plan.proofs.PlacesLaws.{among_row, is_among, is_here, row_inside}
@@ -30,9 +29,9 @@ use Rattle.scr_plan.proofs.PlainLaws.{both, filter_inside, look_same, nothing_sh
 use Rattle.scr_plan.proofs.ScratchLaws.{cleared_run, cursor_placed, each_painted, grid_is_painted, looks, shown_after}
 use Rattle.scr_plan.specs.Code.Joinings.{joined_at}
 use Rattle.scr_plan.specs.Code.Painters.{part_places}
-use Rattle.scr_plan.specs.Memories.{Agrees, MemoryView}
-use Rattle.scr_plan.specs.MemoryRuns.{KnownMemories}
-use Rattle.scr_plan.specs.Repaints.{JoinedShows, begins_place, blank_column, brief_place, cleared, differing, differs, erased_column, erased_if_worth, is_blank_from, is_idle, is_in_place, is_none_left, is_placed, joined_place, joined_places, joins_left, kept_unless_idle, look_eq, without_idle}
+use Rattle.scr_memory.specs.Memories.{Agrees, MemoryView, is_in_place, is_placed}
+use Rattle.scr_memory.specs.MemoryRuns.{KnownMemories}
+use Rattle.scr_plan.specs.Repaints.{JoinedShows, begins_place, blank_column, brief_place, cleared, differing, differs, erased_column, erased_if_worth, is_blank_from, is_idle, is_none_left, joined_place, joined_places, joins_left, kept_unless_idle, look_eq, without_idle}
 use Rattle.scr_plan.specs.Scratch.{Fits, PlaceIsPainted, RunsToShow, goes, look_at, paints_place, places, places_cursor, renders, resets, row_places}
 
 -- ---- where the rest of a line is erased
@@ -432,13 +431,17 @@ pub had_step : (profile : ProfileView) (s next : TerminalState) (op : Op) (b : B
 had_step profile s next op true e = e
 had_step profile s next op false e = none_is_not next e
 
+guarded : {A : Type 0} (b : Bool) (o : Option A) (x : A) → (if b then o else None) ≡ Some x → o ≡ Some x
+guarded true o x e = e
+guarded false o x e = (cc)
+
 pub idle_same : (profile : ProfileView) (s next : TerminalState) (op : Op) → is_idle s op ≡ true → step profile s op ≡ Some next → next ≡ s
 idle_same profile s next Reset idle e =
-    let done : Acts profile Reset s.grid s.spot s.pen next = acts profile Reset s.grid s.spot s.pen next (had_step profile s next Reset _ e) in
-    λ i. record { grid = done.grid_is i; spot = done.spot_is i; pen = (done.pen_is ∙ sym (plain_is s.pen idle)) i }
+    let after : record s { pen = plain_pen } ≡ next = some_is (record s { pen = plain_pen }) next (had_step profile s next Reset _ e) in
+    sym after ∙ (λ i. record s { pen = sym (plain_is s.pen idle) i })
 idle_same profile s next (Move r c) idle e =
-    let done : Acts profile (Move r c) s.grid s.spot s.pen next = acts profile (Move r c) s.grid s.spot s.pen next (had_step profile s next (Move r c) _ e) in
-    λ i. record { grid = done.grid_is i; spot = (done.spot_is ∙ sym (in_place s.spot r c idle)) i; pen = done.pen_is i }
+    let after : record s { spot = At r c } ≡ next = some_is (record s { spot = At r c }) next (guarded _ _ next (guarded _ _ next (had_step profile s next (Move r c) _ e))) in
+    sym after ∙ (λ i. record s { spot = sym (in_place s.spot r c idle) i })
 idle_same profile s next _ idle e = (cc)
 
 -- a run without its idle steps leads where it leads

@@ -26,7 +26,7 @@ use Rattle.scr_plan.proofs.PlacesLaws.{is_among}
 use Rattle.scr_plan.proofs.PlainLaws.{among_differing, pen_same}
 use Rattle.scr_plan.specs.Code.Joinings.{Continues, CountsAtMost, IsBehind, ShowsRow, counted_up, joined_at}
 use Rattle.scr_plan.specs.Code.Painters.{is_that_pen, painter_begins, painter_look, painter_of, painter_writes, part_places, pen_before, row_differs, row_paints}
-use Rattle.scr_plan.specs.Memories.{MemoryView, is_known}
+use Rattle.scr_memory.specs.Memories.{MemoryView, is_known}
 use Rattle.scr_plan.specs.Repaints.{IsSizeOf, ShowsOutside, begins_place, brief_place, differing, differs, erased_column, is_none_left, joins_left}
 use Rattle.scr_plan.specs.Scratch.{goes, look_at, places, row_places}
 use Rattle.scr_plan.specs.declared.joining.Joining.{Joining}

@@ -27,8 +27,8 @@ use Rattle.scr_plan.proofs.JoinedPriceLaws.{price, price_is, put_price}
 use Rattle.scr_plan.proofs.PlaceLaws.{at_place, begun_run, move_run, one_run, plain, resets_run, then_runs}
 use Rattle.scr_plan.specs.Code.Joinings.{Continues, CountsAtMost, IsCounted, IsJoining, counted_up}
 use Rattle.scr_plan.specs.Code.Painters.{moves_unless_there, painter_begins, painter_leads, painter_of, resets_unless_plain}
-use Rattle.scr_plan.specs.Memories.{IsMemory, MemoryView}
-use Rattle.scr_plan.specs.Repaints.{is_idle, is_in_place, kept_unless_idle, without_idle}
+use Rattle.scr_memory.specs.Memories.{IsMemory, MemoryView, is_in_place}
+use Rattle.scr_plan.specs.Repaints.{is_idle, kept_unless_idle, without_idle}
 use Rattle.scr_plan.specs.Scratch.{enter, goes, look_at, renders, resets, sets_background, sets_foreground}
 use Rattle.scr_plan.specs.declared.joining.Joining.{Joining}
 use Rattle.scr_plan.specs.declared.painting.Painter.{Painter}

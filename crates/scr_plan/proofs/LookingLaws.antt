@@ -20,7 +20,7 @@ use Rattle.scr_plan.proofs.PlainLaws.{both, look_same}
 use Rattle.scr_plan.specs.Code.Joinings.{ShowsRow}
 use Rattle.scr_plan.specs.Code.Looking.{IsRest, differs_in}
 use Rattle.scr_plan.specs.Code.Painters.{painter_look, painter_of, painter_sees, part_places, row_differs, shown_in}
-use Rattle.scr_plan.specs.Memories.{MemoryView}
+use Rattle.scr_memory.specs.Memories.{MemoryView}
 use Rattle.scr_plan.specs.Repaints.{blank_column, differing_from, differs, erased_column, erased_if_worth, is_blank_from, look_eq}
 use Rattle.scr_plan.specs.Scratch.{look_at}
 use Rattle.scr_plan.specs.declared.looking.Rest.{Rest}

@@ -28,13 +28,13 @@ use Rattle.scr_plan.specs.Code.Joinings.{counted_up}
 use Rattle.scr_plan.specs.Code.Moves.{IsBegun, IsMoved, IsSent, IsSlide, Sends, shifted_at, shown_at}
 use Rattle.scr_plan.specs.Code.Painters.{painter_look, painter_of, row_differs, shown_in}
 use Rattle.scr_plan.specs.Code.Settled.{Aims, IsShownRow, Settles, ShowsBeside, SlidesRow, aim_settled, aim_slid, in_first, is_moved, look_from, look_settled, slid_at}
-use Rattle.scr_plan.specs.Memories.{MemoryView, is_known, moves_rows}
+use Rattle.scr_memory.specs.Memories.{MemoryView, is_known, moves_rows}
 use Rattle.scr_plan.specs.Repaints.{IsSizeOf, ShowsOutside, look_eq}
 use Rattle.scr_plan.specs.Scratch.{Fits, look_at}
 use Rattle.scr_plan.specs.declared.painting.Painter.{Painter}
 use Rattle.scr_choices.specs.declared.runs.Run.{Run}
-use Rattle.scr_plan.specs.declared.shifts.Shift.{Shift}
-use Rattle.scr_plan.specs.declared.slides.Slide.{Slide}
+use Rattle.scr_choices.specs.declared.shifts.Shift.{Shift}
+use Rattle.scr_choices.specs.declared.slides.Slide.{Slide}
 use Rattle.scr_plan.specs.declared.strokes.Draft.{Draft}
 
 -- ---- a row is settled

@@ -13,7 +13,7 @@ use Rattle.scr_virtual.specs.VirtualViews.{VirtualView}
 use Rattle.scr_term.specs.declared.operations.operation.Op.{Op}
 use Rattle.scr_term.specs.Operations.Profiles.{ProfileView}
 use Rattle.scr_plan.specs.Code.Painters.{part_places}
-use Rattle.scr_plan.specs.Memories.{MemoryView, is_known, is_known_row}
+use Rattle.scr_memory.specs.Memories.{MemoryView, is_known, is_known_row}
 use Rattle.scr_plan.specs.Repaints.{IsSizeOf, ShowsOutside, differs, look_eq, look_in}
 use Rattle.scr_plan.specs.Scratch.{look_at, places, row_places}
 

@@ -18,8 +18,8 @@ use Rattle.scr_term.specs.Operations.Steps.{runs}
 use Rattle.scr_plan.proofs.PlaceLaws.{plain, resets_run, then_runs}
 use Rattle.scr_plan.proofs.PlacesLaws.{among_places, is_among, is_here, places_inside}
 use Rattle.scr_plan.proofs.ScratchLaws.{cursor_placed, each_painted, grid_is_painted, looks, shown_after}
-use Rattle.scr_plan.specs.Memories.{Agrees, MemoryView, is_known_row}
-use Rattle.scr_plan.specs.Repaints.{differing, differs, is_in_place, is_none_left, is_placed, look_eq, look_in, paints, plain_of}
+use Rattle.scr_memory.specs.Memories.{Agrees, MemoryView, is_in_place, is_known_row, is_placed}
+use Rattle.scr_plan.specs.Repaints.{differing, differs, is_none_left, look_eq, look_in, paints, plain_of}
 use Rattle.scr_plan.specs.Scratch.{Fits, PlaceIsPainted, RunsToShow, look_at, paints_place, places, places_cursor, resets}
 
 -- ---- looks that are found equal are the same

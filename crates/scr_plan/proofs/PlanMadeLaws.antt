@@ -7,9 +7,10 @@ use Rattle.scr_term.specs.declared.operations.operation.Op.{Op}
 use Rattle.scr_term.specs.Operations.Profiles.{ProfileView, IsProfile, abilities}
 use Rattle.scr_term.specs.Operations.Texts.{all_bytes}
 use Rattle.scr_plan.proofs.JoinedPriceLaws.{anew_less, count_fewer, count_is, joined_less, plain_less}
-use Rattle.scr_plan.proofs.MemoryRunLaws.{agrees_itself}
-use Rattle.scr_plan.specs.Memories.{MemoryView, is_known}
-use Rattle.scr_plan.specs.MemoryRuns.{MemoryRuns, PlansAreRemembered}
+use Rattle.scr_plan.proofs.RememberedPlanLaws.{agrees_itself}
+use Rattle.scr_memory.specs.Memories.{MemoryView, is_known}
+use Rattle.scr_memory.specs.MemoryRuns.{MemoryRuns}
+use Rattle.scr_plan.specs.Plans.{PlansAreRemembered}
 use Rattle.scr_plan.specs.Plans.{IsPlan, PlanIsCheap, PlansAreMade}
 use Rattle.scr_plan.specs.Repaints.{JoinedIsCheap, JoinedShows, anew_of, cleared, joined_of}
 use Rattle.scr_plan.specs.Scratch.{Fits, ScratchIsBounded}

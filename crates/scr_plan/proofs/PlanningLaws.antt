@@ -9,8 +9,8 @@ use Rattle.scr_term.specs.declared.operations.operation.Op.TheVariants.{Put}
 use Rattle.scr_term.specs.Operations.Profiles.{ProfileView}
 use Rattle.scr_plan.specs.declared.painting.Painter.{Painter}
 use Rattle.scr_plan.specs.Code.Painters.{painter_of, painter_resets}
-use Rattle.scr_plan.specs.Memories.{MemoryView}
-use Rattle.scr_plan.specs.Repaints.{differing, is_none_left, is_placed}
+use Rattle.scr_memory.specs.Memories.{MemoryView, is_placed}
+use Rattle.scr_plan.specs.Repaints.{differing, is_none_left}
 use Rattle.scr_plan.specs.Scratch.{goes, look_at, paints_place, places, places_cursor, renders, resets, row_places}
 use Rattle.scr_plan.proofs.PartLaws.{row_more}
 

@@ -19,7 +19,7 @@ use Rattle.scr_term.specs.Operations.States.{TerminalState, AreShownColours, IsS
 use Rattle.scr_term.specs.Operations.Steps.{runs}
 use Rattle.scr_term.specs.Operations.Texts.{all_bytes, has}
 use Rattle.scr_plan.proofs.JoinLaws.{cleared_row}
-use Rattle.scr_plan.proofs.MemoryRunLaws.{agrees_itself}
+use Rattle.scr_plan.proofs.RememberedPlanLaws.{agrees_itself}
 use Rattle.scr_plan.proofs.PlaceLaws.{plain_only, then_runs}
 use Rattle.scr_plan.proofs.PlainLaws.{look_same, not_false}
 use Rattle.scr_plan.proofs.RunChangeLaws.{not_in}
@@ -30,8 +30,9 @@ use Rattle.scr_plan.specs.Code.Joinings.{counted_up}
 use Rattle.scr_plan.specs.Code.Moves.{IsChanged, IsMoved}
 use Rattle.scr_plan.specs.Code.Painters.{painter_of, row_differs}
 use Rattle.scr_plan.specs.Code.Planning.{painted_anew}
-use Rattle.scr_plan.specs.Memories.{Agrees, IsMemory, MemoryView, all_followed, is_known}
-use Rattle.scr_plan.specs.MemoryRuns.{KnownMemories, MayBe, MemoryRuns, PlansAreRemembered}
+use Rattle.scr_memory.specs.Memories.{Agrees, IsMemory, MemoryView, all_followed, is_known}
+use Rattle.scr_memory.specs.MemoryRuns.{KnownMemories, MayBe, MemoryRuns}
+use Rattle.scr_plan.specs.Plans.{PlansAreRemembered}
 use Rattle.scr_plan.specs.Plans.{IsPlan}
 use Rattle.scr_plan.specs.Repaints.{JoinedIsCheap, anew_of, joined_of, look_eq}
 use Rattle.scr_plan.specs.Scratch.{Fits, RunsToShow, look_at, resets}

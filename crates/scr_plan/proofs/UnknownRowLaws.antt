@@ -1,8 +1,9 @@
 -- Rows that are not known: they are erased, and all is known then.
-use Rattle.std.proofs.Common.{◌≡◌, ℕ, zero, suc, ◌+◌, ◌<◌, ◌≤◌, ◌==◌, ◌&&◌, ◌||◌, not, leb, ltb, Bool, true, false, refl, sym, ◌∙◌, ap, subst, arith, List, [], ◌∷◌, ◌++◌, get_or, length, set, Option, Some, None, IfSome, Result, Ok, Err, IfOk, option_and_then, replicate, if◌then◌else◌}
+use Rattle.std.proofs.Common.{◌≡◌, ℕ, zero, suc, ◌+◌, ◌<◌, ◌≤◌, ◌==◌, ◌&&◌, ◌||◌, not, leb, ltb, Bool, true, false, refl, sym, ◌∙◌, ap, subst, arith, List, [], ◌∷◌, ◌++◌, cond, get_or, length, set, Option, Some, None, IfSome, Result, Ok, Err, IfOk, option_and_then, replicate, if◌then◌else◌}
 use Rattle.std.specs.List.{list_all}
 use Rattle.std.proofs.lemmas.Bool.Decides.{nat_tests}
 use Rattle.std.proofs.lemmas.List.{append-nil, get_or-set_same}
+use Rattle.std.proofs.lemmas.List.FromFn.{get_or-map-range_with_len}
 use Rattle.scr_cells.specs.Grids.{GridLaws, grid_at, is_in_run}
 use Rattle.scr_cells.specs.LookViews.{LookView, blank}
 use Rattle.scr_cells.specs.PenViews.{PenView, is_plain_pen, plain_pen}
@@ -18,18 +19,16 @@ use Rattle.scr_term.specs.Operations.States.{TerminalState, IsState, erased, fro
 use Rattle.scr_term.specs.Operations.Steps.{act, lines_below_erased, runs, step}
 use Rattle.scr_term.specs.Operations.Texts.{all_bytes, has}
 use Rattle.scr_plan.proofs.DraftLaws.{begins_calm, drawn, weaker, weaker_inside}
-use Rattle.scr_plan.proofs.FollowLaws.{both}
-use Rattle.scr_plan.proofs.MemoryRunLaws.{agrees_itself}
+use Rattle.scr_plan.proofs.RememberedPlanLaws.{agrees_itself}
 use Rattle.scr_plan.proofs.PartLaws.{look_refl}
 use Rattle.scr_plan.proofs.PlaceLaws.{at_place, goes_by, one_run, plain}
-use Rattle.scr_plan.proofs.PlainLaws.{look_same, not_false}
-use Rattle.scr_plan.proofs.RememberedRowLaws.{from_known, from_stays}
+use Rattle.scr_plan.proofs.PlainLaws.{both, look_same, not_false}
 use Rattle.scr_plan.proofs.RunChangeLaws.{not_in}
 use Rattle.scr_plan.specs.Code.Drafts.{AreUnknown, HasChangesIn, HasDiffering, HasUnsettled, HasUnsettledIn, IsAdded, IsPartly, IsRight, Keeps, KeepsAll, KeepsRuns, Knows, Leaves, RightFrom, Wipes, WipesRow, aim_of, in_runs, is_calm, or_below, or_from, or_row, row_wiped, unsettled, wiped}
 use Rattle.scr_plan.specs.Code.Joinings.{counted_up}
 use Rattle.scr_plan.specs.Code.Painters.{painter_begins, painter_of, row_differs}
-use Rattle.scr_plan.specs.Memories.{Agrees, MemoryView, all_followed, changes_cells, clears, followed, has_one_pen, is_known, is_known_row, known_from, moves_rows, places_spot, rows_erased, sets_pen, stepped}
-use Rattle.scr_plan.specs.MemoryRuns.{MayBe, MemoryRuns}
+use Rattle.scr_memory.specs.Memories.{Agrees, MemoryView, all_followed, changes_cells, clears, followed, has_one_pen, is_known, is_known_row, known_from, moves_rows, places_spot, rows_erased, sets_pen, stepped}
+use Rattle.scr_memory.specs.MemoryRuns.{MayBe, MemoryRuns}
 use Rattle.scr_plan.specs.Repaints.{look_eq, look_in}
 use Rattle.scr_plan.specs.Scratch.{Fits, goes, look_at}
 use Rattle.scr_plan.specs.declared.painting.Painter.{Painter}
@@ -39,6 +38,28 @@ use Rattle.scr_plan.specs.declared.strokes.Draft.{Draft}
 never : {R : Type 0} (b : Bool) → b ≡ true → b ≡ false → R
 never true e f = (cc)
 never false e f = (cc)
+
+-- ---- rows that an erasure makes known
+
+from_at : (first : ℕ) (rows : List Bool) (r : ℕ) → r < length rows → get_or (known_from first rows) r false ≡ cond (leb first r) true (get_or rows r false)
+from_at first rows r h = get_or-map-range_with_len (λ k. cond (leb first k) true (get_or rows k false)) 0 (length rows) r r false h (omega arith)
+
+-- a row that is known is there
+there : (rows : List Bool) (r : ℕ) → get_or rows r false ≡ true → r < length rows
+there [] r e = (cc)
+there (row ∷ rows) zero e = omega arith
+there (row ∷ rows) (suc r) e = omega (arith, there rows r e)
+
+-- rows that were known are, and so are those from one on
+from_stays : (first : ℕ) (rows : List Bool) (r : ℕ) → get_or rows r false ≡ true → get_or (known_from first rows) r false ≡ true
+from_stays first rows r e = from_at first rows r (there rows r e) ∙ ap (cond (leb first r) true) e ∙ always (leb first r)
+  where
+    always : (b : Bool) → cond b true true ≡ true
+    always true = refl
+    always false = refl
+
+from_known : (first : ℕ) (rows : List Bool) (r : ℕ) → leb first r ≡ true → r < length rows → get_or (known_from first rows) r false ≡ true
+from_known first rows r low h = from_at first rows r h ∙ ap (λ b. cond b true (get_or rows r false)) low
 
 -- ---- what is known goes on to be known, where the cursor and the pen are
 

@@ -16,8 +16,8 @@ use Rattle.scr_term.specs.Operations.Painted.{painted, seen_on}
 use Rattle.scr_term.specs.Operations.Profiles.{abilities}
 use Rattle.scr_plan.proofs.Rows.{read_any}
 use Rattle.scr_plan.proofs.ScratchLaws.{map_grid_at, map_is_grid}
-use Rattle.scr_plan.specs.Memories.{Agrees, MemoryView, all_followed, disturbed, is_known_row}
-use Rattle.scr_plan.specs.MemoryRuns.{MemoryRuns}
+use Rattle.scr_memory.specs.Memories.{Agrees, MemoryView, all_followed, disturbed, is_known_row}
+use Rattle.scr_memory.specs.MemoryRuns.{MemoryRuns}
 use Rattle.scr_plan.specs.Plans.{UpToDateLaws}
 
 -- ---- rows that are not known

@@ -20,7 +20,7 @@ use Rattle.scr_plan.proofs.PlainLaws.{look_same, not_false}
 use Rattle.scr_plan.proofs.RunLaws.{in_both, or_nothing}
 use Rattle.scr_plan.specs.Code.Drafts.{HasDiffering, HasMarks, IsAdded, KeepsAbove, KeepsAll, KeepsRuns, Leaves, Wipes, aim_of, in_runs, is_in, wiped}
 use Rattle.scr_plan.specs.Code.Painters.{painter_of, row_differs}
-use Rattle.scr_plan.specs.Memories.{moves_rows}
+use Rattle.scr_memory.specs.Memories.{moves_rows}
 use Rattle.scr_plan.specs.Repaints.{look_eq}
 use Rattle.scr_plan.specs.Scratch.{Fits, look_at}
 use Rattle.scr_plan.specs.declared.painting.Painter.{Painter}

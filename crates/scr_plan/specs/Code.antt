@@ -5,5 +5,4 @@ pub mod Looking
 pub mod Moves
 pub mod Painters
 pub mod Planning
-pub mod Remembering
 pub mod Settled

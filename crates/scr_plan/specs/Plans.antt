@@ -1,18 +1,29 @@
 -- What the operations of an update must do, however they are chosen. curs_refresh(3X), doupdate(); X/Open Curses Issue
 -- 7, doupdate().
-use Rattle.std.specs.Prelude.{ℕ, ◌≡◌, ◌≤◌, ◌+◌, ◌*◌, true, false, List, [], length, Some}
-use Rattle.scr_cells.specs.PictureViews.{IsPicture}
+use Rattle.std.specs.Prelude.{ℕ, ◌≡◌, ◌≤◌, ◌+◌, ◌*◌, true, false, List, [], ◌∷◌, ◌++◌, length, Some}
+use Rattle.scr_cells.specs.PictureViews.{PictureView, IsPicture}
 use Rattle.scr_virtual.specs.Laws.{HoldsChanges}
 use Rattle.scr_virtual.specs.VirtualViews.{VirtualView, settled}
 use Rattle.scr_term.specs.declared.operations.operation.Op.{Op}
+use Rattle.scr_term.specs.declared.operations.operation.Op.TheVariants.{Clear}
 use Rattle.scr_term.specs.Operations.Profiles.{ProfileView, IsProfile, abilities}
 use Rattle.scr_term.specs.Operations.States.{TerminalState, IsState}
 use Rattle.scr_term.specs.Operations.Steps.{runs}
 use Rattle.scr_term.specs.Operations.Texts.{all_bytes}
-use Rattle.scr_plan.specs.Memories.{Agrees, MemoryView, all_followed, disturbed, forgotten, is_known, unknown}
-use Rattle.scr_plan.specs.MemoryRuns.{MayBe}
-use Rattle.scr_plan.specs.Repaints.{IsUpToDate, differing, is_none_left, is_placed, joined_of, plain_of, sure_of}
-use Rattle.scr_plan.specs.Scratch.{Fits, RunsToShow, scratch_of}
+use Rattle.scr_memory.specs.Memories.{Agrees, MemoryView, all_followed, disturbed, forgotten, is_known, is_placed, unknown}
+use Rattle.scr_memory.specs.MemoryRuns.{MayBe}
+use Rattle.scr_plan.specs.Repaints.{IsUpToDate, differing, is_none_left, joined_of, plain_of, sure_of}
+use Rattle.scr_plan.specs.Scratch.{Fits, RunsToShow, resets, scratch_of}
+
+-- After attributes off and a clear, all is known, whatever was known before and whatever follows; so it is after
+-- scratch. From every state in which they are defined, the state after them agrees with the memory.
+pub record PlansAreRemembered : Type 0 where
+  pub cleared : (profile : ProfileView) → IsProfile profile → (memory : MemoryView) → MayBe (abilities profile) memory → (new : TerminalState) (ops : List Op)
+      → runs profile memory.state (resets profile ++ Clear ∷ [] ++ ops) ≡ Some new → is_known (all_followed profile (resets profile ++ Clear ∷ [] ++ ops) memory) ≡ true
+  pub agrees : (profile : ProfileView) → IsProfile profile → (memory : MemoryView) → MayBe (abilities profile) memory → (old new : TerminalState) → IsState (abilities profile) old → (ops : List Op)
+      → runs profile old (resets profile ++ Clear ∷ [] ++ ops) ≡ Some new → Agrees (abilities profile) (all_followed profile (resets profile ++ Clear ∷ [] ++ ops) memory) new
+  pub scratch : (profile : ProfileView) → IsProfile profile → (picture : PictureView) → IsPicture picture → Fits profile picture
+      → (memory : MemoryView) → MayBe (abilities profile) memory → is_known (all_followed profile (scratch_of profile picture) memory) ≡ true
 
 -- A plan: operations that are defined and show the picture, from every state that agrees with the memory and, if a
 -- repaint was requested, from every state of the profile. If the remembered state is one of the profile, everything is

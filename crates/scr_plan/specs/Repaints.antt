@@ -10,13 +10,11 @@ use Rattle.scr_virtual.specs.Ranges.{in_range}
 use Rattle.scr_virtual.specs.VirtualViews.{VirtualView, altered_at}
 use Rattle.scr_term.specs.declared.operations.operation.Op.{Op}
 use Rattle.scr_term.specs.declared.operations.operation.Op.TheVariants.{Clear, EraseLine, Move, Put, Reset}
-use Rattle.scr_term.specs.declared.operations.operation.Spot.{Spot}
-use Rattle.scr_term.specs.declared.operations.operation.Spot.TheVariants.{At, Margin}
 use Rattle.scr_term.specs.Operations.Profiles.{ProfileView, IsProfile, abilities}
 use Rattle.scr_term.specs.Operations.States.{TerminalState, IsState, blank_state}
 use Rattle.scr_term.specs.Operations.Steps.{step}
 use Rattle.scr_term.specs.Operations.Texts.{all_bytes, bytes_of, has}
-use Rattle.scr_plan.specs.Memories.{Agrees, MemoryView, is_known, is_known_row, remembered}
+use Rattle.scr_memory.specs.Memories.{Agrees, MemoryView, is_in_place, is_known, is_known_row, is_placed, remembered}
 use Rattle.scr_plan.specs.Scratch.{Fits, RunsToShow, goes, look_at, paints_place, places, places_cursor, renders, resets, scratch_of}
 
 -- ---- what differs
@@ -52,16 +50,6 @@ ShowsOutside ranges profile memory virtual =
 -- Up to date: every known row shows the picture, except in the columns that may look different.
 abbrev pub IsUpToDate : ProfileView → MemoryView → VirtualView → Type 0
 IsUpToDate = ShowsOutside altered_at
-
--- The cursor is in this place.
-abbrev pub is_in_place : Spot → ℕ × ℕ → Bool
-is_in_place (At r c) place = r == place.0 && c == place.1
-is_in_place (Margin r) place = false
-
--- The cursor is known to be at the place it should have, or it may be anywhere.
-abbrev pub is_placed : MemoryView → Option (ℕ × ℕ) → Bool
-is_placed memory None = true
-is_placed memory (Some place) = memory.known_spot && is_in_place memory.state.spot place
 
 -- The list is empty.
 abbrev pub is_none_left : List (ℕ × ℕ) → Bool

@@ -5,15 +5,15 @@ ghost use Rattle.std.specs.List.{flat_map};
 ghost use Rattle.scr_plan.specs.Code.Joinings.{Continues, CountsAtMost, joined_at};
 ghost use Rattle.scr_plan.specs.Code.Painters.{painter_of};
 ghost use Rattle.scr_plan.specs.Code.Planning.{range_by};
-ghost use Rattle.scr_plan.specs.Memories.{is_known};
+ghost use Rattle.scr_memory.specs.Memories.{is_known};
 ghost use Rattle.scr_plan.specs.Repaints.{IsSizeOf, ShowsOutside, cleared, differing, differs, is_none_left, joined_places};
 ghost use Rattle.scr_plan.specs.Scratch.{Fits, places_cursor, resets, row_places};
 
 use crate::joining::Joining;
 use crate::looked::Looked;
-use crate::memories::Memory;
 use crate::painting::Painter;
 use scr_cells::{NoMemory, Picture};
+use scr_memory::Memory;
 use scr_term::{Profile, run_laws};
 use scr_virtual::Virtual;
 

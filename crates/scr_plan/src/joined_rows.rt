@@ -11,7 +11,7 @@ ghost use Rattle.scr_term.specs.Operations.Texts.{has};
 ghost use Rattle.scr_term.specs.Operations.States.{spot_after};
 ghost use Rattle.scr_plan.specs.Code.Joinings.{Continues, IsBehind, ShowsRow, counted_up, joined_at};
 ghost use Rattle.scr_plan.specs.Code.Painters.{is_that_pen, painter_begins, painter_look, painter_of, painter_writes, part_places, pen_before, row_differs, row_paints};
-ghost use Rattle.scr_plan.specs.Memories.{MemoryView};
+ghost use Rattle.scr_memory.specs.Memories.{MemoryView};
 ghost use Rattle.scr_plan.specs.Repaints.{differs, look_eq};
 ghost use Rattle.scr_plan.specs.Scratch.{Fits, row_places};
 

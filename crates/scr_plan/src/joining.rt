@@ -14,9 +14,9 @@ ghost use Rattle.scr_plan.specs.Code.Joinings.{Continues, IsCounted, IsJoining, 
 ghost use Rattle.scr_plan.specs.Code.Painters.{painter_begins, painter_leads, painter_of};
 ghost use Rattle.scr_plan.specs.Scratch.{Fits, look_at, places_cursor, resets};
 
-use crate::memories::Memory;
 use crate::painting::Painter;
 use scr_cells::{NoMemory, Pen, Picture};
+use scr_memory::Memory;
 use scr_term::{Op, Profile, Spot, blank_laws, profiles_have, run_laws};
 
 // A joined repaint that is being made: where it leads so far, how many bytes it has, and its

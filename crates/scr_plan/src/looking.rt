@@ -9,7 +9,7 @@ ghost use Rattle.scr_term.specs.Operations.Texts.{has};
 ghost use Rattle.scr_plan.specs.Code.Joinings.{ShowsRow};
 ghost use Rattle.scr_plan.specs.Code.Looking.{IsRest};
 ghost use Rattle.scr_plan.specs.Code.Painters.{is_that_pen, painter_look, painter_of, painter_sees, row_differs, shown_in};
-ghost use Rattle.scr_plan.specs.Memories.{MemoryView};
+ghost use Rattle.scr_memory.specs.Memories.{MemoryView};
 ghost use Rattle.scr_plan.specs.Repaints.{erased_column, look_eq};
 
 use crate::painting::Painter;

@@ -3,12 +3,13 @@
 ghost use Rattle.std.specs.Prelude.{◌≡◌, ◌++◌, ◌<◌, ◌&&◌, ◌==◌, [], IfOk, OnOk, filter, length, if◌then◌else◌};
 ghost use Rattle.std.specs.List.{flat_map};
 ghost use Rattle.scr_plan.specs.Code.Painters.{painter_differs, painter_paints_place, painter_resets};
-ghost use Rattle.scr_plan.specs.Repaints.{IsSizeOf, is_placed, plain_of};
+ghost use Rattle.scr_memory.specs.Memories.{is_placed};
+ghost use Rattle.scr_plan.specs.Repaints.{IsSizeOf, plain_of};
 ghost use Rattle.scr_plan.specs.Scratch.{Fits, places_cursor, row_places};
 
-use crate::memories::Memory;
 use crate::painting::Painter;
 use scr_cells::{NoMemory, Picture};
+use scr_memory::Memory;
 use scr_term::{Op, Ops, Profile};
 use std::alloc::Global;
 

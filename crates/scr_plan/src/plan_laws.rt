@@ -1,21 +1,21 @@
 //! Laws of painting what differs, as contracts of functions that do nothing.
-ghost use Rattle.scr_plan.specs.Memories.{MemoryLaws};
-ghost use Rattle.scr_plan.specs.Plans.{PlanIsCheap, PlansAreMade, UpToDateLaws};
+ghost use Rattle.scr_plan.specs.Plans.{PlanIsCheap, PlansAreMade, PlansAreRemembered, UpToDateLaws};
 ghost use Rattle.scr_plan.specs.Repaints.{JoinedIsCheap, JoinedShows, PlainShows};
 
-use crate::remembering_laws::{known_memories, memory_runs, plans_are_remembered};
-use crate::scratch_laws::{place_is_painted, scratch_is_bounded};
+use crate::scratch_laws::{place_is_painted, scratch_is_bounded, scratch_shows};
 use scr_cells::{Look, grid_laws};
-use scr_term::{blank_laws, profiles_have, run_laws, steps_keep_states};
+use scr_memory::{known_memories, memory_runs};
+use scr_term::{blank_laws, profiles_have, run_laws};
 
-/// If a state agrees with what is remembered of the terminal and an operation is defined from it,
-/// the state after it agrees with what is remembered then; and if all was known, all is. A mark
-/// makes what others wrote unknown.
-pub fn memory_laws()
-    ensures { MemoryLaws }
+/// If attributes are turned off and the screen is cleared, all is known after whatever is sent
+/// next, whatever was known before. So it is after scratch (curs_refresh(3X), doupdate()).
+pub fn plans_are_remembered()
+    ensures { PlansAreRemembered }
 {
-    steps_keep_states();
-    grid_laws::<Look>();
+    run_laws();
+    profiles_have();
+    memory_runs();
+    scratch_shows();
 }
 
 /// From every state that agrees with what is remembered of the terminal, the plain repaint is

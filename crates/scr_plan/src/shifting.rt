@@ -13,13 +13,12 @@ ghost use Rattle.scr_term.specs.declared.operations.operation.Spot.TheVariants.{
 ghost use Rattle.scr_term.specs.Operations.Texts.{has};
 
 use crate::looked::Looked;
-use crate::memories::Memory;
 use crate::painting::Painter;
-use crate::row_prices::RowPrices;
-use crate::shifts::{Shift, can_shift_some, cheapest_shift};
+use crate::priced_rows::{PricedRows, RememberedRows};
 use crate::strokes::Draft;
 use scr_cells::{Look, NoMemory, Picture, grid_laws};
-use scr_choices::{Cursor, cheapest_motion};
+use scr_choices::{Cursor, Shift, can_shift_some, cheapest_motion, cheapest_shift};
+use scr_memory::Memory;
 use scr_term::{Op, Profile, Spot, run_laws};
 use scr_virtual::Virtual;
 use std::alloc::Global;
@@ -223,6 +222,28 @@ fn shift_of(
     if !can_shift_some(profile.prices()) {
         return Ok(None);
     }
-    let prices = RowPrices::new(painter, profile, wanted.picture());
-    cheapest_shift(alloc, &prices, memory, wanted, by, cursor)
+    let prices = PricedRows::new(painter, profile, wanted.picture());
+    let rows = RememberedRows::new(memory, wanted, by);
+    let shift = cheapest_shift(alloc, &prices, &rows, cursor)?;
+    Ok(if_inside(shift, memory.size().rows))
+}
+
+// A shift, if it is one on a screen of this many rows.
+fn if_inside(shift: Option<Shift>, rows: u32) -> Option<Shift>
+    ensures { IfSome result (IsShift rows) }
+{
+    match shift {
+        Some(shift) if is_inside(shift, rows) => Some(shift),
+        _ => None,
+    }
+}
+
+// Whether a shift is one on a screen of this many rows.
+fn is_inside(shift: Shift, rows: u32) -> bool
+    ensures { result ≡ true → IsShift rows shift }
+{
+    shift.count > 0
+        && shift.end <= rows
+        && shift.top < shift.end
+        && shift.count < shift.end - shift.top
 }

@@ -8,11 +8,12 @@ ghost use Rattle.scr_term.specs.declared.operations.operation.Op.TheVariants.{De
 ghost use Rattle.scr_term.specs.Operations.Texts.{has};
 
 use crate::painting::Painter;
-use crate::row_prices::RowPrices;
-use crate::slides::{DifferingRow, Slide, are_wide, can_slide_some, cheapest_slide};
+use crate::priced_rows::{PricedRows, is_inside};
 use crate::strokes::Draft;
 use scr_cells::{Look, NoMemory, Picture, grid_laws};
-use scr_choices::{Cursor, Run};
+use scr_choices::{
+    Cursor, DifferingRow, RowPrices, Run, Slide, are_wide, can_slide_some, cheapest_slide,
+};
 use scr_term::{Op, Profile, run_laws};
 
 impl Draft {
@@ -108,19 +109,30 @@ pub(crate) fn slide_of(
     if !are_wide(looks, runs) || !can_slide_some(profile.prices()) {
         return Ok(None);
     }
-    let prices = RowPrices::new(painter, profile, picture);
-    let part = DifferingRow::of(&prices, runs);
+    let prices = PricedRows::new(painter, profile, picture);
+    let part = DifferingRow::of(&prices.chooser(), runs);
     let slide = cheapest_slide(&prices, cursor, row, looks, part, room)?;
-    Ok(if_there(profile, slide))
+    Ok(if_there(profile, looks, slide))
 }
 
-// A slide, if the terminal has its operation.
-fn if_there(profile: &Profile, slide: Option<Slide>) -> Option<Slide>
-    ensures slide { (columns : ℕ) → IfSome slide (IsSlide columns) → IfSome result (IsSlide columns) }
+// A slide, if it is one of a row of looks and the terminal has its operation.
+fn if_there(profile: &Profile, looks: &[Look], slide: Option<Slide>) -> Option<Slide>
+    ensures slide { IfSome result (IsSlide (length looks.now)) }
     ensures has { IfSome result (λ slide. has profile.now (op_of slide) ≡ true) }
 {
     match slide {
-        Some(slide) if profile.has(slide.op()) => Some(slide),
+        Some(slide) if is_inside(looks, slide) && profile.has(op_of(slide)) => Some(slide),
         _ => None,
+    }
+}
+
+// The operation of a slide.
+fn op_of(slide: Slide) -> Op
+    ensures { result ≡ op_of slide }
+{
+    if slide.inserts {
+        Op::InsertChars(slide.count)
+    } else {
+        Op::DeleteChars(slide.count)
     }
 }

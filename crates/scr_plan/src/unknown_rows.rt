@@ -5,21 +5,20 @@ ghost use Rattle.std.specs.Prelude.{◌≡◌, ◌+◌, ◌<◌, ◌≤◌, IfOk
 ghost use Rattle.scr_plan.specs.Code.Drafts.{AreUnknown, HasUnsettled, HasUnsettledIn, IsPartly, KeepsRuns, Keeps, Knows, LearnsBelow, LearnsRow, RightFrom, WipesRow, or_below, unsettled};
 ghost use Rattle.scr_plan.specs.Code.Painters.{painter_of};
 ghost use Rattle.scr_plan.specs.Code.Planning.{range_by};
-ghost use Rattle.scr_plan.specs.Memories.{is_known_row};
-ghost use Rattle.scr_plan.specs.MemoryRuns.{MayBe};
+ghost use Rattle.scr_memory.specs.Memories.{is_known_row};
+ghost use Rattle.scr_memory.specs.MemoryRuns.{MayBe};
 ghost use Rattle.scr_plan.specs.Repaints.{IsSizeOf, ShowsOutside};
 ghost use Rattle.scr_plan.specs.Scratch.{Fits};
 ghost use Rattle.scr_term.specs.Operations.Profiles.{abilities};
 
 use crate::looked::Looked;
-use crate::memories::Memory;
 use crate::painting::Painter;
 use crate::planning::room_of;
-use crate::remembering_laws::memory_runs;
 use crate::short_plan::find_in_row;
 use crate::strokes::Draft;
 use scr_cells::{Look, NoMemory, Pen, Picture, grid_laws};
 use scr_choices::Run;
+use scr_memory::{Memory, memory_runs};
 use scr_term::{Op, Profile, Spot, profiles_have, run_laws};
 use scr_virtual::Virtual;
 use std::alloc::Global;

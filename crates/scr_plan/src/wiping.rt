@@ -6,10 +6,10 @@ ghost use Rattle.scr_plan.specs.Scratch.{Fits};
 ghost use Rattle.scr_choices.specs.declared.runs.Run.{Run};
 
 use crate::painting::Painter;
-use crate::remembering_laws::memory_runs;
 use crate::strokes::Draft;
 use scr_cells::{Look, NoMemory, Pen, Picture, grid_laws};
 use scr_choices::{Chooser, Run, Wiping, cheapest_wiping};
+use scr_memory::memory_runs;
 use scr_term::{Op, Profile, Spot, profiles_have, run_laws};
 
 impl Draft {

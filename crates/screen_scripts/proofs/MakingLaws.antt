@@ -9,8 +9,8 @@ use Rattle.scr_term.specs.Operations.Ecma48.{Ecma48Laws}
 use Rattle.scr_term.specs.Operations.Profiles.{ProfileView, abilities}
 use Rattle.scr_term.specs.Operations.Steps.{runs}
 use Rattle.scr_term.specs.Operations.Texts.{all_bytes}
-use Rattle.scr_plan.specs.Memories.{Agrees, MemoryView}
-use Rattle.scr_plan.specs.MemoryRuns.{MemoryRuns}
+use Rattle.scr_memory.specs.Memories.{Agrees, MemoryView}
+use Rattle.scr_memory.specs.MemoryRuns.{MemoryRuns}
 use Rattle.scr_windows.specs.declared.faults.WinFault.{WinFault}
 use Rattle.scr_windows.specs.declared.faults.WinFault.TheVariants as faults
 use Rattle.screen_sessions.specs.declared.answers.Answer.{Answer}

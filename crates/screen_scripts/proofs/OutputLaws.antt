@@ -16,7 +16,7 @@ use Rattle.scr_term.specs.Operations.Texts.{all_bytes}
 use Rattle.scr_term.specs.Ecma.Laws.{ScreensFollowTexts}
 use Rattle.scr_term.specs.Ecma.Meanings.{Leads}
 use Rattle.scr_term.specs.Ecma.Screens.{ScreenView, IsScreen, IsFed}
-use Rattle.scr_plan.specs.Memories.{Agrees, MemoryView, all_followed, disturbed, unknown}
+use Rattle.scr_memory.specs.Memories.{Agrees, MemoryView, all_followed, disturbed, unknown}
 use Rattle.scr_plan.specs.Scratch.{RunsToShow}
 use Rattle.scr_virtual.specs.VirtualViews.{VirtualView}
 use Rattle.screen_sessions.specs.Sessions.{memory_marked}

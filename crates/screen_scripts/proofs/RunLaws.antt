@@ -5,7 +5,7 @@ use Rattle.std.specs.Option.{ForSome}
 use Rattle.std.proofs.lemmas.Bool.Decides.{nat_tests}
 use Rattle.std.proofs.lemmas.List.{append-nil}
 use Rattle.scr_term.specs.Operations.Ecma48.{ecma48_profile}
-use Rattle.scr_plan.specs.Memories.{MemoryView}
+use Rattle.scr_memory.specs.Memories.{MemoryView}
 use Rattle.scr_virtual.specs.VirtualViews.{VirtualView}
 use Rattle.screen_scripts.specs.Commands.{command_of}
 use Rattle.screen_scripts.specs.Lines.{lines_of}

@@ -13,8 +13,8 @@ use Rattle.scr_term.specs.Operations.Laws.{BlankLaws}
 use Rattle.scr_term.specs.Operations.Profiles.{ProfileView, abilities}
 use Rattle.scr_term.specs.Operations.States.{TerminalState, IsState, blank_state}
 use Rattle.scr_term.specs.Ecma.Screens.{ScreenView, IsScreen, blank_screen}
-use Rattle.scr_plan.specs.Memories.{Agrees, MemoryView, unknown}
-use Rattle.scr_plan.specs.MemoryRuns.{MemoryRuns}
+use Rattle.scr_memory.specs.Memories.{Agrees, MemoryView, unknown}
+use Rattle.scr_memory.specs.MemoryRuns.{MemoryRuns}
 use Rattle.scr_windows.specs.DeskViews.{first_desk}
 use Rattle.scr_virtual.specs.VirtualViews.{blank_virtual}
 use Rattle.curses.specs.ScreenStates.{ScreenState}

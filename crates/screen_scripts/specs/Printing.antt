@@ -15,7 +15,7 @@ use Rattle.scr_term.specs.Operations.Profiles.{ProfileView, abilities}
 use Rattle.scr_term.specs.Operations.Painted.{painted}
 use Rattle.scr_term.specs.Operations.States.{TerminalState, IsState}
 use Rattle.scr_term.specs.Operations.Texts.{all_bytes}
-use Rattle.scr_plan.specs.Memories.{MemoryView, all_followed, disturbed, unknown}
+use Rattle.scr_memory.specs.Memories.{MemoryView, all_followed, disturbed, unknown}
 use Rattle.scr_plan.specs.Plans.{IsPlan}
 use Rattle.scr_plan.specs.Scratch.{RunsToShow}
 use Rattle.scr_keys.specs.declared.keys.Key.{Key}

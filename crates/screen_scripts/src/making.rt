@@ -7,7 +7,7 @@ ghost use Rattle.screen_scripts.specs.Showing.{IsQuiet, IsReady, IsRefusalOf, Ob
 use crate::effects::Effects;
 use curses::{Device, Screen};
 use scr_cells::NoMemory;
-use scr_plan::memory_runs;
+use scr_memory::memory_runs;
 use scr_term::ecma48_laws;
 use scr_windows::WinFault;
 use screen_sessions::{Answer, Call, make_call};

@@ -1,6 +1,6 @@
 //! The output of a line: what is written of its effects.
 ghost use Rattle.std.specs.Prelude.{◌≡◌, ◌++◌, not, true, Some, IfOk, OnOk};
-ghost use Rattle.scr_plan.specs.Memories.{MemoryView};
+ghost use Rattle.scr_memory.specs.Memories.{MemoryView};
 ghost use Rattle.scr_term.specs.Operations.Painted.{ShowsNegative};
 ghost use Rattle.scr_virtual.specs.VirtualViews.{VirtualView};
 ghost use Rattle.screen_scripts.specs.Printing.{abilities_for, refusals_of};

@@ -8,7 +8,7 @@ use crate::commands::Command;
 use crate::line_faults::LineFault;
 use curses::Screen;
 use scr_cells::{NoMemory, Size};
-use scr_plan::memory_runs;
+use scr_memory::memory_runs;
 use scr_term::{EcmaScreen, blank_laws, ecma48_laws};
 use std::alloc::Global;
 use ti_caps::bundled;

@@ -4,8 +4,8 @@ use Rattle.scr_term.specs.declared.operations.operation.Op.{Op}
 use Rattle.scr_term.specs.Operations.Profiles.{ProfileView, IsProfile, abilities}
 use Rattle.scr_term.specs.Operations.States.{TerminalState, IsState}
 use Rattle.scr_term.specs.Operations.Steps.{runs}
-use Rattle.scr_plan.specs.Memories.{Agrees, MemoryLaws, MemoryView, disturbed, forgotten, is_known}
-use Rattle.scr_plan.specs.MemoryRuns.{MemoryRuns}
+use Rattle.scr_memory.specs.Memories.{Agrees, MemoryLaws, MemoryView, disturbed, forgotten, is_known}
+use Rattle.scr_memory.specs.MemoryRuns.{MemoryRuns}
 use Rattle.scr_windows.specs.Calls.Reading.{screen_rows_answer, size_answer}
 use Rattle.scr_windows.specs.declared.faults.Win.{Win}
 use Rattle.scr_windows.specs.declared.faults.WinFault.{WinFault}

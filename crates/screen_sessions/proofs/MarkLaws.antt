@@ -4,7 +4,7 @@ use Rattle.std.specs.List.{list_all}
 use Rattle.scr_term.specs.Operations.Abilities.{Abilities}
 use Rattle.scr_term.specs.Operations.Profiles.{ProfileView, abilities}
 use Rattle.scr_term.specs.Operations.States.{TerminalState}
-use Rattle.scr_plan.specs.Memories.{IsDisturbance, MemoryLaws, MemoryView, is_known_row}
+use Rattle.scr_memory.specs.Memories.{IsDisturbance, MemoryLaws, MemoryView, is_known_row}
 use Rattle.screen_sessions.specs.declared.answers.Answer.{Answer}
 use Rattle.screen_sessions.specs.declared.calls.Call.{Call}
 use Rattle.screen_sessions.specs.Sessions.{Drawn, DisturbedRowsHoldAgain, after_call, has_mark, is_marked, is_row_of, is_update, marked_by, memory_behind, memory_marked, memory_updated, remembered_behind}

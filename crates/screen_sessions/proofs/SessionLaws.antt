@@ -13,8 +13,8 @@ use Rattle.scr_term.specs.Operations.Profiles.{ProfileView, IsProfile, abilities
 use Rattle.scr_term.specs.Operations.States.{TerminalState, IsState, negative_state}
 use Rattle.scr_term.specs.Operations.Steps.{runs}
 use Rattle.scr_term.specs.Operations.Texts.{all_bytes}
-use Rattle.scr_plan.specs.Memories.{Agrees, MemoryView, is_known, remembered}
-use Rattle.scr_plan.specs.MemoryRuns.{KnownMemories, MemoryRuns}
+use Rattle.scr_memory.specs.Memories.{Agrees, MemoryView, is_known, remembered}
+use Rattle.scr_memory.specs.MemoryRuns.{KnownMemories, MemoryRuns}
 use Rattle.scr_plan.specs.Plans.{IsPlan}
 use Rattle.scr_plan.specs.Repaints.{joined_of}
 use Rattle.scr_plan.specs.Scratch.{RunsToShow}
@@ -321,7 +321,7 @@ one_more laws acts remembers profile first begun calls answers call answer old n
         let few : length (all_bytes profile (begun_of answer)) ≤ length (all_bytes profile (joined_of profile old.memory old.virtual.picture)) =
         subst (λ p. length (all_bytes p (begun_of answer)) ≤ length (all_bytes p (joined_of p old.memory old.virtual.picture))) is.same (plan.joined knows.memory paint) in
         let known : joined_of profile old.memory old.virtual.picture ≡ joined_of profile (remembered profile.rows profile.columns state) old.virtual.picture =
-        remembers.joined profile old.memory state old.virtual.picture (subst (Agrees (abilities profile) old.memory) same reached.agrees) knows.memory in
+        ap (λ m. joined_of profile m old.virtual.picture) (remembers.is (abilities profile) old.memory state (subst (Agrees (abilities profile) old.memory) same reached.agrees) knows.memory) in
         let less : length (all_bytes profile (begun_of answer)) ≤ length (all_bytes profile (joined_of profile (remembered profile.rows profile.columns state) old.virtual.picture)) =
         subst (λ ops. length (all_bytes profile (begun_of answer)) ≤ length (all_bytes profile ops)) known few in
         omega (arith, bytes, less)

@@ -4,7 +4,7 @@ use Rattle.screen_sessions.specs.declared.answers.Answer.{Answer}
 use Rattle.screen_sessions.specs.declared.calls.Call.{Call}
 use Rattle.curses.specs.ScreenStates.{ScreenState}
 use Rattle.screen_sessions.specs.Sessions.{Drawn, IsAnswer, after_call, begun_of, count_of, is_cut, is_unfinished, is_update, knows_after, memory_behind, tells_sent}
-use Rattle.scr_plan.specs.Memories.{Agrees, is_known}
+use Rattle.scr_memory.specs.Memories.{Agrees, is_known}
 use Rattle.scr_plan.specs.Plans.{IsPlan}
 use Rattle.scr_term.specs.Operations.Profiles.{abilities}
 use Rattle.scr_term.specs.Operations.States.{TerminalState}

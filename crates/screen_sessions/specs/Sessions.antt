@@ -20,7 +20,7 @@ use Rattle.scr_virtual.specs.VirtualViews.{VirtualView, blank_virtual, settled}
 use Rattle.scr_virtual.specs.Pairs.{set_pair_call}
 use Rattle.scr_virtual.specs.Taking.{take_pad_call, take_window_call}
 use Rattle.scr_windows.specs.Calls.Reading.{screen_rows_answer, size_answer}
-use Rattle.scr_plan.specs.Memories.{Agrees, IsDisturbance, MemoryView, all_followed, disturbed, is_known, remembered, unknown}
+use Rattle.scr_memory.specs.Memories.{Agrees, IsDisturbance, MemoryView, all_followed, disturbed, is_known, remembered, unknown}
 use Rattle.scr_plan.specs.Plans.{IsPlan}
 use Rattle.scr_plan.specs.Repaints.{joined_of}
 use Rattle.scr_keys.specs.Tables.{too_long}

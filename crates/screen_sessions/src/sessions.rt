@@ -10,7 +10,7 @@ use crate::answers::{Answer, done_answer};
 use crate::calls::{Call, make_window_call};
 use curses::{Counted, OpenFault, Screen};
 use scr_cells::{NoMemory, Size};
-use scr_plan::{known_memories, memory_laws, memory_runs};
+use scr_memory::{known_memories, memory_laws, memory_runs};
 use scr_term::{bytes_act_as_their_operations, run_laws};
 use std::alloc::Global;
 use std::marker::Model;

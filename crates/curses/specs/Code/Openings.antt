@@ -4,7 +4,7 @@ use Rattle.ti_caps.specs.Description.{Description}
 use Rattle.scr_term.specs.Operations.Profiles.{ProfileView}
 use Rattle.scr_windows.specs.DeskViews.{first_desk}
 use Rattle.scr_virtual.specs.VirtualViews.{blank_virtual}
-use Rattle.scr_plan.specs.Memories.{unknown}
+use Rattle.scr_memory.specs.Memories.{unknown}
 use Rattle.scr_keys.specs.Readers.{ReaderView}
 use Rattle.scr_keys.specs.Tables.{AreKeysOf}
 use Rattle.curses.specs.ScreenStates.{ScreenState}

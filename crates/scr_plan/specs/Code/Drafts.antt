@@ -14,8 +14,8 @@ use Rattle.scr_term.specs.Operations.Steps.{runs}
 use Rattle.scr_term.specs.Operations.Texts.{all_bytes, has}
 use Rattle.scr_plan.specs.Code.Joinings.{counted_up}
 use Rattle.scr_plan.specs.Code.Painters.{row_differs}
-use Rattle.scr_plan.specs.Memories.{Agrees, MemoryView, all_followed, is_known, is_known_row, moves_rows}
-use Rattle.scr_plan.specs.MemoryRuns.{MayBe}
+use Rattle.scr_memory.specs.Memories.{Agrees, MemoryView, all_followed, is_known, is_known_row, moves_rows}
+use Rattle.scr_memory.specs.MemoryRuns.{MayBe}
 use Rattle.scr_plan.specs.Repaints.{look_eq, look_in}
 use Rattle.scr_plan.specs.Scratch.{look_at}
 use Rattle.scr_plan.specs.declared.painting.Painter.{Painter}

@@ -11,8 +11,8 @@ use Rattle.scr_term.specs.declared.operations.operation.Op.{Op}
 use Rattle.scr_term.specs.declared.operations.operation.Op.TheVariants.{Move, Put, Reset}
 use Rattle.scr_term.specs.declared.operations.operation.Spot.{Spot}
 use Rattle.scr_term.specs.Operations.Profiles.{ProfileView, has_colours, is_there, shown_set}
-use Rattle.scr_plan.specs.Memories.{MemoryView, is_known_row}
-use Rattle.scr_plan.specs.Repaints.{is_in_place, look_eq, look_in}
+use Rattle.scr_memory.specs.Memories.{MemoryView, is_in_place, is_known_row}
+use Rattle.scr_plan.specs.Repaints.{look_eq, look_in}
 use Rattle.scr_plan.specs.Scratch.{renders}
 use Rattle.scr_plan.specs.declared.painting.Painter.{Painter}
 

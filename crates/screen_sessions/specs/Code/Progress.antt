@@ -11,7 +11,7 @@ use Rattle.screen_sessions.specs.declared.answers.Answer.TheVariants.{Nothing}
 use Rattle.screen_sessions.specs.declared.calls.Call.TheVariants.{Doupdate}
 use Rattle.screen_sessions.specs.declared.answers.Answer.{Answer}
 use Rattle.screen_sessions.specs.declared.calls.Call.{Call}
-use Rattle.scr_plan.specs.Memories.{Agrees, MemoryView}
+use Rattle.scr_memory.specs.Memories.{Agrees, MemoryView}
 use Rattle.screen_sessions.specs.Making.{Knows, drawn_of}
 use Rattle.curses.specs.ScreenStates.{ScreenState}
 use Rattle.screen_sessions.specs.declared.sessions.Report.{Report}

@@ -1,6 +1,6 @@
 use Rattle.std.proofs.Common.{arith, inl, option_map, filter}
 use Rattle.std.specs.List.{flat_map}
-use Rattle.scr_plan.specs.Memories.{MemoryView}
+use Rattle.scr_memory.specs.Memories.{MemoryView}
 use Rattle.scr_plan.specs.Code.Joinings.{Continues, ShowsRow, joined_at}
 use Rattle.scr_plan.specs.Repaints.{differs}
 use Rattle.scr_plan.specs.Scratch.{row_places}

@@ -4,7 +4,7 @@ use Rattle.scr_cells.specs.CellViews.{blank_cell}
 use Rattle.scr_cells.specs.Grids.{grid_at}
 use Rattle.scr_cells.specs.LookViews.{blank}
 use Rattle.scr_plan.specs.Code.Painters.{painter_differs, painter_paints, painter_paints_place, painter_sees}
-use Rattle.scr_plan.specs.Memories.{is_known_row}
+use Rattle.scr_memory.specs.Memories.{is_known_row}
 use Rattle.scr_plan.specs.Repaints.{look_eq, look_in}
 use Rattle.scr_plan.specs.Scratch.{row_places}
 use Rattle.scr_plan.proofs.PartLaws.{one_place, part_more}

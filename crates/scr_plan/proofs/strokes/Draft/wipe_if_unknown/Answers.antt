@@ -1,6 +1,6 @@
 use Rattle.std.proofs.Common.{rules, ◌+◌}
 use Rattle.scr_plan.specs.Code.Drafts.{Keeps, Knows, LearnsRow, WipesRow, or_below, unsettled}
-use Rattle.scr_plan.specs.Memories.{is_known_row}
+use Rattle.scr_memory.specs.Memories.{is_known_row}
 use Rattle.scr_plan.proofs.UnknownRowLaws.{below_more, if_ok_then, knows_weaker, unknown_wiped}
 use Rattle.scr_plan.proofs.strokes.Draft.wipe_if_unknown.Goals as goal
 

@@ -1,6 +1,6 @@
 use Rattle.std.proofs.Common.{sym}
 use Rattle.scr_plan.specs.Code.Drafts.{Keeps, Knows, LearnsFrom, Wipes, or_below, unsettled}
-use Rattle.scr_plan.specs.Memories.{is_known_row}
+use Rattle.scr_memory.specs.Memories.{is_known_row}
 use Rattle.scr_plan.proofs.UnknownRowLaws.{if_ok_then, knows_kept, knows_weaker, rest_more, rest_wiped}
 use Rattle.scr_plan.proofs.strokes.Draft.wipe_rest.Goals as goal
 

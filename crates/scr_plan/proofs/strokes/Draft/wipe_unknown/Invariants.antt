@@ -1,5 +1,5 @@
 use Rattle.scr_plan.specs.Code.Drafts.{Keeps, Knows, or_below, unsettled}
-use Rattle.scr_plan.specs.Memories.{is_known_row}
+use Rattle.scr_memory.specs.Memories.{is_known_row}
 use Rattle.scr_plan.proofs.strokes.Draft.wipe_unknown.Given as goal
 
 abbrev pub invariant-loop-row : goal.invariant-loop-row

@@ -1,0 +1,322 @@
+//! The search for rows that moved: which block of rows is to be shifted, and by how many rows.
+//! Prices alone decide, and the choice affects nothing but the number of bytes of an update.
+
+use crate::blanks::is_blank;
+use crate::counts::Counts;
+use crate::motions::cheapest_motion;
+use crate::rows::{KnownRows, RowPrices, price_over, price_over_known};
+use crate::samples::{Distance, Samples, are_worth_looking, can_shift, most_votes};
+use crate::slides::are_blank;
+use crate::ways::Cursor;
+use scr_cells::NoMemory;
+use scr_term::{FAR, Op, Prices, Spot};
+use std::alloc::Global;
+
+// How many bytes a shift has to save, at least.
+const WORTH: i64 = 4;
+
+// Blocks that save so much less than the one that saves most are not priced: their shifts are not
+// likely to cost so much less.
+const FAR_LESS: i64 = 64;
+
+/// Rows `top..end` that move up or down by `count` among themselves; the rows left free are blank.
+/// Rows count from 0 at the top.
+#[derive(Clone, Copy)]
+pub struct Shift {
+    /// The first of these rows.
+    pub top: u32,
+    /// The row behind the last one.
+    pub end: u32,
+    /// By how many rows they move.
+    pub count: u32,
+    /// Whether they move up.
+    pub up: bool,
+}
+
+/// The shift that saves most, if one saves enough. Fails only when memory runs out.
+#[inline(never)]
+pub fn cheapest_shift<P: RowPrices, R: KnownRows>(
+    alloc: Global,
+    prices: &P,
+    rows: &R,
+    cursor: &Cursor,
+) -> Result<Option<Shift>, NoMemory> {
+    if !are_worth_looking(prices, rows) {
+        return Ok(None);
+    }
+    let samples = Samples::of(alloc, prices, rows)?;
+    let Some(distance) = most_votes(prices, rows, &samples) else {
+        return Ok(None);
+    };
+    let last = with_blank_rows(prices, samples.last);
+    let blocks = Blocks {
+        prices,
+        rows,
+        cursor: *cursor,
+        distance,
+        first: samples.first,
+        last,
+    };
+    let lines = Lines::of(alloc, &blocks)?;
+    Ok(blocks.best(&lines))
+}
+
+/// Whether the terminal can shift any rows.
+pub fn can_shift_some(prices: &Prices) -> bool {
+    can_shift(prices, 1) || can_shift(prices, 2)
+}
+
+// The last row of the screen if all rows below one are blank, else that row.
+fn with_blank_rows<P: RowPrices>(prices: &P, last: u32) -> u32 {
+    let chooser = prices.chooser();
+    let rows = chooser.picture.size().rows;
+    for row in last.saturating_add(1)..rows {
+        if !is_blank(&chooser, chooser.cells(row)) {
+            return last;
+        }
+    }
+    rows.saturating_sub(1)
+}
+
+// What is compared of a row: what it saves by being painted over the row that comes there, and what
+// all rows before it save by being painted over blanks.
+#[derive(Clone, Copy)]
+struct Line {
+    gain: i64,
+    saved: i64,
+}
+
+// What is compared of the rows that blocks may lie in, and behind them what all of them save.
+#[derive(Drop)]
+struct Lines(Vec<Line>);
+
+impl Lines {
+    // Of the rows that blocks may lie in.
+    fn of<P: RowPrices, R: KnownRows>(
+        alloc: Global,
+        blocks: &Blocks<'_, P, R>,
+    ) -> Result<Lines, NoMemory> {
+        let (first, end) = (blocks.first, blocks.last.saturating_add(1));
+        let count = end.saturating_sub(first).saturating_add(1);
+        let mut lines = Vec::with_capacity(alloc, count as usize)?;
+        let mut saved = 0i64;
+        for row in first..end {
+            let (gain, fresh) = blocks.savings(row);
+            lines.push(Line { gain, saved })?;
+            saved = saved.wrapping_add(fresh);
+        }
+        lines.push(Line { gain: 0, saved })?;
+        Ok(Lines(lines))
+    }
+
+    // How many rows there are.
+    fn count(&self) -> usize {
+        self.0.len().saturating_sub(1)
+    }
+
+    // What the row in a place saves by being painted over the row that comes there.
+    #[inline(always)]
+    fn gain(&self, place: usize) -> i64 {
+        if place < self.0.len() {
+            self.0[place].gain
+        } else {
+            0
+        }
+    }
+
+    // What the rows before a place save by being painted over blanks.
+    #[inline(always)]
+    fn saved(&self, place: usize) -> i64 {
+        if place < self.0.len() {
+            self.0[place].saved
+        } else {
+            0
+        }
+    }
+}
+
+// What blocks of rows are compared by: where they may lie, and by how many rows they move.
+#[derive(Drop)]
+struct Blocks<'a, P: RowPrices, R: KnownRows> {
+    prices: &'a P,
+    rows: &'a R,
+    cursor: Cursor,
+    distance: Distance,
+    first: u32,
+    last: u32,
+}
+
+// The best block so far, and what it saves; and the most that any block saves, without what its
+// shift costs. Blocks that save less than `least` of that are not priced.
+#[derive(Clone, Copy)]
+struct Best {
+    shift: Option<Shift>,
+    saved: i64,
+    most: i64,
+    least: i64,
+}
+
+impl<P: RowPrices, R: KnownRows> Blocks<'_, P, R> {
+    // The best block. First that is found which saves most, then those near it are priced.
+    fn best(&self, lines: &Lines) -> Option<Shift> {
+        let most = self.best_from(lines, i64::MAX).most;
+        self.best_from(lines, most.saturating_sub(FAR_LESS)).shift
+    }
+
+    // The best block of those that save so much.
+    fn best_from(&self, lines: &Lines, least: i64) -> Best {
+        if self.distance.up {
+            self.best_up(lines, least)
+        } else {
+            self.best_down(lines, least)
+        }
+    }
+
+    // The best block that moves up. For each last row that gets another's looks, the first one is
+    // the best there is; the blank rows come in below.
+    fn best_up(&self, lines: &Lines, least: i64) -> Best {
+        let count = self.distance.count as usize;
+        let mut best = Best::none(least);
+        let mut top = 0usize;
+        let mut sum = 0i64;
+        for place in 0..lines.count().saturating_sub(count) {
+            if sum <= 0 {
+                sum = 0;
+                top = place;
+            }
+            sum = sum.wrapping_add(lines.gain(place));
+            let behind = place + 1;
+            let end = behind.saturating_add(count);
+            let fresh = lines.saved(end).wrapping_sub(lines.saved(behind));
+            best = self.better(best, top, end, sum.wrapping_add(fresh));
+        }
+        best
+    }
+
+    // The best block that moves down. The blank rows come in above.
+    fn best_down(&self, lines: &Lines, least: i64) -> Best {
+        let count = self.distance.count as usize;
+        let mut best = Best::none(least);
+        let mut top = 0usize;
+        let mut sum = 0i64;
+        for place in count..lines.count() {
+            let above = place.saturating_sub(count);
+            let fresh = lines.saved(place).wrapping_sub(lines.saved(above));
+            if place == count || sum <= fresh {
+                sum = fresh;
+                top = above;
+            }
+            sum = sum.wrapping_add(lines.gain(place));
+            best = self.better(best, top, place + 1, sum);
+        }
+        best
+    }
+
+    // What a row saves by being painted over the row that comes there, and over blanks. Where that
+    // row is just what is wanted, the places that differ are counted, and runs are not looked for.
+    fn savings(&self, row: u32) -> (i64, i64) {
+        let prices = self.prices;
+        let chooser = prices.chooser();
+        let coming = match self.distance.source(row) {
+            Some(source) => self.rows.looks(source),
+            None => &[],
+        };
+        if prices.is_shown(row, coming) {
+            let counts = Counts::of(self.rows.looks(row), coming);
+            let cost = i64::from(counts.price(&chooser));
+            return (cost, cost - i64::from(counts.price_on_blanks(&chooser)));
+        }
+        let cost = i64::from(price_over_known(prices, self.rows, row));
+        let blank = chooser.price_on_blanks(row);
+        let over = if coming.is_empty() {
+            0
+        } else if are_blank(coming) {
+            blank
+        } else {
+            price_over(prices, row, coming)
+        };
+        (cost - i64::from(over), cost - i64::from(blank))
+    }
+
+    // The better of the best block so far and one that saves so much, without what its shift costs.
+    #[inline(always)]
+    fn better(&self, best: Best, top: usize, end: usize, saved: i64) -> Best {
+        let mut best = best;
+        best.most = best.most.max(saved);
+        if saved < best.least || saved <= best.saved {
+            return best;
+        }
+        self.priced(best, self.row_in(top), self.row_in(end), saved)
+    }
+
+    // The row in a place.
+    fn row_in(&self, place: usize) -> u32 {
+        self.first.saturating_add(place.min(FAR as usize) as u32)
+    }
+
+    // The better of the best block so far and one whose shift is priced.
+    #[inline(never)]
+    fn priced(&self, best: Best, top: u32, end: u32, saved: i64) -> Best {
+        let shift = Shift {
+            top,
+            end,
+            count: self.distance.count,
+            up: self.distance.up,
+        };
+        let saved = saved.saturating_sub(i64::from(self.price_of_shift(shift)));
+        if saved <= best.saved {
+            return best;
+        }
+        let mut best = best;
+        best.shift = Some(shift);
+        best.saved = saved;
+        best
+    }
+
+    // The price of a shift: of the turn to a plain pen, and of its motions and operations.
+    fn price_of_shift(&self, shift: Shift) -> u32 {
+        let turn = self.prices.chooser().price_of_reset(self.cursor.pen);
+        let spot = self.cursor.spot;
+        let inner = shift.end.saturating_sub(shift.count);
+        let deleted = Op::DeleteLines(shift.count);
+        let inserted = Op::InsertLines(shift.count);
+        let is_last = shift.end >= self.rows.count();
+        let steps = if shift.up {
+            let first = self.price_of_step(spot, shift.top, deleted);
+            if is_last {
+                first
+            } else {
+                first.saturating_add(self.price_of_step(Spot::At(shift.top, 0), inner, inserted))
+            }
+        } else if is_last {
+            self.price_of_step(spot, shift.top, inserted)
+        } else {
+            self.price_of_step(spot, inner, deleted).saturating_add(self.price_of_step(
+                Spot::At(inner, 0),
+                shift.top,
+                inserted,
+            ))
+        };
+        turn.saturating_add(steps)
+    }
+
+    // The price of going to the first column of a row, and of an operation there.
+    fn price_of_step(&self, spot: Spot, row: u32, op: Op) -> u32 {
+        let chooser = self.prices.chooser();
+        cheapest_motion(chooser.prices, spot, row, 0)
+            .price
+            .saturating_add(chooser.prices.of(op))
+    }
+}
+
+impl Best {
+    // No block yet: the first has to save enough.
+    fn none(least: i64) -> Best {
+        Best {
+            shift: None,
+            saved: WORTH - 1,
+            most: 0,
+            least,
+        }
+    }
+}

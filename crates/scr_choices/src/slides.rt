@@ -1,0 +1,270 @@
+//! The search for characters of a row that moved along it. Prices alone decide, and the choice
+//! affects nothing but the number of bytes of an update.
+ghost use Rattle.std.specs.Prelude.{◌≡◌, ◌+◌, ◌≤◌, length, true};
+
+use crate::blanks::is_blank;
+use crate::motions::cheapest_motion;
+use crate::rows::{RowPrices, price_over};
+use crate::runs::{How, Run};
+use crate::ways::{Chooser, Cursor};
+use scr_cells::{Cell, Look, NoMemory};
+use scr_term::{FAR, Op, Prices};
+
+// How many columns have to lie from the first to the last place of a row that differs, at least.
+const WORTH_LOOKING: u32 = 6;
+
+// How many places in a row are looked for.
+const PATTERN: usize = 12;
+
+// How many bytes a slide has to save, at least.
+const WORTH: i64 = 4;
+
+/// Places of a row from a column on that move by `count`: to the right, where blanks are inserted,
+/// or to the left, where characters are deleted.
+#[derive(Clone, Copy)]
+pub struct Slide {
+    /// The first of these columns, counted from 0.
+    pub column: u32,
+    /// By how many columns they move.
+    pub count: u32,
+    /// Whether blanks are inserted.
+    pub inserts: bool,
+}
+
+// The price of a slide's operation.
+fn price_of_operation(prices: &Prices, slide: Slide) -> u32 {
+    if slide.inserts {
+        prices.of(Op::InsertChars(slide.count))
+    } else {
+        prices.of(Op::DeleteChars(slide.count))
+    }
+}
+
+/// Whether the terminal can slide any characters.
+pub fn can_slide_some(prices: &Prices) -> bool {
+    least_operation(prices) < FAR
+}
+
+// The least price of an operation that slides characters.
+fn least_operation(prices: &Prices) -> u32 {
+    prices
+        .of(Op::InsertChars(1))
+        .min(prices.of(Op::DeleteChars(1)))
+        .min(prices.of(Op::DeleteChars(2)))
+}
+
+/// The places of a row that differ: where they begin, and the price of the row.
+#[derive(Clone, Copy)]
+pub struct DifferingRow {
+    start: u32,
+    price: u32,
+}
+
+impl DifferingRow {
+    /// The places that differ of a row with these runs.
+    pub fn of(chooser: &Chooser<'_>, runs: &[Run]) -> DifferingRow {
+        let start = match runs.first() {
+            Some(run) => run.start,
+            None => 0,
+        };
+        let mut price = 0u32;
+        for run in runs {
+            price = price.saturating_add(chooser.price_as_it_stands(run));
+        }
+        DifferingRow { start, price }
+    }
+}
+
+/// Whether it is far enough from the first place that differs to the last, where a row shows
+/// `looks`; `runs` are all of its runs over them.
+pub fn are_wide(looks: &[Look], runs: &[Run]) -> bool {
+    match (runs.first(), runs.last()) {
+        (Some(first), Some(last)) => {
+            end_of_differing(looks, last).saturating_sub(first.start) >= WORTH_LOOKING
+        }
+        _ => false,
+    }
+}
+
+/// The slide of a row that saves most, if one saves enough. The row shows `looks`; `part` is what
+/// differs of it. `room` is for a row that is put together. Fails only when memory runs out.
+#[inline(never)]
+pub fn cheapest_slide<P: RowPrices>(
+    prices: &P,
+    cursor: &Cursor,
+    row: u32,
+    looks: &[Look],
+    part: DifferingRow,
+    room: &mut Vec<Look>,
+) -> Result<Option<Slide>, NoMemory> {
+    let price = price_without_way(prices, cursor, row, part);
+    if price < i64::from(least_operation(prices.chooser().prices)).saturating_add(WORTH) {
+        return Ok(None);
+    }
+    better_slide(prices, row, looks, part.start, price, room)
+}
+
+// The better of inserting at a column and deleting there, if one saves enough. `price` is that of
+// the row without a slide, less that of going there.
+fn better_slide<P: RowPrices>(
+    prices: &P,
+    row: u32,
+    looks: &[Look],
+    column: u32,
+    price: i64,
+    room: &mut Vec<Look>,
+) -> Result<Option<Slide>, NoMemory> {
+    let inserting = insertion(prices, row, looks, column);
+    let inserted = saved_by(prices, row, looks, price, inserting, room)?;
+    let deleting = deletion(prices, row, looks, column);
+    let deleted = saved_by(prices, row, looks, price, deleting, room)?;
+    if inserted < WORTH && deleted < WORTH {
+        return Ok(None);
+    }
+    Ok(if deleted > inserted {
+        deleting
+    } else {
+        inserting
+    })
+}
+
+// The end of the places that differ of a run, the last one of a row that shows `looks`.
+fn end_of_differing(looks: &[Look], run: &Run) -> u32 {
+    if !matches!(run.how, How::EraseLine) {
+        return run.end;
+    }
+    for behind in 0..looks.len() {
+        let column = looks.len() - 1 - behind;
+        if looks[column] != Look::blank() {
+            return column.min(FAR as usize) as u32 + 1;
+        }
+    }
+    run.start
+}
+
+// The price of a row as it stands, less that of going to the first of its places that differ with a
+// plain pen.
+fn price_without_way<P: RowPrices>(
+    prices: &P,
+    cursor: &Cursor,
+    row: u32,
+    part: DifferingRow,
+) -> i64 {
+    let chooser = prices.chooser();
+    let turn = chooser.price_of_reset(cursor.pen);
+    let motion = cheapest_motion(chooser.prices, cursor.spot, row, part.start).price;
+    i64::from(part.price) - i64::from(turn) - i64::from(motion)
+}
+
+// The slide to the right that brings the first places from a column on to where they are wanted,
+// if they are. At least as many places are moved as are inserted: where fewer are, tmux (3.3) leaves
+// places between unchanged that terminfo(5) wants blank.
+fn insertion<P: RowPrices>(prices: &P, row: u32, looks: &[Look], column: u32) -> Option<Slide> {
+    let chooser = prices.chooser();
+    let cells = chooser.cells(row);
+    let from = column as usize;
+    if looks.len() != cells.len() || !has_places(looks.len(), from) {
+        return None;
+    }
+    if are_blank(&looks[from..from + PATTERN]) {
+        return None;
+    }
+    let byte = looks[from].byte();
+    for at in from + 1..cells.len() - (PATTERN - 1) {
+        if at - from > cells.len() - at {
+            return None;
+        }
+        if cells[at].byte() == byte && are_seen(prices, looks, from, cells, at) {
+            return Some(slide_from(column, at - from, true));
+        }
+    }
+    None
+}
+
+// The slide to the left that brings places to where they are wanted from a column on, if they are
+// in the row.
+fn deletion<P: RowPrices>(prices: &P, row: u32, looks: &[Look], column: u32) -> Option<Slide> {
+    let chooser = prices.chooser();
+    let cells = chooser.cells(row);
+    let from = column as usize;
+    if looks.len() != cells.len() || !has_places(looks.len(), from) {
+        return None;
+    }
+    if is_blank(&chooser, &cells[from..from + PATTERN]) {
+        return None;
+    }
+    let byte = cells[from].byte();
+    for at in from + 1..looks.len() - (PATTERN - 1) {
+        if looks[at].byte() == byte && are_seen(prices, looks, at, cells, from) {
+            return Some(slide_from(column, at - from, false));
+        }
+    }
+    None
+}
+
+// Whether a row of so many columns has all places that are looked for.
+fn has_places(columns: usize, from: usize) -> bool
+    ensures { result ≡ true → from + 12 ≤ columns }
+{
+    columns >= PATTERN && from <= columns - PATTERN
+}
+
+// A slide from a column on.
+fn slide_from(column: u32, count: usize, inserts: bool) -> Slide {
+    Slide {
+        column,
+        count: count.min(FAR as usize) as u32,
+        inserts,
+    }
+}
+
+// Whether looks from a column on are what is seen of cells from another on.
+fn are_seen<P: RowPrices>(
+    prices: &P,
+    looks: &[Look],
+    from: usize,
+    cells: &[Cell],
+    at: usize,
+) -> bool
+    requires looks { from + 12 ≤ length looks.now }
+    requires cells { at + 12 ≤ length cells.now }
+{
+    for place in 0..PATTERN {
+        if !prices.is_seen(looks[from + place], cells[at + place]) {
+            return false;
+        }
+    }
+    true
+}
+
+// Whether looks are all blank.
+pub(crate) fn are_blank(looks: &[Look]) -> bool {
+    for look in looks {
+        if *look != Look::blank() {
+            return false;
+        }
+    }
+    true
+}
+
+// What a slide saves; 0 if there is none, or not enough to be worth it. `price` is that of the row
+// without the slide, less that of going there.
+fn saved_by<P: RowPrices>(
+    prices: &P,
+    row: u32,
+    looks: &[Look],
+    price: i64,
+    slide: Option<Slide>,
+    room: &mut Vec<Look>,
+) -> Result<i64, NoMemory> {
+    let Some(slide) = slide else {
+        return Ok(0);
+    };
+    let operation = price_of_operation(prices.chooser().prices, slide);
+    let left = price.saturating_sub(i64::from(operation));
+    if left < WORTH {
+        return Ok(0);
+    }
+    prices.slide_into(room, looks, slide)?;
+    Ok(left.saturating_sub(i64::from(price_over(prices, row, room))))
+}

@@ -1,0 +1,6 @@
+pub mod ActLaws
+pub mod FollowLaws
+pub mod FollowingLaws
+pub mod MemoryRunLaws
+pub mod MemoryViewLaws
+pub mod RememberedRowLaws

@@ -1,0 +1,12 @@
+use Rattle.std.proofs.Common.{◌∙◌, sym}
+use Rattle.scr_term.specs.Operations.Profiles.{abilities}
+use Rattle.scr_term.specs.Operations.Steps.{step}
+use Rattle.scr_memory.proofs.MemoryViewLaws.{learnt}
+use Rattle.scr_memory.proofs.memories.Memory.follow.Goals as goal
+
+pub returns-then-step : goal.returns-then-step
+returns-then-step c =
+    let profile = c.args.profile.now in
+    let old = c.args.self.now in
+    c.learn.ensures
+    ∙ learnt (abilities profile) c.args.op old c.step.new.self (step profile old.state c.args.op) (sym c.step.ensures.answer ∙ c.if-step.true) c.step.ensures.state

@@ -1,0 +1,2 @@
+-- Definitions that only private functions use. Nobody has to read them to know what the library does.
+pub mod Remembering

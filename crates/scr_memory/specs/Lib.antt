@@ -1,0 +1,3 @@
+pub mod Code
+pub mod Memories
+pub mod MemoryRuns

@@ -1,5 +1,0 @@
-use Rattle.std.proofs.Common.{rules}
-use Rattle.scr_plan.proofs.memories.Memory.forget_spot_and_pen.Goals as goal
-
-pub returns : goal.returns
-returns c = search rules

@@ -1,5 +1,0 @@
-use Rattle.std.proofs.Common.{rules}
-use Rattle.scr_plan.proofs.memories.Memory.learn_rows.Goals as goal
-
-pub returns-else-loses_rows : goal.returns-else-loses_rows
-returns-else-loses_rows c = search rules
