@@ -11,6 +11,7 @@ use crate::failures::Failure;
 use crate::messages::Message;
 use crate::typing::{take_byte, update};
 use curses::{Device, EcmaScreen, Entry, Screen, Size, bundled};
+use program_input::{InputFault, read_input};
 use screen_scripts::print_screen;
 use std::alloc::Global;
 use std::io::Write;
@@ -83,8 +84,32 @@ fn size_of(words: &str) -> Option<Size> {
     Size::new(rows.parse::<u32>().ok()?, columns.parse::<u32>().ok()?)
 }
 
-/// Runs a script on the editor, and prints what it shows.
-pub(crate) fn run_script(
+/// Runs the editor of a file by a script from standard input, and prints what the terminal shows. What keys ask for is
+/// done as on a terminal, but the editor is not suspended and goes on where it would be left.
+///
+/// Refused with the number of the first line that is no command, if the script cannot be read or is not UTF-8 text, if
+/// nothing can be printed, or if memory runs out.
+pub fn edit_by_script(rt: &HostRuntime, path: &str, editor: &mut Editor) -> Result<(), Failure> {
+    match read_input(rt.alloc(), &mut rt.reader()) {
+        Ok(bytes) => run_bytes(rt, path, &bytes, editor),
+        Err(InputFault::Failed) => Err(Failure::Input),
+        Err(InputFault::NoMemory) => Err(Failure::NoMemory),
+    }
+}
+
+fn run_bytes(
+    rt: &HostRuntime,
+    path: &str,
+    script: &[u8],
+    editor: &mut Editor,
+) -> Result<(), Failure> {
+    match str::from_utf8(script) {
+        Ok(script) => run_script(rt, path, script, editor),
+        Err(_) => Err(Failure::NotText),
+    }
+}
+
+fn run_script(
     rt: &HostRuntime,
     path: &str,
     script: &str,

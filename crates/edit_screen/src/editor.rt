@@ -33,7 +33,7 @@ pub(crate) enum Request {
 
 /// A text that is edited, and the place where.
 #[derive(Drop)]
-pub(crate) struct Editor {
+pub struct Editor {
     /// The file's name, as it is shown.
     pub(crate) name: Vec<u8>,
     pub(crate) text: Text,
@@ -72,7 +72,7 @@ impl Editor {
     }
 
     /// Whether the text was changed since it was saved.
-    pub(crate) fn is_changed(&self) -> bool {
+    pub fn is_changed(&self) -> bool {
         self.text.version() != self.saved
     }
 

@@ -1,4 +1,4 @@
-//! Why the program ends without having done what it was asked for.
+//! Why the editor ends without having done what it was asked for.
 
 use crate::saving::ReadFault;
 use curses::{CapFault, NoMemory, OpenFault};
@@ -7,19 +7,28 @@ use std::fmt::{self, Display, Formatter};
 use thiserror::Error;
 use ti_database::DatabaseFault;
 
-/// Why the program ends with a status other than 0.
+/// Why the editor ends without having done what it was asked for.
 #[derive(Debug, Drop, Error)]
-pub(crate) enum Failure {
+pub enum Failure {
+    /// Memory ran out.
     NoMemory,
+    /// The file cannot be read.
     File(ReadFault),
+    /// `TERM` is not set, or is not text.
     NoTerm,
+    /// The terminal's entry cannot be read.
     Entry(DatabaseFault),
+    /// There is no screen for the entry.
     Screen(#[from] OpenFault),
+    /// The terminal takes no output.
     Output,
+    /// The terminal cannot be read.
     Input,
+    /// The input has ended.
     Ended,
+    /// The words of the command line, or the script, are not UTF-8 text.
     NotText,
-    // The line of a script, counted from 1.
+    /// This line of a script, counted from 1, is no command.
     BadLine(u32),
 }
 

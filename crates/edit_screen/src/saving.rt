@@ -1,26 +1,34 @@
 //! Files: reading one, and saving a text so that no failure loses what the file had.
 
+use crate::editor::Editor;
 use edit_text::Text;
 use program_input::{InputFault, read_input};
 use std::fs::{File, OpenOptions};
 use std::io::{ErrorKind, Write};
 use std::{fs, io};
 
+/// How often it is tried to save a text that would be lost, where memory runs out.
+const MOST_RESCUES: u32 = 3;
+
 /// How many names are tried for a text that would be lost.
 const MOST_RECOVERED: u32 = 100;
 
 /// Why a file was not opened.
 #[derive(Clone, Copy, Debug, PartialEq, Eq)]
-pub(crate) enum ReadFault {
+pub enum ReadFault {
+    /// It is a device, a pipe or a folder.
     NotFile,
+    /// It cannot be opened.
     Closed,
+    /// It cannot be read, or is too long.
     Failed,
+    /// Memory ran out.
     NoMemory,
 }
 
 impl ReadFault {
     /// What is said of a file that was not opened.
-    pub(crate) fn words(self) -> &'static str {
+    pub fn words(self) -> &'static str {
         match self {
             ReadFault::NotFile => "not a regular file",
             ReadFault::Closed => "cannot be opened",
@@ -32,20 +40,26 @@ impl ReadFault {
 
 /// Why a text was not saved. The file has what it had.
 #[derive(Clone, Copy, Debug, PartialEq, Eq)]
-pub(crate) enum SaveFault {
+pub enum SaveFault {
+    /// Memory ran out.
     NoMemory,
-    // The new file beside the old one is there already.
+    /// The new file beside the old one is there already.
     IsThere,
+    /// The file may not be written.
     ReadOnly,
+    /// The name is a link to a file that is not there.
     BrokenLink,
+    /// No file can be made beside it.
     CannotCreate,
+    /// The new file cannot be written.
     WriteFailed,
+    /// The new file cannot take the name of the old one.
     RenameFailed,
 }
 
 impl SaveFault {
     /// What is said of a text that was not saved.
-    pub(crate) fn words(self) -> &'static str {
+    pub fn words(self) -> &'static str {
         match self {
             SaveFault::NoMemory => "out of memory",
             SaveFault::IsThere => "there is a file of this name with .new behind it",
@@ -96,9 +110,24 @@ fn save_bytes(rt: &HostRuntime, path: &str, bytes: &[u8]) -> Result<(), SaveFaul
     }
 }
 
-/// Saves a text that would be lost: beside the file, with `.recovered` behind its name, or `.recovered.1` and so on if
-/// that is there. Gives the name.
-pub(crate) fn save_beside(rt: &HostRuntime, path: &str, text: &Text) -> Result<String, SaveFault> {
+/// Saves the text of an editor that has ended, which would be lost: beside the file, with `.recovered` behind its name,
+/// or `.recovered.1` and so on if that is there. Gives the name.
+///
+/// Refused if memory runs out, if all of a hundred names are there, or if no file can be made or written beside the
+/// file.
+pub fn rescue(rt: &HostRuntime, path: &str, editor: &Editor) -> Result<String, SaveFault> {
+    // The screen's memory is free by now, so where there was none it tries again.
+    for _ in 1..MOST_RESCUES {
+        match save_beside(rt, path, &editor.text) {
+            Err(SaveFault::NoMemory) => {}
+            saved => return saved,
+        }
+    }
+    save_beside(rt, path, &editor.text)
+}
+
+// Saves a text beside the file, and gives the name.
+fn save_beside(rt: &HostRuntime, path: &str, text: &Text) -> Result<String, SaveFault> {
     match text.bytes(rt.alloc()) {
         Ok(bytes) => save_bytes_beside(rt, path, &bytes),
         Err(_) => Err(SaveFault::NoMemory),

@@ -1,0 +1,24 @@
+//! A text editor on a screen: what each key does to the text of a file, how the text is shown, and how it is saved. It
+//! runs on a terminal, or by a script on an emulated one.
+#![tactic(auto)]
+
+mod answering;
+mod commands;
+mod drawing;
+mod editor;
+mod failures;
+mod living;
+mod messages;
+mod opening;
+mod saving;
+mod scripts;
+mod sequences;
+mod terminals;
+mod typing;
+mod view;
+
+pub use editor::Editor;
+pub use failures::Failure;
+pub use saving::{ReadFault, SaveFault, rescue};
+pub use scripts::edit_by_script;
+pub use terminals::edit_on_terminal;
