@@ -12,7 +12,6 @@ mod operation_lines;
 mod painting_lines;
 mod picture_lines;
 mod plain_lines;
-mod plain_screen;
 mod screen_lines;
 mod script_lines;
 mod subjects;

@@ -25,7 +25,7 @@ enum Found {
 
 /// How a text ends: behind a unit, within one, or with something undefined, behind the last good unit.
 #[derive(Clone, Copy, PartialEq, Eq)]
-pub enum End {
+pub(crate) enum End {
     Whole,
     Waiting,
     Undefined,
@@ -33,7 +33,7 @@ pub enum End {
 
 /// A screen that reads texts.
 #[derive(Drop)]
-pub struct PlainScreen {
+pub(crate) struct PlainScreen {
     rows: u32,
     columns: u32,
     // The bytes of all places, row by row, each with what it was written with.
@@ -46,7 +46,7 @@ pub struct PlainScreen {
 
 impl PlainScreen {
     /// A blank screen with the cursor at the first place.
-    pub fn blank(alloc: Global, size: Size) -> Result<PlainScreen, Trouble> {
+    pub(crate) fn blank(alloc: Global, size: Size) -> Result<PlainScreen, Trouble> {
         let mut places = Vec::new(alloc);
         let count = size.rows.saturating_mul(size.columns);
         for _ in 0..count {
@@ -63,7 +63,7 @@ impl PlainScreen {
     }
 
     /// Reads a text up to the first thing that is undefined, and tells how it ends.
-    pub fn read(&mut self, text: &[u8]) -> End {
+    pub(crate) fn read(&mut self, text: &[u8]) -> End {
         let mut rest = text;
         // Each unit has a byte.
         for _ in 0..text.len() {
@@ -85,7 +85,7 @@ impl PlainScreen {
     }
 
     /// Whether an emulated screen shows the same, with the cursor there and the same pen.
-    pub fn is_state_of(&self, screen: &EcmaScreen) -> bool {
+    pub(crate) fn is_state_of(&self, screen: &EcmaScreen) -> bool {
         let spot = match self.place() {
             Some((row, column)) => Spot::At(row, column),
             None => Spot::Margin(self.row),
