@@ -1,13 +1,11 @@
 //! Sessions that are made up: what a program does between two updates with windows, a pad, colours, marks and wishes.
 
-use crate::answers::ends_in_no_memory;
-use crate::changing::next_change;
-use crate::generating::{next_call, next_window};
-use crate::recorded::Recorded;
 use check_scripts::buffers::Buffer;
 use check_scripts::random::Random;
 use check_scripts::troubles::Trouble;
+use checked_calls::{next_call, next_change, next_window};
 use curses::Screen;
+use recorded_sessions::{Recorded, ends_in_no_memory};
 use scr_cells::{Attrs, Size};
 use scr_windows::Win;
 use screen_sessions::Call;

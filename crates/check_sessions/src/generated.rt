@@ -1,54 +1,18 @@
 //! Generated calls on a screen, and generated updates.
 
-use crate::answers::{ends_in_no_memory, ran_out};
-use crate::changing::next_change;
 use crate::entries::read_entry;
-use crate::families::Families;
-use crate::generating::{COLUMNS, ROWS, next_call, next_fails, next_window};
-use crate::laws::Before;
-use crate::recorded::Recorded;
-use crate::writers::Fails;
 use check_scripts::answers::{add_number, add_word, read_size};
 use check_scripts::buffers::Buffer;
 use check_scripts::random::Random;
 use check_scripts::troubles::Trouble;
 use check_scripts::words::Words;
+use checked_calls::{COLUMNS, ROWS, Seen, next_call, next_change, next_window};
+use recorded_sessions::{Fails, Recorded, ends_in_no_memory, ran_out};
 use scr_cells::Size;
 use scr_windows::Win;
 use screen_sessions::{Answer, Call};
 use std::alloc::Global;
 use std::io::Write;
-
-// What is seen of the windows behind each call.
-#[derive(Drop)]
-struct Seen {
-    families: Families,
-    before: Before,
-}
-
-impl Seen {
-    fn new(alloc: Global) -> Seen {
-        Seen {
-            families: Families::new(alloc),
-            before: Before::new(alloc),
-        }
-    }
-
-    // What is wrong behind the last call, which answered so.
-    fn trouble_of(
-        &mut self,
-        opened: &Recorded,
-        answered: &Answer,
-    ) -> Result<Option<&'static str>, Trouble> {
-        let Some(call) = opened.last_call() else {
-            return Ok(None);
-        };
-        let screen = &opened.screen;
-        self.families.follow(screen, call, answered)?;
-        self.before
-            .trouble_of(screen, &self.families, call, answered)
-    }
-}
 
 // What is made up.
 #[derive(Clone, Copy)]
@@ -120,15 +84,14 @@ fn make_all(
     opened: &mut Recorded,
     made: Made,
     count: u32,
-    random: Random,
+    mut random: Random,
     came: &mut Buffer,
 ) -> Result<(), Trouble> {
+    let mut seen = Seen::new(alloc);
     let mut answer = Buffer::new(alloc);
-    if make_each(alloc, opened, made, count, random, &mut answer, came)? {
-        opened.add_session(came)
-    } else {
-        Ok(())
-    }
+    let (seen, answer) = (&mut seen, &mut answer);
+    let are_well = make_each(alloc, opened, made, count, seen, &mut random, answer, came);
+    end_all(opened, are_well, came)
 }
 
 // Makes so many steps, and tells whether all are as they have to be. Adds what is not.
@@ -137,26 +100,51 @@ fn make_each(
     opened: &mut Recorded,
     made: Made,
     count: u32,
-    mut random: Random,
+    seen: &mut Seen,
+    random: &mut Random,
     answer: &mut Buffer,
     came: &mut Buffer,
 ) -> Result<bool, Trouble> {
-    let mut seen = Seen::new(alloc);
     for number in 0..count {
         answer.clear();
-        let is_well = step(alloc, opened, made, &mut seen, &mut random, answer)?;
-        answer.done()?;
-        if ends_in_no_memory(answer) {
-            add_word("NoMemory", came);
-            return Ok(false);
-        }
-        if !is_well {
-            add_number(i64::from(number), came);
-            came.extend(answer.bytes());
+        let is_well = step(alloc, opened, made, seen, random, answer)?;
+        if !add_step(number, is_well, answer, came)? {
             return Ok(false);
         }
     }
     Ok(true)
+}
+
+// Tells whether a step is as it has to be and there was memory for it. Adds what is not.
+fn add_step(
+    number: u32,
+    is_well: bool,
+    answer: &Buffer,
+    came: &mut Buffer,
+) -> Result<bool, Trouble> {
+    answer.done()?;
+    if ends_in_no_memory(answer) {
+        add_word("NoMemory", came);
+        return Ok(false);
+    }
+    if !is_well {
+        add_number(i64::from(number), came);
+        came.extend(answer.bytes());
+    }
+    Ok(is_well)
+}
+
+// Makes all calls again by one session, where all steps were as they have to be.
+fn end_all(
+    opened: &Recorded,
+    are_well: Result<bool, Trouble>,
+    came: &mut Buffer,
+) -> Result<(), Trouble> {
+    if are_well? {
+        opened.add_session(came)
+    } else {
+        Ok(())
+    }
 }
 
 // Makes the next step, and tells whether an update in it is as it has to be.
@@ -183,21 +171,56 @@ fn make_call(
     answer: &mut Buffer,
 ) -> Result<bool, Trouble> {
     if random.below(5) == 0 {
-        let taking = Call::Noutrefresh(next_window(&opened.screen, random));
-        opened.call(taking, answer)?;
-        return opened.update(next_fails(random), answer);
+        return update_any(opened, random, answer);
     }
+    seen.keep(&opened.screen)?;
     let call = next_call(alloc, &opened.screen, random)?;
-    seen.before.keep(&opened.screen, &seen.families)?;
     let answered = opened.answered(call, answer)?;
-    if ran_out(&answered) {
+    add_trouble(opened, seen, &answered, answer)
+}
+
+// Takes a window, and makes an update.
+fn update_any(
+    opened: &mut Recorded,
+    random: &mut Random,
+    answer: &mut Buffer,
+) -> Result<bool, Trouble> {
+    let taking = Call::Noutrefresh(next_window(&opened.screen, random));
+    opened.call(taking, answer)?;
+    opened.update(next_fails(random), answer)
+}
+
+// Tells whether all is as it has to be behind the last call, which answered so, and adds what is not. A call that got
+// no memory is not looked at.
+fn add_trouble(
+    opened: &Recorded,
+    seen: &mut Seen,
+    answered: &Answer,
+    answer: &mut Buffer,
+) -> Result<bool, Trouble> {
+    let Some(call) = opened.last_call() else {
+        return Ok(true);
+    };
+    if ran_out(answered) {
         return Ok(true);
     }
-    let trouble = seen.trouble_of(opened, &answered)?;
+    let trouble = seen.trouble_of(&opened.screen, call, answered)?;
     if let Some(words) = trouble {
         add_word(words, answer);
     }
     Ok(trouble.is_none())
+}
+
+// How the writer fails in the next update: usually not, or only after the last byte.
+fn next_fails(random: &mut Random) -> Fails {
+    let most = if random.below(2) == 0 { 60 } else { 700 };
+    let behind = random.below(most);
+    match random.below(8) {
+        0 | 1 => Fails::Behind(behind),
+        2 => Fails::StuckBehind(behind),
+        3 => Fails::Flushed,
+        _ => Fails::Never,
+    }
 }
 
 // Makes a few changes and an update.
@@ -235,15 +258,19 @@ fn write_as_others(
     answer: &mut Buffer,
 ) -> Result<(), Trouble> {
     let row = random.below(opened.profile.size().rows);
-    let number = row.saturating_add(1);
     let mut text = Buffer::new(alloc);
-    let written = write!(text.vector(), "\x1b[{number}H");
-    text.check(written.is_ok());
-    if opened.profile.can_reset() {
-        text.extend(b"\x1b[7;32m");
-    }
-    text.extend(b"?");
+    add_others(row, opened.profile.can_reset(), &mut text);
     text.done()?;
     opened.others(text.bytes(), answer);
     opened.call(Call::RedrawLines(Win(0), row, 1), answer)
+}
+
+fn add_others(row: u32, can_reset: bool, text: &mut Buffer) {
+    let number = row.saturating_add(1);
+    let written = write!(text.vector(), "\x1b[{number}H");
+    text.check(written.is_ok());
+    if can_reset {
+        text.extend(b"\x1b[7;32m");
+    }
+    text.extend(b"?");
 }

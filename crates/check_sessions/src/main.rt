@@ -6,32 +6,15 @@
 //! terminal, or the operations, where an entry can insert and delete lines and characters.
 #![tactic(auto)]
 
-mod answers;
-mod bounds;
-mod calls;
-mod changing;
 mod composing;
-mod cuts;
-mod displays;
+mod cut_sessions;
 mod dumps;
-mod emulated;
-mod ends;
 mod entries;
-mod every_cut;
-mod families;
 mod generated;
-mod generating;
-mod laws;
-mod listed;
 mod moving;
-mod read_arguments;
-mod recorded;
 mod refusals;
-mod shown;
 mod shown_lines;
 mod subjects;
-mod window_lines;
-mod writers;
 
 use check_scripts::checking::check_input;
 use std::process::ExitCode;

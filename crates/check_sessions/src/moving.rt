@@ -1,19 +1,17 @@
 //! Screens of entries that can insert and delete some of lines and characters, and updates that move these.
 
-use crate::answers::ends_in_no_memory;
-use crate::recorded::Recorded;
-use crate::writers::Fails;
 use check_scripts::answers::{add_number, add_word, read_size};
 use check_scripts::buffers::Buffer;
 use check_scripts::random::Random;
 use check_scripts::troubles::Trouble;
 use check_scripts::words::Words;
+use recorded_sessions::{Fails, MOVING_TEXTS, Recorded, ends_in_no_memory};
 use scr_cells::{Attrs, Size};
 use scr_term::Op;
 use scr_windows::Win;
 use screen_sessions::Call;
 use std::alloc::Global;
-use ti_caps::{Bytes, CapFault, Entry, Slot, bundled, slots};
+use ti_caps::{Bytes, CapFault, Entry, Slot, bundled};
 
 const ROWS: u32 = 12;
 
@@ -22,22 +20,11 @@ const COLUMNS: u32 = 40;
 // The window that is changed.
 const FIRST: Win = Win(0);
 
-/// The texts that insert and delete lines and characters.
-pub const TEXTS: [(Slot, &[u8]); 7] = [
-    (slots::IL1, b"\x1b[L"),
-    (slots::IL, b"\x1b[%p1%dL"),
-    (slots::DL1, b"\x1b[M"),
-    (slots::DL, b"\x1b[%p1%dM"),
-    (slots::ICH, b"\x1b[%p1%d@"),
-    (slots::DCH1, b"\x1b[P"),
-    (slots::DCH, b"\x1b[%p1%dP"),
-];
-
 // How many subsets there are of these texts.
 const SUBSETS: u32 = 128;
 
 // The words that rows are made of.
-const WORDS: [&[u8]; 8] = [
+static WORDS: [&[u8]; 8] = [
     b"alpha ",
     b"be ",
     b"gamma delta ",
@@ -111,15 +98,16 @@ fn open_subset(
 
 fn entry_of(alloc: Global, subset: u32) -> Result<Entry, CapFault> {
     let mut entry = bundled(alloc)?;
-    add_texts(&mut entry, subset)?;
+    add_texts(&mut entry, &MOVING_TEXTS, subset)?;
     Ok(entry)
 }
 
-fn add_texts(entry: &mut Entry, subset: u32) -> Result<(), CapFault> {
+// Adds the texts of a subset.
+fn add_texts(entry: &mut Entry, texts: &[(Slot, &[u8])], subset: u32) -> Result<(), CapFault> {
     let mut left = subset;
-    for (slot, text) in TEXTS {
+    for (slot, text) in texts {
         if left % 2 == 1 {
-            entry.set_text(slot, Some(text))?;
+            entry.set_text(*slot, Some(*text))?;
         }
         left /= 2;
     }
@@ -137,11 +125,23 @@ fn make_all(
     came: &mut Buffer,
 ) -> Result<bool, Trouble> {
     let mut answer = Buffer::new(alloc);
-    fill(alloc, opened, &mut random, &mut answer)?;
+    make_each(alloc, opened, count, &mut random, moved, &mut answer, came)
+}
+
+fn make_each(
+    alloc: Global,
+    opened: &mut Recorded,
+    count: u32,
+    random: &mut Random,
+    moved: &mut u32,
+    answer: &mut Buffer,
+    came: &mut Buffer,
+) -> Result<bool, Trouble> {
+    fill(alloc, opened, random, answer)?;
     for number in 0..count {
         answer.clear();
-        let is_well = update(alloc, opened, &mut random, &mut answer)?;
-        if !is_well || ends_in_no_memory(&answer) {
+        let is_well = update(alloc, opened, random, answer)?;
+        if !is_well || ends_in_no_memory(answer) {
             add_number(i64::from(number), came);
             came.extend(answer.bytes());
             return Ok(false);
@@ -150,8 +150,13 @@ fn make_all(
             *moved = moved.saturating_add(1);
         }
     }
+    add_session(opened, answer, came)
+}
+
+// Makes all calls again by one session, and tells whether that agrees. Adds what does not.
+fn add_session(opened: &Recorded, answer: &mut Buffer, came: &mut Buffer) -> Result<bool, Trouble> {
     answer.clear();
-    opened.add_session(&mut answer)?;
+    opened.add_session(answer)?;
     let agrees = answer.bytes().ends_with(b" agrees");
     if !agrees {
         came.extend(answer.bytes());

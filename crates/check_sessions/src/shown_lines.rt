@@ -1,8 +1,6 @@
 //! Lines about what the terminal shows, and what it is to show.
 ghost use Rattle.std.specs.Prelude.{◌≡◌};
 
-use crate::emulated::Emulated;
-use crate::recorded::Recorded;
 use check_scripts::answers::{
     add_cell, add_look, add_name, add_number, add_place, add_text, add_text_of, add_text_shown,
     add_word, read_size,
@@ -11,6 +9,7 @@ use check_scripts::buffers::Buffer;
 use check_scripts::texts::write_byte;
 use check_scripts::troubles::Trouble;
 use check_scripts::words::Words;
+use recorded_sessions::{Emulated, Recorded};
 use scr_cells::{Attrs, NoMemory, Picture, Size};
 use scr_memory::Memory;
 use scr_plan::{plan, up_to_date_laws};

@@ -1,23 +1,19 @@
 //! What the lines of a script work on: one screen with its terminal, from the line that opens it on.
 
-use crate::answers::add_count;
-use crate::calls::call_of;
+use crate::cut_sessions::check_every_cut;
 use crate::dumps::dump_recorded;
-use crate::ends::read_end;
 use crate::entries::read_entry;
-use crate::every_cut::{check_cuts, check_every_cut};
 use crate::generated::{check_generated, check_updates};
 use crate::moving::{check_moving, open_moving};
-use crate::recorded::Recorded;
 use crate::refusals::add_refusal;
 use crate::shown_lines::{answer_of_shown, check_changed};
-use crate::window_lines::answer_of_windows;
-use crate::writers::Fails;
 use check_scripts::answers::{add_word, read_size};
 use check_scripts::buffers::{Buffer, are_same};
 use check_scripts::checking::Subject;
 use check_scripts::troubles::Trouble;
 use check_scripts::words::Words;
+use checked_calls::{answer_of_windows, call_of};
+use recorded_sessions::{Fails, Recorded, add_count, check_cuts, read_end};
 use scr_windows::Win;
 use screen_sessions::Call;
 use std::alloc::Global;
@@ -27,7 +23,7 @@ use ti_caps::Bytes;
 const FIRST: Win = Win(0);
 
 // The lines that leave the screen as it is.
-const ALONE: [&str; 8] = [
+static ALONE: [&str; 8] = [
     "changed",
     "cuts",
     "every_cut",
@@ -59,13 +55,10 @@ impl Subject for SessionSubject {
     fn answer(&mut self, words: &mut Words<'_>, came: &mut Buffer) {
         let (alloc, word) = (self.alloc, words.name());
         let done = match word {
-            "screen" => open(alloc, &mut self.opened, words, came),
-            "drawn" => open_drawn(alloc, &mut self.opened, words, came),
-            "moving" => open_moving(alloc, &mut self.opened, words, came),
-            "every_cut" => check_every_cut(alloc, &mut self.tried, words, came),
-            "generated" => check_generated(alloc, &mut self.tried, words, came),
-            "updates" => check_updates(alloc, &mut self.tried, words, came),
-            "moving_updates" => check_moving(alloc, &mut self.tried, words, came),
+            "screen" | "drawn" | "moving" => open_by(alloc, &mut self.opened, word, words, came),
+            "every_cut" | "generated" | "updates" | "moving_updates" => {
+                try_many(alloc, &mut self.tried, word, words, came)
+            }
             "changed" => check_changed(alloc, words, came),
             "refusal" => {
                 add_refusal(alloc, words, came);
@@ -87,11 +80,47 @@ impl Subject for SessionSubject {
     }
 
     fn leaves_all(word: &[u8]) -> bool {
-        let mut leaves = false;
-        for name in ALONE {
-            leaves = leaves || word == name.as_bytes();
+        has_name(&ALONE, word)
+    }
+}
+
+fn has_name(names: &[&str], word: &[u8]) -> bool {
+    for name in names {
+        if word == name.as_bytes() {
+            return true;
         }
-        leaves
+    }
+    false
+}
+
+// Opens a screen as a line says.
+fn open_by(
+    alloc: Global,
+    opened: &mut Option<Recorded>,
+    word: &str,
+    words: &mut Words<'_>,
+    came: &mut Buffer,
+) -> Result<(), Trouble> {
+    match word {
+        "screen" => open(alloc, opened, words, came),
+        "drawn" => open_drawn(alloc, opened, words, came),
+        _ => open_moving(alloc, opened, words, came),
+    }
+}
+
+// Tries many calls at once, on a screen of their own.
+fn try_many(
+    alloc: Global,
+    tried: &mut Option<Recorded>,
+    word: &str,
+    words: &mut Words<'_>,
+    came: &mut Buffer,
+) -> Result<(), Trouble> {
+    match word {
+        "every_cut" => check_every_cut(alloc, tried, words, came),
+        "generated" => check_generated(alloc, tried, words, came),
+        "updates" => check_updates(alloc, tried, words, came),
+        _ => check_moving(alloc, tried, words, came),
     }
 }
 

@@ -1,7 +1,6 @@
 //! Calls that are made up, mostly of windows that are there and with arguments that fit them.
 
 use crate::calls::{Arguments, NAMES, call_of};
-use crate::writers::Fails;
 use check_scripts::random::Random;
 use check_scripts::troubles::Trouble;
 use curses::Screen;
@@ -31,18 +30,6 @@ impl About {
         let win = next_window(screen, random);
         let (rows, columns) = screen.size(win).unwrap_or((ROWS, COLUMNS));
         About { win, rows, columns }
-    }
-}
-
-/// How the writer fails in the next update: usually not, or only after the last byte.
-pub fn next_fails(random: &mut Random) -> Fails {
-    let most = if random.below(2) == 0 { 60 } else { 700 };
-    let behind = random.below(most);
-    match random.below(8) {
-        0 | 1 => Fails::Behind(behind),
-        2 => Fails::StuckBehind(behind),
-        3 => Fails::Flushed,
-        _ => Fails::Never,
     }
 }
 

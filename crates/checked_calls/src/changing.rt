@@ -27,19 +27,23 @@ pub fn next_change(alloc: Global, size: Size, random: &mut Random) -> Result<Cal
     })
 }
 
-// A word of some characters, one character or blank many times, or a page.
 fn next_text(alloc: Global, size: Size, random: &mut Random) -> Result<Bytes, Trouble> {
     let mut text = Vec::new(alloc);
+    add_text(size, random, &mut text)?;
+    Ok(Bytes(text))
+}
+
+// A word of some characters, one character or blank many times, or a page.
+fn add_text(size: Size, random: &mut Random, text: &mut Vec<u8>) -> Result<(), Trouble> {
     let columns = size.columns.min(80);
     let (kind, byte) = (random.below(8), random.byte());
     let count = random.below(columns.saturating_add(1));
     match kind {
-        0 => add_bytes(random, columns.saturating_mul(size.rows.min(8)), &mut text)?,
-        1 => add_same(b' ', count, &mut text)?,
-        2 => add_same(byte, count, &mut text)?,
-        _ => add_bytes(random, count.min(8), &mut text)?,
+        0 => add_bytes(random, columns.saturating_mul(size.rows.min(8)), text),
+        1 => add_same(b' ', count, text),
+        2 => add_same(byte, count, text),
+        _ => add_bytes(random, count.min(8), text),
     }
-    Ok(Bytes(text))
 }
 
 fn add_bytes(random: &mut Random, count: u32, text: &mut Vec<u8>) -> Result<(), Trouble> {

@@ -3,6 +3,7 @@
 use check_scripts::answers::{add_cell, add_flag, add_name, add_number, add_place, add_word};
 use check_scripts::buffers::Buffer;
 use curses::UpdateFault;
+use scr_term::Op;
 use scr_windows::{Added, WinFault};
 use screen_sessions::{Answer, Report};
 use std::io::ErrorKind;
@@ -48,6 +49,36 @@ pub fn ran_out(answer: &Answer) -> bool {
         answer,
         Answer::Refused(WinFault::NoMemory) | Answer::Failed(UpdateFault::NoMemory)
     )
+}
+
+/// How an update ended.
+#[derive(Clone, Copy)]
+pub enum Ended {
+    /// It sent so many bytes.
+    Well(u64),
+    /// It got no memory.
+    RanOut,
+    /// A write or the flush failed.
+    Failed,
+}
+
+/// How an update ended that answered so.
+pub fn end_of(answer: &Answer) -> Ended {
+    match answer {
+        Answer::Sent(sent) => Ended::Well(sent.bytes),
+        answer if ran_out(answer) => Ended::RanOut,
+        _ => Ended::Failed,
+    }
+}
+
+/// The operations that an update began which answered so.
+pub fn begun_by(answer: &Answer) -> &[Op] {
+    match answer {
+        Answer::Sent(sent) => &sent.begun.0,
+        Answer::Failed(UpdateFault::Write { begun, .. } | UpdateFault::Flush { begun, .. }) =>
+            &begun.0,
+        _ => &[],
+    }
 }
 
 // Adds why an update ended early, how many operations it began, and how many bytes it sent.

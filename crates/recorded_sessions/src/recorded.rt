@@ -1,6 +1,6 @@
 //! A screen whose calls and answers are kept, and the emulated terminal that takes what its updates send.
 
-use crate::answers::{add_answer, add_answers, ran_out};
+use crate::answers::{Ended, add_answer, add_answers, begun_by, end_of, ran_out};
 use crate::bounds::{Left, may_paint_all};
 use crate::displays::{Display, open_display};
 use crate::emulated::Emulated;
@@ -12,7 +12,7 @@ use check_scripts::answers::add_word;
 use check_scripts::buffers::{Buffer, are_same};
 use check_scripts::checking::put;
 use check_scripts::troubles::Trouble;
-use curses::{Counted, Device, OpenFault, Screen, UpdateFault};
+use curses::{Counted, Device, OpenFault, Screen};
 use scr_cells::Size;
 use scr_term::{Op, Ops, Profile};
 use screen_sessions::{Answer, Call, Report, make_call, session};
@@ -190,8 +190,17 @@ impl Recorded {
     /// whether its last update ended well are the same.
     pub fn add_session(&self, came: &mut Buffer) -> Result<(), Trouble> {
         let mut device = Device::new(self.device.writer.again(self.alloc, self.sent.len())?);
-        match self.session(&mut device)? {
-            Some(report) => return self.add_agrees(&device, &report, came),
+        self.add_session_by(&mut device, came)
+    }
+
+    // The same, by a device that has taken nothing yet.
+    fn add_session_by(
+        &self,
+        device: &mut Device<Planned>,
+        came: &mut Buffer,
+    ) -> Result<(), Trouble> {
+        match self.session(device)? {
+            Some(report) => return self.add_agrees(device, &report, came),
             None if device.writer.calls > 0 => add_word("the writer was called", came),
             None => add_word("NoMemory", came),
         }
@@ -247,32 +256,32 @@ impl Recorded {
         came: &mut Buffer,
     ) -> Result<(), Trouble> {
         let mut answers = Buffer::new(self.alloc);
-        if !add_answers(report, &mut answers) {
+        if add_answers(report, &mut answers) {
+            let same = self.has_sent(device) && report.last_ok == self.last_ok;
+            self.add_same(&answers, same, came)
+        } else {
             add_word("NoMemory", came);
-            return Ok(());
+            Ok(())
         }
-        let same = are_same(&self.answers, &answers)?
-            && self.has_sent(device)
-            && report.last_ok == self.last_ok;
+    }
+
+    // Adds whether answers are the same, where all else is or is not.
+    fn add_same(&self, answers: &Buffer, same: bool, came: &mut Buffer) -> Result<(), Trouble> {
+        let same = are_same(&self.answers, answers)? && same;
         add_word(if same { "agrees" } else { "differs" }, came);
         Ok(())
     }
 
     fn make_update(&mut self, came: &mut Buffer) -> Result<Ended, Trouble> {
         let answer = self.make(Call::Doupdate, came)?;
-        match &answer {
-            Answer::Sent(sent) => self.keep_last(&sent.begun.0)?,
-            Answer::Failed(UpdateFault::Write { begun, .. } | UpdateFault::Flush { begun, .. }) =>
-                self.keep_last(&begun.0)?,
-            _ => self.last.0.clear(),
-        }
-        Ok(end_of(&answer))
+        self.keep_begun(&answer)
     }
 
-    fn keep_last(&mut self, ops: &[Op]) -> Result<(), Trouble> {
+    // Keeps the operations that an update began which answered so, and tells how it ended.
+    fn keep_begun(&mut self, answer: &Answer) -> Result<Ended, Trouble> {
         self.last.0.clear();
-        self.last.0.extend_from_slice(ops)?;
-        Ok(())
+        self.last.0.extend_from_slice(begun_by(answer))?;
+        Ok(end_of(answer))
     }
 
     // Makes the call, keeps it with its answer unless memory ran out, and adds the answer.
@@ -280,21 +289,19 @@ impl Recorded {
         if self.is_listed {
             let (screen, device) = (&mut self.screen, &mut self.device);
             let (call, answer) = make_listed(self.alloc, screen, call, device)?;
-            self.keep(call, &answer, came)?;
-            return Ok(answer);
+            return self.keep(call, answer, came);
         }
         let answer = make_call(self.alloc, &mut self.screen, &call, &mut self.device);
-        self.keep(call, &answer, came)?;
-        Ok(answer)
+        self.keep(call, answer, came)
     }
 
-    fn keep(&mut self, call: Call, answer: &Answer, came: &mut Buffer) -> Result<(), Trouble> {
-        add_answer(answer, came);
-        if !ran_out(answer) {
-            add_answer(answer, &mut self.answers);
+    fn keep(&mut self, call: Call, answer: Answer, came: &mut Buffer) -> Result<Answer, Trouble> {
+        add_answer(&answer, came);
+        if !ran_out(&answer) {
+            add_answer(&answer, &mut self.answers);
             self.calls.push(call)?;
         }
-        Ok(())
+        Ok(answer)
     }
 
     // Has the terminal take what the last update sent, and tells whether that is defined.
@@ -349,23 +356,6 @@ impl Recorded {
         device.writer.taken.as_slice() == self.sent.as_slice()
             && device.failed_puts == self.device.failed_puts
             && device.failed_finishes == self.device.failed_finishes
-    }
-}
-
-// How an update ended.
-#[derive(Clone, Copy)]
-enum Ended {
-    // It sent so many bytes.
-    Well(u64),
-    RanOut,
-    Failed,
-}
-
-fn end_of(answer: &Answer) -> Ended {
-    match answer {
-        Answer::Sent(sent) => Ended::Well(sent.bytes),
-        answer if ran_out(answer) => Ended::RanOut,
-        _ => Ended::Failed,
     }
 }
 

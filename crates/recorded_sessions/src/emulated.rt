@@ -1,10 +1,20 @@
 //! The terminal of an entry, emulated: by the bytes that it is sent, or by the operations.
 
-use crate::moving::TEXTS;
 use scr_cells::{Attrs, Look, NoMemory, Size};
 use scr_term::{EcmaScreen, Op, Profile, Spot, Terminal};
 use std::alloc::Global;
-use ti_caps::Entry;
+use ti_caps::{Entry, Slot, slots};
+
+/// The texts that insert and delete lines and characters.
+pub static MOVING_TEXTS: [(Slot, &[u8]); 7] = [
+    (slots::IL1, b"\x1b[L"),
+    (slots::IL, b"\x1b[%p1%dL"),
+    (slots::DL1, b"\x1b[M"),
+    (slots::DL, b"\x1b[%p1%dM"),
+    (slots::ICH, b"\x1b[%p1%d@"),
+    (slots::DCH1, b"\x1b[P"),
+    (slots::DCH, b"\x1b[%p1%dP"),
+];
 
 /// An emulated terminal.
 #[derive(Drop)]
@@ -19,7 +29,7 @@ pub enum Emulated {
 impl Emulated {
     /// A blank terminal of an entry.
     pub fn new(alloc: Global, entry: &Entry, size: Size) -> Result<Emulated, NoMemory> {
-        if moves_something(entry) {
+        if has_any(entry, &MOVING_TEXTS) {
             Ok(Emulated::Operations(Terminal::new(alloc, size)?))
         } else {
             Emulated::by_bytes(alloc, size)
@@ -117,10 +127,10 @@ fn is_stepped(terminal: &mut Terminal, profile: &Profile, op: Op) -> bool {
     terminal.step(profile, op).is_ok()
 }
 
-// Whether an entry has a text that inserts or deletes lines or characters.
-fn moves_something(entry: &Entry) -> bool {
-    for (slot, _text) in TEXTS {
-        if entry.text(slot).is_some() {
+// Whether an entry has a text for one of these.
+fn has_any(entry: &Entry, texts: &[(Slot, &[u8])]) -> bool {
+    for (slot, _text) in texts {
+        if entry.text(*slot).is_some() {
             return true;
         }
     }
