@@ -24,9 +24,9 @@ enum Made {
 }
 
 /// The line `generated COUNT SEED`: so many calls on a screen, every fifth of them or so an update whose writer may
-/// fail. After each other call what `laws` says has to hold of the windows. After each update that is Ok the terminal
-/// has to show the picture, and no more may be sent than what differs; one session has to give the same answers and
-/// send the same bytes. Adds `agrees`, or the number of the call or the update that is not so.
+/// fail. After each other call what `checked_calls` says has to hold of the windows. After each update that is Ok the
+/// terminal has to show the picture, and no more may be sent than what differs; one session has to give the same
+/// answers and send the same bytes. Adds `agrees`, or the number of the call or the update that is not so.
 pub fn check_generated(
     alloc: Global,
     tried: &mut Option<Recorded>,

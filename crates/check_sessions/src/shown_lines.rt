@@ -218,9 +218,10 @@ fn take(screen: &mut Virtual, desk: &mut Desk, win: Win) -> Result<(), Trouble> 
     if size.rows != other.rows || size.columns != other.columns {
         return Err(Trouble::Bad("the screen has another size"));
     }
-    screen
-        .take_window(desk, win)
-        .map_err(|_| Trouble::Bad("no such window"))
+    match screen.take_window(desk, win) {
+        Ok(()) => Ok(()),
+        Err(_) => Err(Trouble::Bad("no such window")),
+    }
 }
 
 fn add_changed(screen: &Virtual, came: &mut Buffer) {

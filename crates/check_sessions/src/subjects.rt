@@ -208,7 +208,7 @@ fn call(
     came: &mut Buffer,
 ) -> Result<(), Trouble> {
     if let Some(fails) = read_update(word, words) {
-        return opened.update(fails, came).map(|_is_well| ());
+        return update(opened, fails, came);
     }
     if let Some((end, fails)) = read_end(word, words) {
         return opened.send_end(end, fails, came);
@@ -221,6 +221,12 @@ fn call(
     {
         words.fail(Trouble::Bad("no such call"));
     }
+    Ok(())
+}
+
+// Makes an update, which adds itself what is not as it has to be.
+fn update(opened: &mut Recorded, fails: Fails, came: &mut Buffer) -> Result<(), Trouble> {
+    let _is_well = opened.update(fails, came)?;
     Ok(())
 }
 

@@ -27,9 +27,9 @@ pub fn check_cuts(alloc: Global, opened: &mut Recorded, came: &mut Buffer) -> Re
 
 /// Cuts the last update of a screen, which ended well, behind each number of its bytes, by an error and by taking
 /// nothing, and at its flush, each time in a session that makes all calls up to it anew, and two updates behind it; and
-/// counts the cuts. The fault has to tell what was begun and how much was sent, and what was begun has to be sent to its
-/// end; the next update is Ok, and then the terminal shows the picture; the last update is Ok and sends nothing. Adds
-/// how and where the first cut was made that does not agree.
+/// counts the cuts. The fault has to tell what was begun and how much was sent, and what was begun has to be sent to
+/// its end; the next update is Ok, and then the terminal shows the picture; the last update is Ok and sends nothing.
+/// Adds how and where the first cut was made that does not agree.
 pub fn cut_update(
     alloc: Global,
     opened: &mut Recorded,
