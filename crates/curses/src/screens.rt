@@ -37,7 +37,7 @@ impl Model for Screen {
     ghost use Rattle.scr_virtual.specs.contracts.screens.Virtual as the_virtual;
     ghost use Rattle.scr_term.specs.contracts.operations.profiles.Profile as the_profile;
     ghost use Rattle.scr_windows.specs.contracts.desks.Desk as the_desk;
-    ghost use Rattle.scr_plan.specs.contracts.memories.Memory as the_memory;
+    ghost use Rattle.scr_memory.specs.contracts.memories.Memory as the_memory;
     ghost use Rattle.scr_keys.specs.contracts.readers.KeyReader as the_reader;
     ghost use Rattle.curses.specs.ScreenStates.{ScreenState, HasRoom, HasTextRoom, IsScreen, screen_code};
 
