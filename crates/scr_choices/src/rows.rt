@@ -8,7 +8,7 @@ use scr_cells::{Cell, Look, NoMemory};
 /// from 0.
 pub trait RowPrices {
     /// The chooser for the profile and the picture.
-    fn chooser(&self) -> Chooser<'_>;
+    fn chooser(&self) -> &Chooser<'_>;
 
     /// Whether a row of looks is just what is wanted in a row.
     fn is_shown(&self, row: u32, looks: &[Look]) -> bool;

@@ -66,7 +66,7 @@ impl Samples {
     fn add<P: RowPrices>(&mut self, prices: &P, row: u32, column: u32) -> Result<(), NoMemory> {
         let chooser = prices.chooser();
         let cells = chooser.cells(row);
-        if is_blank(&chooser, cells) {
+        if is_blank(chooser, cells) {
             return Ok(());
         }
         let byte = byte_at(cells, column);

@@ -71,7 +71,7 @@ fn with_blank_rows<P: RowPrices>(prices: &P, last: u32) -> u32 {
     let chooser = prices.chooser();
     let rows = chooser.picture.size().rows;
     for row in last.saturating_add(1)..rows {
-        if !is_blank(&chooser, chooser.cells(row)) {
+        if !is_blank(chooser, chooser.cells(row)) {
             return last;
         }
     }
@@ -223,8 +223,8 @@ impl<P: RowPrices, R: KnownRows> Blocks<'_, P, R> {
         };
         if prices.is_shown(row, coming) {
             let counts = Counts::of(self.rows.looks(row), coming);
-            let cost = i64::from(counts.price(&chooser));
-            return (cost, cost - i64::from(counts.price_on_blanks(&chooser)));
+            let cost = i64::from(counts.price(chooser));
+            return (cost, cost - i64::from(counts.price_on_blanks(chooser)));
         }
         let cost = i64::from(price_over_known(prices, self.rows, row));
         let blank = chooser.price_on_blanks(row);

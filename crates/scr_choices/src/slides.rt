@@ -190,7 +190,7 @@ fn deletion<P: RowPrices>(prices: &P, row: u32, looks: &[Look], column: u32) -> 
     if looks.len() != cells.len() || !has_places(looks.len(), from) {
         return None;
     }
-    if is_blank(&chooser, &cells[from..from + PATTERN]) {
+    if is_blank(chooser, &cells[from..from + PATTERN]) {
         return None;
     }
     let byte = cells[from].byte();

@@ -149,8 +149,8 @@ impl<'a> PricedRows<'a> {
 }
 
 impl RowPrices for PricedRows<'_> {
-    fn chooser(&self) -> Chooser<'_> {
-        self.chooser
+    fn chooser(&self) -> &Chooser<'_> {
+        &self.chooser
     }
 
     fn is_shown(&self, row: u32, looks: &[Look]) -> bool {

@@ -110,7 +110,7 @@ pub(crate) fn slide_of(
         return Ok(None);
     }
     let prices = PricedRows::new(painter, profile, picture);
-    let part = DifferingRow::of(&prices.chooser(), runs);
+    let part = DifferingRow::of(prices.chooser(), runs);
     let slide = cheapest_slide(&prices, cursor, row, looks, part, room)?;
     Ok(if_there(profile, looks, slide))
 }
