@@ -232,7 +232,7 @@ pub write_keeps : (d : DeskView) (i first end : ℕ) (f : (ℕ → ℕ → CellV
 unfolding write
 write_keeps d i first end f l =
     let at : get_or (slice_set d.windows i (marked first end true (window_at d i))) i no_window ≡ marked first end true (window_at d i) = get_or-set_same d.windows i (marked first end true (window_at d i)) no_window l in
-    record { here = omega (arith, l, length-set d.windows i (marked first end true (window_at d i))); frame = ap frame_of at; state = ap (λ (w : WindowView). w.state) at }
+    record { here = omega (arith, l, length-set d.windows i (marked first end true (window_at d i))); frame = ap frame_of at; state = ap (λ (w : WindowView). w.state) at; size = record { rows = refl; columns = refl } }
 
 -- a drawing is the definition
 pub drawing_path : (d old : DeskView) (i k : ℕ) (w m : WindowView) (frame : Frame) (sheet new : Sheet) (t : SurfaceView) (lines : ℕ × ℕ) (drawing : Drawing) → Draws d old i w frame → Finds d frame.surface k sheet → lines ≡ lines_drawn drawing frame.area.rows

@@ -1,3 +1,4 @@
+pub mod AddingLaws
 pub mod AncestorLaws
 pub mod ChildLaws
 pub mod CopyLaws
@@ -14,6 +15,5 @@ pub mod ReadingLaws
 pub mod RemovingLaws
 pub mod SheetLaws
 pub mod ShiftLaws
-pub mod SizeLaws
 pub mod SyncLaws
 pub mod WrittenLaws

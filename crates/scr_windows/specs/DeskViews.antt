@@ -26,6 +26,11 @@ pub record DeskView : Type 0 where
   pub windows : List WindowView
   pub made : ℕ
 
+-- The desk is on a screen of the same size.
+pub record HasSameSize (old new : DeskView) : Type 0 where
+  pub rows : new.rows ≡ old.rows
+  pub columns : new.columns ≡ old.columns
+
 -- A new window: cursor in the first place, the whole window as region, every setting off, all lines touched.
 abbrev pub fresh_window : Frame → Attrs → ℕ → CellView → WindowView
 fresh_window frame attrs pair background =

@@ -5,4 +5,3 @@ pub mod DeskViews
 pub mod Laws
 pub mod Lending
 pub mod Sheets
-pub mod Sizes

@@ -1,8 +1,7 @@
 //! Laws of desks, each the contract of a function that does nothing. A caller cites a law by calling its function.
 //!
-//! They are stated in `specs/Laws.antt`, and the last in `specs/Sizes.antt`.
+//! They are stated in `specs/Laws.antt`.
 ghost use Rattle.scr_windows.specs.Laws.{DeletingKeepsOthers, MovingChangesNoCell, SubwindowsShareCells, WindowsArePlaced, WritingStaysInside};
-ghost use Rattle.scr_windows.specs.Sizes.{CallsKeepSize};
 
 use scr_surfaces::surface_laws;
 
@@ -32,9 +31,4 @@ pub fn windows_are_placed()
 /// Moving a window changes no cell. X/Open Curses Issue 7, mvwin().
 pub fn moving_changes_no_cell()
     ensures { MovingChangesNoCell }
-{}
-
-/// No call changes how many rows and columns the screen has. X/Open Curses Issue 7, LINES and COLS.
-pub fn calls_keep_size()
-    ensures { CallsKeepSize }
 {}

@@ -4,7 +4,7 @@ ghost use Rattle.scr_windows.specs.Calls.Adding.{add_byte_call, add_text_call, i
 
 use crate::screens::Screen;
 use scr_cells::Attrs;
-use scr_windows::{Added, Win, WinFault, calls_keep_size};
+use scr_windows::{Added, Win, WinFault};
 
 impl Screen {
     /// Adds a byte at a window's cursor, with these attributes besides those of the window and of its background. Its
@@ -24,7 +24,6 @@ impl Screen {
     pub fn add_byte(&mut self, win: Win, byte: u8, attrs: Attrs) -> Result<Added, WinFault>
         ensures { OnDesk self.old self.new result (add_byte_call self.old.desk win.0 byte attrs) }
     {
-        calls_keep_size();
         self.desk.add_byte(win, byte, attrs)
     }
 
@@ -35,7 +34,6 @@ impl Screen {
     pub fn add_text(&mut self, win: Win, text: &[u8]) -> Result<Added, WinFault>
         ensures { OnDesk self.old self.new result (add_text_call self.old.desk win.0 text.now) }
     {
-        calls_keep_size();
         self.desk.add_text(win, text)
     }
 
@@ -46,7 +44,6 @@ impl Screen {
     pub fn insert_byte(&mut self, win: Win, byte: u8, attrs: Attrs) -> Result<(), WinFault>
         ensures { OnDesk self.old self.new result (insert_byte_call self.old.desk win.0 byte attrs) }
     {
-        calls_keep_size();
         self.desk.insert_byte(win, byte, attrs)
     }
 
@@ -57,7 +54,6 @@ impl Screen {
     pub fn line_across(&mut self, win: Win, byte: u8, n: u32) -> Result<(), WinFault>
         ensures { OnDesk self.old self.new result (line_across_call self.old.desk win.0 byte n) }
     {
-        calls_keep_size();
         self.desk.line_across(win, byte, n)
     }
 
@@ -68,7 +64,6 @@ impl Screen {
     pub fn line_down(&mut self, win: Win, byte: u8, n: u32) -> Result<(), WinFault>
         ensures { OnDesk self.old self.new result (line_down_call self.old.desk win.0 byte n) }
     {
-        calls_keep_size();
         self.desk.line_down(win, byte, n)
     }
 }

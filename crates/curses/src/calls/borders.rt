@@ -3,7 +3,7 @@ ghost use Rattle.curses.specs.Forwarding.{OnDesk};
 ghost use Rattle.scr_windows.specs.Calls.Borders.{border_call};
 
 use crate::screens::Screen;
-use scr_windows::{Win, WinFault, calls_keep_size};
+use scr_windows::{Win, WinFault};
 
 impl Screen {
     /// Writes eight bytes 32 to 126 along the edges of a window: on the left, right, top and bottom edge, then in the
@@ -14,7 +14,6 @@ impl Screen {
     pub fn border(&mut self, win: Win, bytes: [u8; 8]) -> Result<(), WinFault>
         ensures { OnDesk self.old self.new result (border_call self.old.desk win.0 bytes) }
     {
-        calls_keep_size();
         self.desk.border(win, bytes)
     }
 }

@@ -4,7 +4,7 @@ ghost use Rattle.curses.specs.Forwarding.{OnDeskOrNoMemory};
 ghost use Rattle.scr_windows.specs.Calls.Copying.{copy_call, overlay_call};
 
 use crate::screens::Screen;
-use scr_windows::{Win, WinFault, calls_keep_size};
+use scr_windows::{Win, WinFault};
 use std::alloc::Global;
 
 impl Screen {
@@ -30,7 +30,6 @@ impl Screen {
     ) -> Result<(), WinFault>
         ensures { OnDeskOrNoMemory self.old self.new result (copy_call self.old.desk source.0 target.0 row column top left bottom right overlay) }
     {
-        calls_keep_size();
         self.desk.copy(
             alloc, source, target, row, column, top, left, bottom, right, overlay,
         )
@@ -44,7 +43,6 @@ impl Screen {
     pub fn overlay(&mut self, alloc: Global, source: Win, target: Win) -> Result<(), WinFault>
         ensures { OnDeskOrNoMemory self.old self.new result (overlay_call self.old.desk source.0 target.0 true) }
     {
-        calls_keep_size();
         self.desk.overlay(alloc, source, target)
     }
 
@@ -55,7 +53,6 @@ impl Screen {
     pub fn overwrite(&mut self, alloc: Global, source: Win, target: Win) -> Result<(), WinFault>
         ensures { OnDeskOrNoMemory self.old self.new result (overlay_call self.old.desk source.0 target.0 false) }
     {
-        calls_keep_size();
         self.desk.overwrite(alloc, source, target)
     }
 }

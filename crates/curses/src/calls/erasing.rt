@@ -3,7 +3,7 @@ ghost use Rattle.curses.specs.Forwarding.{OnDesk};
 ghost use Rattle.scr_windows.specs.Calls.Erasing.{clear_to_eol_call, clear_to_bottom_call, erase_call, clear_call};
 
 use crate::screens::Screen;
-use scr_windows::{Win, WinFault, calls_keep_size};
+use scr_windows::{Win, WinFault};
 
 impl Screen {
     /// Erases a window from the cursor to the end of the line: these places get the background. The cursor stays.
@@ -12,7 +12,6 @@ impl Screen {
     pub fn clear_to_eol(&mut self, win: Win) -> Result<(), WinFault>
         ensures { OnDesk self.old self.new result (clear_to_eol_call self.old.desk win.0) }
     {
-        calls_keep_size();
         self.desk.clear_to_eol(win)
     }
 
@@ -23,7 +22,6 @@ impl Screen {
     pub fn clear_to_bottom(&mut self, win: Win) -> Result<(), WinFault>
         ensures { OnDesk self.old self.new result (clear_to_bottom_call self.old.desk win.0) }
     {
-        calls_keep_size();
         self.desk.clear_to_bottom(win)
     }
 
@@ -33,7 +31,6 @@ impl Screen {
     pub fn erase(&mut self, win: Win) -> Result<(), WinFault>
         ensures { OnDesk self.old self.new result (erase_call self.old.desk win.0) }
     {
-        calls_keep_size();
         self.desk.erase(win)
     }
 
@@ -44,7 +41,6 @@ impl Screen {
     pub fn clear(&mut self, win: Win) -> Result<(), WinFault>
         ensures { OnDesk self.old self.new result (clear_call self.old.desk win.0) }
     {
-        calls_keep_size();
         self.desk.clear(win)
     }
 }

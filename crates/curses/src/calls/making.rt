@@ -3,7 +3,7 @@ ghost use Rattle.curses.specs.Forwarding.{OnDeskOrNoMemory};
 ghost use Rattle.scr_windows.specs.Calls.Making.{new_window_call, new_pad_call};
 
 use crate::screens::Screen;
-use scr_windows::{Win, WinFault, calls_keep_size};
+use scr_windows::{Win, WinFault};
 use std::alloc::Global;
 
 impl Screen {
@@ -21,7 +21,6 @@ impl Screen {
     ) -> Result<Win, WinFault>
         ensures { OnDeskOrNoMemory self.old self.new result (new_window_call self.old.desk rows columns row column) }
     {
-        calls_keep_size();
         self.desk.new_window(alloc, rows, columns, row, column)
     }
 
@@ -32,7 +31,6 @@ impl Screen {
     pub fn new_pad(&mut self, alloc: Global, rows: u32, columns: u32) -> Result<Win, WinFault>
         ensures { OnDeskOrNoMemory self.old self.new result (new_pad_call self.old.desk rows columns) }
     {
-        calls_keep_size();
         self.desk.new_pad(alloc, rows, columns)
     }
 }

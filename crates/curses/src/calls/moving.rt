@@ -3,7 +3,7 @@ ghost use Rattle.curses.specs.Forwarding.{OnDesk};
 ghost use Rattle.scr_windows.specs.Calls.Moving.{move_window_call, move_derived_call};
 
 use crate::screens::Screen;
-use scr_windows::{Win, WinFault, calls_keep_size};
+use scr_windows::{Win, WinFault};
 
 impl Screen {
     /// Moves a window to a row and a column of the screen, and all its descendants with it. Its own lines are touched.
@@ -13,7 +13,6 @@ impl Screen {
     pub fn move_window(&mut self, win: Win, row: u32, column: u32) -> Result<(), WinFault>
         ensures { OnDesk self.old self.new result (move_window_call self.old.desk win.0 row column) }
     {
-        calls_keep_size();
         self.desk.move_window(win, row, column)
     }
 
@@ -25,7 +24,6 @@ impl Screen {
     pub fn move_derived(&mut self, win: Win, row: u32, column: u32) -> Result<(), WinFault>
         ensures { OnDesk self.old self.new result (move_derived_call self.old.desk win.0 row column) }
     {
-        calls_keep_size();
         self.desk.move_derived(win, row, column)
     }
 }

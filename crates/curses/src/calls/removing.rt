@@ -3,7 +3,7 @@ ghost use Rattle.curses.specs.Forwarding.{OnDesk};
 ghost use Rattle.scr_windows.specs.Calls.Removing.{delete_call};
 
 use crate::screens::Screen;
-use scr_windows::{Win, WinFault, calls_keep_size};
+use scr_windows::{Win, WinFault};
 
 impl Screen {
     /// Deletes a window, and its cells if no other window shares them. The first window may go too. Its number is not
@@ -13,7 +13,6 @@ impl Screen {
     pub fn delete(&mut self, win: Win) -> Result<(), WinFault>
         ensures { OnDesk self.old self.new result (delete_call self.old.desk win.0) }
     {
-        calls_keep_size();
         self.desk.delete(win)
     }
 }

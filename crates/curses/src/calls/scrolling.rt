@@ -3,7 +3,7 @@ ghost use Rattle.curses.specs.Forwarding.{OnDesk};
 ghost use Rattle.scr_windows.specs.Calls.Scrolling.{delete_byte_call, insert_delete_lines_call, scroll_call};
 
 use crate::screens::Screen;
-use scr_windows::{Win, WinFault, calls_keep_size};
+use scr_windows::{Win, WinFault};
 
 impl Screen {
     /// Deletes the byte at a window's cursor: what is right of it in the line moves left by one, and the last column
@@ -13,7 +13,6 @@ impl Screen {
     pub fn delete_byte(&mut self, win: Win) -> Result<(), WinFault>
         ensures { OnDesk self.old self.new result (delete_byte_call self.old.desk win.0) }
     {
-        calls_keep_size();
         self.desk.delete_byte(win)
     }
 
@@ -24,7 +23,6 @@ impl Screen {
     pub fn insert_delete_lines(&mut self, win: Win, n: i32) -> Result<(), WinFault>
         ensures { OnDesk self.old self.new result (insert_delete_lines_call self.old.desk win.0 n) }
     {
-        calls_keep_size();
         self.desk.insert_delete_lines(win, n)
     }
 
@@ -35,7 +33,6 @@ impl Screen {
     pub fn scroll(&mut self, win: Win, n: i32) -> Result<(), WinFault>
         ensures { OnDesk self.old self.new result (scroll_call self.old.desk win.0 n) }
     {
-        calls_keep_size();
         self.desk.scroll(win, n)
     }
 }

@@ -4,7 +4,7 @@ ghost use Rattle.scr_windows.specs.Calls.Settings.{move_cursor_call, set_region_
 
 use crate::screens::Screen;
 use scr_cells::{Attrs, Cell};
-use scr_windows::{Win, WinFault, calls_keep_size};
+use scr_windows::{Win, WinFault};
 
 impl Screen {
     /// Moves the cursor of a window to a row and a column.
@@ -13,7 +13,6 @@ impl Screen {
     pub fn move_cursor(&mut self, win: Win, row: u32, column: u32) -> Result<(), WinFault>
         ensures { OnDesk self.old self.new result (move_cursor_call self.old.desk win.0 row column) }
     {
-        calls_keep_size();
         self.desk.move_cursor(win, row, column)
     }
 
@@ -24,7 +23,6 @@ impl Screen {
     pub fn set_region(&mut self, win: Win, top: u32, bottom: u32) -> Result<(), WinFault>
         ensures { OnDesk self.old self.new result (set_region_call self.old.desk win.0 top bottom) }
     {
-        calls_keep_size();
         self.desk.set_region(win, top, bottom)
     }
 
@@ -34,7 +32,6 @@ impl Screen {
     pub fn scroll_ok(&mut self, win: Win, on: bool) -> Result<(), WinFault>
         ensures { OnDesk self.old self.new result (scroll_ok_call self.old.desk win.0 on) }
     {
-        calls_keep_size();
         self.desk.scroll_ok(win, on)
     }
 
@@ -44,7 +41,6 @@ impl Screen {
     pub fn clear_ok(&mut self, win: Win, on: bool) -> Result<(), WinFault>
         ensures { OnDesk self.old self.new result (clear_ok_call self.old.desk win.0 on) }
     {
-        calls_keep_size();
         self.desk.clear_ok(win, on)
     }
 
@@ -54,7 +50,6 @@ impl Screen {
     pub fn leave_ok(&mut self, win: Win, on: bool) -> Result<(), WinFault>
         ensures { OnDesk self.old self.new result (leave_ok_call self.old.desk win.0 on) }
     {
-        calls_keep_size();
         self.desk.leave_ok(win, on)
     }
 
@@ -64,7 +59,6 @@ impl Screen {
     pub fn attr_on(&mut self, win: Win, attrs: Attrs) -> Result<(), WinFault>
         ensures { OnDesk self.old self.new result (attr_on_call self.old.desk win.0 attrs) }
     {
-        calls_keep_size();
         self.desk.attr_on(win, attrs)
     }
 
@@ -74,7 +68,6 @@ impl Screen {
     pub fn attr_off(&mut self, win: Win, attrs: Attrs) -> Result<(), WinFault>
         ensures { OnDesk self.old self.new result (attr_off_call self.old.desk win.0 attrs) }
     {
-        calls_keep_size();
         self.desk.attr_off(win, attrs)
     }
 
@@ -84,7 +77,6 @@ impl Screen {
     pub fn attr_set(&mut self, win: Win, attrs: Attrs) -> Result<(), WinFault>
         ensures { OnDesk self.old self.new result (attr_set_call self.old.desk win.0 attrs) }
     {
-        calls_keep_size();
         self.desk.attr_set(win, attrs)
     }
 
@@ -94,7 +86,6 @@ impl Screen {
     pub fn color_set(&mut self, win: Win, pair: u32) -> Result<(), WinFault>
         ensures { OnDesk self.old self.new result (color_set_call self.old.desk win.0 pair) }
     {
-        calls_keep_size();
         self.desk.color_set(win, pair)
     }
 
@@ -104,7 +95,6 @@ impl Screen {
     pub fn set_background(&mut self, win: Win, cell: Cell) -> Result<(), WinFault>
         ensures { OnDesk self.old self.new result (set_background_call self.old.desk win.0 cell) }
     {
-        calls_keep_size();
         self.desk.set_background(win, cell)
     }
 
@@ -116,7 +106,6 @@ impl Screen {
     pub fn change_background(&mut self, win: Win, cell: Cell) -> Result<(), WinFault>
         ensures { OnDesk self.old self.new result (change_background_call self.old.desk win.0 cell) }
     {
-        calls_keep_size();
         self.desk.change_background(win, cell)
     }
 }

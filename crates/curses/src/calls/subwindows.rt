@@ -3,7 +3,7 @@ ghost use Rattle.curses.specs.Forwarding.{OnDeskOrNoMemory};
 ghost use Rattle.scr_windows.specs.Calls.Subwindows.{derive_call, sub_call, sub_pad_call};
 
 use crate::screens::Screen;
-use scr_windows::{Win, WinFault, calls_keep_size};
+use scr_windows::{Win, WinFault};
 use std::alloc::Global;
 
 impl Screen {
@@ -23,7 +23,6 @@ impl Screen {
     ) -> Result<Win, WinFault>
         ensures { OnDeskOrNoMemory self.old self.new result (derive_call self.old.desk win.0 rows columns row column) }
     {
-        calls_keep_size();
         self.desk.derive(alloc, win, rows, columns, row, column)
     }
 
@@ -42,7 +41,6 @@ impl Screen {
     ) -> Result<Win, WinFault>
         ensures { OnDeskOrNoMemory self.old self.new result (sub_call self.old.desk win.0 rows columns row column) }
     {
-        calls_keep_size();
         self.desk.sub(alloc, win, rows, columns, row, column)
     }
 
@@ -61,7 +59,6 @@ impl Screen {
     ) -> Result<Win, WinFault>
         ensures { OnDeskOrNoMemory self.old self.new result (sub_pad_call self.old.desk win.0 rows columns row column) }
     {
-        calls_keep_size();
         self.desk.sub_pad(alloc, win, rows, columns, row, column)
     }
 }

@@ -3,7 +3,7 @@ ghost use Rattle.curses.specs.Forwarding.{OnDesk};
 ghost use Rattle.scr_windows.specs.Calls.Syncing.{sync_up_call, sync_down_call};
 
 use crate::screens::Screen;
-use scr_windows::{Win, WinFault, calls_keep_size};
+use scr_windows::{Win, WinFault};
 
 impl Screen {
     /// Touches each line of every ancestor of a window that shares a row of cells with a touched line of the window.
@@ -12,7 +12,6 @@ impl Screen {
     pub fn sync_up(&mut self, win: Win) -> Result<(), WinFault>
         ensures { OnDesk self.old self.new result (sync_up_call self.old.desk win.0) }
     {
-        calls_keep_size();
         self.desk.sync_up(win)
     }
 
@@ -22,7 +21,6 @@ impl Screen {
     pub fn sync_down(&mut self, win: Win) -> Result<(), WinFault>
         ensures { OnDesk self.old self.new result (sync_down_call self.old.desk win.0) }
     {
-        calls_keep_size();
         self.desk.sync_down(win)
     }
 }

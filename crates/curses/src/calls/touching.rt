@@ -4,7 +4,7 @@ ghost use Rattle.curses.specs.Forwarding.{OnDesk};
 ghost use Rattle.scr_windows.specs.Calls.Touching.{touch_all_call, touch_lines_call};
 
 use crate::screens::Screen;
-use scr_windows::{Win, WinFault, calls_keep_size};
+use scr_windows::{Win, WinFault};
 
 impl Screen {
     /// Touches all lines of a window.
@@ -13,7 +13,6 @@ impl Screen {
     pub fn touch_window(&mut self, win: Win) -> Result<(), WinFault>
         ensures { OnDesk self.old self.new result (touch_all_call self.old.desk win.0 true) }
     {
-        calls_keep_size();
         self.desk.touch_window(win)
     }
 
@@ -23,7 +22,6 @@ impl Screen {
     pub fn untouch(&mut self, win: Win) -> Result<(), WinFault>
         ensures { OnDesk self.old self.new result (touch_all_call self.old.desk win.0 false) }
     {
-        calls_keep_size();
         self.desk.untouch(win)
     }
 
@@ -40,7 +38,6 @@ impl Screen {
     ) -> Result<(), WinFault>
         ensures { OnDesk self.old self.new result (touch_lines_call self.old.desk win.0 first n changed) }
     {
-        calls_keep_size();
         self.desk.touch_lines(win, first, n, changed)
     }
 }

@@ -3,7 +3,7 @@ use Rattle.std.specs.Prelude.{ℕ, ◌≡◌, ◌+◌, ◌<◌, length, Ok}
 use Rattle.scr_windows.specs.declared.frames.Canvas.{Canvas}
 use Rattle.scr_surfaces.specs.declared.drawings.Drawing.{Drawing}
 use Rattle.scr_surfaces.specs.declared.drawings.Drawing.TheVariants.{Run, Rows, Below, Column, Opened, Closed, Up, Down, Exchanged, Edges}
-use Rattle.scr_windows.specs.DeskViews.{DeskView, window_at, IsThere}
+use Rattle.scr_windows.specs.DeskViews.{HasSameSize, DeskView, window_at, IsThere}
 use Rattle.scr_windows.specs.Changes.{index_of}
 
 -- the canvas of the window at an index
@@ -19,11 +19,12 @@ pub record IsCanvas (desk : DeskView) (number : ℕ) (canvas : Canvas) : Type 0 
   pub state_is : canvas.state ≡ (window_at desk canvas.index).state
   pub placed : IsThere desk canvas.index
 
--- a window that is still there, in its frame and with what was set in it
+-- a window that is still there, in its frame and with what was set in it, on a screen of the same size
 pub record IsKept (old new : DeskView) (i : ℕ) : Type 0 where
   pub here : i < length new.windows
   pub frame : (window_at new i).frame ≡ (window_at old i).frame
   pub state : (window_at new i).state ≡ (window_at old i).state
+  pub size : HasSameSize old new
 
 -- the first line that a drawing writes in a window of so many rows, and the line behind the last
 abbrev pub lines_drawn : Drawing → ℕ → ℕ × ℕ

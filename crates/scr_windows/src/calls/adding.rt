@@ -5,7 +5,7 @@
 ghost use Rattle.std.specs.Prelude.{◌≡◌, ◌+◌, ◌<◌, ◌≤◌, ◌⊎◌, length, leb, min, false};
 ghost use Rattle.std.specs.List.{list_any};
 ghost use Rattle.scr_cells.specs.CellViews.{IsPair};
-ghost use Rattle.scr_windows.specs.DeskViews.{window_at};
+ghost use Rattle.scr_windows.specs.DeskViews.{HasSameSize, window_at};
 ghost use Rattle.scr_windows.specs.Calls.Adding.{written_form, gone_to, line_begun, character_added, newline_added, tab_added, either_stayed, shown_added, byte_added, text_added, add_byte_call, add_text_call, insert_byte_call, line_across_call, line_down_call};
 
 use crate::desks::Desk;
@@ -32,7 +32,8 @@ impl Desk {
     /// Refused: NoWindow; NotAscii for a byte from 128 on. X/Open Curses Issue 7, addch().
     #[tactic(auto, unfolding(crate::specs::Calls::Adding::add_byte_call))]
     pub fn add_byte(&mut self, win: Win, byte: u8, attrs: Attrs) -> Result<Added, WinFault>
-        ensures { (self.new, result) ≡ add_byte_call self.old win.0 byte attrs }
+        ensures call { (self.new, result) ≡ add_byte_call self.old win.0 byte attrs }
+        ensures size { HasSameSize self.old self.new }
     {
         let index = self.index_of(win)?;
         if byte >= 128 {
@@ -47,7 +48,8 @@ impl Desk {
     /// Refused: NoWindow; NotAscii if any byte is 128 or more. X/Open Curses Issue 7, addnstr().
     #[tactic(auto, unfolding(crate::specs::Calls::Adding::add_text_call))]
     pub fn add_text(&mut self, win: Win, text: &[u8]) -> Result<Added, WinFault>
-        ensures { (self.new, result) ≡ add_text_call self.old win.0 text.now }
+        ensures call { (self.new, result) ≡ add_text_call self.old win.0 text.now }
+        ensures size { HasSameSize self.old self.new }
     {
         let index = self.index_of(win)?;
         if is_any_above(text) {
@@ -62,7 +64,8 @@ impl Desk {
     /// Refused: NoWindow; NotAscii for another byte. X/Open Curses Issue 7, insch().
     #[tactic(auto, unfolding(crate::specs::Calls::Adding::insert_byte_call))]
     pub fn insert_byte(&mut self, win: Win, byte: u8, attrs: Attrs) -> Result<(), WinFault>
-        ensures { (self.new, result) ≡ insert_byte_call self.old win.0 byte attrs }
+        ensures call { (self.new, result) ≡ insert_byte_call self.old win.0 byte attrs }
+        ensures size { HasSameSize self.old self.new }
     {
         let canvas = self.canvas(win)?;
         if !is_character(byte) {
@@ -86,7 +89,8 @@ impl Desk {
     /// Refused: NoWindow; NotAscii for another byte. X/Open Curses Issue 7, hline().
     #[tactic(auto, unfolding(crate::specs::Calls::Adding::line_across_call))]
     pub fn line_across(&mut self, win: Win, byte: u8, n: u32) -> Result<(), WinFault>
-        ensures { (self.new, result) ≡ line_across_call self.old win.0 byte n }
+        ensures call { (self.new, result) ≡ line_across_call self.old win.0 byte n }
+        ensures size { HasSameSize self.old self.new }
     {
         let canvas = self.canvas(win)?;
         if !is_character(byte) {
@@ -115,7 +119,8 @@ impl Desk {
     /// Refused: NoWindow; NotAscii for another byte. X/Open Curses Issue 7, vline().
     #[tactic(auto, unfolding(crate::specs::Calls::Adding::line_down_call))]
     pub fn line_down(&mut self, win: Win, byte: u8, n: u32) -> Result<(), WinFault>
-        ensures { (self.new, result) ≡ line_down_call self.old win.0 byte n }
+        ensures call { (self.new, result) ≡ line_down_call self.old win.0 byte n }
+        ensures size { HasSameSize self.old self.new }
     {
         let canvas = self.canvas(win)?;
         if !is_character(byte) {

@@ -2,6 +2,7 @@
 ghost use Rattle.std.specs.Prelude.{◌≡◌, ◌<◌, length, true};
 ghost use Rattle.std.specs.List.{list_all};
 ghost use Rattle.scr_cells.specs.CellViews.{IsPair, is_character};
+ghost use Rattle.scr_windows.specs.DeskViews.{HasSameSize};
 ghost use Rattle.scr_windows.specs.Calls.Adding.{written_form};
 ghost use Rattle.scr_windows.specs.Calls.Borders.{edge_cell, border_of, border_call};
 
@@ -20,7 +21,8 @@ impl Desk {
     /// Refused: NoWindow; NotAscii if any of them is another byte. X/Open Curses Issue 7, border().
     #[tactic(auto, unfolding(crate::specs::Calls::Borders::border_call))]
     pub fn border(&mut self, win: Win, bytes: [u8; 8]) -> Result<(), WinFault>
-        ensures { (self.new, result) ≡ border_call self.old win.0 bytes }
+        ensures call { (self.new, result) ≡ border_call self.old win.0 bytes }
+        ensures size { HasSameSize self.old self.new }
     {
         let canvas = self.canvas(win)?;
         if !are_characters(&bytes) {

@@ -4,7 +4,7 @@ ghost use Rattle.scr_surfaces.specs.SurfaceViews.{inside_at};
 ghost use Rattle.scr_surfaces.specs.Formulas.{block_at, part_laid, part_of};
 ghost use Rattle.scr_windows.specs.Changes.{write};
 ghost use Rattle.scr_cells.specs.Grids.{grid_of};
-ghost use Rattle.scr_windows.specs.DeskViews.{surface_at, window_at};
+ghost use Rattle.scr_windows.specs.DeskViews.{HasSameSize, surface_at, window_at};
 ghost use Rattle.scr_windows.specs.Changes.{Allocated};
 ghost use Rattle.scr_windows.specs.Calls.Copying.{copied, copy_call, has_part, laid_over, overlay_call};
 ghost use Rattle.scr_windows.specs.declared.faults.WinFault.TheVariants.{NoMemory};
@@ -38,7 +38,8 @@ impl Desk {
         right: u32,
         overlay: bool,
     ) -> Result<(), WinFault>
-        ensures { Allocated self.old (copy_call self.old source.0 target.0 row column top left bottom right overlay) (self.new, result) }
+        ensures call { Allocated self.old (copy_call self.old source.0 target.0 row column top left bottom right overlay) (self.new, result) }
+        ensures size { HasSameSize self.old self.new }
     {
         let from = self.canvas(source)?;
         let to = self.canvas(target)?;
@@ -63,7 +64,8 @@ impl Desk {
     ///
     /// Refused: NoWindow; IsPad if either is a pad; NoMemory. X/Open Curses Issue 7, overlay().
     pub fn overlay(&mut self, alloc: Global, source: Win, target: Win) -> Result<(), WinFault>
-        ensures { Allocated self.old (overlay_call self.old source.0 target.0 true) (self.new, result) }
+        ensures call { Allocated self.old (overlay_call self.old source.0 target.0 true) (self.new, result) }
+        ensures size { HasSameSize self.old self.new }
     {
         self.lay_over(alloc, source, target, true)
     }
@@ -73,7 +75,8 @@ impl Desk {
     ///
     /// Refused: NoWindow; IsPad if either is a pad; NoMemory. X/Open Curses Issue 7, overwrite().
     pub fn overwrite(&mut self, alloc: Global, source: Win, target: Win) -> Result<(), WinFault>
-        ensures { Allocated self.old (overlay_call self.old source.0 target.0 false) (self.new, result) }
+        ensures call { Allocated self.old (overlay_call self.old source.0 target.0 false) (self.new, result) }
+        ensures size { HasSameSize self.old self.new }
     {
         self.lay_over(alloc, source, target, false)
     }
@@ -87,7 +90,8 @@ impl Desk {
         target: Win,
         overlay: bool,
     ) -> Result<(), WinFault>
-        ensures { Allocated self.old (overlay_call self.old source.0 target.0 overlay) (self.new, result) }
+        ensures call { Allocated self.old (overlay_call self.old source.0 target.0 overlay) (self.new, result) }
+        ensures size { HasSameSize self.old self.new }
     {
         let from = self.index_of(source)?;
         let to = self.index_of(target)?;
@@ -114,7 +118,8 @@ impl Desk {
         requires target { target < length self.old.windows }
         requires first { (window_at self.old source).frame.origin ≡ Some first }
         requires second { (window_at self.old target).frame.origin ≡ Some second }
-        ensures { Allocated self.old (laid_over self.old source target first second overlay, Ok tt) (self.new, result) }
+        ensures laid { Allocated self.old (laid_over self.old source target first second overlay, Ok tt) (self.new, result) }
+        ensures size { HasSameSize self.old self.new }
     {
         let one = self.window_at(source).frame().area;
         let other = self.window_at(target).frame().area;
@@ -162,7 +167,8 @@ impl Desk {
         requires right { column + part.columns ≤ (window_at self.old source).frame.area.columns }
         requires end { part.top + part.rows ≤ (window_at self.old target).frame.area.rows }
         requires edge { part.left + part.columns ≤ (window_at self.old target).frame.area.columns }
-        ensures { Allocated self.old (copied self.old source target row column part overlay, Ok tt) (self.new, result) }
+        ensures copied { Allocated self.old (copied self.old source target row column part overlay, Ok tt) (self.new, result) }
+        ensures size { HasSameSize self.old self.new }
     {
         let block = self.block(alloc, source, row, column, part)?;
         self.lay(target, part.top, part.left, &block, overlay);
@@ -203,7 +209,8 @@ impl Desk {
         requires here { index < length self.old.windows }
         requires below { top + block.now.rows ≤ (window_at self.old index).frame.area.rows }
         requires right { left + block.now.columns ≤ (window_at self.old index).frame.area.columns }
-        ensures { self.new ≡ write self.old index top (top + block.now.rows) (part_laid overlay (part_of top left block.now) (block_at block.now)) }
+        ensures laid { self.new ≡ write self.old index top (top + block.now.rows) (part_laid overlay (part_of top left block.now) (block_at block.now)) }
+        ensures size { HasSameSize self.old self.new }
     {
         let window = &mut self.windows[index];
         let frame = window.frame();

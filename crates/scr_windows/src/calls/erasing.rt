@@ -1,6 +1,6 @@
 //! Calls that erase. The definitions are in `specs/Calls/Erasing.antt`.
 ghost use Rattle.std.specs.Prelude.{◌≡◌, ◌<◌, ◌≤◌, length};
-ghost use Rattle.scr_windows.specs.DeskViews.{window_at};
+ghost use Rattle.scr_windows.specs.DeskViews.{HasSameSize, window_at};
 ghost use Rattle.scr_windows.specs.Code.Canvases.{IsKept};
 ghost use Rattle.scr_windows.specs.Calls.Erasing.{erased_up_to, clear_to_eol_call, clear_to_bottom_call, erase_call, clear_call};
 
@@ -14,7 +14,8 @@ impl Desk {
     /// Refused: NoWindow. X/Open Curses Issue 7, clrtoeol().
     #[tactic(auto, unfolding(crate::specs::Calls::Erasing::clear_to_eol_call))]
     pub fn clear_to_eol(&mut self, win: Win) -> Result<(), WinFault>
-        ensures { (self.new, result) ≡ clear_to_eol_call self.old win.0 }
+        ensures call { (self.new, result) ≡ clear_to_eol_call self.old win.0 }
+        ensures size { HasSameSize self.old self.new }
     {
         let canvas = self.canvas(win)?;
         self.erase_up_to(canvas.index, canvas.area.columns);
@@ -27,7 +28,8 @@ impl Desk {
     /// Refused: NoWindow. X/Open Curses Issue 7, clrtobot().
     #[tactic(auto, unfolding(crate::specs::Calls::Erasing::clear_to_bottom_call))]
     pub fn clear_to_bottom(&mut self, win: Win) -> Result<(), WinFault>
-        ensures { (self.new, result) ≡ clear_to_bottom_call self.old win.0 }
+        ensures call { (self.new, result) ≡ clear_to_bottom_call self.old win.0 }
+        ensures size { HasSameSize self.old self.new }
     {
         let canvas = self.canvas(win)?;
         let (row, column) = canvas.state.cursor;
@@ -47,7 +49,8 @@ impl Desk {
     /// Refused: NoWindow. X/Open Curses Issue 7, erase().
     #[tactic(auto, unfolding(crate::specs::Calls::Erasing::erase_call))]
     pub fn erase(&mut self, win: Win) -> Result<(), WinFault>
-        ensures { (self.new, result) ≡ erase_call self.old win.0 }
+        ensures call { (self.new, result) ≡ erase_call self.old win.0 }
+        ensures size { HasSameSize self.old self.new }
     {
         let canvas = self.canvas(win)?;
         let mut state = canvas.state;
@@ -70,7 +73,8 @@ impl Desk {
     /// Refused: NoWindow. X/Open Curses Issue 7, clear().
     #[tactic(auto, unfolding(crate::specs::Calls::Erasing::clear_call))]
     pub fn clear(&mut self, win: Win) -> Result<(), WinFault>
-        ensures { (self.new, result) ≡ clear_call self.old win.0 }
+        ensures call { (self.new, result) ≡ clear_call self.old win.0 }
+        ensures size { HasSameSize self.old self.new }
     {
         let canvas = self.canvas(win)?;
         let mut cleared = canvas.state;

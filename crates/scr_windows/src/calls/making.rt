@@ -2,7 +2,7 @@
 ghost use Rattle.std.specs.Prelude.{◌≡◌, ◌+◌, ◌<◌, length, MatchResult, Ok};
 ghost use Rattle.scr_windows.specs.declared.faults.WinFault.TheVariants.{NoMemory};
 ghost use Rattle.scr_cells.specs.PictureViews.{IsSize};
-ghost use Rattle.scr_windows.specs.DeskViews.{first_desk};
+ghost use Rattle.scr_windows.specs.DeskViews.{HasSameSize, first_desk};
 ghost use Rattle.scr_windows.specs.Changes.{Allocated};
 ghost use Rattle.scr_windows.specs.Code.NewFrames.{IsRootPlace};
 ghost use Rattle.scr_windows.specs.Calls.Making.{screen_area, root_made, with_root, new_window_call, new_pad_call};
@@ -69,7 +69,8 @@ impl Desk {
         row: u32,
         column: u32,
     ) -> Result<Win, WinFault>
-        ensures { Allocated self.old (new_window_call self.old rows columns row column) (self.new, result) }
+        ensures call { Allocated self.old (new_window_call self.old rows columns row column) (self.new, result) }
+        ensures size { HasSameSize self.old self.new }
     {
         let screen = self.screen_area();
         let Some(area) = part_of(screen, rows, columns, row, column) else {
@@ -84,7 +85,8 @@ impl Desk {
     /// X/Open Curses Issue 7, newpad().
     #[tactic(auto, unfolding(crate::specs::Calls::Making::new_pad_call))]
     pub fn new_pad(&mut self, alloc: Global, rows: u32, columns: u32) -> Result<Win, WinFault>
-        ensures { Allocated self.old (new_pad_call self.old rows columns) (self.new, result) }
+        ensures call { Allocated self.old (new_pad_call self.old rows columns) (self.new, result) }
+        ensures size { HasSameSize self.old self.new }
     {
         if rows == 0 || columns == 0 {
             return Err(WinFault::OutOfWindow);

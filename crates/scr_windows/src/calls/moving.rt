@@ -1,7 +1,7 @@
 //! Calls that move a window on the screen, or a subwindow in its parent. The definitions are in
 //! `specs/Calls/Moving.antt`.
 ghost use Rattle.std.specs.Prelude.{◌≡◌, ◌+◌, ◌-◌, ◌<◌, All, MatchOption, length, leb, map};
-ghost use Rattle.scr_windows.specs.DeskViews.{WindowView, window_at};
+ghost use Rattle.scr_windows.specs.DeskViews.{HasSameSize, WindowView, window_at};
 ghost use Rattle.scr_windows.specs.Code.Families.{IsNear, IsNearFrame, IsNearShift, IsShift, descends, family_frame, family_shifted, link_of};
 ghost use Rattle.scr_windows.specs.Calls.Moving.{area_shifted, move_derived_call, move_window_call, moved, origin_shifted, place_shifted, shifted, with_family_shifted};
 
@@ -27,7 +27,8 @@ impl Desk {
     /// mvwin().
     #[tactic(auto, unfolding(crate::specs::Calls::Moving::move_window_call))]
     pub fn move_window(&mut self, win: Win, row: u32, column: u32) -> Result<(), WinFault>
-        ensures { (self.new, result) ≡ move_window_call self.old win.0 row column }
+        ensures call { (self.new, result) ≡ move_window_call self.old win.0 row column }
+        ensures size { HasSameSize self.old self.new }
     {
         let index = self.index_of(win)?;
         let frame = self.window_at(index).frame();
@@ -53,7 +54,8 @@ impl Desk {
     /// Issue 7, mvderwin().
     #[tactic(auto, unfolding(crate::specs::Calls::Moving::move_derived_call))]
     pub fn move_derived(&mut self, win: Win, row: u32, column: u32) -> Result<(), WinFault>
-        ensures { (self.new, result) ≡ move_derived_call self.old win.0 row column }
+        ensures call { (self.new, result) ≡ move_derived_call self.old win.0 row column }
+        ensures size { HasSameSize self.old self.new }
     {
         let index = self.index_of(win)?;
         let frame = self.window_at(index).frame();

@@ -1,5 +1,6 @@
 //! The call that deletes a window. The definition is in `specs/Calls/Removing.antt`.
 ghost use Rattle.std.specs.Prelude.{◌≡◌, false};
+ghost use Rattle.scr_windows.specs.DeskViews.{HasSameSize};
 ghost use Rattle.scr_windows.specs.Calls.Removing.{is_number, has_children, deleted, delete_call};
 
 use crate::desks::Desk;
@@ -13,7 +14,8 @@ impl Desk {
     /// Refused: NoWindow; HasChildren if it has subwindows. X/Open Curses Issue 7, delwin().
     #[tactic(auto, unfolding(crate::specs::Calls::Removing::delete_call))]
     pub fn delete(&mut self, win: Win) -> Result<(), WinFault>
-        ensures { (self.new, result) ≡ delete_call self.old win.0 }
+        ensures call { (self.new, result) ≡ delete_call self.old win.0 }
+        ensures size { HasSameSize self.old self.new }
     {
         let _ = self.index_of(win)?;
         if has_children(&self.windows, win.0) {

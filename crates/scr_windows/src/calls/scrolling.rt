@@ -2,6 +2,7 @@
 //!
 //! The definitions are in `specs/Calls/Scrolling.antt`.
 ghost use Rattle.std.specs.Prelude.{◌≡◌};
+ghost use Rattle.scr_windows.specs.DeskViews.{HasSameSize};
 ghost use Rattle.scr_windows.specs.Calls.Scrolling.{delete_byte_call, insert_delete_lines_call, scroll_call};
 
 use crate::desks::Desk;
@@ -15,7 +16,8 @@ impl Desk {
     /// Refused: NoWindow. X/Open Curses Issue 7, delch().
     #[tactic(auto, unfolding(crate::specs::Calls::Scrolling::delete_byte_call))]
     pub fn delete_byte(&mut self, win: Win) -> Result<(), WinFault>
-        ensures { (self.new, result) ≡ delete_byte_call self.old win.0 }
+        ensures call { (self.new, result) ≡ delete_byte_call self.old win.0 }
+        ensures size { HasSameSize self.old self.new }
     {
         let canvas = self.canvas(win)?;
         let (row, column) = canvas.state.cursor;
@@ -36,7 +38,8 @@ impl Desk {
     /// Refused: NoWindow. X/Open Curses Issue 7, insdelln().
     #[tactic(auto, unfolding(crate::specs::Calls::Scrolling::insert_delete_lines_call))]
     pub fn insert_delete_lines(&mut self, win: Win, n: i32) -> Result<(), WinFault>
-        ensures { (self.new, result) ≡ insert_delete_lines_call self.old win.0 n }
+        ensures call { (self.new, result) ≡ insert_delete_lines_call self.old win.0 n }
+        ensures size { HasSameSize self.old self.new }
     {
         let canvas = self.canvas(win)?;
         let (first, end) = lines_from(canvas.state.cursor, canvas.area.rows);
@@ -71,7 +74,8 @@ impl Desk {
     /// Refused: NoWindow; NoScroll if `scroll_ok` is off. X/Open Curses Issue 7, scrl().
     #[tactic(auto, unfolding(crate::specs::Calls::Scrolling::scroll_call))]
     pub fn scroll(&mut self, win: Win, n: i32) -> Result<(), WinFault>
-        ensures { (self.new, result) ≡ scroll_call self.old win.0 n }
+        ensures call { (self.new, result) ≡ scroll_call self.old win.0 n }
+        ensures size { HasSameSize self.old self.new }
     {
         let canvas = self.canvas(win)?;
         if !canvas.state.scroll_ok {

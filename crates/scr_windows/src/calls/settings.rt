@@ -1,6 +1,7 @@
 //! Calls that set something in a window: cursor, region, attributes, background, settings. The definitions are in
 //! `specs/Calls/Settings.antt`.
 ghost use Rattle.std.specs.Prelude.{◌≡◌};
+ghost use Rattle.scr_windows.specs.DeskViews.{HasSameSize};
 ghost use Rattle.scr_windows.specs.Calls.Settings.{move_cursor_call, set_region_call, scroll_ok_call, clear_ok_call, leave_ok_call, attr_on_call, attr_off_call, attr_set_call, color_set_call, set_background_call, change_background_call};
 
 use crate::desks::Desk;
@@ -15,7 +16,8 @@ impl Desk {
     /// Refused: NoWindow; OutOfWindow for a place outside the window. X/Open Curses Issue 7, move().
     #[tactic(auto, unfolding(crate::specs::Calls::Settings::move_cursor_call))]
     pub fn move_cursor(&mut self, win: Win, row: u32, column: u32) -> Result<(), WinFault>
-        ensures { (self.new, result) ≡ move_cursor_call self.old win.0 row column }
+        ensures call { (self.new, result) ≡ move_cursor_call self.old win.0 row column }
+        ensures size { HasSameSize self.old self.new }
     {
         let mut canvas = self.canvas(win)?;
         if row >= canvas.area.rows || column >= canvas.area.columns {
@@ -32,7 +34,8 @@ impl Desk {
     /// Curses Issue 7, setscrreg().
     #[tactic(auto, unfolding(crate::specs::Calls::Settings::set_region_call))]
     pub fn set_region(&mut self, win: Win, top: u32, bottom: u32) -> Result<(), WinFault>
-        ensures { (self.new, result) ≡ set_region_call self.old win.0 top bottom }
+        ensures call { (self.new, result) ≡ set_region_call self.old win.0 top bottom }
+        ensures size { HasSameSize self.old self.new }
     {
         let mut canvas = self.canvas(win)?;
         if top > bottom || bottom >= canvas.area.rows {
@@ -48,7 +51,8 @@ impl Desk {
     /// Refused: NoWindow. X/Open Curses Issue 7, scrollok().
     #[tactic(auto, unfolding(crate::specs::Calls::Settings::scroll_ok_call))]
     pub fn scroll_ok(&mut self, win: Win, on: bool) -> Result<(), WinFault>
-        ensures { (self.new, result) ≡ scroll_ok_call self.old win.0 on }
+        ensures call { (self.new, result) ≡ scroll_ok_call self.old win.0 on }
+        ensures size { HasSameSize self.old self.new }
     {
         let mut canvas = self.canvas(win)?;
         canvas.state.scroll_ok = on;
@@ -61,7 +65,8 @@ impl Desk {
     /// Refused: NoWindow. X/Open Curses Issue 7, clearok().
     #[tactic(auto, unfolding(crate::specs::Calls::Settings::clear_ok_call))]
     pub fn clear_ok(&mut self, win: Win, on: bool) -> Result<(), WinFault>
-        ensures { (self.new, result) ≡ clear_ok_call self.old win.0 on }
+        ensures call { (self.new, result) ≡ clear_ok_call self.old win.0 on }
+        ensures size { HasSameSize self.old self.new }
     {
         let mut canvas = self.canvas(win)?;
         canvas.state.clear_ok = on;
@@ -74,7 +79,8 @@ impl Desk {
     /// Refused: NoWindow. X/Open Curses Issue 7, leaveok().
     #[tactic(auto, unfolding(crate::specs::Calls::Settings::leave_ok_call))]
     pub fn leave_ok(&mut self, win: Win, on: bool) -> Result<(), WinFault>
-        ensures { (self.new, result) ≡ leave_ok_call self.old win.0 on }
+        ensures call { (self.new, result) ≡ leave_ok_call self.old win.0 on }
+        ensures size { HasSameSize self.old self.new }
     {
         let mut canvas = self.canvas(win)?;
         canvas.state.leave_ok = on;
@@ -87,7 +93,8 @@ impl Desk {
     /// Refused: NoWindow. X/Open Curses Issue 7, attron().
     #[tactic(auto, unfolding(crate::specs::Calls::Settings::attr_on_call))]
     pub fn attr_on(&mut self, win: Win, attrs: Attrs) -> Result<(), WinFault>
-        ensures { (self.new, result) ≡ attr_on_call self.old win.0 attrs }
+        ensures call { (self.new, result) ≡ attr_on_call self.old win.0 attrs }
+        ensures size { HasSameSize self.old self.new }
     {
         let mut canvas = self.canvas(win)?;
         canvas.state.attrs = canvas.state.attrs.union(attrs);
@@ -100,7 +107,8 @@ impl Desk {
     /// Refused: NoWindow. X/Open Curses Issue 7, attroff().
     #[tactic(auto, unfolding(crate::specs::Calls::Settings::attr_off_call))]
     pub fn attr_off(&mut self, win: Win, attrs: Attrs) -> Result<(), WinFault>
-        ensures { (self.new, result) ≡ attr_off_call self.old win.0 attrs }
+        ensures call { (self.new, result) ≡ attr_off_call self.old win.0 attrs }
+        ensures size { HasSameSize self.old self.new }
     {
         let mut canvas = self.canvas(win)?;
         canvas.state.attrs = canvas.state.attrs.difference(attrs);
@@ -113,7 +121,8 @@ impl Desk {
     /// Refused: NoWindow. X/Open Curses Issue 7, attrset().
     #[tactic(auto, unfolding(crate::specs::Calls::Settings::attr_set_call))]
     pub fn attr_set(&mut self, win: Win, attrs: Attrs) -> Result<(), WinFault>
-        ensures { (self.new, result) ≡ attr_set_call self.old win.0 attrs }
+        ensures call { (self.new, result) ≡ attr_set_call self.old win.0 attrs }
+        ensures size { HasSameSize self.old self.new }
     {
         let mut canvas = self.canvas(win)?;
         canvas.state.attrs = attrs;
@@ -126,7 +135,8 @@ impl Desk {
     /// Refused: NoWindow; BadPair for a pair above 63. X/Open Curses Issue 7, color_set().
     #[tactic(auto, unfolding(crate::specs::Calls::Settings::color_set_call))]
     pub fn color_set(&mut self, win: Win, pair: u32) -> Result<(), WinFault>
-        ensures { (self.new, result) ≡ color_set_call self.old win.0 pair }
+        ensures call { (self.new, result) ≡ color_set_call self.old win.0 pair }
+        ensures size { HasSameSize self.old self.new }
     {
         let mut canvas = self.canvas(win)?;
         if pair > Cell::MOST_PAIR {
@@ -142,7 +152,8 @@ impl Desk {
     /// Refused: NoWindow. X/Open Curses Issue 7, bkgdset().
     #[tactic(auto, unfolding(crate::specs::Calls::Settings::set_background_call))]
     pub fn set_background(&mut self, win: Win, cell: Cell) -> Result<(), WinFault>
-        ensures { (self.new, result) ≡ set_background_call self.old win.0 cell }
+        ensures call { (self.new, result) ≡ set_background_call self.old win.0 cell }
+        ensures size { HasSameSize self.old self.new }
     {
         let mut canvas = self.canvas(win)?;
         canvas.state.background = cell;
@@ -157,7 +168,8 @@ impl Desk {
     /// Refused: NoWindow. X/Open Curses Issue 7, bkgd().
     #[tactic(auto, unfolding(crate::specs::Calls::Settings::change_background_call))]
     pub fn change_background(&mut self, win: Win, cell: Cell) -> Result<(), WinFault>
-        ensures { (self.new, result) ≡ change_background_call self.old win.0 cell }
+        ensures call { (self.new, result) ≡ change_background_call self.old win.0 cell }
+        ensures size { HasSameSize self.old self.new }
     {
         let canvas = self.canvas(win)?;
         let mut state = canvas.state;

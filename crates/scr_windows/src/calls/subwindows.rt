@@ -1,6 +1,6 @@
 //! Calls that make subwindows. The definitions are in `specs/Calls/Subwindows.antt`.
 ghost use Rattle.std.specs.Prelude.{◌≡◌, ◌+◌, ◌<◌, ◌≤◌, length};
-ghost use Rattle.scr_windows.specs.DeskViews.{window_at};
+ghost use Rattle.scr_windows.specs.DeskViews.{HasSameSize, window_at};
 ghost use Rattle.scr_windows.specs.Changes.{Allocated};
 ghost use Rattle.scr_windows.specs.Code.NewFrames.{IsChildPlace};
 ghost use Rattle.scr_windows.specs.Calls.Making.{part_of};
@@ -32,7 +32,8 @@ impl Desk {
         row: u32,
         column: u32,
     ) -> Result<Win, WinFault>
-        ensures { Allocated self.old (derive_call self.old win.0 rows columns row column) (self.new, result) }
+        ensures call { Allocated self.old (derive_call self.old win.0 rows columns row column) (self.new, result) }
+        ensures size { HasSameSize self.old self.new }
     {
         let index = self.index_of(win)?;
         self.derive_at(alloc, index, rows, columns, row, column)
@@ -52,7 +53,8 @@ impl Desk {
         row: u32,
         column: u32,
     ) -> Result<Win, WinFault>
-        ensures { Allocated self.old (sub_call self.old win.0 rows columns row column) (self.new, result) }
+        ensures call { Allocated self.old (sub_call self.old win.0 rows columns row column) (self.new, result) }
+        ensures size { HasSameSize self.old self.new }
     {
         let index = self.index_of(win)?;
         let Some((top, left)) = self.window_at(index).frame().origin else {
@@ -78,7 +80,8 @@ impl Desk {
         row: u32,
         column: u32,
     ) -> Result<Win, WinFault>
-        ensures { Allocated self.old (sub_pad_call self.old win.0 rows columns row column) (self.new, result) }
+        ensures call { Allocated self.old (sub_pad_call self.old win.0 rows columns row column) (self.new, result) }
+        ensures size { HasSameSize self.old self.new }
     {
         let index = self.index_of(win)?;
         let frame = self.window_at(index).frame();

@@ -1,6 +1,6 @@
 //! Calls that touch lines of windows that share cells. The definitions are in `specs/Calls/Syncing.antt`.
 ghost use Rattle.std.specs.Prelude.{◌≡◌, ◌≢◌, ◌<◌, length, MatchOption};
-ghost use Rattle.scr_windows.specs.DeskViews.{IsDesk, window_at};
+ghost use Rattle.scr_windows.specs.DeskViews.{HasSameSize, IsDesk, window_at};
 ghost use Rattle.scr_windows.specs.Changes.{with_window};
 ghost use Rattle.scr_windows.specs.Calls.Syncing.{ancestors, frames_of, parent_index, sync_down_call, sync_up_call, touched_at, touched_down, touched_up, with_touched};
 
@@ -14,7 +14,8 @@ impl Desk {
     /// Refused: NoWindow. X/Open Curses Issue 7, wsyncup().
     #[tactic(auto, unfolding(crate::specs::Calls::Syncing::sync_up_call))]
     pub fn sync_up(&mut self, win: Win) -> Result<(), WinFault>
-        ensures { (self.new, result) ≡ sync_up_call self.old win.0 }
+        ensures call { (self.new, result) ≡ sync_up_call self.old win.0 }
+        ensures size { HasSameSize self.old self.new }
     {
         let index = self.index_of(win)?;
         self.touch_up(index);
@@ -26,7 +27,8 @@ impl Desk {
     /// Refused: NoWindow. X/Open Curses Issue 7, wsyncdown().
     #[tactic(auto, unfolding(crate::specs::Calls::Syncing::sync_down_call))]
     pub fn sync_down(&mut self, win: Win) -> Result<(), WinFault>
-        ensures { (self.new, result) ≡ sync_down_call self.old win.0 }
+        ensures call { (self.new, result) ≡ sync_down_call self.old win.0 }
+        ensures size { HasSameSize self.old self.new }
     {
         let index = self.index_of(win)?;
         self.touch_down(index);

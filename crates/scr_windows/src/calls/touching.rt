@@ -1,6 +1,7 @@
 //! Calls that touch lines, make them untouched, or take them for an update. The definitions are in
 //! `specs/Calls/Touching.antt`.
 ghost use Rattle.std.specs.Prelude.{◌≡◌, true, false};
+ghost use Rattle.scr_windows.specs.DeskViews.{HasSameSize};
 ghost use Rattle.scr_windows.specs.Calls.Touching.{take_lines_call, touch_all_call, touch_lines_call};
 
 use crate::desks::Desk;
@@ -12,7 +13,8 @@ impl Desk {
     /// Refused: NoWindow. X/Open Curses Issue 7, touchwin().
     #[tactic(auto, unfolding(crate::specs::Calls::Touching::touch_all_call))]
     pub fn touch_window(&mut self, win: Win) -> Result<(), WinFault>
-        ensures { (self.new, result) ≡ touch_all_call self.old win.0 true }
+        ensures call { (self.new, result) ≡ touch_all_call self.old win.0 true }
+        ensures size { HasSameSize self.old self.new }
     {
         let canvas = self.canvas(win)?;
         self.mark(canvas.index, 0, canvas.area.rows, true);
@@ -24,7 +26,8 @@ impl Desk {
     /// Refused: NoWindow. X/Open Curses Issue 7, untouchwin().
     #[tactic(auto, unfolding(crate::specs::Calls::Touching::touch_all_call))]
     pub fn untouch(&mut self, win: Win) -> Result<(), WinFault>
-        ensures { (self.new, result) ≡ touch_all_call self.old win.0 false }
+        ensures call { (self.new, result) ≡ touch_all_call self.old win.0 false }
+        ensures size { HasSameSize self.old self.new }
     {
         let canvas = self.canvas(win)?;
         self.mark(canvas.index, 0, canvas.area.rows, false);
@@ -43,7 +46,8 @@ impl Desk {
         n: u32,
         changed: bool,
     ) -> Result<(), WinFault>
-        ensures { (self.new, result) ≡ touch_lines_call self.old win.0 first n changed }
+        ensures call { (self.new, result) ≡ touch_lines_call self.old win.0 first n changed }
+        ensures size { HasSameSize self.old self.new }
     {
         let canvas = self.canvas(win)?;
         if first > canvas.area.rows || n > canvas.area.rows - first {
@@ -59,7 +63,8 @@ impl Desk {
     /// Refused: NoWindow; OutOfWindow if the window has fewer than `first + n` lines. curs_refresh(3X), wnoutrefresh().
     #[tactic(auto, unfolding(crate::specs::Calls::Touching::take_lines_call))]
     pub fn take_lines(&mut self, win: Win, first: u32, n: u32) -> Result<bool, WinFault>
-        ensures { (self.new, result) ≡ take_lines_call self.old win.0 first n }
+        ensures call { (self.new, result) ≡ take_lines_call self.old win.0 first n }
+        ensures size { HasSameSize self.old self.new }
     {
         let canvas = self.canvas(win)?;
         if first > canvas.area.rows || n > canvas.area.rows - first {

@@ -3,8 +3,8 @@ use Rattle.scr_windows.specs.Calls.Settings.{attr_off_call}
 use Rattle.scr_windows.proofs.WrittenLaws.{set_in}
 use Rattle.scr_windows.proofs.desks.Desk.attr_off.Goals as goal
 
-pub returns : goal.returns
+pub returns-clause-call : goal.returns-clause-call
 unfolding attr_off_call
-returns c =
+returns-clause-call c =
     let canvas = c.in_ok-canvas.canvas in
     set_in c.args.self.now _ c.args.win.0 canvas _ (λ s. record s { attrs = record { 0 = bit_and s.attrs.0 (255 - c.args.attrs.0) } }) c.in_ok-canvas.ensures c.set_state.ensures (λ j. record canvas.state { attrs = record { 0 = c.difference-canvas.ensures tt j } })

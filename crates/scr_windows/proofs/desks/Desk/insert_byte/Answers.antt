@@ -7,9 +7,9 @@ use Rattle.scr_windows.specs.Calls.Adding.{insert_byte_call, written_form}
 use Rattle.scr_windows.proofs.WrittenLaws.{changed_where}
 use Rattle.scr_windows.proofs.desks.Desk.insert_byte.Goals as goal
 
-pub returns : goal.returns
+pub returns-clause-call : goal.returns-clause-call
 unfolding insert_byte_call
-returns c =
+returns-clause-call c =
     let canvas = c.in_ok-canvas.canvas in
     let graphic : is_character c.args.byte ≡ true = search rules in
     changed_where c.args.self.now _ c.args.win.0 canvas (λ area. is_character c.args.byte) (λ i s. write c.args.self.now i s.cursor.0 (s.cursor.0 + 1) (row_opened s.cursor.0 s.cursor.1 (written_form c.args.byte c.args.attrs s))) (λ s. tt) NotAscii

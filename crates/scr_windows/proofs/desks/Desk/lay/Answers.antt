@@ -15,8 +15,8 @@ invariant_of-self c =
     drawn_is_desk c.surface_laws.ensures _ _ c.args.index _ _ _ _ _ _ _ c.args.top (c.args.top + c.args.block.now.rows) (λ before. part_laid c.args.overlay (part_of c.args.top c.args.left c.args.block.now) (block_at c.args.block.now) before) (record { is = c.self.view_is; desk = c.self.invariant; here = c.requires.here; window = c.index_mut-window.ensures.value; frame_is = c.frame-frame.ensures })
     (found _ _ _ _ _ c.deref.ensures.value c.index_of_sheet-sheet.ensures.within c.index_of_sheet-sheet.ensures.number c.index_mut.ensures.value) (c.mark.ensures ∙ ap (λ n. marked c.args.top (c.args.top + n) true c.index_mut-window.result.now) c.rows.ensures.value) c.lay.ensures refl
 
-pub returns : goal.returns
-returns c =
+pub returns-clause-laid : goal.returns-clause-laid
+returns-clause-laid c =
     written_path _ _ c.args.index _ _ _ _ _ _ _ c.args.top (c.args.top + c.args.block.now.rows) (λ before. part_laid c.args.overlay (part_of c.args.top c.args.left c.args.block.now) (block_at c.args.block.now) before) (record { is = c.self.view_is; desk = c.self.invariant; here = c.requires.here; window = c.index_mut-window.ensures.value; frame_is = c.frame-frame.ensures })
     (found _ _ _ _ _ c.deref.ensures.value c.index_of_sheet-sheet.ensures.within c.index_of_sheet-sheet.ensures.number c.index_mut.ensures.value) (c.mark.ensures ∙ ap (λ n. marked c.args.top (c.args.top + n) true c.index_mut-window.result.now) c.rows.ensures.value) c.lay.ensures refl
     ∙ ap (λ v. write v c.args.index c.args.top (c.args.top + c.args.block.now.rows) (λ before. part_laid c.args.overlay (part_of c.args.top c.args.left c.args.block.now) (block_at c.args.block.now) before)) c.self.view_is
