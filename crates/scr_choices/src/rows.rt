@@ -55,6 +55,7 @@ pub(crate) fn price_over<P: RowPrices>(prices: &P, row: u32, looks: &[Look]) -> 
 }
 
 // The first column in which a row differs from what it shows, if there is one.
+#[inline(always)]
 pub(crate) fn first_differing<P: RowPrices, R: KnownRows>(
     prices: &P,
     rows: &R,

@@ -232,6 +232,7 @@ impl KnownRows for RememberedRows<'_> {
         self.by.rows(self.wanted)
     }
 
+    #[inline(always)]
     fn differing_in(&self, row: u32) -> Option<(u32, u32)> {
         if row >= self.wanted.size().rows {
             return None;
