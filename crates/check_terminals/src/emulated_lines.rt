@@ -8,7 +8,8 @@ use check_scripts::buffers::Buffer;
 use check_scripts::troubles::Trouble;
 use check_scripts::words::Words;
 use scr_cells::NoMemory;
-use scr_term::{Op, Profile, Spot, Terminal};
+use scr_emulated::Terminal;
+use scr_term::{Op, Profile, Spot};
 use std::alloc::Global;
 
 /// The lines `terminal R C`, `step OP`, `terminal_spot`, `terminal_attrs`, `terminal_colours`, `terminal_at R C` and

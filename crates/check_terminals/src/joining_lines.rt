@@ -9,7 +9,8 @@ use check_scripts::troubles::Trouble;
 use check_scripts::words::Words;
 use joined_repaint::joined;
 use scr_cells::{NoMemory, Picture};
-use scr_term::{Ops, Profile, Terminal};
+use scr_emulated::Terminal;
+use scr_term::{Ops, Profile};
 use std::alloc::Global;
 
 /// The lines `joined`, the operations that bring the terminal to the picture, and `joined_count`, how many they are and

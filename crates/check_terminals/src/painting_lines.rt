@@ -9,7 +9,8 @@ use check_scripts::troubles::Trouble;
 use check_scripts::words::Words;
 use scr_cells::{NoMemory, Picture};
 use scr_plan::{scratch, scratch_bytes};
-use scr_term::{EcmaScreen, Op, Ops, Profile};
+use scr_emulated::EcmaScreen;
+use scr_term::{Op, Ops, Profile};
 use std::alloc::Global;
 
 /// The lines `scratch`, `painted`, `painted_count`, `scratch_bytes`, all of these bytes, and `feed_painted`, which

@@ -8,7 +8,7 @@ use check_scripts::buffers::{Buffer, are_same};
 use check_scripts::troubles::Trouble;
 use check_scripts::words::Words;
 use scr_cells::{Look, NoMemory, Size};
-use scr_term::EcmaScreen;
+use scr_emulated::EcmaScreen;
 use screen_scripts::print_screen;
 use std::alloc::Global;
 

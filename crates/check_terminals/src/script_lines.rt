@@ -5,7 +5,7 @@ use check_scripts::buffers::Buffer;
 use check_scripts::troubles::Trouble;
 use check_scripts::words::Words;
 use scr_cells::NoMemory;
-use scr_term::EcmaScreen;
+use scr_emulated::EcmaScreen;
 use screen_scripts::{DemoFault, refusals, run};
 use std::alloc::Global;
 use std::io;

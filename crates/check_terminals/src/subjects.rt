@@ -19,7 +19,8 @@ use check_scripts::troubles::Trouble;
 use check_scripts::words::Words;
 use scr_cells::Picture;
 use scr_memory::Memory;
-use scr_term::{EcmaScreen, Profile, Terminal};
+use scr_emulated::{EcmaScreen, Terminal};
+use scr_term::Profile;
 use std::alloc::Global;
 use ti_caps::Entry;
 

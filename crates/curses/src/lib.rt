@@ -23,6 +23,7 @@ pub use writers::{Counted, Device};
 // test without a terminal the emulated one.
 pub use scr_cells::{Attrs, Cell, Look, NoMemory, Picture, Size};
 pub use scr_keys::{Key, KeyFault, names as keys};
-pub use scr_term::{EcmaScreen, Op, Ops, ProfileFault, Spot, Undefined};
+pub use scr_emulated::{EcmaScreen, Undefined};
+pub use scr_term::{Op, Ops, ProfileFault, Spot};
 pub use scr_windows::{Added, Win, WinFault, WindowRef};
 pub use ti_caps::{Bytes, CapFault, Entry, Kind, Slot, bundled};

@@ -4,7 +4,8 @@
 
 use check_scripts::troubles::Trouble;
 use scr_cells::Size;
-use scr_term::{EcmaScreen, Spot};
+use scr_emulated::EcmaScreen;
+use scr_term::Spot;
 use std::alloc::Global;
 
 // What is written with: attributes, a foreground and a background.

@@ -5,7 +5,7 @@ use crate::plain_screen::{End, PlainScreen};
 use check_scripts::random::Random;
 use check_scripts::troubles::Trouble;
 use scr_cells::Size;
-use scr_term::EcmaScreen;
+use scr_emulated::EcmaScreen;
 use std::alloc::Global;
 
 // The size of the screens.

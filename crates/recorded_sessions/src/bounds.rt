@@ -6,7 +6,8 @@ use curses::Screen;
 use joined_repaint::joined;
 use scr_cells::{NoMemory, Picture, Size};
 use scr_plan::scratch_bytes;
-use scr_term::{Op, Profile, Terminal};
+use scr_emulated::Terminal;
+use scr_term::{Op, Profile};
 use screen_sessions::Call;
 use std::alloc::Global;
 

@@ -1,7 +1,8 @@
 //! The terminal of an entry, emulated: by the bytes that it is sent, or by the operations.
 
 use scr_cells::{Attrs, Look, NoMemory, Size};
-use scr_term::{EcmaScreen, Op, Profile, Spot, Terminal};
+use scr_emulated::{EcmaScreen, Terminal};
+use scr_term::{Op, Profile, Spot};
 use std::alloc::Global;
 use ti_caps::{Entry, Slot, slots};
 

@@ -11,7 +11,8 @@ ghost use Rattle.scr_memory.specs.Code.Remembering.{gone_to};
 
 use crate::known_rows::{are_all, rows_there, set_all, set_one, set_run};
 use scr_cells::{Look, NoMemory, Pen, Size};
-use scr_term::{Op, Profile, Spot, Terminal};
+use scr_emulated::Terminal;
+use scr_term::{Op, Profile, Spot};
 use std::alloc::Global;
 use std::marker::Model;
 

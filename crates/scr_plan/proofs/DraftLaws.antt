@@ -16,7 +16,7 @@ use Rattle.scr_term.specs.declared.operations.operation.Op.TheVariants.{EraseCha
 use Rattle.scr_term.specs.declared.operations.operation.Spot.{Spot}
 use Rattle.scr_term.specs.declared.operations.operation.Spot.TheVariants.{At, Margin}
 use Rattle.scr_term.specs.Operations.Laws.{ProfilesHave, RunLaws}
-use Rattle.scr_term.specs.Operations.Leading.{GoesTo, TurnsTo}
+use Rattle.scr_emulated.specs.Leading.{GoesTo, TurnsTo}
 use Rattle.scr_term.specs.Operations.Profiles.{ProfileView, IsProfile}
 use Rattle.scr_term.specs.Operations.States.{TerminalState, characters_erased, erased, from_place, rest_of_line_erased, spot_after, written_at}
 use Rattle.scr_term.specs.Operations.Steps.{act, runs, step}

@@ -13,6 +13,7 @@ use crate::looking::cell_in;
 use crate::painting::Painter;
 use scr_cells::{Cell, Look, NoMemory, Pen, Picture, grid_laws};
 use scr_choices::Cursor;
+use scr_emulated::{moved_by, turned};
 use scr_term::{Op, Profile, Spot, profiles_have, run_laws};
 
 // A plan in the making: its operations, how many bytes they have, and where they lead.
@@ -67,7 +68,7 @@ impl Draft {
         let Some(price) = profile.cost(op) else {
             return Ok(());
         };
-        match profile.moved_by(self.spot, self.pen, op) {
+        match moved_by(profile, self.spot, self.pen, op) {
             Some(spot) => self.add_priced(profile, op, price, spot, self.pen),
             None => Ok(()),
         }
@@ -79,7 +80,7 @@ impl Draft {
     {
         run_laws();
         let _size = profile.size();
-        match profile.turned(self.spot, self.pen, op) {
+        match turned(profile, self.spot, self.pen, op) {
             Some(pen) => self.add(profile, op, self.spot, pen),
             None => Ok(()),
         }

@@ -8,19 +8,16 @@ use Rattle.std.proofs.lemmas.Bool.{eqb-true, false≢true}
 use Rattle.std.proofs.lemmas.Bool.Decides.{nat_tests}
 use Rattle.scr_cells.specs.Attributes.{all_attributes}
 use Rattle.scr_cells.specs.declared.attributes.Attrs.{Attrs}
-use Rattle.scr_term.specs.declared.operations.operation.Op.TheVariants.{Home, Move, Column, Line, Up, Down, Left, Right, Return, Clear, EraseLine, EraseBelow, EraseChars, InsertLines, DeleteLines, InsertChars, DeleteChars, Reset, ExitAttributes, Enter, Set, Fore, Back, Put}
+use Rattle.scr_term.specs.declared.operations.operation.Op.TheVariants.{Move, Clear, Reset, Enter, Set, Fore, Back, Put}
 use Rattle.scr_term.specs.declared.operations.operation.Op.{Op}
 use Rattle.scr_term.specs.declared.operations.capability.Capability.TheVariants.{Sgr0, Setaf, Setab}
-use Rattle.scr_cells.specs.PenViews.{PenView}
-use Rattle.scr_term.specs.Operations.Abilities.{AreAbilities, full_abilities}
-use Rattle.scr_term.specs.Operations.States.{IsShownPen}
-use Rattle.scr_term.specs.Code.Changes.{next_pen}
+use Rattle.scr_term.specs.Operations.Abilities.{AreAbilities}
 use Rattle.scr_term.specs.Operations.Laws.{ProfilesHave}
 use Rattle.scr_term.specs.Operations.Profiles.{ProfileView, IsProfile, abilities, has_colours, is_shown, is_there, set_of, shown_set}
 use Rattle.scr_term.specs.Operations.Texts.{first_piece, has, is_attribute, is_sendable, is_within}
 use Rattle.scr_term.proofs.Attributes.{each_attribute}
 use Rattle.scr_term.proofs.ChoiceLaws.{and_true, both_true}
-use Rattle.scr_term.proofs.ShownPenLaws.{more_is_shown, plain_is_shown, set_is_shown, within-or}
+use Rattle.scr_term.proofs.ShownPenLaws.{within-or}
 
 -- a set within a set that is within another
 pub within-trans : (s t a : ℕ) → bit_and t s ≡ s → bit_and s a ≡ a → bit_and t a ≡ a
@@ -172,30 +169,3 @@ profiles_have_hold profile p = record {
   plain_set = none_is_shown profile;
   plain_colours = colours_want_reset profile;
 }
-
--- the pen behind an operation that a profile has is shown by full abilities
-pub next_is_shown : (profile : ProfileView) (pen : PenView) (op : Op) → has profile op ≡ true → IsShownPen (full_abilities profile.rows profile.columns) pen → IsShownPen (full_abilities profile.rows profile.columns) (next_pen pen op)
-next_is_shown profile pen Reset had is = plain_is_shown (full_abilities profile.rows profile.columns)
-next_is_shown profile pen (Enter a) had is = more_is_shown (full_abilities profile.rows profile.columns) pen a.0 is (entered_is_within profile a had)
-next_is_shown profile pen (Set a) had is = set_is_shown (full_abilities profile.rows profile.columns) a.0 (set_is_within profile a had)
-next_is_shown profile pen ExitAttributes had is = is
-next_is_shown profile pen Home had is = is
-next_is_shown profile pen (Move r k) had is = is
-next_is_shown profile pen (Column k) had is = is
-next_is_shown profile pen (Line r) had is = is
-next_is_shown profile pen (Up n) had is = is
-next_is_shown profile pen (Down n) had is = is
-next_is_shown profile pen (Left n) had is = is
-next_is_shown profile pen (Right n) had is = is
-next_is_shown profile pen Return had is = is
-next_is_shown profile pen Clear had is = is
-next_is_shown profile pen EraseLine had is = is
-next_is_shown profile pen EraseBelow had is = is
-next_is_shown profile pen (EraseChars n) had is = is
-next_is_shown profile pen (InsertLines n) had is = is
-next_is_shown profile pen (DeleteLines n) had is = is
-next_is_shown profile pen (InsertChars n) had is = is
-next_is_shown profile pen (DeleteChars n) had is = is
-next_is_shown profile pen (Fore n) had is = is
-next_is_shown profile pen (Back n) had is = is
-next_is_shown profile pen (Put b) had is = is

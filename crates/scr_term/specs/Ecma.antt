@@ -1,5 +1,3 @@
--- The text sent to a terminal: its units, what each unit means, and a screen that receives the text in pieces.
+-- The text sent to a terminal: its units, and what each unit means.
 pub mod Units
 pub mod Meanings
-pub mod Screens
-pub mod Laws

@@ -7,8 +7,6 @@ pub mod Admission
 pub mod Ecma48
 pub mod States
 pub mod Steps
-pub mod Characters
-pub mod Leading
 pub mod Pieces
 pub mod Texts
 pub mod Painted

@@ -5,7 +5,6 @@ mod admission;
 mod capability;
 mod ladders;
 mod laws;
-mod leading;
 mod making;
 mod operation;
 mod pieces;
@@ -13,15 +12,13 @@ mod prices;
 mod profile_faults;
 mod profiles;
 mod rendering;
-mod steps;
 
 pub use capability::Capability;
 pub use laws::{
     blank_laws, bundled_is_ecma48, bytes_act_as_their_operation, bytes_act_as_their_operations,
-    ecma48_laws, profiles_have, run_laws, steps_keep_states,
+    ecma48_laws, look_grid_laws, profiles_have, run_laws, shown_pen_laws, steps_keep_states,
 };
 pub use operation::{Op, Ops, Spot};
 pub use prices::{FAR, Prices};
 pub use profile_faults::ProfileFault;
 pub use profiles::Profile;
-pub(crate) use steps::change_of;

@@ -9,7 +9,8 @@ ghost use Rattle.screen_scripts.specs.Printing.{attribute_line, character_line, 
 
 use scr_cells::{Look, NoMemory};
 use scr_keys::Key;
-use scr_term::{EcmaScreen, Spot};
+use scr_emulated::EcmaScreen;
+use scr_term::Spot;
 use ti_caps::{Kind, Slot, name_of};
 
 /// Adds the lines of a screen: for each row its characters, its attributes if it has any and its

@@ -9,7 +9,8 @@ use crate::line_faults::LineFault;
 use curses::Screen;
 use scr_cells::{NoMemory, Size};
 use scr_memory::memory_runs;
-use scr_term::{EcmaScreen, blank_laws, ecma48_laws};
+use scr_emulated::EcmaScreen;
+use scr_term::{blank_laws, ecma48_laws};
 use std::alloc::Global;
 use ti_caps::bundled;
 

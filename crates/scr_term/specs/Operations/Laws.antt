@@ -1,16 +1,21 @@
 -- The laws of operations, of runs and of their bytes.
-use Rattle.std.specs.Prelude.{ℕ, ◌≡◌, ◌++◌, ◌<◌, true, false, List, All, Some, option_and_then, bit_and}
+use Rattle.std.specs.Prelude.{ℕ, ◌≡◌, ◌++◌, ◌<◌, Bool, true, false, List, All, Some, option_and_then, bit_and}
+use Rattle.scr_cells.specs.Attributes.{every_attribute}
 use Rattle.scr_cells.specs.CellViews.{IsCharacter}
+use Rattle.scr_cells.specs.Grids.{IsGrid, grid_at, grid_filled, grid_of, grid_with, places_left, places_right, rows_down, rows_up}
+use Rattle.scr_cells.specs.LookViews.{IsLook, LookView, blank, blank_grid}
+use Rattle.scr_cells.specs.PenViews.{IsPen, PenView, plain_pen, with_attribute}
+use Rattle.scr_cells.specs.declared.attributes.Attrs.{Attrs}
 use Rattle.scr_term.specs.declared.operations.capability.Capability.TheVariants.{Sgr0}
-use Rattle.scr_term.specs.Operations.Abilities.{AreAbilities}
+use Rattle.scr_term.specs.Operations.Abilities.{Abilities, AreAbilities}
 use Rattle.scr_term.specs.Operations.Admission.{IsEcma48}
 use Rattle.scr_term.specs.Operations.Profiles.{ProfileView, IsProfile, abilities, has_colours, is_there, shown_set}
-use Rattle.scr_term.specs.Operations.States.{TerminalState, IsState, blank_state, negative_state}
+use Rattle.scr_term.specs.Operations.States.{TerminalState, IsShownPen, IsState, blank_state, negative_state}
 use Rattle.scr_term.specs.Operations.Steps.{step, runs}
 use Rattle.scr_term.specs.Operations.Texts.{has, is_attribute, bytes_of, all_bytes}
 use Rattle.scr_term.specs.Ecma.Meanings.{Leads}
 use Rattle.scr_term.specs.declared.operations.operation.Op.{Op}
-use Rattle.scr_term.specs.declared.operations.operation.Op.TheVariants.{Move, Clear, Reset, Enter, Fore, Back, Put}
+use Rattle.scr_term.specs.declared.operations.operation.Op.TheVariants.{Move, Clear, Reset, Enter, Set, Fore, Back, Put}
 
 -- On the bundled entry, the bytes of an operation do to the negative of a state what the operation does to the state.
 abbrev pub BytesActAsTheirOperation : Type 0
@@ -68,3 +73,29 @@ pub record HasLaws (profile : ProfileView) : Type 0 where
 -- The same for every profile.
 abbrev pub ProfilesHave : Type 0
 ProfilesHave = (profile : ProfileView) → IsProfile profile → HasLaws profile
+
+-- Grids of looks: a blank grid is one, and it stays one where a place changes, places become blank, or rows and places
+-- move.
+pub record LookGridLaws : Type 0 where
+  pub blank_size : (rows columns : ℕ) → IsGrid rows columns (blank_grid rows columns)
+  pub blank_looks : (rows columns : ℕ) → All (All IsLook) (blank_grid rows columns)
+  pub put_size : (rows columns : ℕ) (lines : List (List LookView)) (r c : ℕ) (look : LookView) → IsGrid rows columns lines → IsGrid rows columns (grid_with lines r c look)
+  pub put_looks : (rows columns : ℕ) (lines : List (List LookView)) (r c : ℕ) (look : LookView) → IsGrid rows columns lines → r < rows → IsLook look → All (All IsLook) lines
+      → All (All IsLook) (grid_with lines r c look)
+  pub formed_looks : (rows columns : ℕ) (f : ℕ → ℕ → LookView) → ((r c : ℕ) → IsLook (f r c)) → All (All IsLook) (grid_of rows columns f)
+  pub filled_looks : (rows columns : ℕ) (inside : ℕ → ℕ → Bool) (lines : List (List LookView)) → All (All IsLook) lines
+      → All (All IsLook) (grid_filled rows columns inside (λ _ _. blank) (grid_at blank lines))
+  pub up_looks : (first end n : ℕ) (lines : List (List LookView)) → All (All IsLook) lines → (r c : ℕ) → IsLook (rows_up first end n blank (grid_at blank lines) r c)
+  pub down_looks : (first end n : ℕ) (lines : List (List LookView)) → All (All IsLook) lines → (r c : ℕ) → IsLook (rows_down first end n blank (grid_at blank lines) r c)
+  pub left_looks : (row from end n : ℕ) (lines : List (List LookView)) → All (All IsLook) lines → (r c : ℕ) → IsLook (places_left row from end n blank (grid_at blank lines) r c)
+  pub right_looks : (row from end n : ℕ) (lines : List (List LookView)) → All (All IsLook) lines → (r c : ℕ) → IsLook (places_right row from end n blank (grid_at blank lines) r c)
+
+-- Pens that are shown: the plain one, with attributes that are shown, and with one more of them; each is a pen. A
+-- profile turns on attributes that it knows.
+pub record ShownPenLaws : Type 0 where
+  pub plain : (abilities : Abilities) → IsShownPen abilities plain_pen
+  pub set : (abilities : Abilities) (set : ℕ) → bit_and abilities.shown set ≡ set → IsShownPen abilities (record plain_pen { attrs = set })
+  pub more : (abilities : Abilities) (pen : PenView) (a : ℕ) → IsShownPen abilities pen → bit_and abilities.shown a ≡ a → IsShownPen abilities (with_attribute pen a)
+  pub pen : (abilities : Abilities) → bit_and every_attribute abilities.shown ≡ abilities.shown → (pen : PenView) → IsShownPen abilities pen → IsPen pen
+  pub entered : (profile : ProfileView) (a : Attrs) → has profile (Enter a) ≡ true → bit_and every_attribute a.0 ≡ a.0
+  pub chosen : (profile : ProfileView) (a : Attrs) → has profile (Set a) ≡ true → bit_and every_attribute a.0 ≡ a.0

@@ -2,7 +2,7 @@
 //! nothing.
 ghost use Rattle.scr_term.specs.Operations.Bundled.{BundledIsEcma48};
 ghost use Rattle.scr_term.specs.Operations.Ecma48.{Ecma48Laws};
-ghost use Rattle.scr_term.specs.Operations.Laws.{BlankLaws, BytesActAsTheirOperation, BytesActAsTheirOperations, ProfilesHave, RunLaws, StepsKeepStates};
+ghost use Rattle.scr_term.specs.Operations.Laws.{BlankLaws, BytesActAsTheirOperation, BytesActAsTheirOperations, LookGridLaws, ProfilesHave, RunLaws, ShownPenLaws, StepsKeepStates};
 
 use ti_param::{increment_adds_one, number_writes_decimal};
 
@@ -57,4 +57,16 @@ pub fn run_laws()
 /// A blank screen with no attribute on is a state of each profile, and its own negative.
 pub fn blank_laws()
     ensures { BlankLaws }
+{}
+
+/// A blank grid is a grid of looks, and it stays one where a place changes, places become blank, or
+/// rows and places move.
+pub fn look_grid_laws()
+    ensures { LookGridLaws }
+{}
+
+/// The plain pen is shown by each terminal, also with attributes that are shown. A pen that is
+/// shown is a pen, and a profile turns on attributes that it knows.
+pub fn shown_pen_laws()
+    ensures { ShownPenLaws }
 {}

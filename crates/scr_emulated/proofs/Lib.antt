@@ -1,0 +1,12 @@
+mod ChangeLaws
+mod DisplayLaws
+mod DisplayViewLaws
+mod EcmaDivisionLaws
+mod EcmaFedLaws
+mod EcmaLedLaws
+mod EcmaParameterLaws
+mod EcmaPieceLaws
+mod EcmaReadingLaws
+mod EcmaStateLaws
+mod EcmaUnitLaws
+mod WritingLaws

@@ -1,0 +1,6 @@
+pub use Rattle.scr_term.specs.Operations
+pub mod Displays
+pub mod Characters
+pub mod Leading
+pub mod Ecma
+pub mod Code
