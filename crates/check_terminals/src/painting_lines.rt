@@ -8,8 +8,8 @@ use check_scripts::buffers::Buffer;
 use check_scripts::troubles::Trouble;
 use check_scripts::words::Words;
 use scr_cells::{NoMemory, Picture};
-use scr_plan::{scratch, scratch_bytes};
 use scr_emulated::EcmaScreen;
+use scr_plan::{scratch, scratch_bytes};
 use scr_term::{Op, Ops, Profile};
 use std::alloc::Global;
 

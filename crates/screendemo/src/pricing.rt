@@ -2,8 +2,8 @@
 
 use joined_repaint::joined;
 use scr_cells::{NoMemory, Picture};
-use scr_plan::scratch;
 use scr_emulated::Terminal;
+use scr_plan::scratch;
 use scr_term::{Ops, Profile};
 use std::alloc::Global;
 
