@@ -13,7 +13,7 @@ mod words;
 
 use clap::ArgMatches;
 use clap::error::ErrorKind;
-use edit_screen::{Editor, Failure, edit_by_script, edit_on_terminal, rescue};
+use edit_screen::{EditFailure, Editor, edit_by_script, edit_on_terminal, rescue};
 use std::process::ExitCode;
 use std::{env, io};
 use words::Task;
@@ -27,16 +27,16 @@ fn main(rt: HostRuntime) -> ExitCode {
 }
 
 // Prints why the program ends, and gives its status.
-fn told(rt: &HostRuntime, failure: &Failure) -> u8 {
+fn told(rt: &HostRuntime, failure: &EditFailure) -> u8 {
     let _ = eprintln!(rt; "edit: {failure}");
     1
 }
 
-fn words_given(rt: &HostRuntime) -> Result<Vec<String>, Failure> {
+fn words_given(rt: &HostRuntime) -> Result<Vec<String>, EditFailure> {
     match env::args(rt) {
         Ok(words) => Ok(words.collect(rt.alloc())?),
-        Err(error) if error.kind() == io::ErrorKind::OutOfMemory => Err(Failure::NoMemory),
-        Err(_) => Err(Failure::NotText),
+        Err(error) if error.kind() == io::ErrorKind::OutOfMemory => Err(EditFailure::NoMemory),
+        Err(_) => Err(EditFailure::NotText),
     }
 }
 
@@ -58,7 +58,7 @@ fn perform_task(rt: &HostRuntime, matches: &ArgMatches<'_>) -> u8 {
 // Prints a usage error, or the help or the version, and gives the status.
 fn answered(rt: &HostRuntime, error: &clap::Error) -> u8 {
     if error.kind() == ErrorKind::OutOfMemory {
-        return told(rt, &Failure::NoMemory);
+        return told(rt, &EditFailure::NoMemory);
     }
     match error.print(rt) {
         Err(_) => 1,
@@ -70,7 +70,7 @@ fn answered(rt: &HostRuntime, error: &clap::Error) -> u8 {
 fn run(rt: &HostRuntime, task: Task<'_>) -> u8 {
     match edit_file(rt, task) {
         Ok(()) => 0,
-        Err(Failure::File(fault)) => {
+        Err(EditFailure::File(fault)) => {
             let _ = eprintln!(rt; "edit: {}: {}", task.file, fault.words());
             1
         }
@@ -78,13 +78,13 @@ fn run(rt: &HostRuntime, task: Task<'_>) -> u8 {
     }
 }
 
-fn edit_file(rt: &HostRuntime, task: Task<'_>) -> Result<(), Failure> {
+fn edit_file(rt: &HostRuntime, task: Task<'_>) -> Result<(), EditFailure> {
     let mut editor = Editor::open(rt, task.file)?;
     edit(rt, task, &mut editor)
 }
 
 // Runs the editor, by a script or on the terminal.
-fn edit(rt: &HostRuntime, task: Task<'_>, editor: &mut Editor) -> Result<(), Failure> {
+fn edit(rt: &HostRuntime, task: Task<'_>, editor: &mut Editor) -> Result<(), EditFailure> {
     if task.script {
         return edit_by_script(rt, task.file, editor);
     }

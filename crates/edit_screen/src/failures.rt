@@ -9,7 +9,7 @@ use ti_database::DatabaseFault;
 
 /// Why the editor ends without having done what it was asked for.
 #[derive(Debug, Drop, Error)]
-pub enum Failure {
+pub enum EditFailure {
     /// Memory ran out.
     NoMemory,
     /// The file cannot be read.
@@ -32,53 +32,53 @@ pub enum Failure {
     BadLine(u32),
 }
 
-impl Display for Failure {
+impl Display for EditFailure {
     fn fmt<W: fmt::Write>(&self, f: &mut Formatter<W>) -> fmt::Result {
         match self {
-            Failure::Entry(fault) => fault.fmt(f),
-            Failure::Screen(fault) => fault.fmt(f),
-            Failure::BadLine(number) => write!(f, "line {number}: bad command"),
+            EditFailure::Entry(fault) => fault.fmt(f),
+            EditFailure::Screen(fault) => fault.fmt(f),
+            EditFailure::BadLine(number) => write!(f, "line {number}: bad command"),
             _ => f.write_str(self.words()),
         }
     }
 }
 
-impl Failure {
+impl EditFailure {
     // What is said of a failure that is the same each time.
     fn words(&self) -> &'static str {
         match self {
-            Failure::NoMemory => "out of memory",
-            Failure::File(fault) => fault.words(),
-            Failure::NoTerm => "TERM is not set",
-            Failure::Output => "the terminal takes no output",
-            Failure::Input => "the terminal cannot be read",
-            Failure::Ended => "the input has ended",
-            Failure::NotText => "the words or the script are not UTF-8 text",
-            Failure::Entry(_) | Failure::Screen(_) | Failure::BadLine(_) => "",
+            EditFailure::NoMemory => "out of memory",
+            EditFailure::File(fault) => fault.words(),
+            EditFailure::NoTerm => "TERM is not set",
+            EditFailure::Output => "the terminal takes no output",
+            EditFailure::Input => "the terminal cannot be read",
+            EditFailure::Ended => "the input has ended",
+            EditFailure::NotText => "the words or the script are not UTF-8 text",
+            EditFailure::Entry(_) | EditFailure::Screen(_) | EditFailure::BadLine(_) => "",
         }
     }
 }
 
-impl From<NoMemory> for Failure {
-    fn from(_: NoMemory) -> Failure {
-        Failure::NoMemory
+impl From<NoMemory> for EditFailure {
+    fn from(_: NoMemory) -> EditFailure {
+        EditFailure::NoMemory
     }
 }
 
-impl From<AllocError> for Failure {
-    fn from(_: AllocError) -> Failure {
-        Failure::NoMemory
+impl From<AllocError> for EditFailure {
+    fn from(_: AllocError) -> EditFailure {
+        EditFailure::NoMemory
     }
 }
 
-impl<T: Drop> From<AllocFailed<T>> for Failure {
-    fn from(_: AllocFailed<T>) -> Failure {
-        Failure::NoMemory
+impl<T: Drop> From<AllocFailed<T>> for EditFailure {
+    fn from(_: AllocFailed<T>) -> EditFailure {
+        EditFailure::NoMemory
     }
 }
 
-impl From<CapFault> for Failure {
-    fn from(_: CapFault) -> Failure {
-        Failure::NoMemory
+impl From<CapFault> for EditFailure {
+    fn from(_: CapFault) -> EditFailure {
+        EditFailure::NoMemory
     }
 }

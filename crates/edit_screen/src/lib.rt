@@ -18,7 +18,7 @@ mod typing;
 mod view;
 
 pub use editor::Editor;
-pub use failures::Failure;
+pub use failures::EditFailure;
 pub use saving::{ReadFault, SaveFault, rescue};
 pub use scripts::edit_by_script;
 pub use terminals::edit_on_terminal;

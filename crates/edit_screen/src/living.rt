@@ -4,7 +4,7 @@
 use crate::answering::{Next, answer_keys};
 use crate::drawing::prepare;
 use crate::editor::Editor;
-use crate::failures::Failure;
+use crate::failures::EditFailure;
 use crate::messages::Message;
 use crate::typing::{take_byte, update};
 use curses::{Counted, Device, Entry, OpenFault, Screen, Size, UpdateFault};
@@ -29,7 +29,7 @@ pub(crate) struct Around<'a> {
 }
 
 /// Runs the editor on the terminal that standard input and output are, to its end.
-pub(crate) fn run_on_terminal(around: &Around<'_>, editor: &mut Editor) -> Result<(), Failure> {
+pub(crate) fn run_on_terminal(around: &Around<'_>, editor: &mut Editor) -> Result<(), EditFailure> {
     let mut line = TerminalLine::open(around.rt)?;
     run_on_line(around, &mut line, editor)
 }
@@ -38,10 +38,10 @@ fn run_on_line(
     around: &Around<'_>,
     line: &mut TerminalLine,
     editor: &mut Editor,
-) -> Result<(), Failure> {
+) -> Result<(), EditFailure> {
     match BufWriter::new(around.rt.alloc(), around.rt.stdout()) {
         Ok(writer) => own_screen(around, line, &mut Device::new(writer), editor),
-        Err(_) => Err(Failure::NoMemory),
+        Err(_) => Err(EditFailure::NoMemory),
     }
 }
 
@@ -51,7 +51,7 @@ fn own_screen<W: Counted>(
     line: &mut TerminalLine,
     out: &mut W,
     editor: &mut Editor,
-) -> Result<(), Failure> {
+) -> Result<(), EditFailure> {
     let opened = open_screen(around.rt.alloc(), around.entry, line.size());
     live_and_close(around, &mut opened?, line, out, editor)
 }
@@ -62,7 +62,7 @@ fn live_and_close<W: Counted>(
     line: &mut TerminalLine,
     out: &mut W,
     editor: &mut Editor,
-) -> Result<(), Failure> {
+) -> Result<(), EditFailure> {
     prepare(screen);
     let ended = live(around, screen, line, out, editor);
     let _ = screen.close(out);
@@ -83,7 +83,7 @@ fn live<W: Counted>(
     line: &mut TerminalLine,
     out: &mut W,
     editor: &mut Editor,
-) -> Result<(), Failure> {
+) -> Result<(), EditFailure> {
     let mut failures = 0u32;
     // What a failed write leaves of the opening text is sent by the next update.
     let _ = screen.start(out);
@@ -105,10 +105,10 @@ fn live<W: Counted>(
     Ok(())
 }
 
-fn failure_of(fault: &UpdateFault) -> Failure {
+fn failure_of(fault: &UpdateFault) -> EditFailure {
     match fault {
-        UpdateFault::NoMemory => Failure::NoMemory,
-        _ => Failure::Output,
+        UpdateFault::NoMemory => EditFailure::NoMemory,
+        _ => EditFailure::Output,
     }
 }
 
@@ -143,7 +143,7 @@ fn turn<W: Counted>(
     out: &mut W,
     editor: &mut Editor,
     is_shown: bool,
-) -> Result<bool, Failure> {
+) -> Result<bool, EditFailure> {
     let mut piece = [0u8; PIECE];
     match line.read(around.rt, &mut piece) {
         Input::Bytes(count) => {
@@ -159,8 +159,8 @@ fn turn<W: Counted>(
             }
             Ok(goes_on)
         }
-        Input::Ended => Err(Failure::Ended),
-        Input::Failed => Err(Failure::Input),
+        Input::Ended => Err(EditFailure::Ended),
+        Input::Failed => Err(EditFailure::Input),
     }
 }
 

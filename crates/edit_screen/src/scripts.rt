@@ -7,7 +7,7 @@
 use crate::answering::{Next, answer_keys};
 use crate::drawing::prepare;
 use crate::editor::Editor;
-use crate::failures::Failure;
+use crate::failures::EditFailure;
 use crate::messages::Message;
 use crate::typing::{take_byte, update};
 use curses::{Device, EcmaScreen, Entry, Screen, Size, bundled};
@@ -42,7 +42,7 @@ struct Shown {
 
 impl<'a> Script<'a> {
     // The next line: `None` at the end.
-    fn next_line(&mut self) -> Result<Option<Line<'a>>, Failure> {
+    fn next_line(&mut self) -> Result<Option<Line<'a>>, EditFailure> {
         if self.rest.is_empty() {
             return Ok(None);
         }
@@ -58,8 +58,8 @@ impl<'a> Script<'a> {
         }
     }
 
-    fn fault(&self) -> Failure {
-        Failure::BadLine(self.number)
+    fn fault(&self) -> EditFailure {
+        EditFailure::BadLine(self.number)
     }
 }
 
@@ -89,11 +89,15 @@ fn size_of(words: &str) -> Option<Size> {
 ///
 /// Refused with the number of the first line that is no command, if the script cannot be read or is not UTF-8 text, if
 /// nothing can be printed, or if memory runs out.
-pub fn edit_by_script(rt: &HostRuntime, path: &str, editor: &mut Editor) -> Result<(), Failure> {
+pub fn edit_by_script(
+    rt: &HostRuntime,
+    path: &str,
+    editor: &mut Editor,
+) -> Result<(), EditFailure> {
     match read_input(rt.alloc(), &mut rt.reader()) {
         Ok(bytes) => run_bytes(rt, path, &bytes, editor),
-        Err(InputFault::Failed) => Err(Failure::Input),
-        Err(InputFault::NoMemory) => Err(Failure::NoMemory),
+        Err(InputFault::Failed) => Err(EditFailure::Input),
+        Err(InputFault::NoMemory) => Err(EditFailure::NoMemory),
     }
 }
 
@@ -102,10 +106,10 @@ fn run_bytes(
     path: &str,
     script: &[u8],
     editor: &mut Editor,
-) -> Result<(), Failure> {
+) -> Result<(), EditFailure> {
     match str::from_utf8(script) {
         Ok(script) => run_script(rt, path, script, editor),
-        Err(_) => Err(Failure::NotText),
+        Err(_) => Err(EditFailure::NotText),
     }
 }
 
@@ -114,7 +118,7 @@ fn run_script(
     path: &str,
     script: &str,
     editor: &mut Editor,
-) -> Result<(), Failure> {
+) -> Result<(), EditFailure> {
     let mut script = Script {
         rest: script,
         number: 0,
@@ -127,9 +131,9 @@ fn run_lines(
     path: &str,
     script: &mut Script<'_>,
     editor: &mut Editor,
-) -> Result<(), Failure> {
+) -> Result<(), EditFailure> {
     let Some(Line::Size(first)) = script.next_line()? else {
-        return Err(Failure::BadLine(1));
+        return Err(EditFailure::BadLine(1));
     };
     let mut size = Some(first);
     for _ in 0..u32::MAX {
@@ -148,7 +152,7 @@ fn play_at(
     size: Size,
     script: &mut Script<'_>,
     editor: &mut Editor,
-) -> Result<Option<Size>, Failure> {
+) -> Result<Option<Size>, EditFailure> {
     let entry = bundled(rt.alloc())?;
     play_with(rt, path, &entry, size, script, editor)
 }
@@ -161,7 +165,7 @@ fn play_with(
     size: Size,
     script: &mut Script<'_>,
     editor: &mut Editor,
-) -> Result<Option<Size>, Failure> {
+) -> Result<Option<Size>, EditFailure> {
     let opened = Screen::open_sized(rt.alloc(), entry, size);
     play_on(rt, path, &mut opened?, script, editor)
 }
@@ -172,7 +176,7 @@ fn play_on(
     screen: &mut Screen,
     script: &mut Script<'_>,
     editor: &mut Editor,
-) -> Result<Option<Size>, Failure> {
+) -> Result<Option<Size>, EditFailure> {
     prepare(screen);
     match EcmaScreen::new(rt.alloc(), screen.screen()) {
         Ok(terminal) => {
@@ -186,7 +190,7 @@ fn play_on(
                 editor,
             )
         }
-        Err(_) => Err(Failure::NoMemory),
+        Err(_) => Err(EditFailure::NoMemory),
     }
 }
 
@@ -197,7 +201,7 @@ fn play(
     shown: &mut Shown,
     script: &mut Script<'_>,
     editor: &mut Editor,
-) -> Result<Option<Size>, Failure> {
+) -> Result<Option<Size>, EditFailure> {
     for _ in 0..u32::MAX {
         let Some(line) = script.next_line()? else {
             return Ok(None);
@@ -272,19 +276,21 @@ fn show(
     screen: &mut Screen,
     shown: &mut Shown,
     editor: &mut Editor,
-) -> Result<(), Failure> {
+) -> Result<(), EditFailure> {
     shown.out.writer.clear();
     if update(rt.alloc(), screen, editor, &mut shown.out).is_err() {
-        return Err(Failure::NoMemory);
+        return Err(EditFailure::NoMemory);
     }
     if shown.terminal.feed(&shown.out.writer).is_err() {
-        return Err(Failure::Output);
+        return Err(EditFailure::Output);
     }
     print_terminal(rt, &shown.terminal)
 }
 
-fn print_terminal(rt: &HostRuntime, terminal: &EcmaScreen) -> Result<(), Failure> {
+fn print_terminal(rt: &HostRuntime, terminal: &EcmaScreen) -> Result<(), EditFailure> {
     let mut lines = Vec::new(rt.alloc());
     print_screen(terminal, &mut lines)?;
-    rt.stdout().write_all(&lines).map_err(|_| Failure::Output)
+    rt.stdout()
+        .write_all(&lines)
+        .map_err(|_| EditFailure::Output)
 }

@@ -1,7 +1,7 @@
 //! The entry of the terminal that the editor runs on.
 
 use crate::editor::Editor;
-use crate::failures::Failure;
+use crate::failures::EditFailure;
 use crate::living::{Around, run_on_terminal};
 use curses::{Entry, bundled};
 use std::env;
@@ -18,7 +18,7 @@ pub fn edit_on_terminal(
     path: &str,
     is_bundled: bool,
     editor: &mut Editor,
-) -> Result<(), Failure> {
+) -> Result<(), EditFailure> {
     let entry = entry_of(rt, is_bundled)?;
     let around = Around {
         rt,
@@ -29,21 +29,21 @@ pub fn edit_on_terminal(
 }
 
 // The bundled entry, or the one that `TERM` names.
-fn entry_of(rt: &HostRuntime, is_bundled: bool) -> Result<Entry, Failure> {
+fn entry_of(rt: &HostRuntime, is_bundled: bool) -> Result<Entry, EditFailure> {
     if is_bundled {
         return Ok(bundled(rt.alloc())?);
     }
     match env::var(rt, "TERM") {
         Ok(name) => entry_named(rt, name.as_str()),
-        Err(VarError::OutOfMemory) => Err(Failure::NoMemory),
-        Err(_) => Err(Failure::NoTerm),
+        Err(VarError::OutOfMemory) => Err(EditFailure::NoMemory),
+        Err(_) => Err(EditFailure::NoTerm),
     }
 }
 
 // The entry of this name in the machine's database.
-fn entry_named(rt: &HostRuntime, name: &str) -> Result<Entry, Failure> {
+fn entry_named(rt: &HostRuntime, name: &str) -> Result<Entry, EditFailure> {
     match find(rt, name) {
         Ok(entry) => Ok(entry),
-        Err(fault) => Err(Failure::Entry(fault)),
+        Err(fault) => Err(EditFailure::Entry(fault)),
     }
 }

@@ -1,9 +1,9 @@
 //! The lines that explain an update.
 
+use crate::last_update::{LastUpdate, open, run_to_update};
 use crate::pages::Page;
 use crate::pricing::{joined_price, price_of, scratch_price};
 use crate::scripts::{count_updates, first_size};
-use crate::stages::{Stage, open, run_to_update};
 use scr_cells::{NoMemory, Size};
 use scr_term::{Op, Ops, Profile};
 use screen_scripts::{DemoFault, cut_line};
@@ -51,17 +51,17 @@ fn explain_update(
     explain_on(alloc, lines, updates, &mut opened?, page)
 }
 
-// The same, on a blank stage.
+// The same, on a screen without an update yet.
 fn explain_on(
     alloc: Global,
     lines: &[u8],
     updates: u32,
-    stage: &mut Stage,
+    last: &mut LastUpdate,
     page: &mut Page,
 ) -> Result<(), NoMemory> {
-    run_to_update(alloc, lines, updates, stage)?;
-    add_plan(alloc, &stage.profile, &stage.plan, page);
-    add_sums(alloc, stage, page)
+    run_to_update(alloc, lines, updates, last)?;
+    add_plan(alloc, &last.profile, &last.plan, page);
+    add_sums(alloc, last, page)
 }
 
 // Adds a line for each operation, with characters in a row on one line.
@@ -125,17 +125,17 @@ fn add_count(before: usize, count: usize, page: &mut Page) {
     page.add(b"  ");
 }
 
-// Adds the number of bytes of the last update of a stage, and of what it is compared with. The
+// Adds the number of bytes of the last update of a last, and of what it is compared with. The
 // terminal executes the joined repaint.
-fn add_sums(alloc: Global, stage: &mut Stage, page: &mut Page) -> Result<(), NoMemory> {
-    let picture = stage.screen.picture();
-    let scratch = scratch_price(alloc, &stage.profile, picture)?;
-    let joined = if stage.is_known {
-        joined_price(alloc, &stage.profile, &mut stage.terminal, picture)?
+fn add_sums(alloc: Global, last: &mut LastUpdate, page: &mut Page) -> Result<(), NoMemory> {
+    let picture = last.screen.picture();
+    let scratch = scratch_price(alloc, &last.profile, picture)?;
+    let joined = if last.is_known {
+        joined_price(alloc, &last.profile, &mut last.terminal, picture)?
     } else {
         None
     };
-    add_sum(b"plan ", Some(price_of(&stage.profile, &stage.plan)), page);
+    add_sum(b"plan ", Some(price_of(&last.profile, &last.plan)), page);
     add_sum(b", joined ", joined, page);
     add_sum(b", scratch ", scratch, page);
     page.add(b"\n");

@@ -5,7 +5,7 @@ use thiserror::Error;
 
 /// Why the program ends with a status other than 0.
 #[derive(Debug, Drop, Error)]
-pub enum Failure {
+pub enum DemoFailure {
     /// The command line is not as the usage says.
     #[error("{0}")]
     Words(clap::Error),
@@ -23,12 +23,12 @@ pub enum Failure {
     NoMemory,
 }
 
-impl Failure {
+impl DemoFailure {
     /// 2 for a usage error, 1 for any other failure.
     pub fn status(&self) -> u8 {
         match self {
-            Failure::Words(_) | Failure::NotText => 2,
-            Failure::Read | Failure::Demo(_) | Failure::NoMemory => 1,
+            DemoFailure::Words(_) | DemoFailure::NotText => 2,
+            DemoFailure::Read | DemoFailure::Demo(_) | DemoFailure::NoMemory => 1,
         }
     }
 }

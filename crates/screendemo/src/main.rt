@@ -5,14 +5,14 @@
 
 mod explaining;
 mod failures;
+mod last_update;
 mod pages;
 mod pricing;
 mod scripts;
-mod stages;
 mod words;
 
 use explaining::explanation;
-use failures::Failure;
+use failures::DemoFailure;
 use program_input::{InputFault, read_input};
 pub use screen_scripts::{DemoFault, refusals, run};
 use std::io;
@@ -21,15 +21,15 @@ use std::process::ExitCode;
 use words::{Task, asked};
 
 // The script on the standard input.
-fn script(rt: &HostRuntime) -> Result<Vec<u8>, Failure> {
+fn script(rt: &HostRuntime) -> Result<Vec<u8>, DemoFailure> {
     match read_input(rt.alloc(), &mut rt.reader()) {
         Ok(script) => Ok(script),
-        Err(InputFault::Failed) => Err(Failure::Read),
-        Err(InputFault::NoMemory) => Err(Failure::NoMemory),
+        Err(InputFault::Failed) => Err(DemoFailure::Read),
+        Err(InputFault::NoMemory) => Err(DemoFailure::NoMemory),
     }
 }
 
-fn demonstrate(rt: &HostRuntime) -> Result<(), Failure> {
+fn demonstrate(rt: &HostRuntime) -> Result<(), DemoFailure> {
     let Some(task) = asked(rt)? else {
         return Ok(());
     };
@@ -37,7 +37,7 @@ fn demonstrate(rt: &HostRuntime) -> Result<(), Failure> {
     perform(rt, task, &script)
 }
 
-fn perform(rt: &HostRuntime, task: Task, script: &[u8]) -> Result<(), Failure> {
+fn perform(rt: &HostRuntime, task: Task, script: &[u8]) -> Result<(), DemoFailure> {
     match task {
         Task::Print => draw(rt, false, script),
         Task::Send => {
@@ -50,24 +50,24 @@ fn perform(rt: &HostRuntime, task: Task, script: &[u8]) -> Result<(), Failure> {
 }
 
 // Draws what a script says.
-fn draw(rt: &HostRuntime, raw: bool, script: &[u8]) -> Result<(), Failure> {
-    run(rt.alloc(), script, raw, &mut io::writer(rt)).map_err(Failure::Demo)
+fn draw(rt: &HostRuntime, raw: bool, script: &[u8]) -> Result<(), DemoFailure> {
+    run(rt.alloc(), script, raw, &mut io::writer(rt)).map_err(DemoFailure::Demo)
 }
 
 // Writes the lines of a script's refusals to standard error.
-fn tell_refusals(rt: &HostRuntime, script: &[u8]) -> Result<(), Failure> {
-    let lines = refusals(rt.alloc(), script).map_err(|_| Failure::NoMemory)?;
+fn tell_refusals(rt: &HostRuntime, script: &[u8]) -> Result<(), DemoFailure> {
+    let lines = refusals(rt.alloc(), script).map_err(|_| DemoFailure::NoMemory)?;
     rt.stderr()
         .write_all(&lines)
-        .map_err(|error| Failure::Demo(DemoFault::Write(error.kind())))
+        .map_err(|error| DemoFailure::Demo(DemoFault::Write(error.kind())))
 }
 
 // Explains the last update of a script.
-fn explain(rt: &HostRuntime, script: &[u8]) -> Result<(), Failure> {
-    let lines = explanation(rt.alloc(), script).map_err(Failure::Demo)?;
+fn explain(rt: &HostRuntime, script: &[u8]) -> Result<(), DemoFailure> {
+    let lines = explanation(rt.alloc(), script).map_err(DemoFailure::Demo)?;
     rt.stdout()
         .write_all(&lines)
-        .map_err(|error| Failure::Demo(DemoFault::Write(error.kind())))
+        .map_err(|error| DemoFailure::Demo(DemoFault::Write(error.kind())))
 }
 
 fn main(rt: HostRuntime) -> ExitCode {

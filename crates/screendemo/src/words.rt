@@ -1,6 +1,6 @@
 //! The command line.
 
-use crate::failures::Failure;
+use crate::failures::DemoFailure;
 use clap::error::ErrorKind;
 use clap::{Arg, ArgAction, Command};
 use screen_scripts::DemoFault;
@@ -20,15 +20,15 @@ pub enum Task {
 }
 
 /// What the command line asks for; `None` if that is the help or the version, which is printed.
-pub fn asked(rt: &HostRuntime) -> Result<Option<Task>, Failure> {
+pub fn asked(rt: &HostRuntime) -> Result<Option<Task>, DemoFailure> {
     let words = words(rt)?;
     match task_in(rt.alloc(), words.as_slice()) {
         Ok(task) => Ok(Some(task)),
-        Err(error) if error.kind() == ErrorKind::OutOfMemory => Err(Failure::NoMemory),
-        Err(error) if error.use_stderr() => Err(Failure::Words(error)),
+        Err(error) if error.kind() == ErrorKind::OutOfMemory => Err(DemoFailure::NoMemory),
+        Err(error) if error.use_stderr() => Err(DemoFailure::Words(error)),
         Err(error) => match error.print(rt) {
             Ok(()) => Ok(None),
-            Err(fault) => Err(Failure::Demo(DemoFault::Write(fault.kind()))),
+            Err(fault) => Err(DemoFailure::Demo(DemoFault::Write(fault.kind()))),
         },
     }
 }
@@ -61,10 +61,10 @@ fn task_in(alloc: Global, words: &[String]) -> Result<Task, clap::Error> {
     }
 }
 
-fn words(rt: &(impl Env + AllocGlobal)) -> Result<Vec<String>, Failure> {
+fn words(rt: &(impl Env + AllocGlobal)) -> Result<Vec<String>, DemoFailure> {
     match std::env::args(rt) {
-        Ok(words) => words.collect(rt.alloc()).map_err(|_| Failure::NoMemory),
-        Err(error) if error.kind() == io::ErrorKind::OutOfMemory => Err(Failure::NoMemory),
-        Err(_) => Err(Failure::NotText),
+        Ok(words) => words.collect(rt.alloc()).map_err(|_| DemoFailure::NoMemory),
+        Err(error) if error.kind() == io::ErrorKind::OutOfMemory => Err(DemoFailure::NoMemory),
+        Err(_) => Err(DemoFailure::NotText),
     }
 }

@@ -16,7 +16,7 @@ const FIRST: Win = Win(0);
 /// A screen on the terminal of the bundled entry, the terminal's profile, and what the last update
 /// sends.
 #[derive(Drop)]
-pub struct Stage {
+pub struct LastUpdate {
     /// The screen.
     pub screen: Screen,
     /// The terminal's profile.
@@ -29,12 +29,12 @@ pub struct Stage {
     pub is_known: bool,
 }
 
-/// A blank stage. Fails only when memory runs out.
-pub fn open(alloc: Global, size: Size) -> Result<Stage, NoMemory> {
+/// A blank screen, and no update yet. Fails only when memory runs out.
+pub fn open(alloc: Global, size: Size) -> Result<LastUpdate, NoMemory> {
     let profile = Profile::ecma48(alloc, size).map_err(|_| NoMemory)?;
     let terminal = Terminal::new(alloc, size)?;
     let screen = open_screen(alloc, size)?;
-    Ok(Stage {
+    Ok(LastUpdate {
         screen,
         profile,
         terminal,
@@ -57,15 +57,15 @@ pub fn run_to_update(
     alloc: Global,
     lines: &[u8],
     updates: u32,
-    stage: &mut Stage,
+    last: &mut LastUpdate,
 ) -> Result<(), NoMemory> {
     let mut rest = lines;
     let mut count: u32 = 0;
     while !rest.is_empty() {
         let (line, after) = cut_line(rest);
-        if run_line(alloc, line, stage)? {
+        if run_line(alloc, line, last)? {
             count = count.saturating_add(1);
-            stage.is_known = count > 1;
+            last.is_known = count > 1;
         }
         if count == updates {
             break;
@@ -77,35 +77,35 @@ pub fn run_to_update(
 
 // Executes a line, and returns whether it is an update. All lines have been checked before, so only
 // memory can run out.
-fn run_line(alloc: Global, line: &[u8], stage: &mut Stage) -> Result<bool, NoMemory> {
+fn run_line(alloc: Global, line: &[u8], last: &mut LastUpdate) -> Result<bool, NoMemory> {
     match read_command(alloc, line) {
-        Ok(command) => run_command(alloc, command, stage),
+        Ok(command) => run_command(alloc, command, last),
         Err(_) => Err(NoMemory),
     }
 }
 
 // Executes a command, and returns whether it is an update. Keys change nothing that is shown.
-fn run_command(alloc: Global, command: Command, stage: &mut Stage) -> Result<bool, NoMemory> {
+fn run_command(alloc: Global, command: Command, last: &mut LastUpdate) -> Result<bool, NoMemory> {
     match command {
         Command::Add(row, column, text) => {
-            add(alloc, row, column, text, &mut stage.screen)?;
+            add(alloc, row, column, text, &mut last.screen)?;
             Ok(false)
         }
         Command::Show => {
-            make(alloc, &Call::Noutrefresh(FIRST), &mut stage.screen)?;
-            update(alloc, stage)
+            make(alloc, &Call::Noutrefresh(FIRST), &mut last.screen)?;
+            update(alloc, last)
         }
-        Command::Make(call) => make_or_update(alloc, &call, stage),
+        Command::Make(call) => make_or_update(alloc, &call, last),
         Command::Key(_) | Command::Idle | Command::Size(_, _) => Ok(false),
     }
 }
 
 // Makes a call, and returns whether it is an update.
-fn make_or_update(alloc: Global, call: &Call, stage: &mut Stage) -> Result<bool, NoMemory> {
+fn make_or_update(alloc: Global, call: &Call, last: &mut LastUpdate) -> Result<bool, NoMemory> {
     if matches!(call, Call::Doupdate) {
-        return update(alloc, stage);
+        return update(alloc, last);
     }
-    make(alloc, call, &mut stage.screen)?;
+    make(alloc, call, &mut last.screen)?;
     Ok(false)
 }
 
@@ -135,9 +135,9 @@ fn make(alloc: Global, call: &Call, screen: &mut Screen) -> Result<bool, NoMemor
 
 // Sends the terminal what the previous update sends, and makes another update. Returns true: it is
 // one.
-fn update(alloc: Global, stage: &mut Stage) -> Result<bool, NoMemory> {
-    follow(&stage.profile, &stage.plan, &mut stage.terminal);
-    stage.plan = planned(alloc, &mut stage.screen)?;
+fn update(alloc: Global, last: &mut LastUpdate) -> Result<bool, NoMemory> {
+    follow(&last.profile, &last.plan, &mut last.terminal);
+    last.plan = planned(alloc, &mut last.screen)?;
     Ok(true)
 }
 
