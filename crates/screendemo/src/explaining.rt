@@ -125,7 +125,7 @@ fn add_count(before: usize, count: usize, page: &mut Page) {
     page.add(b"  ");
 }
 
-// Adds the number of bytes of the last update of a last, and of what it is compared with. The
+// Adds the number of bytes of the last update, and of what it is compared with. The
 // terminal executes the joined repaint.
 fn add_sums(alloc: Global, last: &mut LastUpdate, page: &mut Page) -> Result<(), NoMemory> {
     let picture = last.screen.picture();
