@@ -268,3 +268,32 @@ fn taking_pad<A: Arguments>(by: &mut A) -> Call {
     let (bottom, right) = (by.behind(top), by.behind(left));
     Call::PadNoutrefresh(win, row, column, top, left, bottom, right)
 }
+
+// The window that a call writes on, if it writes.
+pub(crate) fn written_by(call: &Call) -> Option<Win> {
+    match call {
+        Call::AddByte(win, ..)
+        | Call::AddText(win, _)
+        | Call::InsertByte(win, ..)
+        | Call::DeleteByte(win)
+        | Call::LineAcross(win, ..)
+        | Call::LineDown(win, ..)
+        | Call::Border(win, _)
+        | Call::ChangeBackground(win, _) => Some(*win),
+        Call::Copy(_, win, ..) | Call::Overlay(_, win) | Call::Overwrite(_, win) => Some(*win),
+        _ => erased_by(call),
+    }
+}
+
+// The window that a call erases, or in which it moves lines.
+fn erased_by(call: &Call) -> Option<Win> {
+    match call {
+        Call::ClearToEol(win)
+        | Call::ClearToBottom(win)
+        | Call::Erase(win)
+        | Call::Clear(win)
+        | Call::InsertDeleteLines(win, _)
+        | Call::Scroll(win, _) => Some(*win),
+        _ => None,
+    }
+}

@@ -2,6 +2,7 @@
 //! them; a window that lies in another holds what that holds there; and only a call that writes on a window changes
 //! cells, those of that window, whose lines it touches.
 
+use crate::calls::written_by;
 use crate::dumps::dump_windows;
 use crate::families::{Covered, Families};
 use crate::window_lines::{is_touched, line_of};
@@ -182,34 +183,5 @@ fn is_in(part: Option<Covered>, win: Win, row: u32, column: u32) -> bool {
     match part {
         Some(part) => part.root == win && part.holds(row, column),
         None => false,
-    }
-}
-
-// The window that a call writes on, if it writes.
-fn written_by(call: &Call) -> Option<Win> {
-    match call {
-        Call::AddByte(win, ..)
-        | Call::AddText(win, _)
-        | Call::InsertByte(win, ..)
-        | Call::DeleteByte(win)
-        | Call::LineAcross(win, ..)
-        | Call::LineDown(win, ..)
-        | Call::Border(win, _)
-        | Call::ChangeBackground(win, _) => Some(*win),
-        Call::Copy(_, win, ..) | Call::Overlay(_, win) | Call::Overwrite(_, win) => Some(*win),
-        _ => erased_by(call),
-    }
-}
-
-// The window that a call erases, or in which it moves lines.
-fn erased_by(call: &Call) -> Option<Win> {
-    match call {
-        Call::ClearToEol(win)
-        | Call::ClearToBottom(win)
-        | Call::Erase(win)
-        | Call::Clear(win)
-        | Call::InsertDeleteLines(win, _)
-        | Call::Scroll(win, _) => Some(*win),
-        _ => None,
     }
 }
