@@ -33,7 +33,7 @@ pub record IsRemembered (profile : ProfileView) (memory : MemoryView) (virtual :
   pub same : IsUpToDate profile memory virtual
 
 -- Windows, virtual screen and terminal have one size. The remembered state is one that the terminal can be in; its
--- known rows show the picture, except in columns that may have changed since the last successful update.
+-- known rows show the picture, except in columns that may look different since the last successful update.
 pub record IsScreen (screen : ScreenState) : Type 0 where
   pub desk_rows : screen.desk.rows ≡ screen.profile.rows
   pub desk_columns : screen.desk.columns ≡ screen.profile.columns
