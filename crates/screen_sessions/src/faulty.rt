@@ -1,8 +1,8 @@
 //! A writer for tests, which fails when it is told to. The definitions are in `specs/Faulty.antt`.
-ghost use Rattle.std.specs.Prelude.{◌≡◌, [], Some};
+ghost use Rattle.std.specs.Prelude.{◌≡◌, ◌<◌, [], Some};
 ghost use Rattle.std.specs.Io.{WritesAtMost};
 ghost use Rattle.std.specs.Io.KnownBytes.{Keeps, WriteAppends};
-ghost use Rattle.screen_sessions.specs.Faulty.{IsAnswered, flush_call, is_due, room_for, write_call};
+ghost use Rattle.screen_sessions.specs.Faulty.{IsAnswered, called, failed_once, flush_call, going_on, is_due, room_for, with_faults, write_call};
 
 use std::alloc::Global;
 use std::io;
@@ -12,24 +12,40 @@ use std::marker::Model;
 /// How a writer for tests fails.
 #[derive(Clone, Copy, Debug, PartialEq, Eq)]
 pub enum WriterFailure {
-    /// A write fails with an error of kind `Other`.
+    /// A write fails with an error.
     Error,
     /// A write takes nothing and gives 0.
     Zero,
-    /// A flush fails with an error of kind `Other`.
+    /// A flush fails with an error.
     Flush,
 }
 
-/// A writer over memory for tests: it takes a number of bytes, then fails a number of times, and then takes everything.
+/// Where and how a writer for tests fails.
+#[derive(Clone, Copy, Debug, PartialEq, Eq)]
+pub struct WriterFault {
+    /// How many bytes it has taken in all when it fails.
+    pub limit: usize,
+    /// How it fails.
+    pub failure: WriterFailure,
+    /// The kind of its error, if it gives one.
+    pub kind: ErrorKind,
+}
+
+/// A writer over memory for tests: it takes a number of bytes, then fails a number of times, and so on with each further
+/// fault, and then takes everything.
 ///
-/// A write that begins before the limit takes bytes up to the limit and no further. If memory runs out in a write, the
-/// error is of kind `OutOfMemory` and nothing is taken. An update can write to it through `Device`.
+/// A write that begins before the limit of the fault that comes next takes bytes up to the limit and no further. If
+/// memory runs out in a write, the error is of kind `OutOfMemory` and nothing is taken. An update can write to it
+/// through `Device`.
 #[derive(Debug, Drop)]
 pub struct Faulty {
     taken: Vec<u8>,
-    limit: usize,
-    failure: WriterFailure,
+    // The fault that comes next, and how many of its failures are left.
+    fault: WriterFault,
     left: usize,
+    // The faults behind it, each of which fails once.
+    later: Vec<WriterFault>,
+    calls: u64,
 }
 
 impl Model for Faulty {
@@ -37,20 +53,45 @@ impl Model for Faulty {
 
     ghost Value = { FaultyView };
 
-    ghost view = { λ w. record { taken = w.taken.items; limit = w.limit; failure = w.failure; left = w.left } };
+    ghost view = { λ w. record { taken = w.taken.items; fault = w.fault; left = w.left; later = w.later.items; calls = w.calls } };
 }
 
 impl Faulty {
-    /// A writer that takes `limit` bytes, and then fails in this way `times` times.
+    /// A writer that takes `limit` bytes, and then fails in this way `times` times. Its errors are of kind `Other`.
     pub fn new(alloc: Global, limit: usize, failure: WriterFailure, times: usize) -> Faulty
-        ensures { result ≡ record { taken = []; limit = limit; failure = failure; left = times } }
+        ensures { result ≡ record { taken = []; fault = record { limit = limit; failure = failure; kind = ErrorKind.Other }; left = times; later = []; calls = 0 } }
     {
         Faulty {
             taken: Vec::new(alloc),
-            limit,
-            failure,
+            fault: WriterFault {
+                limit,
+                failure,
+                kind: ErrorKind::Other,
+            },
             left: times,
+            later: Vec::new(alloc),
+            calls: 0,
         }
+    }
+
+    /// A writer that has taken these bytes so far, and fails once at each of these faults, one after another. It
+    /// allocates only where the vector has no room for the bytes that it takes.
+    pub fn with_faults(taken: Vec<u8>, faults: Vec<WriterFault>) -> Faulty
+        ensures { result ≡ with_faults taken.items faults.items }
+    {
+        let mut writer = Faulty {
+            taken,
+            fault: WriterFault {
+                limit: 0,
+                failure: WriterFailure::Error,
+                kind: ErrorKind::Other,
+            },
+            left: 0,
+            later: faults,
+            calls: 0,
+        };
+        writer.go_on();
+        writer
     }
 
     /// The bytes that it has taken so far.
@@ -60,21 +101,57 @@ impl Faulty {
         &self.taken
     }
 
+    /// How often it was called, by a write or a flush. The count stays at its greatest value.
+    pub fn calls(&self) -> u64
+        ensures { result ≡ self.now.calls }
+    {
+        self.calls
+    }
+
     // Whether it is to fail now.
     fn is_due(&self) -> bool
         ensures { result ≡ is_due self.now }
     {
-        self.taken.len() >= self.limit && self.left > 0
+        self.taken.len() >= self.fault.limit && self.left > 0
     }
 
     // How many of `bytes` bytes it takes when it does not fail.
     fn room_for(&self, bytes: usize) -> usize
         ensures { result ≡ room_for self.now bytes }
     {
-        if self.taken.len() < self.limit {
-            bytes.min(self.limit - self.taken.len())
+        if self.taken.len() < self.fault.limit {
+            bytes.min(self.fault.limit - self.taken.len())
         } else {
             bytes
+        }
+    }
+
+    // Counts a call.
+    fn count(&mut self)
+        ensures { self.new ≡ called self.old }
+    {
+        self.calls = self.calls.saturating_add(1);
+    }
+
+    // Uses up a failure, and gives the fault that it belongs to.
+    fn fail(&mut self) -> WriterFault
+        requires { 0 < self.old.left }
+        ensures fault { result ≡ self.old.fault }
+        ensures failed { self.new ≡ failed_once self.old }
+    {
+        let fault = self.fault;
+        self.left -= 1;
+        self.go_on();
+        fault
+    }
+
+    // Goes on to the next fault, if no failure of the one before is left.
+    fn go_on(&mut self)
+        ensures { self.new ≡ going_on self.old }
+    {
+        if self.left == 0 && !self.later.is_empty() {
+            self.fault = self.later.remove(0);
+            self.left = 1;
         }
     }
 }
@@ -87,11 +164,12 @@ impl Write for Faulty {
         ensures bytes { WriteAppends (Some self.old.taken) (Some self.new.taken) result piece.now }
         ensures answered { IsAnswered self.old self.new result (write_call self.old piece.now) }
     {
-        if self.is_due() && self.failure != WriterFailure::Flush {
-            self.left -= 1;
-            return match self.failure {
+        self.count();
+        if self.is_due() && self.fault.failure != WriterFailure::Flush {
+            let fault = self.fail();
+            return match fault.failure {
                 WriterFailure::Zero => Ok(0),
-                _ => Err(io::Error::from(ErrorKind::Other)),
+                _ => Err(io::Error::from(fault.kind)),
             };
         }
         let count = self.room_for(piece.len());
@@ -103,9 +181,9 @@ impl Write for Faulty {
         ensures bytes { Keeps (Some self.old.taken) (Some self.new.taken) }
         ensures answered { IsAnswered self.old self.new result (flush_call self.old) }
     {
-        if self.is_due() && self.failure == WriterFailure::Flush {
-            self.left -= 1;
-            return Err(io::Error::from(ErrorKind::Other));
+        self.count();
+        if self.is_due() && self.fault.failure == WriterFailure::Flush {
+            return Err(io::Error::from(self.fail().kind));
         }
         Ok(())
     }

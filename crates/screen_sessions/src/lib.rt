@@ -9,5 +9,5 @@ mod sessions;
 
 pub use answers::Answer;
 pub use calls::Call;
-pub use faulty::{Faulty, WriterFailure};
+pub use faulty::{Faulty, WriterFailure, WriterFault};
 pub use sessions::{Answers, Report, disturbed_rows_hold_again, make_call, make_calls, session};
