@@ -280,14 +280,14 @@ fn is_well(alloc: Global, sent: usize, came: &Buffer) -> Result<bool, Trouble> {
 }
 
 // How the writer fails in the lines `update`, `update_writing K`, `update_stuck K`, `update_flushing` and
-// `update_failing`.
+// `update_failing`, where its first write fails.
 fn read_update(word: &str, words: &mut Words<'_>) -> Option<Fails> {
     Some(match word {
         "update" => Fails::Never,
         "update_writing" => Fails::Behind(words.number()),
         "update_stuck" => Fails::StuckBehind(words.number()),
         "update_flushing" => Fails::Flushed,
-        "update_failing" => Fails::Always,
+        "update_failing" => Fails::Behind(0),
         _ => return None,
     })
 }

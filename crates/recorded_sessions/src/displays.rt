@@ -1,16 +1,12 @@
-//! The terminal of an entry, emulated, with the writer that takes what is sent to it.
+//! The terminal of an entry, emulated.
 
 use crate::bounds::Left;
 use crate::emulated::Emulated;
-use crate::writers::Planned;
 use check_scripts::troubles::Trouble;
 use scr_cells::Size;
 use scr_term::{Profile, ProfileFault};
 use std::alloc::Global;
 use ti_caps::Entry;
-
-// How many bytes the writer has room for: more than an update of a line sends.
-const ROOM: usize = 8192;
 
 /// A terminal, before anything was sent to it.
 #[derive(Drop)]
@@ -18,7 +14,6 @@ pub struct Display {
     pub profile: Profile,
     pub emulated: Emulated,
     pub left: Left,
-    pub writer: Planned,
 }
 
 /// The terminal of an entry; `None` where the library was refused memory.
@@ -39,11 +34,9 @@ fn blank_display(
     profile: Profile,
     emulated: Emulated,
 ) -> Result<Display, Trouble> {
-    let writer = Planned::new(alloc, ROOM)?;
     Ok(Display {
         profile,
         emulated,
         left: Left::unknown(alloc, size)?,
-        writer,
     })
 }

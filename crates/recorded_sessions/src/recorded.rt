@@ -7,7 +7,7 @@ use crate::emulated::Emulated;
 use crate::ends::{End, add_sent, has_ends};
 use crate::listed::make_listed;
 use crate::shown::shows;
-use crate::writers::{Fails, Planned};
+use crate::writers::Fails;
 use check_scripts::answers::add_word;
 use check_scripts::buffers::{Buffer, are_same};
 use check_scripts::checking::put;
@@ -15,9 +15,14 @@ use check_scripts::troubles::Trouble;
 use curses::{Counted, Device, OpenFault, Screen};
 use scr_cells::Size;
 use scr_term::{Op, Ops, Profile};
-use screen_sessions::{Answer, Call, Report, make_call, session};
+use screen_sessions::{
+    Answer, Call, Faulty, Report, WriterFailure, WriterFault, make_call, session,
+};
 use std::alloc::Global;
 use ti_caps::{Entry, bundled};
+
+// How many bytes a writer has room for: more than an update of a line sends.
+const ROOM: usize = 8192;
 
 /// A screen, its terminal, and what was called, answered and sent since it was opened.
 #[derive(Drop)]
@@ -33,12 +38,13 @@ pub struct Recorded {
     pub emulated: Emulated,
     // What the last update left there.
     left: Left,
-    device: Device<Planned>,
+    // Each update has a writer of its own. The device counts the failures of all.
+    device: Device<Faulty>,
     calls: Vec<Call>,
     answers: Buffer,
-    // All bytes that the writer took, and how many of them before the last update.
+    // All bytes that the writers took, and where they failed, behind how many of these.
     sent: Vec<u8>,
-    before: usize,
+    faults: Vec<WriterFault>,
     // Whether the last update ended well.
     last_ok: bool,
     /// Whether each call is made by a list of it alone.
@@ -89,11 +95,11 @@ impl Recorded {
             screen,
             emulated: display.emulated,
             left: display.left,
-            device: Device::new(display.writer),
+            device: Device::new(Faulty::new(alloc, 0, WriterFailure::Error, 0)),
             calls: Vec::new(alloc),
             answers: Buffer::new(alloc),
             sent: Vec::new(alloc),
-            before: 0,
+            faults: Vec::new(alloc),
             last_ok: false,
             is_listed: false,
             last: Ops(Vec::new(alloc)),
@@ -124,8 +130,7 @@ impl Recorded {
     /// painting from scratch, and where nothing is sent or memory ran out, the writer may not be called; adds what is
     /// not so.
     pub fn update(&mut self, fails: Fails, came: &mut Buffer) -> Result<bool, Trouble> {
-        self.device.writer.plan(fails)?;
-        self.device.writer.calls = 0;
+        self.take_writer(fails)?;
         let ended = self.make_update(came)?;
         if !self.feed()? {
             add_word("and an undefined text", came);
@@ -135,6 +140,7 @@ impl Recorded {
             Ended::Well(bytes) => self.end_well(bytes, came),
             Ended::RanOut => Ok(self.add_calls(came)),
             Ended::Failed => {
+                self.keep_fault(fails)?;
                 self.last_ok = false;
                 self.left.owe();
                 Ok(true)
@@ -146,8 +152,7 @@ impl Recorded {
     /// screen is fed what was sent where the entry has no text for it: others are no ECMA-48 texts.
     pub fn send_end(&mut self, end: End, fails: Fails, came: &mut Buffer) -> Result<(), Trouble> {
         self.left.forget();
-        self.device.writer.plan(fails)?;
-        self.device.writer.calls = 0;
+        self.take_writer(fails)?;
         let sent = match end {
             End::Start => self.screen.start(&mut self.device),
             End::Close => self.screen.close(&mut self.device),
@@ -157,7 +162,7 @@ impl Recorded {
             let _uncalled = self.add_calls(came);
         }
         let fed = !has_ends(&self.entry);
-        if fed && !self.emulated.feed(&self.device.writer.taken) {
+        if fed && !self.emulated.feed(self.device.writer.taken()) {
             add_word("and an undefined text", came);
         }
         self.keep_sent()
@@ -173,7 +178,7 @@ impl Recorded {
 
     // Adds that the writer was called, where it was, and tells whether it was not.
     fn add_calls(&self, came: &mut Buffer) -> bool {
-        let is_called = self.device.writer.calls > 0;
+        let is_called = self.device.writer.calls() > 0;
         if is_called {
             add_word("and the writer was called", came);
         }
@@ -186,22 +191,23 @@ impl Recorded {
         add_word(if fed { "Ok" } else { "Undefined" }, came);
     }
 
-    /// Makes the calls by one session with a writer that fails so, and adds `agrees` where its answers, its bytes and
-    /// whether its last update ended well are the same.
+    /// Makes the calls by one session with a writer that fails where those of the updates did, and adds `agrees` where
+    /// its answers, its bytes and whether its last update ended well are the same.
     pub fn add_session(&self, came: &mut Buffer) -> Result<(), Trouble> {
-        let mut device = Device::new(self.device.writer.again(self.alloc, self.sent.len())?);
+        let room = Vec::with_capacity(self.alloc, self.sent.len())?;
+        let mut device = Device::new(Faulty::with_faults(room, self.faults.clone()?));
         self.add_session_by(&mut device, came)
     }
 
     // The same, by a device that has taken nothing yet.
     fn add_session_by(
         &self,
-        device: &mut Device<Planned>,
+        device: &mut Device<Faulty>,
         came: &mut Buffer,
     ) -> Result<(), Trouble> {
         match self.session(device)? {
             Some(report) => return self.add_agrees(device, &report, came),
-            None if device.writer.calls > 0 => add_word("the writer was called", came),
+            None if device.writer.calls() > 0 => add_word("the writer was called", came),
             None => add_word("NoMemory", came),
         }
         Ok(())
@@ -241,7 +247,7 @@ impl Recorded {
 
     /// What the last update sent.
     pub fn last_sent(&self) -> &[u8] {
-        self.sent.get(self.before..).unwrap_or(&[])
+        self.device.writer.taken()
     }
 
     /// The operations that the last update began.
@@ -251,7 +257,7 @@ impl Recorded {
 
     fn add_agrees(
         &self,
-        device: &Device<Planned>,
+        device: &Device<Faulty>,
         report: &Report,
         came: &mut Buffer,
     ) -> Result<(), Trouble> {
@@ -306,18 +312,35 @@ impl Recorded {
 
     // Has the terminal take what the last update sent, and tells whether that is defined.
     fn feed(&mut self) -> Result<bool, Trouble> {
-        let taken = &self.device.writer.taken;
+        let taken = self.device.writer.taken();
         let is_fed = self.emulated.take(&self.profile, taken, &self.last.0);
         self.keep_sent()?;
         Ok(is_fed)
     }
 
+    // Takes a writer that fails so, which has room, so that it takes no memory while an update writes.
+    fn take_writer(&mut self, fails: Fails) -> Result<(), Trouble> {
+        let mut faults = Vec::new(self.alloc);
+        if let Some(fault) = fails.fault() {
+            faults.push(fault)?;
+        }
+        let room = Vec::with_capacity(self.alloc, ROOM)?;
+        self.device.writer = Faulty::with_faults(room, faults);
+        Ok(())
+    }
+
     // Keeps what the writer took.
     fn keep_sent(&mut self) -> Result<(), Trouble> {
-        let taken = &mut self.device.writer.taken;
-        self.before = self.sent.len();
-        self.sent.extend_from_slice(taken)?;
-        taken.clear();
+        self.sent.extend_from_slice(self.device.writer.taken())?;
+        Ok(())
+    }
+
+    // Keeps how the writer of the last update failed, where it did: a session's writer fails there too.
+    fn keep_fault(&mut self, fails: Fails) -> Result<(), Trouble> {
+        if let Some(fault) = fails.fault() {
+            let limit = self.sent.len();
+            self.faults.push(WriterFault { limit, ..fault })?;
+        }
         Ok(())
     }
 
@@ -344,7 +367,7 @@ impl Recorded {
             Some("and the terminal shows something else")
         } else if most.is_some_and(|most| bytes > most as u64) {
             Some("and more than it may")
-        } else if bytes == 0 && self.device.writer.calls > 0 {
+        } else if bytes == 0 && self.device.writer.calls() > 0 {
             Some("and the writer was called")
         } else {
             None
@@ -352,8 +375,8 @@ impl Recorded {
     }
 
     // Whether another device has taken the same.
-    fn has_sent(&self, device: &Device<Planned>) -> bool {
-        device.writer.taken.as_slice() == self.sent.as_slice()
+    fn has_sent(&self, device: &Device<Faulty>) -> bool {
+        device.writer.taken() == self.sent.as_slice()
             && device.failed_puts == self.device.failed_puts
             && device.failed_finishes == self.device.failed_finishes
     }
