@@ -7,7 +7,7 @@ use crate::emulated::Emulated;
 use crate::ends::{End, add_sent, has_ends};
 use crate::listed::make_listed;
 use crate::shown::shows;
-use crate::writers::Fails;
+use crate::writers::{Fails, writer_that};
 use check_scripts::answers::add_word;
 use check_scripts::buffers::{Buffer, are_same};
 use check_scripts::checking::put;
@@ -20,9 +20,6 @@ use screen_sessions::{
 };
 use std::alloc::Global;
 use ti_caps::{Entry, bundled};
-
-// How many bytes a writer has room for: more than an update of a line sends.
-const ROOM: usize = 8192;
 
 /// A screen, its terminal, and what was called, answered and sent since it was opened.
 #[derive(Drop)]
@@ -130,7 +127,7 @@ impl Recorded {
     /// painting from scratch, and where nothing is sent or memory ran out, the writer may not be called; adds what is
     /// not so.
     pub fn update(&mut self, fails: Fails, came: &mut Buffer) -> Result<bool, Trouble> {
-        self.take_writer(fails)?;
+        self.device.writer = writer_that(self.alloc, fails)?;
         let ended = self.make_update(came)?;
         if !self.feed()? {
             add_word("and an undefined text", came);
@@ -152,7 +149,7 @@ impl Recorded {
     /// screen is fed what was sent where the entry has no text for it: others are no ECMA-48 texts.
     pub fn send_end(&mut self, end: End, fails: Fails, came: &mut Buffer) -> Result<(), Trouble> {
         self.left.forget();
-        self.take_writer(fails)?;
+        self.device.writer = writer_that(self.alloc, fails)?;
         let sent = match end {
             End::Start => self.screen.start(&mut self.device),
             End::Close => self.screen.close(&mut self.device),
@@ -318,24 +315,13 @@ impl Recorded {
         Ok(is_fed)
     }
 
-    // Takes a writer that fails so, which has room, so that it takes no memory while an update writes.
-    fn take_writer(&mut self, fails: Fails) -> Result<(), Trouble> {
-        let mut faults = Vec::new(self.alloc);
-        if let Some(fault) = fails.fault() {
-            faults.push(fault)?;
-        }
-        let room = Vec::with_capacity(self.alloc, ROOM)?;
-        self.device.writer = Faulty::with_faults(room, faults);
-        Ok(())
-    }
-
     // Keeps what the writer took.
     fn keep_sent(&mut self) -> Result<(), Trouble> {
         self.sent.extend_from_slice(self.device.writer.taken())?;
         Ok(())
     }
 
-    // Keeps how the writer of the last update failed, where it did: a session's writer fails there too.
+    // Keeps where the writer of the last update failed, and how: a session's writer fails there too.
     fn keep_fault(&mut self, fails: Fails) -> Result<(), Trouble> {
         if let Some(fault) = fails.fault() {
             let limit = self.sent.len();

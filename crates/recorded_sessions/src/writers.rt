@@ -1,7 +1,12 @@
-//! How the writer of an update fails.
+//! The writer of an update, and how it fails.
 
-use screen_sessions::{WriterFailure, WriterFault};
+use check_scripts::troubles::Trouble;
+use screen_sessions::{Faulty, WriterFailure, WriterFault};
+use std::alloc::Global;
 use std::io::ErrorKind;
+
+// How many bytes a writer has room for: more than an update of a line sends.
+const ROOM: usize = 8192;
 
 /// Whether and when a writer fails within one update, which ends there.
 #[derive(Clone, Copy)]
@@ -31,4 +36,14 @@ impl Fails {
             kind,
         })
     }
+}
+
+/// A writer that fails so. It has room for what an update sends, so that it allocates nothing while one writes.
+pub fn writer_that(alloc: Global, fails: Fails) -> Result<Faulty, Trouble> {
+    let mut faults = Vec::new(alloc);
+    if let Some(fault) = fails.fault() {
+        faults.push(fault)?;
+    }
+    let room = Vec::with_capacity(alloc, ROOM)?;
+    Ok(Faulty::with_faults(room, faults))
 }

@@ -22,7 +22,13 @@ pub record FaultyView : Type 0 where
 -- A writer that took these bytes so far, and fails once at each of these faults.
 abbrev pub with_faults : List ℕ → List WriterFault → FaultyView
 with_faults taken [] =
-    record { taken = taken; fault = record { limit = 0; failure = failures.Error; kind = Other }; left = 0; later = []; calls = 0 }
+    record {
+      taken = taken;
+      fault = record { limit = 0; failure = failures.Error; kind = Other };
+      left = 0;
+      later = [];
+      calls = 0;
+    }
 with_faults taken (fault ∷ later) = record { taken = taken; fault = fault; left = 1; later = later; calls = 0 }
 
 -- The limit is reached and failures are left.

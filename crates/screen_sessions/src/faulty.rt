@@ -31,8 +31,8 @@ pub struct WriterFault {
     pub kind: ErrorKind,
 }
 
-/// A writer over memory for tests: it takes a number of bytes, then fails a number of times, and so on with each further
-/// fault, and then takes everything.
+/// A writer over memory for tests: it takes a number of bytes, then fails a number of times, and so on with each
+/// further fault, and then takes everything.
 ///
 /// A write that begins before the limit of the fault that comes next takes bytes up to the limit and no further. If
 /// memory runs out in a write, the error is of kind `OutOfMemory` and nothing is taken. An update can write to it

@@ -1,0 +1,5 @@
+use Rattle.std.proofs.Common.{rules}
+use Rattle.screen_sessions.proofs.faulty.Faulty.new.Goals as goal
+
+pub returns : goal.returns
+returns c = search rules
