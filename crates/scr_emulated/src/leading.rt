@@ -36,8 +36,8 @@ pub fn moved_by(profile: &Profile, spot: Spot, pen: Pen, op: Op) -> Option<Spot>
 }
 
 /// The pen after an operation that turns attributes on or off or sets a colour, from `spot`
-/// with `pen`: `Reset`, `ExitAttributes`, `Enter`, `Set`, `Fore` or `Back`. The operation changes nothing
-/// else.
+/// with `pen`: `Reset`, `ExitAttributes`, `Enter`, `Set`, `Fore` or `Back`. The operation changes
+/// nothing else.
 ///
 /// `None` if the operation is none of these, if the terminal does not have it, or if it is
 /// undefined: it sets a colour while the cursor is at the margin, or it is `ExitAttributes` and a

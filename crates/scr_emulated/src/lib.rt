@@ -1,4 +1,5 @@
-//! Two emulated terminals, with what they share: one executes operations, the other reads ECMA-48 texts.
+//! Two emulated terminals, with what they share: one executes operations, the other reads ECMA-48
+//! texts.
 #![tactic(auto)]
 
 mod displays;

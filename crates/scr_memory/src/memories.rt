@@ -1,5 +1,4 @@
-//! Memory: what is remembered of a terminal between updates. `specs/Memories.antt` says what is
-//! true of it.
+//! What is remembered of a terminal between updates; `specs/Memories.antt` says what is true of it.
 ghost use Rattle.std.specs.Prelude.{◌≡◌, ◌+◌, ◌≤◌, ◌<◌, ◌&&◌, false, true, Some, IfOk, IfSome, length, option_map, replicate, slice_set, take};
 ghost use Rattle.std.specs.Option.{is_some};
 ghost use Rattle.scr_term.specs.Operations.Profiles.{abilities};
