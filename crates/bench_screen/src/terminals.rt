@@ -6,9 +6,9 @@
 
 use anyhow::{Result, anyhow, bail};
 use scr_cells::{Attrs, Picture, Size};
-use scr_emulated::EcmaScreen;
 use scr_plan::scratch_bytes;
 use scr_term::{Op, Profile};
+use scr_terminal::EcmaScreen;
 use std::alloc::Global;
 use ti_param::{Program, Vars};
 

@@ -1,10 +1,10 @@
 //! Lines about sizes, sets of attributes, cells and looks.
 
 use bitflags::Flags;
-use check_scripts::answers::{add_cell, add_flag, add_look, add_number, add_word};
-use check_scripts::buffers::Buffer;
-use check_scripts::troubles::Trouble;
-use check_scripts::words::Words;
+use check_harness::answers::{add_cell, add_flag, add_look, add_number, add_word};
+use check_harness::buffers::Buffer;
+use check_harness::troubles::Trouble;
+use check_harness::words::Words;
 use scr_cells::{Attrs, Cell, Look, Size};
 
 /// The lines `new_size R C`, `union A B`, `difference A B`, `contains A B`, `all_attributes`, `new_cell B A`, `paired B

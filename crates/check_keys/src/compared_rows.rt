@@ -3,10 +3,10 @@
 
 use crate::differences::new_rows;
 use crate::shown_rows::new_shown_rows;
-use check_scripts::answers::{add_number, add_word};
-use check_scripts::buffers::Buffer;
-use check_scripts::troubles::Trouble;
-use check_scripts::words::Words;
+use check_harness::answers::{add_number, add_word};
+use check_harness::buffers::Buffer;
+use check_harness::troubles::Trouble;
+use check_harness::words::Words;
 use scr_cells::Attrs;
 use std::alloc::Global;
 

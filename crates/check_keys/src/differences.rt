@@ -1,7 +1,7 @@
 //! Where rows of cells and of looks differ, by the library and by a plain loop.
 
 use crate::compared_rows::Rows;
-use check_scripts::troubles::Trouble;
+use check_harness::troubles::Trouble;
 use scr_cells::{
     Attrs, Cell, Look, first_difference, first_look_difference, last_difference,
     last_look_difference,

@@ -1,10 +1,10 @@
 //! Lines about a text that is edited.
 
-use check_scripts::answers::{add_flag, add_name, add_number, add_text, add_word};
-use check_scripts::buffers::Buffer;
-use check_scripts::checking::{Subject, put};
-use check_scripts::troubles::Trouble;
-use check_scripts::words::Words;
+use check_harness::answers::{add_flag, add_name, add_number, add_text, add_word};
+use check_harness::buffers::Buffer;
+use check_harness::checking::{Subject, put};
+use check_harness::troubles::Trouble;
+use check_harness::words::Words;
 use edit_text::{EditFault, NoMemory, Place, Text};
 use std::alloc::Global;
 

@@ -5,11 +5,11 @@ use crate::cell_lines::answer_of_cells;
 use crate::compared_rows::{check_rows, is_about_rows};
 use crate::editing::TextSubject;
 use crate::keys::subjects::KeySubject;
-use check_scripts::answers::add_word;
-use check_scripts::buffers::Buffer;
-use check_scripts::checking::{Subject, put};
-use check_scripts::troubles::Trouble;
-use check_scripts::words::Words;
+use check_harness::answers::add_word;
+use check_harness::buffers::Buffer;
+use check_harness::checking::{Subject, put};
+use check_harness::troubles::Trouble;
+use check_harness::words::Words;
 use std::alloc::Global;
 
 /// The state of a script.

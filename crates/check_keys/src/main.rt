@@ -11,7 +11,7 @@ mod keys;
 mod kinds;
 mod shown_rows;
 
-use check_scripts::checking::check_input;
+use check_harness::checking::check_input;
 use kinds::KindSubject;
 use std::process::ExitCode;
 

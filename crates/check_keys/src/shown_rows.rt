@@ -2,7 +2,7 @@
 
 use crate::compared_rows::Rows;
 use bitflags::Flags;
-use check_scripts::troubles::Trouble;
+use check_harness::troubles::Trouble;
 use scr_cells::{Attrs, Cell, Look, shown_before};
 use std::alloc::Global;
 

@@ -1,8 +1,8 @@
 //! Sessions that are made up: what a program does between two updates with windows, a pad, colours, marks and wishes.
 
-use check_scripts::buffers::Buffer;
-use check_scripts::random::Random;
-use check_scripts::troubles::Trouble;
+use check_harness::buffers::Buffer;
+use check_harness::random::Random;
+use check_harness::troubles::Trouble;
 use checked_calls::{next_call, next_change, next_window};
 use curses::Screen;
 use recorded_sessions::{Recorded, ends_in_no_memory};

@@ -2,11 +2,11 @@
 
 use crate::composing::{begin, compose};
 use crate::entries::{pass_names, read_entry};
-use check_scripts::answers::{add_number, add_word, read_size};
-use check_scripts::buffers::Buffer;
-use check_scripts::random::Random;
-use check_scripts::troubles::Trouble;
-use check_scripts::words::Words;
+use check_harness::answers::{add_number, add_word, read_size};
+use check_harness::buffers::Buffer;
+use check_harness::random::Random;
+use check_harness::troubles::Trouble;
+use check_harness::words::Words;
 use recorded_sessions::{Fails, Recorded, Verdict, cut_update, ends_in_no_memory};
 use scr_cells::Size;
 use std::alloc::Global;

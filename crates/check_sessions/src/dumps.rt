@@ -2,9 +2,9 @@
 //! nothing.
 
 use crate::shown_lines::add_spot;
-use check_scripts::answers::add_look;
-use check_scripts::buffers::Buffer;
-use check_scripts::dumps::{dump_cells, dump_place};
+use check_harness::answers::add_look;
+use check_harness::buffers::Buffer;
+use check_harness::dumps::{dump_cells, dump_place};
 use checked_calls::dump_windows;
 use recorded_sessions::{Emulated, Recorded};
 use scr_cells::Picture;

@@ -1,8 +1,8 @@
 //! Entries of a screen: the bundled one, without some of its texts and flags, with others, and with other numbers.
 
-use check_scripts::buffers::Buffer;
-use check_scripts::troubles::Trouble;
-use check_scripts::words::Words;
+use check_harness::buffers::Buffer;
+use check_harness::troubles::Trouble;
+use check_harness::words::Words;
 use std::alloc::Global;
 use ti_caps::{CapFault, Entry, Kind, Slot, bundled, find_name};
 

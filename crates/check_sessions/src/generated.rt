@@ -1,11 +1,11 @@
 //! Generated calls on a screen, and generated updates.
 
 use crate::entries::read_entry;
-use check_scripts::answers::{add_number, add_word, read_size};
-use check_scripts::buffers::Buffer;
-use check_scripts::random::Random;
-use check_scripts::troubles::Trouble;
-use check_scripts::words::Words;
+use check_harness::answers::{add_number, add_word, read_size};
+use check_harness::buffers::Buffer;
+use check_harness::random::Random;
+use check_harness::troubles::Trouble;
+use check_harness::words::Words;
 use checked_calls::{COLUMNS, ROWS, Seen, next_call, next_change, next_window};
 use recorded_sessions::{Fails, Recorded, ends_in_no_memory, ran_out};
 use scr_cells::Size;

@@ -16,7 +16,7 @@ mod refusals;
 mod shown_lines;
 mod subjects;
 
-use check_scripts::checking::check_input;
+use check_harness::checking::check_input;
 use std::process::ExitCode;
 use subjects::SessionSubject;
 

@@ -1,10 +1,10 @@
 //! Screens of entries that can insert and delete some of lines and characters, and updates that move these.
 
-use check_scripts::answers::{add_number, add_word, read_size};
-use check_scripts::buffers::Buffer;
-use check_scripts::random::Random;
-use check_scripts::troubles::Trouble;
-use check_scripts::words::Words;
+use check_harness::answers::{add_number, add_word, read_size};
+use check_harness::buffers::Buffer;
+use check_harness::random::Random;
+use check_harness::troubles::Trouble;
+use check_harness::words::Words;
 use recorded_sessions::{Fails, MOVING_TEXTS, Recorded, ends_in_no_memory};
 use scr_cells::{Attrs, Size};
 use scr_term::Op;

@@ -1,9 +1,9 @@
 //! The line `refusal R C NAME ..`: why no screen is opened on an entry, and no session begun.
 
 use crate::entries::read_entry;
-use check_scripts::answers::{add_name, add_word, read_size};
-use check_scripts::buffers::Buffer;
-use check_scripts::words::Words;
+use check_harness::answers::{add_name, add_word, read_size};
+use check_harness::buffers::Buffer;
+use check_harness::words::Words;
 use curses::{Device, OpenFault, Screen};
 use scr_cells::Size;
 use screen_sessions::session;

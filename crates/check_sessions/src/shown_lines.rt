@@ -1,14 +1,14 @@
 //! Lines about what the terminal shows, and what it is to show.
 ghost use Rattle.std.specs.Prelude.{◌≡◌};
 
-use check_scripts::answers::{
+use check_harness::answers::{
     add_cell, add_look, add_name, add_number, add_place, add_text, add_text_of, add_text_shown,
     add_word, read_size,
 };
-use check_scripts::buffers::Buffer;
-use check_scripts::texts::write_byte;
-use check_scripts::troubles::Trouble;
-use check_scripts::words::Words;
+use check_harness::buffers::Buffer;
+use check_harness::texts::write_byte;
+use check_harness::troubles::Trouble;
+use check_harness::words::Words;
 use recorded_sessions::{Emulated, Recorded};
 use scr_cells::{Attrs, NoMemory, Picture, Size};
 use scr_memory::Memory;

@@ -1,8 +1,8 @@
 //! The line about ECMA-48 texts that are made up and changed at random.
 
-use check_scripts::buffers::Buffer;
-use check_scripts::troubles::Trouble;
-use check_scripts::words::Words;
+use check_harness::buffers::Buffer;
+use check_harness::troubles::Trouble;
+use check_harness::words::Words;
 use ecma_readings::{Ends, compare_readings};
 use screen_scripts::run;
 use std::alloc::Global;

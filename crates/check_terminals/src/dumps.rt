@@ -1,8 +1,8 @@
 //! All that can be seen of an entry, a profile and a picture.
 
-use check_scripts::answers::{add_flag, add_number, add_text};
-use check_scripts::buffers::Buffer;
-use check_scripts::dumps::{dump_cells, dump_place};
+use check_harness::answers::{add_flag, add_number, add_text};
+use check_harness::buffers::Buffer;
+use check_harness::dumps::{dump_cells, dump_place};
 use scr_cells::{Attrs, Picture};
 use scr_term::{Op, Profile};
 use ti_caps::{Entry, Slot};

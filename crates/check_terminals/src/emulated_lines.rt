@@ -1,15 +1,15 @@
 //! Lines about a terminal that is stepped by operations.
 
 use crate::operation_lines::read_op;
-use check_scripts::answers::{
+use check_harness::answers::{
     add_colour, add_look, add_number, add_place, add_text_shown, add_word, read_size,
 };
-use check_scripts::buffers::Buffer;
-use check_scripts::troubles::Trouble;
-use check_scripts::words::Words;
+use check_harness::buffers::Buffer;
+use check_harness::troubles::Trouble;
+use check_harness::words::Words;
 use scr_cells::NoMemory;
-use scr_emulated::Terminal;
 use scr_term::{Op, Profile, Spot};
+use scr_terminal::Terminal;
 use std::alloc::Global;
 
 /// The lines `terminal R C`, `step OP`, `terminal_spot`, `terminal_attrs`, `terminal_colours`, `terminal_at R C` and

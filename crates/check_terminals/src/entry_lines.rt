@@ -1,9 +1,9 @@
 //! Lines about a terminfo entry: what it says, and whether it makes a profile.
 
-use check_scripts::answers::{add_word, read_size};
-use check_scripts::buffers::Buffer;
-use check_scripts::troubles::Trouble;
-use check_scripts::words::Words;
+use check_harness::answers::{add_word, read_size};
+use check_harness::buffers::Buffer;
+use check_harness::troubles::Trouble;
+use check_harness::words::Words;
 use scr_term::{Profile, ProfileFault};
 use std::alloc::Global;
 use ti_caps::{CapFault, Entry, Kind, Slot, bundled, find_name, name_of};

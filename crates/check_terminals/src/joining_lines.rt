@@ -3,14 +3,14 @@
 use crate::painting_lines::add_scratch;
 use crate::picture_lines::ready;
 use crate::terminal_lines::ready as ready_profile;
-use check_scripts::answers::{add_number, add_word};
-use check_scripts::buffers::Buffer;
-use check_scripts::troubles::Trouble;
-use check_scripts::words::Words;
+use check_harness::answers::{add_number, add_word};
+use check_harness::buffers::Buffer;
+use check_harness::troubles::Trouble;
+use check_harness::words::Words;
 use joined_repaint::joined;
 use scr_cells::{NoMemory, Picture};
-use scr_emulated::Terminal;
 use scr_term::{Ops, Profile};
+use scr_terminal::Terminal;
 use std::alloc::Global;
 
 /// The lines `joined`, the operations that bring the terminal to the picture, and `joined_count`, how many they are and

@@ -18,7 +18,7 @@ mod subjects;
 mod terminal_lines;
 mod text_lines;
 
-use check_scripts::checking::check_input;
+use check_harness::checking::check_input;
 use std::process::ExitCode;
 use subjects::TerminalSubject;
 

@@ -1,9 +1,9 @@
 //! Operations of a terminal, as words.
 
-use check_scripts::answers::{add_number, add_place, add_text, add_word};
-use check_scripts::buffers::Buffer;
-use check_scripts::troubles::Trouble;
-use check_scripts::words::Words;
+use check_harness::answers::{add_number, add_place, add_text, add_word};
+use check_harness::buffers::Buffer;
+use check_harness::troubles::Trouble;
+use check_harness::words::Words;
 use scr_cells::Attrs;
 use scr_term::Op;
 

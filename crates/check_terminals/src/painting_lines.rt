@@ -3,14 +3,14 @@
 use crate::operation_lines::add_op;
 use crate::picture_lines::ready;
 use crate::terminal_lines::ready as ready_profile;
-use check_scripts::answers::{add_number, add_text, add_word};
-use check_scripts::buffers::Buffer;
-use check_scripts::troubles::Trouble;
-use check_scripts::words::Words;
+use check_harness::answers::{add_number, add_text, add_word};
+use check_harness::buffers::Buffer;
+use check_harness::troubles::Trouble;
+use check_harness::words::Words;
 use scr_cells::{NoMemory, Picture};
-use scr_emulated::EcmaScreen;
 use scr_plan::{scratch, scratch_bytes};
 use scr_term::{Op, Ops, Profile};
+use scr_terminal::EcmaScreen;
 use std::alloc::Global;
 
 /// The lines `scratch`, `painted`, `painted_count`, `scratch_bytes`, all of these bytes, and `feed_painted`, which

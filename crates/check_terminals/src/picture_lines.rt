@@ -1,9 +1,9 @@
 //! Lines about a picture.
 
-use check_scripts::answers::{add_cell, add_place, add_text_of, add_word, read_parts, read_size};
-use check_scripts::buffers::Buffer;
-use check_scripts::troubles::Trouble;
-use check_scripts::words::Words;
+use check_harness::answers::{add_cell, add_place, add_text_of, add_word, read_parts, read_size};
+use check_harness::buffers::Buffer;
+use check_harness::troubles::Trouble;
+use check_harness::words::Words;
 use scr_cells::{Cell, NoMemory, Picture};
 use std::alloc::Global;
 

@@ -1,14 +1,14 @@
 //! Lines about an emulated screen.
 
 use crate::emulated_lines::add_spot;
-use check_scripts::answers::{
+use check_harness::answers::{
     add_colour, add_flag, add_look, add_number, add_place, add_text, add_word, read_size,
 };
-use check_scripts::buffers::{Buffer, are_same};
-use check_scripts::troubles::Trouble;
-use check_scripts::words::Words;
+use check_harness::buffers::{Buffer, are_same};
+use check_harness::troubles::Trouble;
+use check_harness::words::Words;
 use scr_cells::{Look, NoMemory, Size};
-use scr_emulated::EcmaScreen;
+use scr_terminal::EcmaScreen;
 use screen_scripts::print_screen;
 use std::alloc::Global;
 

@@ -1,11 +1,11 @@
 //! Lines about the scripts of the demonstration program.
 
-use check_scripts::answers::{add_number, add_text, add_word};
-use check_scripts::buffers::Buffer;
-use check_scripts::troubles::Trouble;
-use check_scripts::words::Words;
+use check_harness::answers::{add_number, add_text, add_word};
+use check_harness::buffers::Buffer;
+use check_harness::troubles::Trouble;
+use check_harness::words::Words;
 use scr_cells::NoMemory;
-use scr_emulated::EcmaScreen;
+use scr_terminal::EcmaScreen;
 use screen_scripts::{DemoFault, refusals, run};
 use std::alloc::Global;
 use std::io;

@@ -2,12 +2,12 @@
 
 use crate::entry_lines::add_admission;
 use crate::operation_lines::read_op;
-use check_scripts::answers::{
+use check_harness::answers::{
     add_done, add_flag, add_number, add_place, add_text, add_word, read_size,
 };
-use check_scripts::buffers::Buffer;
-use check_scripts::troubles::Trouble;
-use check_scripts::words::Words;
+use check_harness::buffers::Buffer;
+use check_harness::troubles::Trouble;
+use check_harness::words::Words;
 use scr_cells::{NoMemory, Size};
 use scr_term::{Op, Profile};
 use std::alloc::Global;

@@ -1,8 +1,8 @@
 //! Lines about the texts that a program sends before its first update and behind its last.
 
 use crate::entry_lines::add_profile_fault;
-use check_scripts::answers::{add_text, add_word};
-use check_scripts::buffers::Buffer;
+use check_harness::answers::{add_text, add_word};
+use check_harness::buffers::Buffer;
 use curses::{OpenFault, closing_text, opening_text};
 use std::alloc::Global;
 use ti_caps::{Bytes, Entry};

@@ -1,8 +1,8 @@
 //! Answers of the terminfo libraries, in words.
 
-use check_scripts::answers::{add_name, add_number, add_text, add_word};
-use check_scripts::buffers::Buffer;
-use check_scripts::checking::put;
+use check_harness::answers::{add_name, add_number, add_text, add_word};
+use check_harness::buffers::Buffer;
+use check_harness::checking::put;
 use std::fmt::Display;
 use std::io::Write;
 use ti_caps::{Entry, Kind, Slot, name_of};

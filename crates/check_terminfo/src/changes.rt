@@ -2,15 +2,15 @@
 
 use crate::answers::add_size;
 use crate::files::add_decoded;
-use check_scripts::answers::add_word;
-use check_scripts::buffers::Buffer;
-use check_scripts::troubles::Trouble;
-use check_scripts::words::Words;
+use check_harness::answers::add_word;
+use check_harness::buffers::Buffer;
+use check_harness::troubles::Trouble;
+use check_harness::words::Words;
 use std::alloc::Global;
 use std::mem;
-use terminfo_files::TicFault;
 use ti_binary::{BinFault, decode, decode_wide, encode};
 use ti_caps::{Bytes, Entry};
+use ti_compile::TicFault;
 
 /// The line `decode`, or `changed INDEX BYTE..`, which reads the file with bytes changed.
 pub fn decode_changed(

@@ -1,9 +1,9 @@
 //! Lines about finding entries by the names of terminals.
 
 use crate::answers::{add_entry, add_refusal};
-use check_scripts::answers::{add_text, add_word};
-use check_scripts::buffers::Buffer;
-use check_scripts::words::Words;
+use check_harness::answers::{add_text, add_word};
+use check_harness::buffers::Buffer;
+use check_harness::words::Words;
 use std::alloc::Global;
 use ti_caps::Bytes;
 use ti_database::{FilePath, MemoryFiles, Variables, find_in, paths};

@@ -4,10 +4,10 @@ use crate::answers::{
     add_done, add_entry, add_number_if_any, add_refusal, add_size, add_text_if_any, keep,
 };
 use crate::reading::read_slot;
-use check_scripts::answers::{add_flag, add_text, add_word};
-use check_scripts::buffers::Buffer;
-use check_scripts::troubles::Trouble;
-use check_scripts::words::Words;
+use check_harness::answers::{add_flag, add_text, add_word};
+use check_harness::buffers::Buffer;
+use check_harness::troubles::Trouble;
+use check_harness::words::Words;
 use std::alloc::Global;
 use ti_caps::{CapFault, Entry, Kind, Slot, bundled, name_of};
 use ti_source::print;

@@ -1,15 +1,15 @@
 //! Lines about compiled files.
 
 use crate::answers::{add_entry, add_refusal, add_size};
-use check_scripts::answers::{add_number, add_text};
-use check_scripts::buffers::Buffer;
-use check_scripts::checking::put;
-use check_scripts::troubles::Trouble;
-use check_scripts::words::Words;
+use check_harness::answers::{add_number, add_text};
+use check_harness::buffers::Buffer;
+use check_harness::checking::put;
+use check_harness::troubles::Trouble;
+use check_harness::words::Words;
 use std::alloc::Global;
-use terminfo_files::list;
 use ti_binary::{decode, decode_wide};
 use ti_caps::{Entry, are_names};
+use ti_compile::list;
 use ti_database::read_entry;
 
 /// The lines `encode` and `encode-named NAMES`, which write the file of an entry. Tells whether a line is one of them.

@@ -1,10 +1,10 @@
 //! Lines about reading an input, of readers that fail.
 
 use crate::answers::{add_refusal, add_size};
-use check_scripts::answers::add_text;
-use check_scripts::buffers::Buffer;
-use check_scripts::troubles::Trouble;
-use check_scripts::words::Words;
+use check_harness::answers::add_text;
+use check_harness::buffers::Buffer;
+use check_harness::troubles::Trouble;
+use check_harness::words::Words;
 use program_input::read_input;
 use std::alloc::Global;
 use std::io;

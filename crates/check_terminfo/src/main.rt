@@ -17,7 +17,7 @@ mod sources;
 mod subjects;
 mod table;
 
-use check_scripts::checking::check_input;
+use check_harness::checking::check_input;
 use std::process::ExitCode;
 use subjects::TerminfoSubject;
 

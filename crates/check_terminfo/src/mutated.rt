@@ -7,10 +7,10 @@ mod programs;
 mod sources;
 
 use crate::database::read_bytes;
-use check_scripts::answers::{add_number, add_text, add_word};
-use check_scripts::buffers::Buffer;
-use check_scripts::troubles::Trouble;
-use check_scripts::words::Words;
+use check_harness::answers::{add_number, add_text, add_word};
+use check_harness::buffers::Buffer;
+use check_harness::troubles::Trouble;
+use check_harness::words::Words;
 use mutants::Mutants;
 use std::alloc::Global;
 

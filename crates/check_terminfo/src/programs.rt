@@ -2,10 +2,10 @@
 
 use crate::answers::{add_refusal, add_size};
 use crate::cuts::check_cuts;
-use check_scripts::answers::{add_text, add_word};
-use check_scripts::buffers::Buffer;
-use check_scripts::troubles::Trouble;
-use check_scripts::words::Words;
+use check_harness::answers::{add_text, add_word};
+use check_harness::buffers::Buffer;
+use check_harness::troubles::Trouble;
+use check_harness::words::Words;
 use std::alloc::Global;
 use ti_param::{ParamFault, Program, RunFault, Vars, strip_padding};
 

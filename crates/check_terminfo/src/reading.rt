@@ -1,6 +1,6 @@
 //! Words of a line that are read in more than one place.
 
-use check_scripts::words::Words;
+use check_harness::words::Words;
 use ti_caps::Slot;
 
 /// Reads the position of a capability, 65,535 where the number is greater.

@@ -4,13 +4,13 @@ use crate::answers::{
     add_entry, add_entry_if_any, add_note, add_notes, add_number_if_any, add_refusal, add_size,
     add_text_if_any, is_taken_back, keep,
 };
-use check_scripts::answers::{add_text, add_word};
-use check_scripts::buffers::Buffer;
-use check_scripts::troubles::Trouble;
-use check_scripts::words::Words;
+use check_harness::answers::{add_text, add_word};
+use check_harness::buffers::Buffer;
+use check_harness::troubles::Trouble;
+use check_harness::words::Words;
 use std::alloc::Global;
-use terminfo_files::{Compiled, CompiledEntry, EntryCompiler, TicFault};
 use ti_caps::{Entry, Slot};
+use ti_compile::{Compiled, CompiledEntry, EntryCompiler, TicFault};
 use ti_source::{Resolver, Source, SourceFault};
 
 /// The line `source TEXT`, and those about the source that there is. Tells whether a line is one of them.
@@ -245,7 +245,7 @@ fn entry_in(alloc: Global, source: &[u8]) -> Result<Entry, SourceFault> {
 
 fn compile(alloc: Global, words: &mut Words<'_>, text: &mut Buffer, came: &mut Buffer) {
     words.text(text);
-    match &terminfo_files::compile(alloc, text.bytes()) {
+    match &ti_compile::compile(alloc, text.bytes()) {
         Ok(compiled) => add_compiled(compiled, came),
         Err(fault) => add_refusal(fault, came),
     }

@@ -1,10 +1,10 @@
 //! Lines about the table of capabilities and about names.
 
 use crate::reading::read_slot;
-use check_scripts::answers::{add_flag, add_name, add_number, add_text, add_word};
-use check_scripts::buffers::Buffer;
-use check_scripts::troubles::Trouble;
-use check_scripts::words::Words;
+use check_harness::answers::{add_flag, add_name, add_number, add_text, add_word};
+use check_harness::buffers::Buffer;
+use check_harness::troubles::Trouble;
+use check_harness::words::Words;
 use ti_caps::{Kind, Slot, are_names, find_name, first_name, name_of};
 
 /// The lines `find NAME`, `name-of KIND POSITION`, `table KIND POSITION NAME..`, `named KIND`, `are-names TEXT` and

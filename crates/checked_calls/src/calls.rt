@@ -1,6 +1,6 @@
 //! Calls on a screen by the names of its methods, with arguments that a line has or that are made up.
 
-use check_scripts::troubles::Trouble;
+use check_harness::troubles::Trouble;
 use scr_cells::{Attrs, Cell};
 use scr_windows::Win;
 use screen_sessions::Call;

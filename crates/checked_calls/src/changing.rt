@@ -1,7 +1,7 @@
 //! Changes of a screen's first window that are made up: what a program does between two updates.
 
-use check_scripts::random::Random;
-use check_scripts::troubles::Trouble;
+use check_harness::random::Random;
+use check_harness::troubles::Trouble;
 use scr_cells::{Attrs, Size};
 use scr_windows::Win;
 use screen_sessions::Call;

@@ -1,9 +1,9 @@
 //! All that can be seen of the windows of a screen, as bytes.
 
 use crate::window_lines::{FIELDS, add_field, is_touched, line_of};
-use check_scripts::answers::{add_number, add_place};
-use check_scripts::buffers::Buffer;
-use check_scripts::dumps::dump_cells;
+use check_harness::answers::{add_number, add_place};
+use check_harness::buffers::Buffer;
+use check_harness::dumps::dump_cells;
 use curses::Screen;
 use scr_windows::WindowRef;
 

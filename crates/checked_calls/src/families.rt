@@ -1,7 +1,7 @@
 //! Which windows lie in others and where, as the calls that were made say it.
 
 use crate::window_lines::line_of;
-use check_scripts::troubles::Trouble;
+use check_harness::troubles::Trouble;
 use curses::Screen;
 use scr_windows::Win;
 use screen_sessions::{Answer, Call};

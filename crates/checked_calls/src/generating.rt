@@ -1,8 +1,8 @@
 //! Calls that are made up, mostly of windows that are there and with arguments that fit them.
 
 use crate::calls::{Arguments, NAMES, call_of};
-use check_scripts::random::Random;
-use check_scripts::troubles::Trouble;
+use check_harness::random::Random;
+use check_harness::troubles::Trouble;
 use curses::Screen;
 use scr_cells::{Attrs, Cell};
 use scr_windows::Win;

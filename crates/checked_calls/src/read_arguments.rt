@@ -1,10 +1,10 @@
 //! The arguments of a call that a line has; a flag is 0 or 1.
 
 use crate::calls::Arguments;
-use check_scripts::answers::read_parts;
-use check_scripts::buffers::Buffer;
-use check_scripts::troubles::Trouble;
-use check_scripts::words::Words;
+use check_harness::answers::read_parts;
+use check_harness::buffers::Buffer;
+use check_harness::troubles::Trouble;
+use check_harness::words::Words;
 use scr_cells::{Attrs, Cell};
 use scr_windows::Win;
 use std::alloc::Global;

@@ -2,7 +2,7 @@
 
 use crate::families::Families;
 use crate::laws::Before;
-use check_scripts::troubles::Trouble;
+use check_harness::troubles::Trouble;
 use curses::Screen;
 use screen_sessions::{Answer, Call};
 use std::alloc::Global;

@@ -1,11 +1,11 @@
 //! Lines about the windows of a screen: which there are, and what one holds and tells.
 
-use check_scripts::answers::{
+use check_harness::answers::{
     add_cell, add_flag, add_name, add_number, add_place, add_text_of, add_word,
 };
-use check_scripts::buffers::Buffer;
-use check_scripts::troubles::Trouble;
-use check_scripts::words::Words;
+use check_harness::buffers::Buffer;
+use check_harness::troubles::Trouble;
+use check_harness::words::Words;
 use curses::Screen;
 use scr_cells::Cell;
 use scr_windows::{Win, WinFault, WindowRef};

@@ -22,8 +22,8 @@ pub use writers::{Counted, Device};
 // What a program names besides: windows, cells and keys, terminals, and the operations and faults of updates; and for a
 // test without a terminal the emulated one.
 pub use scr_cells::{Attrs, Cell, Look, NoMemory, Picture, Size};
-pub use scr_emulated::{EcmaScreen, Undefined};
 pub use scr_keys::{Key, KeyFault, names as keys};
 pub use scr_term::{Op, Ops, ProfileFault, Spot};
+pub use scr_terminal::{EcmaScreen, Undefined};
 pub use scr_windows::{Added, Win, WinFault, WindowRef};
 pub use ti_caps::{Bytes, CapFault, Entry, Kind, Slot, bundled};

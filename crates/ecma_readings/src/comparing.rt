@@ -3,9 +3,9 @@
 use crate::made_texts::Texts;
 use crate::plain_screen::End;
 use crate::readings::end_of;
-use check_scripts::answers::{add_number, add_text, add_word};
-use check_scripts::buffers::Buffer;
-use check_scripts::troubles::Trouble;
+use check_harness::answers::{add_number, add_text, add_word};
+use check_harness::buffers::Buffer;
+use check_harness::troubles::Trouble;
 use std::alloc::Global;
 
 /// How many texts end in each way.

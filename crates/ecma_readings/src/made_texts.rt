@@ -1,7 +1,7 @@
 //! ECMA-48 texts that are made up and changed at random.
 
-use check_scripts::buffers::Buffer;
-use check_scripts::random::Random;
+use check_harness::buffers::Buffer;
+use check_harness::random::Random;
 use std::alloc::Global;
 
 // Control functions, most of which are defined from most places of the screen; the last four have no meaning.

@@ -2,10 +2,10 @@
 //! the standard says (ECMA-48, 5.4 and 8.3). A unit without a meaning is undefined, one that would leave the screen
 //! too, and so is what begins no unit.
 
-use check_scripts::troubles::Trouble;
+use check_harness::troubles::Trouble;
 use scr_cells::Size;
-use scr_emulated::EcmaScreen;
 use scr_term::Spot;
+use scr_terminal::EcmaScreen;
 use std::alloc::Global;
 
 // What is written with: attributes, a foreground and a background.

@@ -2,10 +2,10 @@
 //! plain, slow one.
 
 use crate::plain_screen::{End, PlainScreen};
-use check_scripts::random::Random;
-use check_scripts::troubles::Trouble;
+use check_harness::random::Random;
+use check_harness::troubles::Trouble;
 use scr_cells::Size;
-use scr_emulated::EcmaScreen;
+use scr_terminal::EcmaScreen;
 use std::alloc::Global;
 
 // The size of the screens.

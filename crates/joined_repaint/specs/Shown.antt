@@ -1,7 +1,7 @@
 -- What is remembered of a terminal of which all is known.
 use Rattle.std.specs.Prelude.{◌≡◌}
 use Rattle.scr_cells.specs.PictureViews.{PictureView}
-use Rattle.scr_emulated.specs.Displays.{DisplayView}
+use Rattle.scr_terminal.specs.Displays.{DisplayView}
 use Rattle.scr_memory.specs.Memories.{MemoryView, remembered}
 
 abbrev pub known_of : DisplayView → MemoryView

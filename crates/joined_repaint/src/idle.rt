@@ -5,8 +5,8 @@ ghost use Rattle.scr_plan.specs.Repaints.{is_idle, without_idle};
 ghost use Rattle.joined_repaint.specs.Walking.{left_of};
 
 use scr_cells::NoMemory;
-use scr_emulated::Terminal;
 use scr_term::{Op, Profile, Spot};
+use scr_terminal::Terminal;
 
 // Adds operations, except those that change nothing: turning attributes off if none is on and the
 // colours are default, and moving to where the cursor is. The terminal executes them one after

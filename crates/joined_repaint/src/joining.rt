@@ -12,8 +12,8 @@ use crate::idle::add_without_idle;
 use crate::looking::{differs, erased_column};
 use crate::painting::{paint, reset};
 use scr_cells::{NoMemory, Picture};
-use scr_emulated::Terminal;
 use scr_term::{Op, Ops, Profile, Spot};
+use scr_terminal::Terminal;
 use std::alloc::Global;
 
 /// The joined repaint, which brings a terminal to a picture: what paints each place that differs,

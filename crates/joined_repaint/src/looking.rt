@@ -12,8 +12,8 @@ ghost use Rattle.scr_plan.specs.Scratch.{look_at};
 ghost use Rattle.joined_repaint.specs.Shown.{IsOf, known_of};
 
 use scr_cells::{Cell, Pen, Picture};
-use scr_emulated::Terminal;
 use scr_term::{Op, Profile};
+use scr_terminal::Terminal;
 
 // The cell in a place.
 fn cell_at(picture: &Picture, row: u32, column: u32) -> Cell

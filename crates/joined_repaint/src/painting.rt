@@ -9,8 +9,8 @@ ghost use Rattle.joined_repaint.specs.Shown.{IsOf, known_of};
 
 use crate::looking::{joins_left, seen_at};
 use scr_cells::{Attrs, NoMemory, Pen, Picture};
-use scr_emulated::Terminal;
 use scr_term::{Op, Profile};
+use scr_terminal::Terminal;
 
 // Adds the operations for a place that differs; the row is erased from column `erased` on, if that
 // is given.

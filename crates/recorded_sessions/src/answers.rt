@@ -1,7 +1,7 @@
 //! Answers of calls on a screen, in words.
 
-use check_scripts::answers::{add_cell, add_flag, add_name, add_number, add_place, add_word};
-use check_scripts::buffers::Buffer;
+use check_harness::answers::{add_cell, add_flag, add_name, add_number, add_place, add_word};
+use check_harness::buffers::Buffer;
 use curses::UpdateFault;
 use scr_term::Op;
 use scr_windows::{Added, WinFault};

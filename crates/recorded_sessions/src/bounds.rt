@@ -1,13 +1,13 @@
 //! How many bytes an update may send at most.
 
 use crate::emulated::are_stepped;
-use check_scripts::troubles::Trouble;
+use check_harness::troubles::Trouble;
 use curses::Screen;
 use joined_repaint::joined;
 use scr_cells::{NoMemory, Picture, Size};
-use scr_emulated::Terminal;
 use scr_plan::scratch_bytes;
 use scr_term::{Op, Profile};
+use scr_terminal::Terminal;
 use screen_sessions::Call;
 use std::alloc::Global;
 

@@ -3,7 +3,7 @@
 use crate::emulated::Emulated;
 use crate::recorded::Recorded;
 use crate::shown::shows;
-use check_scripts::troubles::Trouble;
+use check_harness::troubles::Trouble;
 use curses::UpdateFault;
 use scr_term::{Op, Profile};
 use screen_sessions::{Answer, WriterFailure};

@@ -2,7 +2,7 @@
 
 use crate::bounds::Left;
 use crate::emulated::Emulated;
-use check_scripts::troubles::Trouble;
+use check_harness::troubles::Trouble;
 use scr_cells::Size;
 use scr_term::{Profile, ProfileFault};
 use std::alloc::Global;

@@ -1,8 +1,8 @@
 //! The terminal of an entry, emulated: by the bytes that it is sent, or by the operations.
 
 use scr_cells::{Attrs, Look, NoMemory, Size};
-use scr_emulated::{EcmaScreen, Terminal};
 use scr_term::{Op, Profile, Spot};
+use scr_terminal::{EcmaScreen, Terminal};
 use std::alloc::Global;
 use ti_caps::{Entry, Slot, slots};
 

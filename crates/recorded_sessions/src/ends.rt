@@ -2,9 +2,9 @@
 
 use crate::answers::{add_count, kind_name};
 use crate::writers::Fails;
-use check_scripts::answers::add_word;
-use check_scripts::buffers::Buffer;
-use check_scripts::words::Words;
+use check_harness::answers::add_word;
+use check_harness::buffers::Buffer;
+use check_harness::words::Words;
 use curses::SendFault;
 use ti_caps::{Entry, slots};
 

@@ -3,9 +3,9 @@
 use crate::answers::{add_count, ran_out};
 use crate::cuts::{Cut, Ended, Text, Verdict, ended_at, is_writer_full, judge_shown, render_all};
 use crate::recorded::Recorded;
-use check_scripts::answers::{add_number, add_word};
-use check_scripts::buffers::Buffer;
-use check_scripts::troubles::Trouble;
+use check_harness::answers::{add_number, add_word};
+use check_harness::buffers::Buffer;
+use check_harness::troubles::Trouble;
 use curses::{Device, UpdateFault};
 use scr_term::Op;
 use screen_sessions::{Answer, Faulty, Report, WriterFailure};

@@ -1,6 +1,6 @@
 //! A call that is made by a list of it alone.
 
-use check_scripts::troubles::Trouble;
+use check_harness::troubles::Trouble;
 use curses::{Counted, Screen, UpdateFault};
 use scr_cells::NoMemory;
 use screen_sessions::{Answer, Call, Report, make_calls};

@@ -1,6 +1,6 @@
 //! The writer of an update, and how it fails.
 
-use check_scripts::troubles::Trouble;
+use check_harness::troubles::Trouble;
 use screen_sessions::{Faulty, WriterFailure, WriterFault};
 use std::alloc::Global;
 use std::io::ErrorKind;

@@ -10,8 +10,8 @@ ghost use Rattle.scr_memory.specs.Code.Remembering.{gone_to};
 
 use crate::known_rows::{are_all, rows_there, set_all, set_one, set_run};
 use scr_cells::{Look, NoMemory, Pen, Size};
-use scr_emulated::Terminal;
 use scr_term::{Op, Profile, Spot};
+use scr_terminal::Terminal;
 use std::alloc::Global;
 use std::marker::Model;
 

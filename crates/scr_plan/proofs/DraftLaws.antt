@@ -16,7 +16,7 @@ use Rattle.scr_term.specs.declared.operations.operation.Op.TheVariants.{EraseCha
 use Rattle.scr_term.specs.declared.operations.operation.Spot.{Spot}
 use Rattle.scr_term.specs.declared.operations.operation.Spot.TheVariants.{At, Margin}
 use Rattle.scr_term.specs.Operations.Laws.{ProfilesHave, RunLaws}
-use Rattle.scr_emulated.specs.Leading.{GoesTo, TurnsTo}
+use Rattle.scr_terminal.specs.Leading.{GoesTo, TurnsTo}
 use Rattle.scr_term.specs.Operations.Profiles.{ProfileView, IsProfile}
 use Rattle.scr_term.specs.Operations.States.{TerminalState, characters_erased, erased, from_place, rest_of_line_erased, spot_after, written_at}
 use Rattle.scr_term.specs.Operations.Steps.{act, runs, step}
@@ -35,7 +35,7 @@ use Rattle.scr_plan.specs.Code.Painters.{painter_begins, painter_goes, painter_l
 use Rattle.scr_plan.specs.Repaints.{look_eq}
 use Rattle.scr_plan.specs.Scratch.{Fits, enter, goes, look_at, renders, sets_background, sets_foreground}
 use Rattle.scr_plan.specs.declared.painting.Painter.{Painter}
-use Rattle.scr_choices.specs.declared.runs.Run.{Run}
+use Rattle.scr_prices.specs.declared.runs.Run.{Run}
 use Rattle.scr_plan.specs.declared.strokes.Draft.{Draft}
 
 -- ---- whatever is added

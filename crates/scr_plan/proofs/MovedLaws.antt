@@ -32,9 +32,9 @@ use Rattle.scr_memory.specs.Memories.{MemoryView, is_known, moves_rows}
 use Rattle.scr_plan.specs.Repaints.{IsSizeOf, ShowsOutside, look_eq}
 use Rattle.scr_plan.specs.Scratch.{Fits, look_at}
 use Rattle.scr_plan.specs.declared.painting.Painter.{Painter}
-use Rattle.scr_choices.specs.declared.runs.Run.{Run}
-use Rattle.scr_choices.specs.declared.shifts.Shift.{Shift}
-use Rattle.scr_choices.specs.declared.slides.Slide.{Slide}
+use Rattle.scr_prices.specs.declared.runs.Run.{Run}
+use Rattle.scr_prices.specs.declared.shifts.Shift.{Shift}
+use Rattle.scr_prices.specs.declared.slides.Slide.{Slide}
 use Rattle.scr_plan.specs.declared.strokes.Draft.{Draft}
 
 -- ---- a row is settled

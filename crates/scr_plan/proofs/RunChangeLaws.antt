@@ -16,7 +16,7 @@ use Rattle.scr_memory.specs.Memories.{MemoryView, is_known_row}
 use Rattle.scr_plan.specs.Repaints.{ShowsOutside, look_eq, look_in}
 use Rattle.scr_plan.specs.Scratch.{look_at}
 use Rattle.scr_plan.specs.declared.painting.Painter.{Painter}
-use Rattle.scr_choices.specs.declared.runs.Run.{Run}
+use Rattle.scr_prices.specs.declared.runs.Run.{Run}
 
 pub not_in : (a b : Bool) → (a ≡ true → b ≡ true) → b ≡ false → a ≡ false
 not_in true b h e = sym (h (λ i. true)) ∙ e

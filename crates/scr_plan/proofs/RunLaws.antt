@@ -5,7 +5,7 @@ use Rattle.scr_cells.specs.PictureViews.{PictureView}
 use Rattle.scr_term.specs.Operations.Profiles.{ProfileView}
 use Rattle.scr_plan.proofs.DraftLaws.{weaker}
 use Rattle.scr_plan.specs.Code.Drafts.{Covers, KeepsAll, Leaves, in_runs, is_in, no_run, without}
-use Rattle.scr_choices.specs.declared.runs.Run.{Run}
+use Rattle.scr_prices.specs.declared.runs.Run.{Run}
 use Rattle.scr_plan.specs.declared.strokes.Draft.{Draft}
 
 -- ---- runs that are visited

@@ -19,7 +19,7 @@ use Rattle.scr_plan.proofs.ScratchLaws.{grid_same}
 use Rattle.scr_plan.specs.Code.Drafts.{Aim, IsAdded, IsAimed, KeepsEvery}
 use Rattle.scr_plan.specs.Code.Joinings.{counted_up}
 use Rattle.scr_plan.specs.Code.Moves.{IsSent, IsShift, Sends, shifted_at}
-use Rattle.scr_choices.specs.declared.shifts.Shift.{Shift}
+use Rattle.scr_prices.specs.declared.shifts.Shift.{Shift}
 use Rattle.scr_plan.specs.declared.strokes.Draft.{Draft}
 
 -- ---- motions and turns leave what is shown

@@ -37,7 +37,7 @@ use Rattle.scr_plan.specs.Plans.{IsPlan}
 use Rattle.scr_plan.specs.Repaints.{JoinedIsCheap, anew_of, joined_of, look_eq}
 use Rattle.scr_plan.specs.Scratch.{Fits, RunsToShow, look_at, resets}
 use Rattle.scr_plan.specs.declared.painting.Painter.{Painter}
-use Rattle.scr_choices.specs.declared.runs.Run.{Run}
+use Rattle.scr_prices.specs.declared.runs.Run.{Run}
 use Rattle.scr_plan.specs.declared.strokes.Draft.{Draft}
 
 -- ---- where a draft begins

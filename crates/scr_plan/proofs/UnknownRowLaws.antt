@@ -32,7 +32,7 @@ use Rattle.scr_memory.specs.MemoryRuns.{MayBe, MemoryRuns}
 use Rattle.scr_plan.specs.Repaints.{look_eq, look_in}
 use Rattle.scr_plan.specs.Scratch.{Fits, goes, look_at}
 use Rattle.scr_plan.specs.declared.painting.Painter.{Painter}
-use Rattle.scr_choices.specs.declared.runs.Run.{Run}
+use Rattle.scr_prices.specs.declared.runs.Run.{Run}
 use Rattle.scr_plan.specs.declared.strokes.Draft.{Draft}
 
 never : {R : Type 0} (b : Bool) → b ≡ true → b ≡ false → R

@@ -24,7 +24,7 @@ use Rattle.scr_memory.specs.Memories.{moves_rows}
 use Rattle.scr_plan.specs.Repaints.{look_eq}
 use Rattle.scr_plan.specs.Scratch.{Fits, look_at}
 use Rattle.scr_plan.specs.declared.painting.Painter.{Painter}
-use Rattle.scr_choices.specs.declared.runs.Run.{Run}
+use Rattle.scr_prices.specs.declared.runs.Run.{Run}
 use Rattle.scr_plan.specs.declared.strokes.Draft.{Draft}
 
 -- ---- the rows from one on become blank

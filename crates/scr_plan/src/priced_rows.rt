@@ -12,8 +12,8 @@ use crate::looked::Looked;
 use crate::painting::Painter;
 use crate::shown::slide_into;
 use scr_cells::{Cell, Look, NoMemory, Picture};
-use scr_choices::{Chooser, KnownRows, RowPrices, Slide};
 use scr_memory::Memory;
+use scr_prices::{Chooser, KnownRows, RowPrices, Slide};
 use scr_term::{FAR, Op, Profile};
 use scr_virtual::Virtual;
 

@@ -8,7 +8,7 @@ ghost use Rattle.scr_plan.specs.Scratch.{Fits};
 use crate::painting::Painter;
 use crate::strokes::Draft;
 use scr_cells::{Attrs, NoMemory, Pen, Picture};
-use scr_choices::{Chooser, Motion, Path, Steps, Turn, cheapest_turn};
+use scr_prices::{Chooser, Motion, Path, Steps, Turn, cheapest_turn};
 use scr_term::{Op, Profile};
 
 impl Draft {

@@ -10,7 +10,7 @@ use crate::blanks::{
 use crate::looking::is_shown_in;
 use crate::painting::Painter;
 use scr_cells::{Cell, Look, NoMemory, Pen, Picture};
-use scr_choices::{How, Run};
+use scr_prices::{How, Run};
 use scr_term::Profile;
 
 impl Painter {

@@ -9,7 +9,7 @@ ghost use Rattle.scr_plan.specs.Code.Settled.{IsShownRow, Settles, ShowsBeside, 
 ghost use Rattle.scr_memory.specs.Memories.{MemoryView, is_known};
 ghost use Rattle.scr_plan.specs.Repaints.{IsSizeOf, ShowsOutside};
 ghost use Rattle.scr_plan.specs.Scratch.{Fits};
-ghost use Rattle.scr_choices.specs.declared.shifts.Shift.{Shift};
+ghost use Rattle.scr_prices.specs.declared.shifts.Shift.{Shift};
 ghost use Rattle.scr_term.specs.Operations.Profiles.{ProfileView};
 ghost use Rattle.scr_term.specs.Operations.Texts.{has};
 ghost use Rattle.scr_virtual.specs.Ranges.{IsRange};
@@ -21,8 +21,8 @@ use crate::sliding::slide_of;
 use crate::strokes::Draft;
 use crate::wiping::drop_from;
 use scr_cells::{Look, NoMemory, Picture};
-use scr_choices::{Run, Shift, Slide};
 use scr_memory::Memory;
+use scr_prices::{Run, Shift, Slide};
 use scr_term::Profile;
 use scr_virtual::Virtual;
 

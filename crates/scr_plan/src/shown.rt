@@ -6,8 +6,8 @@ ghost use Rattle.scr_plan.specs.Code.Moves.{IsShift, IsSlide, shifted_at};
 ghost use Rattle.scr_plan.specs.Code.Settled.{IsShownRow, is_moved, look_from, slid_at};
 
 use scr_cells::{Look, NoMemory};
-use scr_choices::{Shift, Slide};
 use scr_memory::Memory;
+use scr_prices::{Shift, Slide};
 
 // What a row shows after a shift, if there was one; `None` if it is blank because of it.
 pub(crate) fn shown_row(memory: &Memory, shift: Option<Shift>, row: u32) -> Option<&[Look]>

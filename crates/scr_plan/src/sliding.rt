@@ -11,7 +11,7 @@ use crate::painting::Painter;
 use crate::priced_rows::{PricedRows, is_inside};
 use crate::strokes::Draft;
 use scr_cells::{Look, NoMemory, Picture, grid_laws};
-use scr_choices::{
+use scr_prices::{
     Cursor, DifferingRow, RowPrices, Run, Slide, are_wide, can_slide_some, cheapest_slide,
 };
 use scr_term::{Op, Profile, run_laws};

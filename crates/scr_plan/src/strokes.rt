@@ -12,9 +12,9 @@ use crate::joining::{behind, price_of, price_of_one};
 use crate::looking::cell_in;
 use crate::painting::Painter;
 use scr_cells::{Cell, Look, NoMemory, Pen, Picture, grid_laws};
-use scr_choices::Cursor;
-use scr_emulated::{moved_by, turned};
+use scr_prices::Cursor;
 use scr_term::{Op, Profile, Spot, profiles_have, run_laws};
+use scr_terminal::{moved_by, turned};
 
 // A plan in the making: its operations, how many bytes they have, and where they lead.
 #[derive(Drop)]

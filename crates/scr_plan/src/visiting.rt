@@ -7,12 +7,12 @@ ghost use Rattle.scr_term.specs.Operations.Texts.{has};
 ghost use Rattle.scr_plan.specs.Code.Drafts.{Covers, KeepsAll, KeepsEvery, Leaves, in_part, is_in, no_run};
 ghost use Rattle.scr_plan.specs.Code.Painters.{painter_of};
 ghost use Rattle.scr_plan.specs.Scratch.{Fits};
-ghost use Rattle.scr_choices.specs.declared.runs.Run.{Run};
+ghost use Rattle.scr_prices.specs.declared.runs.Run.{Run};
 
 use crate::painting::Painter;
 use crate::strokes::Draft;
 use scr_cells::{Look, NoMemory, Pen, Picture, grid_laws};
-use scr_choices::{Chooser, How, Path, Run, Stop, Way, cheapest_order};
+use scr_prices::{Chooser, How, Path, Run, Stop, Way, cheapest_order};
 use scr_term::{Op, Profile, Spot, profiles_have, run_laws};
 use std::alloc::Global;
 

@@ -3,13 +3,13 @@ ghost use Rattle.std.specs.Prelude.{◌≡◌, ◌<◌, IfOk, OnOk, false, lengt
 ghost use Rattle.scr_plan.specs.Code.Drafts.{KeepsAbove, KeepsAll, LearnsFrom, Leaves, Wipes};
 ghost use Rattle.scr_plan.specs.Code.Painters.{painter_of};
 ghost use Rattle.scr_plan.specs.Scratch.{Fits};
-ghost use Rattle.scr_choices.specs.declared.runs.Run.{Run};
+ghost use Rattle.scr_prices.specs.declared.runs.Run.{Run};
 
 use crate::painting::Painter;
 use crate::strokes::Draft;
 use scr_cells::{Look, NoMemory, Pen, Picture, grid_laws};
-use scr_choices::{Chooser, Run, Wiping, cheapest_wiping};
 use scr_memory::memory_runs;
+use scr_prices::{Chooser, Run, Wiping, cheapest_wiping};
 use scr_term::{Op, Profile, Spot, profiles_have, run_laws};
 
 impl Draft {

@@ -13,9 +13,9 @@ use Rattle.scr_term.specs.Operations.Painted.{Shows, ShowsNegative}
 use Rattle.scr_term.specs.Operations.Profiles.{ProfileView, abilities}
 use Rattle.scr_term.specs.Operations.States.{TerminalState, IsState, negative_state}
 use Rattle.scr_term.specs.Operations.Texts.{all_bytes}
-use Rattle.scr_emulated.specs.Ecma.Laws.{ScreensFollowTexts}
+use Rattle.scr_terminal.specs.Ecma.Laws.{ScreensFollowTexts}
 use Rattle.scr_term.specs.Ecma.Meanings.{Leads}
-use Rattle.scr_emulated.specs.Ecma.Screens.{ScreenView, IsScreen, IsFed}
+use Rattle.scr_terminal.specs.Ecma.Screens.{ScreenView, IsScreen, IsFed}
 use Rattle.scr_memory.specs.Memories.{Agrees, MemoryView, all_followed, disturbed, unknown}
 use Rattle.scr_plan.specs.Scratch.{RunsToShow}
 use Rattle.scr_virtual.specs.VirtualViews.{VirtualView}

@@ -12,7 +12,7 @@ use Rattle.scr_term.specs.Operations.Ecma48.{Ecma48Laws, ecma48_profile}
 use Rattle.scr_term.specs.Operations.Laws.{BlankLaws}
 use Rattle.scr_term.specs.Operations.Profiles.{ProfileView, abilities}
 use Rattle.scr_term.specs.Operations.States.{TerminalState, IsState, blank_state}
-use Rattle.scr_emulated.specs.Ecma.Screens.{ScreenView, IsScreen, blank_screen}
+use Rattle.scr_terminal.specs.Ecma.Screens.{ScreenView, IsScreen, blank_screen}
 use Rattle.scr_memory.specs.Memories.{Agrees, MemoryView, unknown}
 use Rattle.scr_memory.specs.MemoryRuns.{MemoryRuns}
 use Rattle.scr_windows.specs.DeskViews.{first_desk}

@@ -9,7 +9,7 @@ use Rattle.scr_term.specs.Operations.Profiles.{ProfileView, abilities}
 use Rattle.scr_term.specs.Operations.States.{TerminalState, IsState, negative_state}
 use Rattle.scr_term.specs.Operations.Steps.{runs}
 use Rattle.scr_term.specs.Operations.Texts.{all_bytes}
-use Rattle.scr_emulated.specs.Ecma.Screens.{ScreenView, IsScreen}
+use Rattle.scr_terminal.specs.Ecma.Screens.{ScreenView, IsScreen}
 use Rattle.scr_memory.specs.Memories.{Agrees, MemoryView, all_followed, unknown}
 use Rattle.scr_plan.specs.Plans.{IsPlan}
 use Rattle.scr_plan.specs.Scratch.{RunsToShow}

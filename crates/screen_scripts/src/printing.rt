@@ -8,9 +8,9 @@ ghost use Rattle.ti_caps.specs.declared.table.Kind.TheVariants as KindView;
 ghost use Rattle.screen_scripts.specs.Printing.{attribute_line, character_line, colour_line, cursor_line, has_default_colours, key_line, name_or_none, refusal_line, row_lines, screen_lines, colour_digit as colour_digit_of, hexadecimal_digit as hexadecimal_digit_of};
 
 use scr_cells::{Look, NoMemory};
-use scr_emulated::EcmaScreen;
 use scr_keys::Key;
 use scr_term::Spot;
+use scr_terminal::EcmaScreen;
 use ti_caps::{Kind, Slot, name_of};
 
 /// Adds the lines of a screen: for each row its characters, its attributes if it has any and its

@@ -11,8 +11,8 @@ use crate::faults::{fault_name, key_fault_name};
 use crate::printing::{print_key, print_refusal, print_screen};
 use crate::stages::Stage;
 use scr_cells::NoMemory;
-use scr_emulated::screens_follow_texts;
 use scr_term::{bytes_act_as_their_operations, ecma48_laws, run_laws};
+use scr_terminal::screens_follow_texts;
 use std::alloc::Global;
 
 /// The output for the effects of a line that left this stage: its lines, or, if `raw`, the bytes of

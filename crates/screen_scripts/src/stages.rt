@@ -8,9 +8,9 @@ use crate::commands::Command;
 use crate::line_faults::LineFault;
 use curses::Screen;
 use scr_cells::{NoMemory, Size};
-use scr_emulated::EcmaScreen;
 use scr_memory::memory_runs;
 use scr_term::{blank_laws, ecma48_laws};
+use scr_terminal::EcmaScreen;
 use std::alloc::Global;
 use ti_caps::bundled;
 

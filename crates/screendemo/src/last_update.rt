@@ -2,8 +2,8 @@
 
 use curses::{Device, Screen};
 use scr_cells::{NoMemory, Size};
-use scr_emulated::Terminal;
 use scr_term::{Op, Ops, Profile};
+use scr_terminal::Terminal;
 use scr_windows::{Win, WinFault};
 use screen_scripts::{Command, cut_line, read_command};
 use screen_sessions::{Answer, Call, make_call};

@@ -2,9 +2,9 @@
 
 use joined_repaint::joined;
 use scr_cells::{NoMemory, Picture};
-use scr_emulated::Terminal;
 use scr_plan::scratch;
 use scr_term::{Ops, Profile};
+use scr_terminal::Terminal;
 use std::alloc::Global;
 
 /// The number of bytes of the texts of these operations.

@@ -11,7 +11,7 @@ use crate::places::{index_of_many_uses, place_of};
 use crate::report::{add_entry, add_note, add_size, add_unknown};
 use std::alloc::AllocError;
 use std::io::Write;
-use terminfo_files::{CompiledEntry, EntryCompiler, TicFault};
+use ti_compile::{CompiledEntry, EntryCompiler, TicFault};
 use ti_source::{Note, Source, SourceFault, read};
 
 /// Lines are written once they have this many bytes.

@@ -1,8 +1,8 @@
 //! Why the program ends with a status other than 0.
 
 use std::alloc::{AllocError, AllocFailed};
-use terminfo_files::TicFault;
 use thiserror::Error;
+use ti_compile::TicFault;
 
 /// Why the program ends with a status other than 0, with the texts that it prints.
 #[derive(Debug, Drop, Error)]

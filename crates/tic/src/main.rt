@@ -29,7 +29,7 @@ use report::add_left_out;
 use std::io::Write;
 use std::process::ExitCode;
 use std::{env, io};
-use terminfo_files::{Listing, list};
+use ti_compile::{Listing, list};
 use words::Task;
 
 fn main(rt: HostRuntime) -> ExitCode {

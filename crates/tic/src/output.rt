@@ -5,7 +5,7 @@ use std::alloc::Global;
 use std::io::{ErrorKind, Write};
 use std::path::{Path, PathBuf};
 use std::{fs, io, str};
-use terminfo_files::CompiledEntry;
+use ti_compile::CompiledEntry;
 
 /// Writes a text to the standard output.
 pub(crate) fn print<'a>(rt: &HostRuntime, text: &[u8]) -> Result<(), Failure<'a>> {

@@ -1,7 +1,7 @@
 //! Answers about keys, in words.
 
-use check_scripts::answers::{add_number, add_word};
-use check_scripts::buffers::Buffer;
+use check_harness::answers::{add_number, add_word};
+use check_harness::buffers::Buffer;
 use scr_keys::{Key, KeyFault};
 use ti_caps::Slot;
 

@@ -1,9 +1,9 @@
 //! Entries whose texts a script sets.
 
-use check_scripts::answers::add_word;
-use check_scripts::buffers::Buffer;
-use check_scripts::troubles::Trouble;
-use check_scripts::words::Words;
+use check_harness::answers::add_word;
+use check_harness::buffers::Buffer;
+use check_harness::troubles::Trouble;
+use check_harness::words::Words;
 use std::alloc::Global;
 use ti_caps::{CapFault, Entry, Kind, MOST_TEXTS, Slot, bundled, find_name, name_of};
 

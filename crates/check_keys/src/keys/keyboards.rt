@@ -1,10 +1,10 @@
 //! What keys are read from: a reader by itself, or a screen.
 
 use crate::keys::answers::add_fault;
-use check_scripts::answers::add_word;
-use check_scripts::buffers::Buffer;
-use check_scripts::checking::put;
-use check_scripts::troubles::Trouble;
+use check_harness::answers::add_word;
+use check_harness::buffers::Buffer;
+use check_harness::checking::put;
+use check_harness::troubles::Trouble;
 use curses::{OpenFault, Screen};
 use scr_cells::Size;
 use scr_keys::{Key, KeyFault, KeyReader, KeyTable};

@@ -3,10 +3,10 @@
 use crate::keys::generated::{Compared, Event, Typist, compare};
 use crate::keys::keyboards::{Keyboard, open_into};
 use crate::keys::plain::{PlainKeys, PlainReader};
-use check_scripts::answers::{add_number, add_word};
-use check_scripts::buffers::Buffer;
-use check_scripts::troubles::Trouble;
-use check_scripts::words::Words;
+use check_harness::answers::{add_number, add_word};
+use check_harness::buffers::Buffer;
+use check_harness::troubles::Trouble;
+use check_harness::words::Words;
 use scr_keys::Key;
 use std::alloc::Global;
 use ti_caps::Entry;

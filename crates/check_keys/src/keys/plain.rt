@@ -2,7 +2,7 @@
 //! else a byte.
 
 use crate::keys::entries::key_text;
-use check_scripts::troubles::Trouble;
+use check_harness::troubles::Trouble;
 use scr_keys::Key;
 use std::alloc::Global;
 use ti_caps::{Entry, MOST_TEXTS, Slot};

@@ -2,11 +2,11 @@
 
 use super::sources::check_printed;
 use crate::entries::are_same;
-use check_scripts::troubles::Trouble;
+use check_harness::troubles::Trouble;
 use std::alloc::Global;
-use terminfo_files::{Listing, TicFault, list};
 use ti_binary::{BinFault, EncFault, decode, encode};
 use ti_caps::{Entry, Slot};
+use ti_compile::{Listing, TicFault, list};
 
 /// Whether bytes are read as a compiled file. Where they are, the bytes that are not left over are the same file, and
 /// are truncated without the last of them; its entry is written and read as the same; and it is listed as source of

@@ -1,8 +1,8 @@
 //! Texts that are made of those of a pool, each changed in a few places.
 
-use check_scripts::buffers::Buffer;
-use check_scripts::random::Random;
-use check_scripts::troubles::Trouble;
+use check_harness::buffers::Buffer;
+use check_harness::random::Random;
+use check_harness::troubles::Trouble;
 use std::alloc::Global;
 use std::mem;
 

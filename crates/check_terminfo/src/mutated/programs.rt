@@ -2,9 +2,9 @@
 
 use crate::cuts::is_cut_at;
 use crate::programs::{two_of, write};
-use check_scripts::buffers::Buffer;
-use check_scripts::random::Random;
-use check_scripts::troubles::Trouble;
+use check_harness::buffers::Buffer;
+use check_harness::random::Random;
+use check_harness::troubles::Trouble;
 use std::alloc::Global;
 use ti_param::{ParamFault, Program, Vars};
 

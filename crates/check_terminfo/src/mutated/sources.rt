@@ -1,11 +1,11 @@
 //! A source that was changed.
 
 use crate::entries::{are_same, is_named_part};
-use check_scripts::troubles::Trouble;
+use check_harness::troubles::Trouble;
 use std::alloc::Global;
-use terminfo_files::{Compiled, CompiledEntry, EntryCompiler, TicFault, compile};
 use ti_binary::encode;
 use ti_caps::{Bytes, Entry, first_name};
+use ti_compile::{Compiled, CompiledEntry, EntryCompiler, TicFault, compile};
 use ti_source::{Printed, Resolver, Source, SourceFault, print, read, resolve};
 
 /// Whether a text is read as a source. Where it is, a resolver of all its names and one of each name alone give the

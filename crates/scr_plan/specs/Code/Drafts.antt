@@ -19,8 +19,8 @@ use Rattle.scr_memory.specs.MemoryRuns.{MayBe}
 use Rattle.scr_plan.specs.Repaints.{look_eq, look_in}
 use Rattle.scr_plan.specs.Scratch.{look_at}
 use Rattle.scr_plan.specs.declared.painting.Painter.{Painter}
-use Rattle.scr_choices.specs.declared.runs.How.TheVariants.{Write}
-use Rattle.scr_choices.specs.declared.runs.Run.{Run}
+use Rattle.scr_prices.specs.declared.runs.How.TheVariants.{Write}
+use Rattle.scr_prices.specs.declared.runs.Run.{Run}
 use Rattle.scr_plan.specs.declared.strokes.Draft.{Draft}
 
 -- these operations move no row

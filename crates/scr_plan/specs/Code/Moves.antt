@@ -12,8 +12,8 @@ use Rattle.scr_term.specs.Operations.Texts.{all_bytes}
 use Rattle.scr_plan.specs.Code.Drafts.{IsRight, in_runs}
 use Rattle.scr_plan.specs.Code.Joinings.{counted_up}
 use Rattle.scr_memory.specs.Memories.{MemoryView}
-use Rattle.scr_choices.specs.declared.shifts.Shift.{Shift}
-use Rattle.scr_choices.specs.declared.slides.Slide.{Slide}
+use Rattle.scr_prices.specs.declared.shifts.Shift.{Shift}
+use Rattle.scr_prices.specs.declared.slides.Slide.{Slide}
 use Rattle.scr_plan.specs.declared.strokes.Draft.{Draft}
 
 -- a block of rows of the screen, and by how many of them its rows move

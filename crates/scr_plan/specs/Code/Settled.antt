@@ -12,9 +12,9 @@ use Rattle.scr_plan.specs.Code.Drafts.{Aim, IsAimed, in_runs}
 use Rattle.scr_plan.specs.Code.Moves.{shown_at}
 use Rattle.scr_plan.specs.Code.Painters.{shown_in}
 use Rattle.scr_plan.specs.Scratch.{look_at}
-use Rattle.scr_choices.specs.declared.runs.Run.{Run}
-use Rattle.scr_choices.specs.declared.shifts.Shift.{Shift}
-use Rattle.scr_choices.specs.declared.slides.Slide.{Slide}
+use Rattle.scr_prices.specs.declared.runs.Run.{Run}
+use Rattle.scr_prices.specs.declared.shifts.Shift.{Shift}
+use Rattle.scr_prices.specs.declared.slides.Slide.{Slide}
 use Rattle.scr_plan.specs.declared.strokes.Draft.{Draft}
 
 -- what places show: the picture in the first n rows, in the others what a grid shows after a shift

@@ -1,5 +1,5 @@
 use Rattle.std.proofs.Common.{◌∙◌, ap, take}
-use Rattle.scr_emulated.specs.Displays.{DisplayView}
+use Rattle.scr_terminal.specs.Displays.{DisplayView}
 use Rattle.scr_memory.specs.Memories.{MemoryView, all_followed}
 use Rattle.scr_memory.proofs.FollowingLaws.{gone_on_followed}
 use Rattle.scr_memory.proofs.memories.Memory.follow_characters.Goals as goal

@@ -1,8 +1,0 @@
-use Rattle.std.proofs.Common.{rules}
-use Rattle.scr_emulated.proofs.displays.changes.characters_erased.Goals as goal
-
-pub returns-in-At-clause-value : goal.returns-in-At-clause-value
-returns-in-At-clause-value c = search rules
-
-pub returns-in-At-clause-change : goal.returns-in-At-clause-change
-returns-in-At-clause-change c = search rules

@@ -1,7 +1,0 @@
-use Rattle.scr_emulated.proofs.DisplayLaws.{run_is_blanked}
-use Rattle.scr_emulated.proofs.displays.display.erase_run.Goals as goal
-
-pub returns : goal.returns
-returns c =
-    run_is_blanked c.grid_laws.ensures c.args.grid.now c.fill.new.self c.blank.result c.args.row c.args.from c.args.end c.rows-grid.ensures.grid
-    c.requires.row c.requires.order c.requires.end c.blank.ensures c.fill.ensures

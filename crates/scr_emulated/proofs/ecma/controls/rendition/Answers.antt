@@ -1,5 +1,0 @@
-use Rattle.std.proofs.Common.{rules}
-use Rattle.scr_emulated.proofs.ecma.controls.rendition.Goals as goal
-
-pub returns-in-39 : goal.returns-in-39
-returns-in-39 c = search rules

@@ -1,0 +1,225 @@
+//! A screen that is fed the bytes of an ECMA-48 text. The files beside this one say which bytes
+//! make a control function, and what it changes.
+ghost use Rattle.std.specs.Prelude.{◌≡◌, ◌+◌, ◌<◌, ◌↔◌, false, length, [], ◌∷◌, bit_and, option_map, IfOk, IsOk, IsTrue};
+ghost use Rattle.std.specs.Option.{ForSome};
+ghost use Rattle.scr_cells.specs.Attributes.{every_attribute};
+ghost use Rattle.scr_cells.specs.CellViews.{IsCharacter};
+ghost use Rattle.scr_cells.specs.Grids.{grid_at, grid_row};
+ghost use Rattle.scr_cells.specs.LookViews.{IsLook, LookView};
+ghost use Rattle.scr_cells.specs.PictureViews.{IsPlace};
+ghost use Rattle.scr_term.specs.Operations.States.{IsSpot, character_written};
+ghost use Rattle.scr_term.specs.Ecma.Units.{IsWaiting};
+ghost use Rattle.scr_terminal.specs.Ecma.Screens.{IsScreen, IsFed, blank_screen};
+ghost use Rattle.scr_terminal.specs.Code.Changes.{IsChange, changed};
+ghost use Rattle.scr_terminal.specs.Code.Readings.{IsReading, acted};
+
+use crate::displays::{Change, Display};
+use crate::ecma::controls::{control_character, control_sequence};
+use crate::ecma::readings::{Reading, read_byte};
+use crate::undefined::Undefined;
+use arrayvec::ArrayVec;
+use scr_cells::{Attrs, Look, NoMemory, Size};
+use scr_term::Spot;
+use std::alloc::Global;
+use std::marker::Model;
+
+/// An emulated ECMA-48 screen: it reads a text in pieces, and shows what the text does.
+///
+/// These have a meaning: graphic characters, BS, CR, CUU, CUD, CUF, CUB, CHA, VPA, CUP, ED with 0
+/// or 2, EL with 0, ECH, and SGR with its colours. Every other unit is undefined. After the first
+/// undefined unit the screen stays as it is.
+#[derive(Drop)]
+pub struct EcmaScreen {
+    display: Display,
+    // The beginning of a control sequence, after the last whole unit.
+    waiting: ArrayVec<u8, 64>,
+    undefined: bool,
+}
+
+impl Model for EcmaScreen {
+    ghost use Rattle.scr_terminal.specs.Ecma.Screens.{ScreenView, IsScreen};
+
+    ghost Value = { ScreenView };
+
+    ghost view = { λ a. record {
+      rows = a.display.rows;
+      columns = a.display.columns;
+      state = a.display.state;
+      waiting = a.waiting.items;
+      undefined = a.undefined;
+    } };
+
+    ghost invariant = { λ a. IsScreen (record {
+      rows = a.display.rows;
+      columns = a.display.columns;
+      state = a.display.state;
+      waiting = a.waiting.items;
+      undefined = a.undefined;
+    }) };
+}
+
+impl EcmaScreen {
+    /// A blank screen: cursor at row 0, column 0, no attribute on, default colours. Fails only when
+    /// memory runs out.
+    pub fn new(alloc: Global, size: Size) -> Result<EcmaScreen, NoMemory>
+        ensures { IfOk result (λ screen. screen ≡ blank_screen size.rows size.columns) }
+    {
+        let display = Display::new(alloc, size)?;
+        let _size = display.size();
+        Ok(EcmaScreen {
+            display,
+            waiting: ArrayVec::new(),
+            undefined: false,
+        })
+    }
+
+    /// Reads the next piece of the text, which may end anywhere.
+    ///
+    /// Returns `Undefined` if something in the text so far is undefined. The screen then stays as
+    /// it was after the last unit before that, and every later piece gives `Undefined` too
+    /// (ECMA-48, 5.4 'Control sequences').
+    pub fn feed(&mut self, piece: &[u8]) -> Result<(), Undefined>
+        ensures fed { IsFed self.old piece.now self.new }
+        ensures answer { IsOk result ↔ (self.new.undefined ≡ false) }
+        ensures screen { IsScreen self.new }
+    {
+        if self.undefined {
+            return Err(Undefined);
+        }
+        for byte in piece {
+            self.feed_byte(*byte);
+        }
+        if self.undefined {
+            Err(Undefined)
+        } else {
+            Ok(())
+        }
+    }
+
+    /// The number of rows and columns.
+    pub fn size(&self) -> Size
+        ensures rows { result.rows ≡ self.now.rows }
+        ensures columns { result.columns ≡ self.now.columns }
+        ensures screen { IsScreen self.now }
+    {
+        self.display.size()
+    }
+
+    /// The look at a row and a column, which count from 0 at the top left.
+    pub fn cell(&self, row: u32, column: u32) -> Look
+        requires { IsPlace self.now.rows self.now.columns (row, column) }
+        ensures value { (other : LookView) → result ≡ grid_at other self.now.state.grid row column }
+        ensures look { IsLook result }
+    {
+        self.display.cell(row, column)
+    }
+
+    /// The looks of a row, from the left; rows count from 0 at the top.
+    pub fn row(&self, row: u32) -> &[Look]
+        requires { row < self.now.rows }
+        ensures cells { result.now ≡ grid_row self.now.state.grid row }
+        ensures width { length result.now ≡ self.now.columns }
+    {
+        self.display.row(row)
+    }
+
+    /// Where the cursor is (ECMA-48, 'active presentation position').
+    pub fn spot(&self) -> Spot
+        ensures value { result ≡ self.now.state.spot }
+        ensures inside { IsSpot self.now.rows self.now.columns result }
+    {
+        self.display.spot()
+    }
+
+    /// The attributes that are on (ECMA-48, 8.3.117 SGR).
+    pub fn rendition(&self) -> Attrs
+        ensures value { result.0 ≡ self.now.state.pen.attrs }
+        ensures shown { bit_and every_attribute result.0 ≡ result.0 }
+    {
+        self.display.pen().attrs()
+    }
+
+    /// The current foreground and background, each `None` if it is the default (ECMA-48, 8.3.117
+    /// SGR).
+    pub fn colours(&self) -> (Option<u8>, Option<u8>)
+        ensures foreground { result.0 ≡ self.now.state.pen.foreground }
+        ensures background { result.1 ≡ self.now.state.pen.background }
+    {
+        let pen = self.display.pen();
+        (pen.foreground(), pen.background())
+    }
+
+    /// Whether the text so far ends inside a control sequence (ECMA-48, 5.4 'Control sequences').
+    pub fn waiting(&self) -> bool
+        ensures { IsTrue result ↔ IsWaiting self.now.waiting }
+    {
+        !self.waiting.as_slice().is_empty()
+    }
+
+    /// Reads the next byte.
+    fn feed_byte(&mut self, byte: u8)
+        ensures { IsFed self.old (byte ∷ []) self.new }
+    {
+        if self.undefined {
+            return;
+        }
+        let part = self.waiting.as_slice();
+        match read_byte(part, byte) {
+            Reading::Graphic => self.write(byte),
+            Reading::Control => self.take_control(byte),
+            Reading::Held => self.waiting.push(byte),
+            Reading::Last => self.take_last(byte),
+            Reading::Other => self.apply(None),
+        }
+    }
+
+    // Reads a control function of one byte. This function and the next are separate so that graphic
+    // characters set up no change.
+    #[inline(never)]
+    fn take_control(&mut self, byte: u8)
+        requires defined { self.old.undefined ≡ false }
+        requires reading { IsReading self.old.waiting byte Reading.Control }
+        ensures { IsFed self.old (byte ∷ []) self.new }
+    {
+        let change = control_character(self.display.size(), self.display.spot(), byte);
+        self.apply(change);
+    }
+
+    // Reads the final byte of a control sequence.
+    #[inline(never)]
+    fn take_last(&mut self, byte: u8)
+        requires defined { self.old.undefined ≡ false }
+        requires reading { IsReading self.old.waiting byte Reading.Last }
+        ensures { IsFed self.old (byte ∷ []) self.new }
+    {
+        let part = self.waiting.as_slice();
+        let size = self.display.size();
+        let change = control_sequence(size, self.display.spot(), self.display.pen(), part, byte);
+        self.apply(change);
+    }
+
+    /// Writes a graphic character at the cursor, which goes right; undefined at the margin.
+    fn write(&mut self, byte: u8)
+        requires character { IsCharacter byte }
+        requires whole { self.old.waiting ≡ [] }
+        ensures { self.new ≡ acted self.old (character_written self.old.columns self.old.state byte) }
+    {
+        if !self.display.write(byte) {
+            self.undefined = true;
+        }
+        let _size = self.display.size();
+    }
+
+    /// Makes a change, or becomes undefined if there is none.
+    fn apply(&mut self, change: Option<Change>)
+        requires { ForSome change (IsChange self.old.rows self.old.columns) }
+        ensures { self.new ≡ acted self.old (option_map (changed self.old.rows self.old.columns self.old.state) change) }
+    {
+        self.waiting.clear();
+        match change {
+            Some(change) => self.display.make(change),
+            None => self.undefined = true,
+        }
+        let _size = self.display.size();
+    }
+}

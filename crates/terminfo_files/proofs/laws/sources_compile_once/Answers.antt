@@ -1,5 +1,0 @@
-use Rattle.terminfo_files.proofs.OnceLaws.{compile-once}
-use Rattle.terminfo_files.proofs.laws.sources_compile_once.Goals as goal
-
-pub returns : goal.returns
-returns c = compile-once c.names_resolve_once.ensures

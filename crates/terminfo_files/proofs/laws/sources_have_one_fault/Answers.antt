@@ -1,5 +1,0 @@
-use Rattle.terminfo_files.proofs.OnceLaws.{faulty-once}
-use Rattle.terminfo_files.proofs.laws.sources_have_one_fault.Goals as goal
-
-pub returns : goal.returns
-returns c = faulty-once c.names_resolve_once.ensures c.names_have_one_fault.ensures c.resolved_names_have_no_fault.ensures
