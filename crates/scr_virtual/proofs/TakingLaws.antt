@@ -5,8 +5,8 @@ use Rattle.std.proofs.lemmas.List.{get_or-drop, get_or-take}
 use Rattle.std.proofs.lemmas.Bool.Decides.{nat_tests}
 use Rattle.scr_cells.specs.CellViews.{CellView, blank_cell}
 use Rattle.scr_cells.specs.Grids.{GridLaws, grid_row}
-use Rattle.scr_surfaces.specs.declared.areas.Area.{Area}
-use Rattle.scr_surfaces.specs.SurfaceViews.{inside_at}
+use Rattle.scr_windows.specs.declared.surfaces.areas.Area.{Area}
+use Rattle.scr_windows.specs.Surfaces.SurfaceViews.{inside_at}
 use Rattle.scr_windows.specs.declared.faults.WinFault.{WinFault}
 use Rattle.scr_windows.specs.declared.faults.WinFault.TheVariants.{OutOfWindow}
 use Rattle.scr_windows.specs.Calls.Reading.{about_window, at, contents, window_answer}

@@ -5,7 +5,7 @@ use Rattle.std.specs.List.{range_with_len}
 use Rattle.scr_cells.specs.CellViews.{CellView, blank_cell}
 use Rattle.scr_cells.specs.Grids.{grid_at, grid_of}
 use Rattle.std.specs.Option.{is_some}
-use Rattle.scr_surfaces.specs.declared.areas.Area.{Area}
+use Rattle.scr_windows.specs.declared.surfaces.areas.Area.{Area}
 use Rattle.scr_windows.specs.declared.faults.WinFault.{WinFault}
 use Rattle.scr_windows.specs.declared.faults.WinFault.TheVariants.{IsPad, NotPad, OffScreen, OutOfWindow}
 use Rattle.scr_windows.specs.declared.frames.WindowState.{WindowState}

@@ -10,10 +10,10 @@ use Rattle.std.proofs.lemmas.List.{get_or-map, map-append, length-append}
 use Rattle.std.proofs.Math.ListN.{get_or-append}
 use Rattle.std.proofs.Math.Seq.{get_or-append_seam}
 use Rattle.std.proofs.lemmas.Bool.Decides.{nat_tests}
-use Rattle.scr_surfaces.specs.declared.areas.Area.{Area}
+use Rattle.scr_windows.specs.declared.surfaces.areas.Area.{Area}
 use Rattle.scr_windows.specs.declared.frames.Frame.{Frame}
 use Rattle.scr_windows.specs.declared.frames.WindowState.{WindowState}
-use Rattle.scr_surfaces.specs.SurfaceViews.{SurfaceView, IsSurface, blank_surface}
+use Rattle.scr_windows.specs.Surfaces.SurfaceViews.{SurfaceView, IsSurface, blank_surface}
 use Rattle.scr_windows.specs.DeskViews.{no_attributes, WindowView, DeskView, IsWindow, IsPlaced, IsChild, IsInsideOnScreen, AreFrames, IsDesk, IsThere, window_at, HasOwn, no_window, no_frame, fresh_window}
 use Rattle.scr_windows.specs.declared.sheets.Sheet.{Sheet}
 use Rattle.scr_windows.specs.Sheets.{size_on}
@@ -24,7 +24,7 @@ use Rattle.scr_windows.specs.Calls.Making.{with_root, root_frame, screen_area, p
 use Rattle.scr_windows.specs.Calls.Subwindows.{child_frame, with_child}
 use Rattle.scr_windows.proofs.DeskLaws.{Reads, reads_window, here_too, placed, length_map, frame_of}
 use Rattle.scr_windows.proofs.MakingLaws.{fresh_is_window, screen_is_size}
-use Rattle.scr_surfaces.specs.SurfaceLaws.{SurfaceLaws}
+use Rattle.scr_windows.specs.Surfaces.SurfaceLaws.{SurfaceLaws}
 
 less_or_last : (k n : ℕ) → k < n + 1 → (k < n) ⊎ (k ≡ n)
 less_or_last k n h = grind arith

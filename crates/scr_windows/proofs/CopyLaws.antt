@@ -3,10 +3,10 @@ use Rattle.std.proofs.Common.{◌≡◌, ℕ, ◌+◌, ◌-◌, ◌<◌, ◌≤�
 use Rattle.std.specs.Prelude.{slice_set}
 use Rattle.scr_cells.specs.CellViews.{CellView, blank_cell}
 use Rattle.scr_cells.specs.Grids.{GridLaws, GridView, grid_of}
-use Rattle.scr_surfaces.specs.declared.areas.Area.{Area}
-use Rattle.scr_surfaces.specs.SurfaceLaws.{SurfaceLaws}
-use Rattle.scr_surfaces.specs.SurfaceViews.{SurfaceView, IsPart, cell_of, inside_at, is_inside, filled}
-use Rattle.scr_surfaces.specs.Formulas.{block_at, laid, part_laid, part_of}
+use Rattle.scr_windows.specs.declared.surfaces.areas.Area.{Area}
+use Rattle.scr_windows.specs.Surfaces.SurfaceLaws.{SurfaceLaws}
+use Rattle.scr_windows.specs.Surfaces.SurfaceViews.{SurfaceView, IsPart, cell_of, inside_at, is_inside, filled}
+use Rattle.scr_windows.specs.Surfaces.Formulas.{block_at, laid, part_laid, part_of}
 use Rattle.scr_windows.specs.Sheets.{with_surface}
 use Rattle.scr_windows.specs.DeskViews.{DeskView, surface_at, window_at}
 use Rattle.scr_windows.specs.Changes.{marked, write}

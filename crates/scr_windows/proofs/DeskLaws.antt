@@ -7,17 +7,17 @@ use Rattle.std.proofs.lemmas.List.Elements.{All-set}
 use Rattle.std.proofs.lemmas.List.{get_or-map, get_or-set_same, length-set}
 use Rattle.std.proofs.lemmas.List.FromFn.{length-map-range_with_len}
 use Rattle.scr_cells.specs.CellViews.{CellView}
-use Rattle.scr_surfaces.specs.declared.areas.Area.{Area}
+use Rattle.scr_windows.specs.declared.surfaces.areas.Area.{Area}
 use Rattle.scr_windows.specs.declared.frames.Frame.{Frame}
 use Rattle.scr_windows.specs.declared.frames.WindowState.{WindowState}
-use Rattle.scr_surfaces.specs.SurfaceViews.{SurfaceView, IsSurface, IsPart, filled, inside_at}
+use Rattle.scr_windows.specs.Surfaces.SurfaceViews.{SurfaceView, IsSurface, IsPart, filled, inside_at}
 use Rattle.scr_windows.specs.DeskViews.{WindowView, DeskView, IsState, IsWindow, IsPlaced, AreFrames, IsDesk, window_at, AreAscending, surface_at, no_window, no_frame, IsThere}
 use Rattle.scr_windows.specs.declared.sheets.Sheet.{Sheet}
 use Rattle.scr_windows.specs.Sheets.{HasSheet, no_sheet, size_on, with_surface}
 use Rattle.scr_windows.proofs.SheetLaws.{all_put, has_sheet, sheets_put, sizes_put, surface_found, surface_put}
-use Rattle.scr_surfaces.specs.declared.drawings.Drawing.{Drawing}
-use Rattle.scr_surfaces.specs.Drawings.{drawn}
-use Rattle.scr_surfaces.specs.SurfaceLaws.{SurfaceLaws}
+use Rattle.scr_windows.specs.declared.surfaces.drawings.Drawing.{Drawing}
+use Rattle.scr_windows.specs.Surfaces.Drawings.{drawn}
+use Rattle.scr_windows.specs.Surfaces.SurfaceLaws.{SurfaceLaws}
 use Rattle.scr_windows.specs.Code.Canvases.{IsKept, lines_drawn}
 use Rattle.scr_windows.specs.Changes.{fill, with_window, marked, marked_lines, write}
 use Rattle.scr_windows.specs.Calls.Reading.{at, row_at, contents}

@@ -5,8 +5,8 @@ use Rattle.std.proofs.Math.Seq.{drop-cons}
 use Rattle.std.proofs.lemmas.Grind.{get_or-set_at}
 use Rattle.std.proofs.lemmas.List.{get_or-set_other, length-set, take_all}
 use Rattle.std.proofs.lemmas.Bool.Decides.{nat_tests}
-use Rattle.scr_surfaces.specs.declared.areas.Area.{Area}
-use Rattle.scr_surfaces.specs.SurfaceViews.{is_inside}
+use Rattle.scr_windows.specs.declared.surfaces.areas.Area.{Area}
+use Rattle.scr_windows.specs.Surfaces.SurfaceViews.{is_inside}
 use Rattle.scr_windows.specs.Changes.{marked_lines}
 
 pub map_range : {X : Type 0} (f g : ℕ → X) (a n : ℕ) → ((k : ℕ) → a ≤ k → k < a + n → f k ≡ g k) → map f (range_with_len a n) ≡ map g (range_with_len a n)

@@ -5,9 +5,9 @@ use Rattle.std.specs.List.{position}
 use Rattle.std.proofs.lemmas.List.{get_or-map, get_or-set_other, get_or-set_same}
 use Rattle.std.proofs.lemmas.List.Quantifiers.{position-Some}
 use Rattle.scr_cells.specs.CellViews.{CellView}
-use Rattle.scr_surfaces.specs.declared.areas.Area.{Area}
-use Rattle.scr_surfaces.specs.SurfaceLaws.{SurfaceLaws}
-use Rattle.scr_surfaces.specs.SurfaceViews.{SurfaceView, cell_of, filled, inside_at}
+use Rattle.scr_windows.specs.declared.surfaces.areas.Area.{Area}
+use Rattle.scr_windows.specs.Surfaces.SurfaceLaws.{SurfaceLaws}
+use Rattle.scr_windows.specs.Surfaces.SurfaceViews.{SurfaceView, cell_of, filled, inside_at}
 use Rattle.scr_windows.specs.declared.faults.WinFault.{WinFault}
 use Rattle.scr_windows.specs.declared.frames.Frame.{Frame}
 use Rattle.scr_windows.specs.DeskViews.{AreAscending, WindowView, DeskView, IsChild, IsDesk, no_frame, no_window, surface_at, window_at}

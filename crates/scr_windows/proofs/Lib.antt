@@ -1,9 +1,13 @@
 pub mod AddingLaws
 pub mod AncestorLaws
+pub mod BlockLaws
+pub mod BorderLaws
+pub mod ChangeLaws
 pub mod ChildLaws
 pub mod CopyLaws
 pub mod DeskLaws
 pub mod FamilyLaws
+pub mod FilledLaws
 pub mod FrameLaws
 pub mod GridLaws
 pub mod LawLaws
@@ -11,8 +15,10 @@ pub mod LendingLaws
 pub mod MakingLaws
 pub mod MovingLaws
 pub mod NumberLaws
+pub mod PlaceLaws
 pub mod ReadingLaws
 pub mod RemovingLaws
+pub mod RunLaws
 pub mod SheetLaws
 pub mod ShiftLaws
 pub mod SyncLaws

@@ -7,8 +7,8 @@ use Rattle.scr_cells.specs.PictureViews.{IsSize}
 use Rattle.scr_windows.specs.declared.frames.Frame.{Frame}
 use Rattle.scr_windows.specs.declared.sheets.Sheet.{Sheet}
 use Rattle.scr_windows.specs.Sheets.{size_on}
-use Rattle.scr_surfaces.specs.SurfaceViews.{IsSurface, IsSurfaceSize, blank_surface}
-use Rattle.scr_surfaces.specs.SurfaceLaws.{SurfaceLaws}
+use Rattle.scr_windows.specs.Surfaces.SurfaceViews.{IsSurface, IsSurfaceSize, blank_surface}
+use Rattle.scr_windows.specs.Surfaces.SurfaceLaws.{SurfaceLaws}
 use Rattle.scr_windows.specs.DeskViews.{HasOwn, IsWindow, IsPlaced, IsChild, IsDesk, no_frame, fresh_window, first_frame, first_desk, no_attributes}
 
 length_replicate : {X : Type 0} (n : ℕ) (x : X) → length (replicate n x) ≡ n

@@ -6,7 +6,7 @@ use Rattle.scr_windows.specs.Changes.{index_of}
 use Rattle.std.proofs.lemmas.Bool.Decides.{nat_tests}
 use Rattle.std.proofs.lemmas.List.{get_or-map, get_or-drop, get_or-append_right, length-take-le, map-append, take-append-drop}
 use Rattle.std.proofs.lemmas.List.Elements.{All-from_get_or, All-map}
-use Rattle.scr_surfaces.specs.declared.areas.Area.{Area}
+use Rattle.scr_windows.specs.declared.surfaces.areas.Area.{Area}
 use Rattle.scr_windows.specs.declared.frames.Frame.{Frame}
 use Rattle.scr_windows.specs.declared.calls.moving.Shift.{Shift}
 use Rattle.scr_windows.specs.declared.calls.moving.Shift.TheVariants.{Screen, Surface}

@@ -8,7 +8,7 @@ use Rattle.std.proofs.lemmas.List.Folds.{list_any_at}
 use Rattle.std.proofs.lemmas.List.Kept.{AllPairs-filter}
 use Rattle.scr_windows.specs.declared.frames.Frame.{Frame}
 use Rattle.scr_windows.specs.declared.sheets.Sheet.{Sheet}
-use Rattle.scr_surfaces.specs.SurfaceViews.{IsSurface}
+use Rattle.scr_windows.specs.Surfaces.SurfaceViews.{IsSurface}
 use Rattle.scr_windows.specs.Sheets.{size_on, without_surface}
 use Rattle.scr_windows.specs.DeskViews.{WindowView, DeskView, HasOwn, IsWindow, IsPlaced, IsChild, AreFrames, IsDesk, no_frame, no_window, window_at}
 use Rattle.scr_windows.specs.Calls.Removing.{is_number, has_children, others, deleted}

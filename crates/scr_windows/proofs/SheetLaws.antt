@@ -3,7 +3,7 @@ use Rattle.std.proofs.Common.{◌≡◌, ◌≢◌, ◌⊎◌, inl, inr, ℕ, �
 use Rattle.std.specs.Prelude.{not, slice_set}
 use Rattle.std.proofs.lemmas.List.{get_or-map}
 use Rattle.scr_windows.specs.declared.sheets.Sheet.{Sheet}
-use Rattle.scr_surfaces.specs.SurfaceViews.{SurfaceView}
+use Rattle.scr_windows.specs.Surfaces.SurfaceViews.{SurfaceView}
 use Rattle.scr_windows.specs.Sheets.{AreSheets, HasSheet, no_sheet, no_surface, surface_on, with_surface, without_surface, size_on}
 use Rattle.scr_windows.proofs.NumberLaws.{is_it, is_not, equal, differs}
 

@@ -1,7 +1,7 @@
 -- Calls that set something in a window, and those that write in it before.
 use Rattle.std.proofs.Common.{◌≡◌, ℕ, ◌∙◌, sym, ap, Result, Ok, Err, Bool, true, cond}
 use Rattle.scr_cells.specs.CellViews.{CellView}
-use Rattle.scr_surfaces.specs.declared.areas.Area.{Area}
+use Rattle.scr_windows.specs.declared.surfaces.areas.Area.{Area}
 use Rattle.scr_windows.specs.declared.frames.WindowState.{WindowState}
 use Rattle.scr_windows.specs.declared.frames.Canvas.{Canvas}
 use Rattle.scr_windows.specs.declared.faults.WinFault.{WinFault}

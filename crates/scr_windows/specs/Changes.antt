@@ -6,7 +6,7 @@ use Rattle.scr_windows.specs.declared.faults.WinFault.{WinFault}
 use Rattle.scr_windows.specs.declared.faults.WinFault.TheVariants.{NoMemory, NoWindow}
 use Rattle.scr_windows.specs.DeskViews.{DeskView, window_at, WindowView, surface_at}
 use Rattle.scr_cells.specs.CellViews.{CellView}
-use Rattle.scr_surfaces.specs.SurfaceViews.{SurfaceView, filled, inside_at}
+use Rattle.scr_windows.specs.Surfaces.SurfaceViews.{SurfaceView, filled, inside_at}
 use Rattle.std.specs.List.{position, range_with_len}
 use Rattle.scr_windows.specs.Sheets.{with_surface}
 

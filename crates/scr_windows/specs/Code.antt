@@ -2,3 +2,4 @@
 pub mod Families
 pub mod NewFrames
 pub mod Canvases
+pub mod Steps

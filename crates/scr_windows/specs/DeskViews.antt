@@ -3,12 +3,12 @@ use Rattle.std.specs.Prelude.{ℕ, Bool, true, false, ◌≡◌, ◌+◌, ◌-�
 use Rattle.std.specs.List.{AllPairs}
 use Rattle.scr_cells.specs.CellViews.{CellView, IsPair, blank_cell}
 use Rattle.scr_cells.specs.PictureViews.{IsSize}
-use Rattle.scr_surfaces.specs.declared.areas.Area.{Area}
+use Rattle.scr_windows.specs.declared.surfaces.areas.Area.{Area}
 use Rattle.scr_windows.specs.declared.frames.Frame.{Frame}
 use Rattle.scr_windows.specs.declared.frames.WindowState.{WindowState}
 use Rattle.scr_cells.specs.declared.attributes.Attrs.{Attrs}
 use Rattle.scr_windows.specs.declared.sheets.Sheet.{Sheet}
-use Rattle.scr_surfaces.specs.SurfaceViews.{SurfaceView, IsSurface, IsPart, blank_surface}
+use Rattle.scr_windows.specs.Surfaces.SurfaceViews.{SurfaceView, IsSurface, IsPart, blank_surface}
 use Rattle.scr_windows.specs.Sheets.{AreSheets, HasSheet, surface_on, size_on}
 
 -- A window: its frame, which no drawing changes; what the calls set; and for each line whether it is touched.

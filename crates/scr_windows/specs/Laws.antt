@@ -1,7 +1,7 @@
 -- Laws of desks: what follows from the definitions of the calls, as a check on them.
 use Rattle.std.specs.Prelude.{ℕ, ◌≡◌, ◌≢◌, ◌+◌, ◌-◌, ◌<◌, Some, Ok, false, length}
 use Rattle.scr_cells.specs.CellViews.{CellView}
-use Rattle.scr_surfaces.specs.SurfaceViews.{is_inside}
+use Rattle.scr_windows.specs.Surfaces.SurfaceViews.{is_inside}
 use Rattle.scr_windows.specs.DeskViews.{DeskView, IsDesk, IsThere, window_at}
 use Rattle.scr_windows.specs.Changes.{index_of, write}
 use Rattle.scr_windows.specs.Calls.Moving.{move_window_call, move_derived_call}

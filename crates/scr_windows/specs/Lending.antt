@@ -2,8 +2,8 @@
 use Rattle.std.specs.Prelude.{List, map, length, ◌≡◌}
 use Rattle.std.specs.List.{range_with_len}
 use Rattle.scr_cells.specs.CellViews.{CellView}
-use Rattle.scr_surfaces.specs.declared.areas.Area.{Area}
-use Rattle.scr_surfaces.specs.SurfaceViews.{SurfaceView, inside_at}
+use Rattle.scr_windows.specs.declared.surfaces.areas.Area.{Area}
+use Rattle.scr_windows.specs.Surfaces.SurfaceViews.{SurfaceView, inside_at}
 use Rattle.scr_windows.specs.DeskViews.{WindowView, IsWindow}
 
 -- The window, and its lines from the top, each as its cells from the left.

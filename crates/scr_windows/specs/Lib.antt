@@ -5,3 +5,4 @@ pub mod DeskViews
 pub mod Laws
 pub mod Lending
 pub mod Sheets
+pub mod Surfaces

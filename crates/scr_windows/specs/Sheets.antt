@@ -3,7 +3,7 @@
 use Rattle.std.specs.Prelude.{ℕ, ◌≡◌, ◌<◌, ◌==◌, List, [], ◌∷◌, length, map, filter, not, slice_index_or, if◌then◌else◌}
 use Rattle.std.specs.List.{AllPairs}
 use Rattle.scr_windows.specs.declared.sheets.Sheet.{Sheet}
-use Rattle.scr_surfaces.specs.SurfaceViews.{SurfaceView}
+use Rattle.scr_windows.specs.Surfaces.SurfaceViews.{SurfaceView}
 
 -- A stand-in for a surface where there is none.
 abbrev pub no_surface : SurfaceView

@@ -1,17 +1,18 @@
 //! Drawing in the window at an index among the desk's, which touches the lines that are written.
 //!
-//! What each drawing does is a matter of `scr_surfaces`.
+//! What each drawing does is a matter of `surfaces`.
 ghost use Rattle.std.specs.Prelude.{◌≡◌, ◌+◌, ◌<◌, ◌≤◌, length};
-ghost use Rattle.scr_surfaces.specs.Drawings.{IsFitting, drawn};
-ghost use Rattle.scr_surfaces.specs.Formulas.{run_put};
+ghost use Rattle.scr_windows.specs.Surfaces.Drawings.{IsFitting, drawn};
+ghost use Rattle.scr_windows.specs.Surfaces.Formulas.{run_put};
 ghost use Rattle.scr_windows.specs.DeskViews.{window_at};
 ghost use Rattle.scr_windows.specs.Code.Canvases.{IsKept, lines_drawn};
 ghost use Rattle.scr_windows.specs.Changes.{write};
 
 use crate::desks::Desk;
+use crate::laws::surface_laws;
 use crate::sheets::index_of_sheet;
+use crate::surfaces::Drawing;
 use scr_cells::Cell;
-use scr_surfaces::{Drawing, surface_laws};
 
 impl Desk {
     // Draws in the window at an index, and touches the lines that are written.

@@ -1,6 +1,6 @@
 //! What is known of a window: its frame, which no drawing changes, and what the calls set in it.
+use crate::surfaces::Area;
 use scr_cells::{Attrs, Cell};
-use scr_surfaces::Area;
 
 /// The part of a window that no drawing changes.
 #[derive(Clone, Copy)]

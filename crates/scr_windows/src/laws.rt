@@ -2,8 +2,9 @@
 //!
 //! They are stated in `specs/Laws.antt`.
 ghost use Rattle.scr_windows.specs.Laws.{DeletingKeepsOthers, MovingChangesNoCell, SubwindowsShareCells, WindowsArePlaced, WritingStaysInside};
+ghost use Rattle.scr_windows.specs.Surfaces.SurfaceLaws.{SurfaceLaws};
 
-use scr_surfaces::surface_laws;
+use scr_cells::{Cell, grid_laws};
 
 /// Deleting a window keeps every other window and its cells. X/Open Curses Issue 7, delwin().
 pub fn deleting_keeps_others()
@@ -32,3 +33,10 @@ pub fn windows_are_placed()
 pub fn moving_changes_no_cell()
     ensures { MovingChangesNoCell }
 {}
+
+/// The laws of surfaces: what holds for every surface that is filled in an area.
+pub fn surface_laws()
+    ensures { SurfaceLaws }
+{
+    grid_laws::<Cell>();
+}

@@ -3,13 +3,13 @@
 //! The calls that change a window are in the files of the calls. The definitions are in `specs/Lending.antt`.
 ghost use Rattle.std.specs.Prelude.{◌≡◌, ◌<◌, [], false, length, option_map, slice_index_or};
 ghost use Rattle.scr_windows.specs.Lending.{IsLent, lines_in};
-ghost use Rattle.scr_surfaces.specs.SurfaceViews.{IsPart};
+ghost use Rattle.scr_windows.specs.Surfaces.SurfaceViews.{IsPart};
 ghost use Rattle.scr_windows.specs.DeskViews.{IsWindow};
 
 use crate::faults::Win;
+use crate::surfaces::Surface;
 use crate::windows::Window;
 use scr_cells::{Attrs, Cell};
-use scr_surfaces::Surface;
 use std::marker::Model;
 
 /// A window that its desk lends for reading.
@@ -22,7 +22,7 @@ pub struct WindowRef<'a> {
 }
 
 impl<'a> Model for WindowRef<'a> {
-    ghost use Rattle.scr_surfaces.specs.SurfaceViews.{IsPart};
+    ghost use Rattle.scr_windows.specs.Surfaces.SurfaceViews.{IsPart};
     ghost use Rattle.scr_windows.specs.DeskViews.{IsWindow};
     ghost use Rattle.scr_windows.specs.Lending.{LentView, lines_in};
 

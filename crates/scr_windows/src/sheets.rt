@@ -5,7 +5,7 @@
 ghost use Rattle.std.specs.Prelude.{◌≡◌, ◌<◌, length, slice_index_or};
 ghost use Rattle.scr_windows.specs.Sheets.{AreSheets, HasSheet, no_sheet};
 
-use scr_surfaces::Surface;
+use crate::surfaces::Surface;
 
 /// A surface with the number of the window that was made with it.
 #[derive(Drop)]

@@ -10,7 +10,7 @@ use Rattle.scr_windows.specs.declared.faults.Added.{Added}
 use Rattle.scr_windows.specs.declared.faults.Added.TheVariants.{Done, Stayed}
 use Rattle.scr_windows.specs.declared.frames.WindowState.{WindowState}
 use Rattle.scr_windows.specs.DeskViews.{WindowView, DeskView, window_at, no_attributes}
-use Rattle.scr_surfaces.specs.Formulas.{column_put, run_put, row_opened}
+use Rattle.scr_windows.specs.Surfaces.Formulas.{column_put, run_put, row_opened}
 use Rattle.scr_windows.specs.Changes.{index_of, on_window, write}
 use Rattle.scr_windows.specs.Calls.Erasing.{erased_up_to}
 use Rattle.scr_windows.specs.Calls.Settings.{with_state, cursor_at}

@@ -2,8 +2,8 @@
 use Rattle.std.specs.Prelude.{ℕ, List, Result, Ok, Err, slice_index_or, if◌then◌else◌}
 use Rattle.std.specs.List.{list_all}
 use Rattle.scr_cells.specs.CellViews.{CellView, is_character}
-use Rattle.scr_surfaces.specs.declared.borders.Border.{Border}
-use Rattle.scr_surfaces.specs.Formulas.{bordered}
+use Rattle.scr_windows.specs.declared.surfaces.borders.Border.{Border}
+use Rattle.scr_windows.specs.Surfaces.Formulas.{bordered}
 use Rattle.scr_windows.specs.declared.faults.WinFault.{WinFault}
 use Rattle.scr_windows.specs.declared.faults.WinFault.TheVariants.{NotAscii}
 use Rattle.scr_windows.specs.declared.frames.WindowState.{WindowState}

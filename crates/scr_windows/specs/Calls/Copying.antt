@@ -1,9 +1,9 @@
 -- What the calls that copy cells do. X/Open Curses Issue 7, copywin(), overlay(), overwrite().
 use Rattle.std.specs.Prelude.{ℕ, Bool, Option, None, Some, Result, Ok, Err, ◌+◌, ◌-◌, ◌==◌, ◌||◌, ◌&&◌, leb, min, max, if◌then◌else◌}
-use Rattle.scr_surfaces.specs.declared.areas.Area.{Area}
+use Rattle.scr_windows.specs.declared.surfaces.areas.Area.{Area}
 use Rattle.scr_windows.specs.declared.faults.WinFault.{WinFault}
 use Rattle.scr_windows.specs.declared.faults.WinFault.TheVariants.{IsPad, OutOfWindow}
-use Rattle.scr_surfaces.specs.Formulas.{part_laid}
+use Rattle.scr_windows.specs.Surfaces.Formulas.{part_laid}
 use Rattle.scr_windows.specs.DeskViews.{DeskView, window_at}
 use Rattle.scr_windows.specs.Changes.{index_of, on_window, write}
 use Rattle.scr_windows.specs.Calls.Reading.{at}

@@ -2,7 +2,7 @@
 use Rattle.std.specs.Prelude.{ℕ, true, Result, Ok, ◌+◌}
 use Rattle.scr_windows.specs.declared.faults.WinFault.{WinFault}
 use Rattle.scr_windows.specs.DeskViews.{WindowView, DeskView, window_at}
-use Rattle.scr_surfaces.specs.Formulas.{run_put, rows_put, below_put}
+use Rattle.scr_windows.specs.Surfaces.Formulas.{run_put, rows_put, below_put}
 use Rattle.scr_windows.specs.Changes.{index_of, on_window, write}
 use Rattle.scr_windows.specs.Calls.Settings.{with_state, cursor_at}
 

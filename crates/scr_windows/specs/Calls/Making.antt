@@ -1,13 +1,13 @@
 -- What the calls that make windows and pads do. X/Open Curses Issue 7, newwin(), newpad().
 use Rattle.std.specs.Prelude.{ℕ, Bool, [], ◌∷◌, ◌++◌, length, Option, None, Some, Result, Ok, Err, ◌+◌, ◌-◌, ◌==◌, ◌&&◌, ◌||◌, ◌*◌, leb, ltb, if◌then◌else◌}
-use Rattle.scr_surfaces.specs.declared.areas.Area.{Area}
+use Rattle.scr_windows.specs.declared.surfaces.areas.Area.{Area}
 use Rattle.scr_windows.specs.declared.frames.Frame.{Frame}
 use Rattle.scr_windows.specs.declared.faults.Win.{Win}
 use Rattle.scr_windows.specs.declared.faults.WinFault.{WinFault}
 use Rattle.scr_windows.specs.declared.faults.WinFault.TheVariants.{OutOfWindow, OffScreen, TooBig, TooMany}
 use Rattle.scr_windows.specs.DeskViews.{DeskView, fresh_window, no_attributes}
 use Rattle.scr_cells.specs.CellViews.{blank_cell}
-use Rattle.scr_surfaces.specs.SurfaceViews.{blank_surface}
+use Rattle.scr_windows.specs.Surfaces.SurfaceViews.{blank_surface}
 
 -- This many rows and columns of an area, from (row, column) on; 0 means all to the end. None if this is empty or not
 -- wholly inside. Places are counted on the surface.

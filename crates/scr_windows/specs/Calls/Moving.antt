@@ -1,7 +1,7 @@
 -- What the calls that move windows do. X/Open Curses Issue 7, mvwin(), mvderwin().
 use Rattle.std.specs.Prelude.{ℕ, Bool, true, length, map, Option, None, Some, Result, Ok, Err, ◌+◌, ◌-◌, ◌==◌, ◌&&◌, ◌||◌, leb, if◌then◌else◌}
 use Rattle.std.specs.List.{list_any, range_with_len}
-use Rattle.scr_surfaces.specs.declared.areas.Area.{Area}
+use Rattle.scr_windows.specs.declared.surfaces.areas.Area.{Area}
 use Rattle.scr_windows.specs.declared.frames.Frame.{Frame}
 use Rattle.scr_windows.specs.declared.calls.moving.Shift.{Shift}
 use Rattle.scr_windows.specs.declared.calls.moving.Shift.TheVariants.{Screen, Surface}

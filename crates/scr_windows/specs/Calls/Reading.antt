@@ -4,7 +4,7 @@ use Rattle.std.specs.List.{range_with_len, list_any}
 use Rattle.scr_cells.specs.CellViews.{CellView}
 use Rattle.scr_windows.specs.declared.faults.WinFault.{WinFault}
 use Rattle.scr_windows.specs.declared.faults.WinFault.TheVariants.{OutOfWindow, IsPad}
-use Rattle.scr_surfaces.specs.SurfaceViews.{inside_at}
+use Rattle.scr_windows.specs.Surfaces.SurfaceViews.{inside_at}
 use Rattle.scr_windows.specs.DeskViews.{DeskView, window_at, surface_at}
 use Rattle.scr_windows.specs.Lending.{LentView, lines_in}
 use Rattle.scr_windows.specs.Changes.{index_of}

@@ -4,7 +4,7 @@ use Rattle.scr_cells.specs.Grids.{rows_down, rows_up}
 use Rattle.scr_windows.specs.declared.faults.WinFault.{WinFault}
 use Rattle.scr_windows.specs.declared.faults.WinFault.TheVariants.{NoScroll}
 use Rattle.scr_windows.specs.DeskViews.{WindowView, DeskView, window_at}
-use Rattle.scr_surfaces.specs.Formulas.{row_closed}
+use Rattle.scr_windows.specs.Surfaces.Formulas.{row_closed}
 use Rattle.scr_windows.specs.Changes.{index_of, on_window, write}
 
 -- delch(): the cells of the cursor's line from the cursor on move left by one, and the last place becomes background.

@@ -7,7 +7,7 @@ use Rattle.scr_windows.specs.declared.faults.WinFault.TheVariants.{OutOfWindow, 
 use Rattle.scr_windows.specs.declared.frames.WindowState.{WindowState}
 use Rattle.scr_windows.specs.DeskViews.{WindowView, DeskView, window_at}
 use Rattle.scr_windows.specs.Changes.{index_of, on_window, with_window, write}
-use Rattle.scr_surfaces.specs.Formulas.{all_exchanged}
+use Rattle.scr_windows.specs.Surfaces.Formulas.{all_exchanged}
 
 -- The desk with a new state in one window.
 abbrev pub with_state : DeskView → ℕ → WindowState → DeskView

@@ -1,6 +1,6 @@
 -- What the calls that make subwindows do. X/Open Curses Issue 7, derwin(), subwin(), subpad().
 use Rattle.std.specs.Prelude.{ℕ, [], ◌∷◌, ◌++◌, Option, None, Some, Result, Ok, Err, ◌+◌, ◌-◌, ◌&&◌, leb, if◌then◌else◌}
-use Rattle.scr_surfaces.specs.declared.areas.Area.{Area}
+use Rattle.scr_windows.specs.declared.surfaces.areas.Area.{Area}
 use Rattle.scr_windows.specs.declared.frames.Frame.{Frame}
 use Rattle.scr_windows.specs.declared.faults.Win.{Win}
 use Rattle.scr_windows.specs.declared.faults.WinFault.{WinFault}

@@ -1,8 +1,8 @@
 -- Words of private functions: what they know of the window that a call is about, and the lines that a drawing writes.
 use Rattle.std.specs.Prelude.{ℕ, ◌≡◌, ◌+◌, ◌<◌, length, Ok}
 use Rattle.scr_windows.specs.declared.frames.Canvas.{Canvas}
-use Rattle.scr_surfaces.specs.declared.drawings.Drawing.{Drawing}
-use Rattle.scr_surfaces.specs.declared.drawings.Drawing.TheVariants.{Run, Rows, Below, Column, Opened, Closed, Up, Down, Exchanged, Edges}
+use Rattle.scr_windows.specs.declared.surfaces.drawings.Drawing.{Drawing}
+use Rattle.scr_windows.specs.declared.surfaces.drawings.Drawing.TheVariants.{Run, Rows, Below, Column, Opened, Closed, Up, Down, Exchanged, Edges}
 use Rattle.scr_windows.specs.DeskViews.{HasSameSize, DeskView, window_at, IsThere}
 use Rattle.scr_windows.specs.Changes.{index_of}
 

@@ -1,8 +1,8 @@
 -- Words of private functions: where a window that is made may lie.
 use Rattle.std.specs.Prelude.{ℕ, Option, ◌+◌, ◌≤◌, MatchOption}
-use Rattle.scr_surfaces.specs.declared.areas.Area.{Area}
+use Rattle.scr_windows.specs.declared.surfaces.areas.Area.{Area}
 use Rattle.scr_windows.specs.DeskViews.{DeskView, IsInsideOnScreen, window_at}
-use Rattle.scr_surfaces.specs.SurfaceViews.{IsSurfaceSize}
+use Rattle.scr_windows.specs.Surfaces.SurfaceViews.{IsSurfaceSize}
 
 -- a part of a window's area, and the place of its first row and column on the screen
 pub record IsChildPlace (desk : DeskView) (i : ℕ) (area : Area) (origin : Option (ℕ × ℕ)) : Type 0 where

@@ -1,6 +1,6 @@
 //! Calls that add bytes: a byte, a text, an inserted byte, and lines of one byte.
 //!
-//! The definitions are in `specs/Calls/Adding.antt`; what is drawn for them is a matter of `scr_surfaces`. What every
+//! The definitions are in `specs/Calls/Adding.antt`; what is drawn for them is a matter of `surfaces`. What every
 //! character needs is inlined, and what ends a line or is rare is called, so that adding a text is one short loop.
 ghost use Rattle.std.specs.Prelude.{◌≡◌, ◌+◌, ◌<◌, ◌≤◌, ◌⊎◌, length, leb, min, false};
 ghost use Rattle.std.specs.List.{list_any};
@@ -11,9 +11,9 @@ ghost use Rattle.scr_windows.specs.Calls.Adding.{written_form, gone_to, line_beg
 use crate::desks::Desk;
 use crate::faults::{Added, Win, WinFault};
 use crate::frames::WindowState;
+use crate::surfaces::Drawing;
 use bitflags::Flags;
 use scr_cells::{Attrs, Cell, is_character};
-use scr_surfaces::Drawing;
 
 impl Desk {
     /// Adds a byte at a window's cursor, with these attributes besides those of the window and of its background. Its

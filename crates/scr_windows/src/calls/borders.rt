@@ -10,8 +10,8 @@ use crate::calls::adding::written_form;
 use crate::desks::Desk;
 use crate::faults::{Win, WinFault};
 use crate::frames::WindowState;
+use crate::surfaces::{Border, Drawing};
 use scr_cells::{Attrs, Cell, is_character};
-use scr_surfaces::{Border, Drawing};
 
 impl Desk {
     /// Writes eight bytes 32 to 126 along the edges of a window: on the left, right, top and bottom edge, then in the

@@ -1,7 +1,7 @@
 //! Calls that copy cells from one window to another. The definitions are in `specs/Calls/Copying.antt`.
 ghost use Rattle.std.specs.Prelude.{◌≡◌, ◌+◌, ◌<◌, ◌≤◌, length, true, false, MatchResult, Ok, Some};
-ghost use Rattle.scr_surfaces.specs.SurfaceViews.{inside_at};
-ghost use Rattle.scr_surfaces.specs.Formulas.{block_at, part_laid, part_of};
+ghost use Rattle.scr_windows.specs.Surfaces.SurfaceViews.{inside_at};
+ghost use Rattle.scr_windows.specs.Surfaces.Formulas.{block_at, part_laid, part_of};
 ghost use Rattle.scr_windows.specs.Changes.{write};
 ghost use Rattle.scr_cells.specs.Grids.{grid_of};
 ghost use Rattle.scr_windows.specs.DeskViews.{HasSameSize, surface_at, window_at};
@@ -11,9 +11,10 @@ ghost use Rattle.scr_windows.specs.declared.faults.WinFault.TheVariants.{NoMemor
 
 use crate::desks::Desk;
 use crate::faults::{Win, WinFault};
+use crate::laws::surface_laws;
 use crate::sheets::index_of_sheet;
+use crate::surfaces::Area;
 use scr_cells::{Cell, Grid, grid_laws};
-use scr_surfaces::{Area, surface_laws};
 use std::alloc::Global;
 
 impl Desk {

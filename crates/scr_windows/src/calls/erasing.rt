@@ -6,7 +6,7 @@ ghost use Rattle.scr_windows.specs.Calls.Erasing.{erased_up_to, clear_to_eol_cal
 
 use crate::desks::Desk;
 use crate::faults::{Win, WinFault};
-use scr_surfaces::Drawing;
+use crate::surfaces::Drawing;
 
 impl Desk {
     /// Erases a window from the cursor to the end of the line: these places get the background. The cursor stays.

@@ -11,10 +11,11 @@ use crate::calls::subwindows::{MOST, part_of};
 use crate::desks::Desk;
 use crate::faults::{Win, WinFault};
 use crate::frames::Frame;
+use crate::laws::surface_laws;
 use crate::sheets::Sheet;
+use crate::surfaces::{Area, Surface};
 use crate::windows::Window;
 use scr_cells::{Attrs, Cell, Size};
-use scr_surfaces::{Area, Surface, surface_laws};
 use std::alloc::Global;
 
 // How many cells a pad may have.

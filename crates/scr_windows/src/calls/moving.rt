@@ -8,8 +8,8 @@ ghost use Rattle.scr_windows.specs.Calls.Moving.{area_shifted, move_derived_call
 use crate::desks::Desk;
 use crate::faults::{Win, WinFault};
 use crate::frames::Frame;
+use crate::surfaces::Area;
 use crate::windows::Window;
-use scr_surfaces::Area;
 
 /// How a window and its descendants move: what is at the first place goes to the second.
 #[derive(Clone, Copy)]

@@ -7,7 +7,7 @@ ghost use Rattle.scr_windows.specs.Calls.Scrolling.{delete_byte_call, insert_del
 
 use crate::desks::Desk;
 use crate::faults::{Win, WinFault};
-use scr_surfaces::Drawing;
+use crate::surfaces::Drawing;
 
 impl Desk {
     /// Deletes the byte at a window's cursor: what is right of it in the line moves left by one, and the last column

@@ -6,9 +6,9 @@ ghost use Rattle.scr_windows.specs.Calls.Settings.{move_cursor_call, set_region_
 
 use crate::desks::Desk;
 use crate::faults::{Win, WinFault};
+use crate::surfaces::Drawing;
 use bitflags::Flags;
 use scr_cells::{Attrs, Cell};
-use scr_surfaces::Drawing;
 
 impl Desk {
     /// Moves the cursor of a window to a row and a column.

@@ -9,8 +9,8 @@ ghost use Rattle.scr_windows.specs.Calls.Subwindows.{child_made, derived, derive
 use crate::desks::Desk;
 use crate::faults::{Win, WinFault};
 use crate::frames::Frame;
+use crate::surfaces::Area;
 use crate::windows::Window;
-use scr_surfaces::Area;
 use std::alloc::Global;
 
 /// The greatest number of windows.

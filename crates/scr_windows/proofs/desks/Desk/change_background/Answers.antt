@@ -1,5 +1,5 @@
 use Rattle.std.proofs.Common.{◌∙◌, sym}
-use Rattle.scr_surfaces.specs.Formulas.{all_exchanged}
+use Rattle.scr_windows.specs.Surfaces.Formulas.{all_exchanged}
 use Rattle.scr_windows.specs.Changes.{write}
 use Rattle.scr_windows.specs.Calls.Settings.{change_background_call}
 use Rattle.scr_windows.proofs.WrittenLaws.{rewritten}

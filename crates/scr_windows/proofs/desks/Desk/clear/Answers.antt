@@ -1,5 +1,5 @@
 use Rattle.std.proofs.Common.{true}
-use Rattle.scr_surfaces.specs.Formulas.{rows_put}
+use Rattle.scr_windows.specs.Surfaces.Formulas.{rows_put}
 use Rattle.scr_windows.specs.Calls.Erasing.{clear_call}
 use Rattle.scr_windows.proofs.WrittenLaws.{rewritten}
 use Rattle.scr_windows.proofs.desks.Desk.clear.Goals as goal

@@ -1,5 +1,5 @@
 use Rattle.std.proofs.Common.{refl}
-use Rattle.scr_surfaces.specs.Drawings.{drawn}
+use Rattle.scr_windows.specs.Surfaces.Drawings.{drawn}
 use Rattle.scr_windows.proofs.DeskLaws.{can_find, draws_part, drawing_path, drawn_is_desk, found}
 use Rattle.scr_windows.proofs.desks.Desk.draw.Goals as goal
 

@@ -1,4 +1,4 @@
-use Rattle.scr_surfaces.specs.Formulas.{rows_put}
+use Rattle.scr_windows.specs.Surfaces.Formulas.{rows_put}
 use Rattle.scr_windows.specs.Calls.Erasing.{erase_call}
 use Rattle.scr_windows.proofs.WrittenLaws.{rewritten}
 use Rattle.scr_windows.proofs.desks.Desk.erase.Goals as goal

@@ -1,6 +1,6 @@
 use Rattle.std.proofs.Common.{◌≡◌, ◌+◌, ◌∙◌, ap, true, rules}
 use Rattle.scr_cells.specs.CellViews.{is_character}
-use Rattle.scr_surfaces.specs.Formulas.{row_opened}
+use Rattle.scr_windows.specs.Surfaces.Formulas.{row_opened}
 use Rattle.scr_windows.specs.declared.faults.WinFault.TheVariants.{NotAscii}
 use Rattle.scr_windows.specs.Changes.{write}
 use Rattle.scr_windows.specs.Calls.Adding.{insert_byte_call, written_form}

@@ -1,5 +1,5 @@
 use Rattle.std.proofs.Common.{◌+◌, ◌∙◌, ap, refl, true}
-use Rattle.scr_surfaces.specs.Formulas.{block_at, part_laid, part_of}
+use Rattle.scr_windows.specs.Surfaces.Formulas.{block_at, part_laid, part_of}
 use Rattle.scr_windows.specs.Changes.{marked, write}
 use Rattle.scr_windows.proofs.DeskLaws.{can_find, draws_part, drawn_is_desk, found, written_path}
 use Rattle.scr_windows.proofs.desks.Desk.lay.Goals as goal

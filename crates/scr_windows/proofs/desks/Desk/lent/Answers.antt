@@ -1,6 +1,6 @@
 use Rattle.std.proofs.Common.{◌∙◌, subst}
 use Rattle.scr_windows.specs.declared.frames.Frame.{Frame}
-use Rattle.scr_surfaces.specs.SurfaceViews.{IsPart}
+use Rattle.scr_windows.specs.Surfaces.SurfaceViews.{IsPart}
 use Rattle.scr_windows.proofs.DeskLaws.{can_find, draws_contents, draws_part, found}
 use Rattle.scr_windows.proofs.desks.Desk.lent.Goals as goal
 

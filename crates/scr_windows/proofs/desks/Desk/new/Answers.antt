@@ -1,7 +1,7 @@
 use Rattle.std.proofs.Common.{◌≡◌, ◌∙◌, ap, sym, subst, ◌∷◌, []}
 use Rattle.std.proofs.lemmas.Slice.{pushed}
 use Rattle.scr_cells.specs.CellViews.{blank_cell}
-use Rattle.scr_surfaces.specs.SurfaceViews.{blank_surface}
+use Rattle.scr_windows.specs.Surfaces.SurfaceViews.{blank_surface}
 use Rattle.scr_windows.specs.DeskViews.{DeskView, IsDesk, fresh_window, first_frame, no_attributes}
 use Rattle.scr_windows.proofs.MakingLaws.{first_is_desk}
 use Rattle.scr_windows.proofs.desks.Desk.new.Goals as goal

@@ -1,5 +1,5 @@
 use Rattle.std.proofs.Common.{◌+◌, ◌∙◌, ap, refl}
-use Rattle.scr_surfaces.specs.Formulas.{run_put}
+use Rattle.scr_windows.specs.Surfaces.Formulas.{run_put}
 use Rattle.scr_windows.specs.Changes.{write}
 use Rattle.scr_windows.proofs.DeskLaws.{can_find, draws_part, drawn_is_desk, found, written_path}
 use Rattle.scr_windows.proofs.desks.Desk.put.Goals as goal

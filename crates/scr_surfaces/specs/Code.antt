@@ -1,2 +1,0 @@
--- Definitions that only private functions use.
-pub mod Steps
