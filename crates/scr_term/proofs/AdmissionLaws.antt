@@ -25,11 +25,11 @@ use Rattle.scr_term.specs.declared.operations.operation.Op.{Op}
 use Rattle.scr_term.specs.Operations.Pieces.{Piece, Character, Text}
 use Rattle.scr_term.specs.declared.operations.profile_faults.ProfileFault.{ProfileFault}
 use Rattle.scr_term.specs.declared.operations.profile_faults.ProfileFault.TheVariants.{BadString, LongString, NoMemory}
-use Rattle.scr_term.specs.Operations.Admission.{IsRefused, admitted, first_some, first_where, has_palette, is_bad_string, is_long_string, is_over_bound, is_spoiled, is_unreadable, named_text, planned_program, program_without_line_feed, refusal, refusals, screen_size, sent_text, size_fault, spare_program, within_limits}
-use Rattle.scr_term.specs.Operations.Capabilities.{each_capability, each_spare, ordinal}
+use Rattle.scr_term.specs.Operations.Admission.{IsRefused, admitted, bad_text, first_some, first_where, has_palette, is_bad_string, is_long_string, is_over_bound, is_spoiled, is_unreadable, named_text, planned_program, program_without_line_feed, refusal, refusals, screen_size, sent_text, size_fault, spare_program, within_limits}
+use Rattle.scr_term.specs.Operations.Capabilities.{each_capability, each_spare, ordinal, slot_of}
 use Rattle.scr_term.specs.Operations.Profiles.{IsPlanned, IsProfile, ProfileView, has_colours, is_shown, program_of, set_of, shown_set}
 use Rattle.scr_term.specs.Operations.Texts.{bytes_in, bytes_of, first_piece, nine, piece_bytes, resets_colours, text, written}
-use Rattle.scr_term.specs.Code.Admission.{ArePlanned, AreTexts, bad_fault_of, program_in, counted_bound, greatest_bound, longest, with_programs}
+use Rattle.scr_term.specs.Code.Admission.{ArePlanned, AreTexts, program_in, counted_bound, greatest_bound, longest, with_programs}
 use Rattle.scr_term.specs.Operations.Admission.{bad_fault, is_missing, long_fault, margin_fault, missing_fault, unsuitable_fault}
 use Rattle.scr_term.specs.Code.Kept.{IsKept}
 use Rattle.scr_term.proofs.RenderingLaws.{bytes_of_one, bytes_of_two}
@@ -314,7 +314,7 @@ not_taken : {A : Type 0} → (b : Bool) (x : A) → cond b (Some x) None ≡ Non
 not_taken true x e = cc
 not_taken false x e = refl
 
-pub first_more : (entry : Description) (capabilities : List Capability) (index : ℕ) (d : Capability) → index < length capabilities → bad_fault_of entry (get_or capabilities index d) ≡ None
+pub first_more : (entry : Description) (capabilities : List Capability) (index : ℕ) (d : Capability) → index < length capabilities → bad_text entry (slot_of (get_or capabilities index d)) ≡ None
     → first_where (is_bad_string entry) (drop index capabilities) ≡ first_where (is_bad_string entry) capabilities
     → first_where (is_bad_string entry) (drop (index + 1) capabilities) ≡ first_where (is_bad_string entry) capabilities
 first_more entry capabilities index d below none h =
@@ -327,7 +327,7 @@ taken true x rest fault e = e
 taken false x rest fault e = cc
 
 pub first_bad : (entry : Description) (capabilities : List Capability) (index : ℕ) (d : Capability) (fault : ProfileFault) → index < length capabilities
-    → (fault ≡ NoMemory) ⊎ (bad_fault_of entry (get_or capabilities index d) ≡ Some fault)
+    → (fault ≡ NoMemory) ⊎ (bad_text entry (slot_of (get_or capabilities index d)) ≡ Some fault)
     → first_where (is_bad_string entry) (drop index capabilities) ≡ first_where (is_bad_string entry) capabilities
     → (fault ≡ NoMemory) ⊎ (option_map (λ c. BadString (named_text c)) (first_where (is_bad_string entry) capabilities) ≡ Some fault)
 first_bad entry capabilities index d fault below (inl m) h = inl m

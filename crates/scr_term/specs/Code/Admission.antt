@@ -5,8 +5,8 @@ use Rattle.ti_param.specs.Tree.{Tree, bound}
 use Rattle.scr_term.specs.declared.operations.capability.Capability.{Capability}
 use Rattle.scr_term.specs.declared.operations.capability.Capability.TheVariants.{Op}
 use Rattle.scr_term.specs.declared.operations.profile_faults.ProfileFault.{ProfileFault}
-use Rattle.scr_term.specs.declared.operations.profile_faults.ProfileFault.TheVariants.{BadString, NoMemory}
-use Rattle.scr_term.specs.Operations.Admission.{bad_fault, is_bad_string, long_fault, missing_fault, named_text}
+use Rattle.scr_term.specs.declared.operations.profile_faults.ProfileFault.TheVariants.{NoMemory}
+use Rattle.scr_term.specs.Operations.Admission.{IsJudged, bad_fault, long_fault, missing_fault}
 use Rattle.scr_term.specs.Operations.Capabilities.{ordinal}
 use Rattle.scr_term.specs.Operations.Profiles.{IsPlanned, ProfileView}
 
@@ -14,12 +14,7 @@ use Rattle.scr_term.specs.Operations.Profiles.{IsPlanned, ProfileView}
 
 -- a step goes on where nothing is against it; else it ends with the fault that there is, or because memory ran out
 abbrev pub Judges : {A : Type 0} → Result A ProfileFault → Option ProfileFault → Type 0
-Judges (Ok x) refusal = refusal ≡ None
-Judges (Err fault) refusal = (fault ≡ NoMemory) ⊎ (refusal ≡ Some fault)
-
--- a text that is no program, or too deep a one
-abbrev pub bad_fault_of : Description → Capability → Option ProfileFault
-bad_fault_of entry capability = if is_bad_string entry capability then Some (BadString (named_text capability)) else None
+Judges result refusal = IsJudged refusal result
 
 -- nothing is against the texts of an entry
 pub record AreTexts (entry : Description) : Type 0 where

@@ -1,5 +1,5 @@
 -- Which entries make a profile, which profile, and why others do not. terminfo(5), 'Predefined Capabilities'.
-use Rattle.std.specs.Prelude.{ℕ, ◌≡◌, ◌==◌, ◌&&◌, ◌||◌, Bool, true, false, not, nat_lt, nat_le, List, [], ◌∷◌, ◌++◌, map, Option, Some, None, option_and_then, option_map, if◌then◌else◌, ◌⊎◌}
+use Rattle.std.specs.Prelude.{ℕ, ◌≡◌, ◌==◌, ◌&&◌, ◌||◌, Bool, true, false, not, nat_lt, nat_le, List, [], ◌∷◌, ◌++◌, map, Option, Some, None, option_and_then, option_map, Result, Ok, Err, if◌then◌else◌, ◌⊎◌}
 use Rattle.std.specs.List.{list_any}
 use Rattle.std.specs.Option.{is_some, is_none}
 use Rattle.scr_cells.specs.declared.sizes.Size.{Size}
@@ -28,13 +28,20 @@ abbrev pub some_text : List ℕ → Option (List ℕ)
 some_text [] = None
 some_text (byte ∷ bytes) = Some (byte ∷ bytes)
 
--- What the entry sends for a capability: its text without padding; none if nothing is left of it.
-abbrev pub sent_text : Description → Capability → Option (List ℕ)
-sent_text entry capability = option_and_then (λ text. some_text (stripped text)) (text_at entry (slot_of capability).0)
+-- What the entry sends for the text at a position: the text without padding; none if nothing is left of it.
+abbrev pub sent_at : Description → Slot → Option (List ℕ)
+sent_at entry slot = option_and_then (λ text. some_text (stripped text)) (text_at entry slot.0)
 
--- The program of that text, if it is one.
+-- The same for a capability.
+abbrev pub sent_text : Description → Capability → Option (List ℕ)
+sent_text entry capability = sent_at entry (slot_of capability)
+
+-- The program of that text, if it is one: of the text at a position, and of a capability.
+abbrev pub program_at : Description → Slot → Option Tree
+program_at entry slot = option_and_then parsed (sent_at entry slot)
+
 abbrev pub planned_program : Description → Capability → Option Tree
-planned_program entry capability = option_and_then parsed (sent_text entry capability)
+planned_program entry capability = program_at entry (slot_of capability)
 
 -- A text of a spare capability is not used where what it moves could come back or be moved otherwise: lines where the
 -- terminal keeps those that went off the screen (`da`, `db`), inserted characters where it tells blanks that were
@@ -45,8 +52,8 @@ is_spoiled entry Il = flag_at entry DA.0 || flag_at entry DB.0
 is_spoiled entry Dl1 = flag_at entry DA.0 || flag_at entry DB.0
 is_spoiled entry Dl = flag_at entry DA.0 || flag_at entry DB.0
 is_spoiled entry Ich = flag_at entry IN.0
-is_spoiled entry Dch1 = is_some (text_at entry SMDC.0)
-is_spoiled entry Dch = is_some (text_at entry SMDC.0)
+is_spoiled entry Dch1 = is_some (sent_at entry SMDC)
+is_spoiled entry Dch = is_some (sent_at entry SMDC)
 is_spoiled entry _ = false
 
 -- The program, if no run of it needs a stack of more than 20 or sends more than 1,024 bytes.
@@ -116,9 +123,22 @@ abbrev pub is_unreadable : Option Tree → Bool
 is_unreadable None = true
 is_unreadable (Some program) = nat_lt 20 (depth program)
 
--- The entry has a text for this capability that cannot be run.
+-- The entry has a text at this position that cannot be run.
+abbrev pub is_bad_at : Description → Slot → Bool
+is_bad_at entry slot = is_some (sent_at entry slot) && is_unreadable (program_at entry slot)
+
+-- The same for a capability.
 abbrev pub is_bad_string : Description → Capability → Bool
-is_bad_string entry capability = is_some (sent_text entry capability) && is_unreadable (planned_program entry capability)
+is_bad_string entry capability = is_bad_at entry (slot_of capability)
+
+-- The fault of such a text.
+abbrev pub bad_text : Description → Slot → Option ProfileFault
+bad_text entry slot = if is_bad_at entry slot then Some (BadString (kind.Text, slot)) else None
+
+-- Whether the text was read, or refused for the fault that there is or because memory ran out.
+abbrev pub IsJudged : {A : Type 0} → Option ProfileFault → Result A ProfileFault → Type 0
+IsJudged refusal (Ok x) = refusal ≡ None
+IsJudged refusal (Err fault) = (fault ≡ NoMemory) ⊎ (refusal ≡ Some fault)
 
 -- A run of this program could send more than 1,024 bytes.
 abbrev pub is_over_bound : Option Tree → Bool
@@ -199,8 +219,8 @@ pub record IsAdmitted (entry : Description) (size : Option Size) (profile : Prof
 abbrev pub IsRefused : Description → Option Size → ProfileFault → Type 0
 IsRefused entry size fault = (fault ≡ NoMemory) ⊎ (refusal entry size ≡ Some fault)
 
--- Memory ran out: nothing was against the flags and numbers of the entry, which are looked at before its texts.
-pub record RanOut (entry : Description) : Type 0 where
+-- Nothing is against the flags and numbers of the entry, which are looked at before its texts, and before any allocation.
+pub record IsSuitable (entry : Description) : Type 0 where
   pub suitable : unsuitable_fault entry ≡ None
   pub margin : margin_fault entry ≡ None
 

@@ -1,8 +1,11 @@
 //! How a terminfo entry becomes a profile, or why it does not.
-ghost use Rattle.std.specs.Prelude.{◌≡◌, ◌≢◌, ◌++◌, ◌∷◌, [], OnOk, IfOk, IfErr, IsErrOf, Some, map, length, option_map};
+ghost use Rattle.std.specs.Prelude.{◌≡◌, ◌≢◌, ◌≤◌, ◌++◌, ◌∷◌, [], OnOk, OnErr, IfOk, IfErr, IfSome, IsErrOf, Some, true, is_some, map, length, option_map};
+ghost use Rattle.ti_caps.specs.Description.{text_at};
 ghost use Rattle.ti_param.specs.Parsed.{parsed};
-ghost use Rattle.scr_term.specs.Operations.Admission.{IsAdmitted, IsBundledAdmitted, IsEcma48, IsRefused, RanOut, first_where, is_bad_string, is_over_bound, is_present, is_spoiled, named_text, planned_program, program_without_line_feed, screen_size, sent_text, size_fault, spare_program, within_limits};
-ghost use Rattle.scr_term.specs.Code.Admission.{Judges, bad_fault_of, program_in};
+ghost use Rattle.ti_param.specs.Tree.{depth};
+ghost use Rattle.scr_term.specs.Operations.Admission.{IsAdmitted, IsBundledAdmitted, IsEcma48, IsJudged, IsRefused, IsSuitable, bad_text, first_where, is_bad_string, is_over_bound, is_present, is_spoiled, named_text, planned_program, program_at, program_without_line_feed, screen_size, sent_at, sent_text, size_fault, spare_program, within_limits};
+ghost use Rattle.scr_term.specs.Operations.Capabilities.{slot_of};
+ghost use Rattle.scr_term.specs.Code.Admission.{Judges, program_in};
 ghost use Rattle.scr_term.specs.Operations.Admission.{is_missing, margin_fault, missing_fault, unsuitable_fault};
 
 use crate::operations::capability::Capability;
@@ -58,11 +61,12 @@ impl Profile {
     /// Nothing is refused for a text that inserts or deletes lines or characters. Such a text counts
     /// as absent if it is not a parameter string, could need more than 20 values or give more than
     /// 1,024 bytes, or contains a line feed; all that move lines do if `da` or `db` is present, `ich`
-    /// if `in` is, `dch` and `dch1` if `smdc` is.
+    /// if `in` is, `dch` and `dch1` if `smdc` is and is not padding alone.
     pub fn admit(alloc: Global, entry: &Entry, size: Option<Size>) -> Result<Profile, ProfileFault>
         ensures ok { IfOk result (IsAdmitted entry.now size) }
         ensures err { IfErr result (IsRefused entry.now size) }
-        ensures memory { IsErrOf result ProfileFault.NoMemory → RanOut entry.now }
+        ensures suitable { IfOk result (λ _. IsSuitable entry.now) }
+        ensures memory { IsErrOf result ProfileFault.NoMemory → IsSuitable entry.now }
     {
         is_suitable(entry)?;
         keeps_its_margin(entry)?;
@@ -177,8 +181,16 @@ fn sent_text(
 ) -> Result<Option<Vec<u8>>, NoMemory>
     ensures { IfOk result (λ text. option_map (λ t. t.items) text ≡ sent_text entry.now capability) }
 {
+    sent_at(alloc, entry, capability.slot())
+}
+
+// The text at a position without padding; `None` if that is empty.
+fn sent_at(alloc: Global, entry: &Entry, slot: Slot) -> Result<Option<Vec<u8>>, NoMemory>
+    ensures text { IfOk result (λ text. option_map (λ t. t.items) text ≡ sent_at entry.now slot) }
+    ensures memory { OnErr result (is_some (text_at entry.now slot.0) ≡ true) }
+{
     padding_is_removed();
-    let Some(text) = entry.text(capability.slot()) else {
+    let Some(text) = entry.text(slot) else {
         return Ok(None);
     };
     let text = strip_padding(alloc, text)?;
@@ -243,9 +255,23 @@ fn planned_program(
     capability: Capability,
 ) -> Result<Option<Program>, ProfileFault>
     ensures program { IfOk result (λ program. program ≡ planned_program entry.now capability) }
-    ensures judged { Judges result (bad_fault_of entry.now capability) }
+    ensures judged { Judges result (bad_text entry.now (slot_of capability)) }
 {
-    let Ok(text) = sent_text(alloc, entry, capability) else {
+    program_at(alloc, entry, capability.slot())
+}
+
+/// The program of the text at a position, without padding; `None` if there is no text, or nothing is
+/// left of it.
+///
+/// Refused: BadString if the text is not a parameter string, or could need a stack of more than 20
+/// values; NoMemory if memory runs out, which it does not if there is no text.
+pub fn program_at(alloc: Global, entry: &Entry, slot: Slot) -> Result<Option<Program>, ProfileFault>
+    ensures program { IfOk result (λ program. program ≡ program_at entry.now slot) }
+    ensures depth { IfOk result (λ program. IfSome program (λ p. depth p ≤ 20)) }
+    ensures judged { IsJudged (bad_text entry.now slot) result }
+    ensures memory { IsErrOf result ProfileFault.NoMemory → is_some (text_at entry.now slot.0) ≡ true }
+{
+    let Ok(text) = sent_at(alloc, entry, slot) else {
         return Err(ProfileFault::NoMemory);
     };
     let Some(text) = text else {
@@ -256,7 +282,7 @@ fn planned_program(
     };
     match program {
         Some(program) if program.depth() <= MOST_DEPTH => Ok(Some(program)),
-        _ => Err(ProfileFault::BadString((Kind::Text, capability.slot()))),
+        _ => Err(ProfileFault::BadString((Kind::Text, slot))),
     }
 }
 
@@ -285,7 +311,7 @@ fn spare_program(
 ) -> Result<Option<Program>, NoMemory>
     ensures { IfOk result (λ program. program ≡ spare_program entry.now capability) }
 {
-    if is_spoiled(entry, capability) {
+    if is_spoiled(alloc, entry, capability)? {
         return Ok(None);
     }
     match sent_text(alloc, entry, capability)? {
@@ -295,17 +321,25 @@ fn spare_program(
 }
 
 // Whether the terminal moves lines or characters otherwise than operations do.
-fn is_spoiled(entry: &Entry, capability: Capability) -> bool
-    ensures { result ≡ is_spoiled entry.now capability }
+fn is_spoiled(alloc: Global, entry: &Entry, capability: Capability) -> Result<bool, NoMemory>
+    ensures { IfOk result (λ spoiled. spoiled ≡ is_spoiled entry.now capability) }
 {
     match capability {
         Capability::Il1 | Capability::Il | Capability::Dl1 | Capability::Dl => {
-            entry.flag(slots::DA) || entry.flag(slots::DB)
+            Ok(entry.flag(slots::DA) || entry.flag(slots::DB))
         }
-        Capability::Ich => entry.flag(slots::IN),
-        Capability::Dch1 | Capability::Dch => entry.text(slots::SMDC).is_some(),
-        _ => false,
+        Capability::Ich => Ok(entry.flag(slots::IN)),
+        Capability::Dch1 | Capability::Dch => has_text(alloc, entry, slots::SMDC),
+        _ => Ok(false),
     }
+}
+
+// Whether something is sent for the text at a position.
+fn has_text(alloc: Global, entry: &Entry, slot: Slot) -> Result<bool, NoMemory>
+    ensures { IfOk result (λ there. there ≡ is_some (sent_at entry.now slot)) }
+{
+    let text = sent_at(alloc, entry, slot)?;
+    Ok(text.is_some())
 }
 
 // The program of a text; `None` if it is no parameter string, exceeds the limits or contains a line

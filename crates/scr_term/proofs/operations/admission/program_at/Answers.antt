@@ -1,5 +1,5 @@
 use Rattle.std.proofs.Common.{rules}
-use Rattle.scr_term.proofs.operations.admission.planned_program.Goals as goal
+use Rattle.scr_term.proofs.operations.admission.program_at.Goals as goal
 
 pub returns-in-Some-program-clause-judged : goal.returns-in-Some-program-clause-judged
 returns-in-Some-program-clause-judged c = search rules
