@@ -12,15 +12,15 @@ use Rattle.scr_term.specs.declared.operations.operation.Op.{Op}
 use Rattle.scr_term.specs.declared.operations.operation.Op.TheVariants.{Home, Move, Clear, EraseLine, EraseBelow, EraseChars, InsertLines, DeleteLines, InsertChars, DeleteChars, Reset, Set, Put}
 use Rattle.scr_term.specs.declared.operations.operation.Spot.{Spot}
 use Rattle.scr_term.specs.declared.operations.operation.Spot.TheVariants.{At, Margin}
-use Rattle.scr_term.specs.Operations.Abilities.{Abilities}
-use Rattle.scr_term.specs.Operations.Laws.{StepsKeepStates}
+use Rattle.scr_term.specs.Operations.Abilities.{Abilities, full_abilities}
+use Rattle.scr_term.specs.Operations.Laws.{ShownPenLaws, StepsKeepStates}
 use Rattle.scr_term.specs.Operations.Profiles.{ProfileView, IsProfile, abilities}
 use Rattle.scr_term.specs.Operations.States.{TerminalState, AreShownColours, IsShownPen, IsState, is_from_place}
 use Rattle.scr_term.specs.Operations.Steps.{act, step}
 use Rattle.scr_term.specs.Operations.Texts.{has}
 use Rattle.scr_memory.proofs.ActLaws.{Acts, acts, erased_grid, grid_by, pen_by, rows_same, spot_by}
 use Rattle.scr_memory.proofs.RememberedRowLaws.{from_above, from_as_many, from_kept}
-use Rattle.scr_memory.specs.Memories.{Agrees, IsDisturbance, IsWithout, MemoryLaws, MemoryView, changes_cells, clears, disturbed, followed, forgotten, has_one_pen, is_known, is_known_row, loses_rows, moves_rows, places_spot, rows_erased, sets_pen, stepped}
+use Rattle.scr_memory.specs.Memories.{Agrees, IsDisturbance, IsMemory, IsWithout, MayBe, MemoryLaws, MemoryView, changes_cells, clears, disturbed, followed, forgotten, has_one_pen, is_known, is_known_row, loses_rows, made_plain, moves_rows, places_spot, rows_erased, sets_pen, stepped}
 
 -- ---- places that are alike
 
@@ -54,14 +54,54 @@ no_row zero r = refl
 no_row (suc n) zero = refl
 no_row (suc n) (suc r) = no_row n r
 
-pub forgets : (abilities : Abilities) (memory : MemoryView) (old new : TerminalState) → Agrees abilities memory old → IsState abilities new → Agrees abilities (forgotten memory) new
-forgets abilities memory old new agrees state = record {
+pub forgets : (abilities : Abilities) (memory : MemoryView) (new : TerminalState) → length memory.known_rows ≡ abilities.rows → IsState abilities new → Agrees abilities (forgotten memory) new
+forgets abilities memory new high state = record {
   is_state = state;
-  may_be = agrees.may_be;
-  high = length-replicate (length memory.known_rows) false ∙ agrees.high;
+  high = length-replicate (length memory.known_rows) false ∙ high;
   rows = λ r h known. false_is_not _ (no_row (length memory.known_rows) r) known;
   spot = λ known. false_is_not false refl known;
   pen = λ known. false_is_not false refl known;
+}
+
+-- ---- which states are possible
+
+-- with the plain pen a state is possible on every terminal of its size
+plain_state : ShownPenLaws → (abilities other : Abilities) → other.rows ≡ abilities.rows → other.columns ≡ abilities.columns → (state : TerminalState) → IsState other state → IsState abilities (made_plain state)
+plain_state pens abilities other rows columns state is = record {
+  whole = rw (← rows, ← columns) is.whole;
+  looks = is.looks;
+  spot = rw (← rows, ← columns) is.spot;
+  pen = pens.plain abilities;
+}
+
+forgotten_possible : ShownPenLaws → (abilities : Abilities) (memory : MemoryView) → MayBe abilities memory → MayBe abilities (forgotten memory)
+forgotten_possible pens abilities memory may = record {
+  state = plain_state pens abilities abilities refl refl memory.state may.state;
+  high = length-replicate (length memory.known_rows) false ∙ may.high;
+}
+
+possible_again : ShownPenLaws → (abilities : Abilities) (memory : MemoryView) → IsMemory memory → memory.rows ≡ abilities.rows → memory.columns ≡ abilities.columns → MayBe abilities (forgotten memory)
+possible_again pens abilities memory is rows columns = record {
+  state = plain_state pens abilities (full_abilities memory.rows memory.columns) rows columns memory.state is.state;
+  high = length-replicate (length memory.known_rows) false ∙ is.whole ∙ rows;
+}
+
+disturbed_possible : ShownPenLaws → (abilities : Abilities) (memory : MemoryView) (first n : ℕ) → MayBe abilities memory → MayBe abilities (disturbed first n memory)
+disturbed_possible pens abilities memory first n may =
+    let f : ℕ → Bool = λ r. if leb first r && ltb r (first + n) then false else is_known_row memory r in
+    record {
+      state = plain_state pens abilities abilities refl refl memory.state may.state;
+      high = length-map (range_with_len 0 (length memory.known_rows)) f ∙ length-range_with_len 0 (length memory.known_rows) ∙ may.high;
+    }
+
+-- the remembered state agrees with what is remembered
+pub itself : (abilities : Abilities) (memory : MemoryView) → MayBe abilities memory → Agrees abilities memory memory.state
+itself abilities memory may = record {
+  is_state = may.state;
+  high = may.high;
+  rows = λ r h known. refl;
+  spot = λ known. refl;
+  pen = λ known. refl;
 }
 
 -- ---- what others wrote
@@ -70,11 +110,10 @@ pub others : (abilities : Abilities) (rows : ℕ → Bool) (memory less : Memory
     → IsWithout rows memory less → Agrees abilities less new
 others abilities rows memory less old new agrees wrote without = record {
   is_state = wrote.state;
-  may_be = subst (IsState abilities) (sym without.state) agrees.may_be;
   high = without.high ∙ agrees.high;
   rows = λ r h known.
       let was = without.rows r (omega (arith, h, agrees.high)) known in
-      wrote.same r was.1 ∙ agrees.rows r h was.0 ∙ ap (λ s. grid_row s.grid r) (sym without.state);
+      wrote.same r was.1 ∙ agrees.rows r h was.0 ∙ ap (λ g. grid_row g r) (sym without.grid);
   spot = λ known. false_is_not less.known_spot without.spot known;
   pen = λ known. false_is_not less.known_pen without.pen known;
 }
@@ -87,7 +126,7 @@ pub marks : (memory : MemoryView) (first n : ℕ) → IsWithout (λ r. leb first
 marks memory first n =
     let f : ℕ → Bool = λ r. if leb first r && ltb r (first + n) then false else is_known_row memory r in
     record {
-      state = refl;
+      grid = refl;
       high = length-map (range_with_len 0 (length memory.known_rows)) f ∙ length-range_with_len 0 (length memory.known_rows);
       rows = λ r h known.
           let at : 0 + r ≡ r = omega arith in
@@ -102,7 +141,7 @@ neither false b e f = f
 
 pub marks_join : (one other : ℕ → Bool) (memory between less : MemoryView) → IsWithout one memory between → IsWithout other between less → IsWithout (λ r. one r || other r) memory less
 marks_join one other memory between less a b = record {
-  state = b.state ∙ a.state;
+  grid = b.grid ∙ a.grid;
   high = b.high ∙ a.high;
   rows = λ r h known.
       let later = b.rows r (omega (arith, h, a.high)) known in
@@ -203,27 +242,27 @@ not_erased EraseBelow spot rows e = (cc)
 not_erased op spot rows e = refl
 
 -- both states after an operation, from two that it was defined from
-rows_after : (profile : ProfileView) (memory : MemoryView) (old new next : TerminalState) (op : Op) → Agrees (abilities profile) memory old
+rows_after : (profile : ProfileView) (memory : MemoryView) → MayBe (abilities profile) memory → (old new next : TerminalState) (op : Op) → Agrees (abilities profile) memory old
     → Acts profile op old.grid old.spot old.pen new → Acts profile op memory.state.grid memory.state.spot memory.state.pen next → (is_known memory ≡ true → new ≡ next)
     → (r : ℕ) → r < profile.rows → (clear change know move all : Bool) → clears op ≡ clear → changes_cells op ≡ change → (memory.known_spot && memory.known_pen) ≡ know → moves_rows op ≡ move → is_known memory ≡ all
     → get_or (if clear then replicate (length memory.known_rows) true else (if (change && not know) || (move && not all) then replicate (length memory.known_rows) false else rows_erased op next.spot memory.known_rows)) r false ≡ true
     → grid_row new.grid r ≡ grid_row next.grid r
-rows_after profile memory old new next op agrees a b same r h true change know move all ce he ke me ae known =
+rows_after profile memory may old new next op agrees a b same r h true change know move all ce he ke me ae known =
     ap (λ g. grid_row g r) (a.grid_is ∙ cleared_same profile op old.spot memory.state.spot old.pen memory.state.pen old.grid memory.state.grid ce ∙ sym b.grid_is)
-rows_after profile memory old new next op agrees a b same r h false change know move true ce he ke me ae known = ap (λ (s : TerminalState). grid_row s.grid r) (same ae)
-rows_after profile memory old new next op agrees a b same r h false false know true false ce he ke me ae known = false_is_not _ (no_row (length memory.known_rows) r) known
-rows_after profile memory old new next op agrees a b same r h false true true true false ce he ke me ae known = false_is_not _ (no_row (length memory.known_rows) r) known
-rows_after profile memory old new next op agrees a b same r h false true false move false ce he ke me ae known = false_is_not _ (no_row (length memory.known_rows) r) known
-rows_after profile memory old new next op agrees a b same r h false false know false false ce he ke me ae known =
+rows_after profile memory may old new next op agrees a b same r h false change know move true ce he ke me ae known = ap (λ (s : TerminalState). grid_row s.grid r) (same ae)
+rows_after profile memory may old new next op agrees a b same r h false false know true false ce he ke me ae known = false_is_not _ (no_row (length memory.known_rows) r) known
+rows_after profile memory may old new next op agrees a b same r h false true true true false ce he ke me ae known = false_is_not _ (no_row (length memory.known_rows) r) known
+rows_after profile memory may old new next op agrees a b same r h false true false move false ce he ke me ae known = false_is_not _ (no_row (length memory.known_rows) r) known
+rows_after profile memory may old new next op agrees a b same r h false false know false false ce he ke me ae known =
     ap (λ g. grid_row g r) (a.grid_is ∙ kept_same profile op old.spot old.pen old.grid ce he me)
     ∙ agrees.rows r h (sym (ap (λ rows. get_or rows r false) (not_erased op next.spot memory.known_rows he)) ∙ known)
     ∙ ap (λ g. grid_row g r) (sym (b.grid_is ∙ kept_same profile op memory.state.spot memory.state.pen memory.state.grid ce he me))
-rows_after profile memory old new next op agrees a b same r h false true true false false ce he ke me ae known =
+rows_after profile memory may old new next op agrees a b same r h false true true false false ce he ke me ae known =
     let parts = both memory.known_spot memory.known_pen ke in
     let spot : old.spot ≡ memory.state.spot = agrees.spot parts.0 in
     let pen : old.pen ≡ memory.state.pen = agrees.pen parts.1 in
     ap (λ g. grid_row g r) (a.grid_is ∙ (λ i. grid_by profile op (spot i) (pen i) old.grid))
-    ∙ erased_after profile op memory.state.spot memory.state.pen old.grid memory.state.grid agrees.is_state.whole agrees.may_be.whole memory.known_rows r h me (agrees.rows r h)
+    ∙ erased_after profile op memory.state.spot memory.state.pen old.grid memory.state.grid agrees.is_state.whole may.state.whole memory.known_rows r h me (agrees.rows r h)
     (ap (λ s. get_or (rows_erased op s memory.known_rows) r false) (sym b.spot_is) ∙ known)
     ∙ ap (λ g. grid_row g r) (sym b.grid_is)
 
@@ -252,13 +291,13 @@ pub known_all : (n : ℕ) → list_all (λ known. known) (replicate n true) ≡ 
 known_all zero = refl
 known_all (suc n) = known_all n
 
-pub known_state : GridLaws LookView → (abilities : Abilities) (memory : MemoryView) (old : TerminalState) → Agrees abilities memory old → is_known memory ≡ true → memory.state ≡ old
-known_state grids abilities memory old agrees e =
+pub known_state : GridLaws LookView → (abilities : Abilities) (memory : MemoryView) → IsGrid abilities.rows abilities.columns memory.state.grid → (old : TerminalState) → Agrees abilities memory old → is_known memory ≡ true → memory.state ≡ old
+known_state grids abilities memory whole old agrees e =
     let most = both (list_all (λ known. known) memory.known_rows && memory.known_spot) memory.known_pen e in
     let parts = both (list_all (λ known. known) memory.known_rows) memory.known_spot most.0 in
     let rows : (r : ℕ) → r < abilities.rows → grid_row memory.state.grid r ≡ grid_row old.grid r = λ r h. sym (agrees.rows r h (all_known memory.known_rows r parts.0 (omega (arith, h, agrees.high)))) in
     let grid : memory.state.grid ≡ old.grid =
-    grids.places blank abilities.rows abilities.columns memory.state.grid agrees.may_be.whole
+    grids.places blank abilities.rows abilities.columns memory.state.grid whole
     ∙ grid_same abilities.rows abilities.columns (grid_at blank memory.state.grid) (grid_at blank old.grid) (λ r c high wide. ap (λ line. get_or line c blank) (rows r high))
     ∙ sym (grids.places blank abilities.rows abilities.columns old.grid agrees.is_state.whole) in
     let spot : old.spot ≡ memory.state.spot = agrees.spot parts.1 in
@@ -268,22 +307,21 @@ known_state grids abilities memory old agrees e =
 same_some : (a b : TerminalState) → Some a ≡ Some b → a ≡ b
 same_some a b e = (cc)
 
-stepped_agrees : StepsKeepStates → GridLaws LookView → (profile : ProfileView) → IsProfile profile → (memory : MemoryView) (old new : TerminalState) (op : Op)
+stepped_agrees : StepsKeepStates → GridLaws LookView → (profile : ProfileView) → IsProfile profile → (memory : MemoryView) → MayBe (abilities profile) memory → (old new : TerminalState) (op : Op)
     → Agrees (abilities profile) memory old → step profile old op ≡ Some new → (next : Option TerminalState) → step profile memory.state op ≡ next
     → Agrees (abilities profile) (stepped (abilities profile) op memory next) new
-stepped_agrees keep grids profile p memory old new op agrees e None n =
-    forgets (abilities profile) memory old new agrees (keep profile p old new agrees.is_state op e)
-stepped_agrees keep grids profile p memory old new op agrees e (Some next) n =
+stepped_agrees keep grids profile p memory may old new op agrees e None n =
+    forgets (abilities profile) memory new agrees.high (keep profile p old new agrees.is_state op e)
+stepped_agrees keep grids profile p memory may old new op agrees e (Some next) n =
     let new_is : IsState (abilities profile) new = keep profile p old new agrees.is_state op e in
-    let next_is : IsState (abilities profile) next = keep profile p memory.state next agrees.may_be op n in
+    let next_is : IsState (abilities profile) next = keep profile p memory.state next may.state op n in
     let a : Acts profile op old.grid old.spot old.pen new = acts profile op old.grid old.spot old.pen new (had profile old new op e) in
     let b : Acts profile op memory.state.grid memory.state.spot memory.state.pen next = acts profile op memory.state.grid memory.state.spot memory.state.pen next (had profile memory.state next op n) in
-    let same : is_known memory ≡ true → new ≡ next = λ known. same_some new next (sym e ∙ ap (λ s. step profile s op) (sym (known_state grids (abilities profile) memory old agrees known)) ∙ n) in
+    let same : is_known memory ≡ true → new ≡ next = λ known. same_some new next (sym e ∙ ap (λ s. step profile s op) (sym (known_state grids (abilities profile) memory may.state.whole old agrees known)) ∙ n) in
     record {
       is_state = new_is;
-      may_be = next_is;
       high = high_after op next.spot memory (clears op) (loses_rows op memory) ∙ agrees.high;
-      rows = λ r h known. rows_after profile memory old new next op agrees a b same r h (clears op) (changes_cells op) (memory.known_spot && memory.known_pen) (moves_rows op) (is_known memory) refl refl refl refl refl known;
+      rows = λ r h known. rows_after profile memory may old new next op agrees a b same r h (clears op) (changes_cells op) (memory.known_spot && memory.known_pen) (moves_rows op) (is_known memory) refl refl refl refl refl known;
       spot = λ known. a.spot_is ∙ either memory.known_spot (places_spot op) known
           (λ k. ap (spot_by profile.columns op) (agrees.spot k))
           (λ k. placed_same profile.columns op old.spot memory.state.spot k) ∙ sym b.spot_is;
@@ -292,9 +330,9 @@ stepped_agrees keep grids profile p memory old new op agrees e (Some next) n =
           (λ one. one_pen (abilities profile) new.pen one new_is.pen ∙ sym (one_pen (abilities profile) next.pen one next_is.pen));
     }
 
-pub follows : StepsKeepStates → GridLaws LookView → (profile : ProfileView) → IsProfile profile → (memory : MemoryView) (old new : TerminalState) (op : Op)
+pub follows : StepsKeepStates → GridLaws LookView → (profile : ProfileView) → IsProfile profile → (memory : MemoryView) → MayBe (abilities profile) memory → (old new : TerminalState) (op : Op)
     → Agrees (abilities profile) memory old → step profile old op ≡ Some new → Agrees (abilities profile) (followed profile op memory) new
-follows keep grids profile p memory old new op agrees e = stepped_agrees keep grids profile p memory old new op agrees e (step profile memory.state op) refl
+follows keep grids profile p memory may old new op agrees e = stepped_agrees keep grids profile p memory may old new op agrees e (step profile memory.state op) refl
 
 still_set : (rows : List Bool) (r : ℕ) → list_all (λ known. known) rows ≡ true → list_all (λ known. known) (set rows r true) ≡ true
 still_set [] r e = refl
@@ -332,15 +370,38 @@ still_known op s memory a c d lost rows spot pen =
     by true = known_all (length memory.known_rows)
     by false = still_erased op s memory.known_rows rows
 
-pub stays_known : GridLaws LookView → (profile : ProfileView) → IsProfile profile → (memory : MemoryView) (old new : TerminalState) (op : Op)
+pub stays_known : GridLaws LookView → (profile : ProfileView) → IsProfile profile → (memory : MemoryView) → MayBe (abilities profile) memory → (old new : TerminalState) (op : Op)
     → Agrees (abilities profile) memory old → step profile old op ≡ Some new → is_known memory ≡ true → is_known (followed profile op memory) ≡ true
-stays_known grids profile p memory old new op agrees e known =
-    let same : memory.state ≡ old = known_state grids (abilities profile) memory old agrees known in
+stays_known grids profile p memory may old new op agrees e known =
+    let same : memory.state ≡ old = known_state grids (abilities profile) memory may.state.whole old agrees known in
     let there : step profile memory.state op ≡ Some new = ap (λ s. step profile s op) same ∙ e in
     let most = both (list_all (λ known. known) memory.known_rows && memory.known_spot) memory.known_pen known in
     let parts = both (list_all (λ known. known) memory.known_rows) memory.known_spot most.0 in
     ap (λ next. is_known (stepped (abilities profile) op memory next)) there
     ∙ still_known op new.spot memory (clears op) (places_spot op) (has_one_pen (abilities profile)) (none_lost op memory parts.1 most.1 known) parts.0 parts.1 most.1
 
-pub memory_laws : StepsKeepStates → GridLaws LookView → MemoryLaws
-memory_laws keep grids = record { follows = follows keep grids; stays_known = stays_known grids; forgets = forgets; others = others; marks = marks; marks_join = marks_join }
+-- a remembered state that is possible stays possible
+stays_possible : ShownPenLaws → StepsKeepStates → (profile : ProfileView) → IsProfile profile → (memory : MemoryView) (op : Op) → MayBe (abilities profile) memory → MayBe (abilities profile) (followed profile op memory)
+stays_possible pens keep profile p memory op may = by (step profile memory.state op) refl
+  where
+    by : (next : Option TerminalState) → step profile memory.state op ≡ next → MayBe (abilities profile) (stepped (abilities profile) op memory next)
+    by None e = forgotten_possible pens (abilities profile) memory may
+    by (Some next) e = record {
+      state = keep profile p memory.state next may.state op e;
+      high = high_after op next.spot memory (clears op) (loses_rows op memory) ∙ may.high;
+    }
+
+pub memory_laws : ShownPenLaws → StepsKeepStates → GridLaws LookView → MemoryLaws
+memory_laws pens keep grids = record {
+  follows = follows keep grids;
+  stays_known = stays_known grids;
+  stays_possible = stays_possible pens keep;
+  itself = itself;
+  forgets = forgets;
+  forgotten_possible = forgotten_possible pens;
+  possible_again = possible_again pens;
+  disturbed_possible = disturbed_possible pens;
+  others = others;
+  marks = marks;
+  marks_join = marks_join;
+}

@@ -2,7 +2,7 @@
 use Rattle.std.proofs.Common.{◌≡◌, ◌&&◌, true, false, refl, ◌∙◌, ap, subst, List, [], ◌∷◌, ◌++◌, Option, Some, None, option_and_then, replicate}
 use Rattle.std.specs.List.{list_all}
 use Rattle.std.proofs.lemmas.List.{length-replicate}
-use Rattle.scr_cells.specs.Grids.{GridLaws}
+use Rattle.scr_cells.specs.Grids.{GridLaws, IsGrid}
 use Rattle.scr_cells.specs.LookViews.{LookView}
 use Rattle.scr_term.specs.declared.operations.operation.Op.{Op}
 use Rattle.scr_term.specs.Operations.Abilities.{Abilities}
@@ -13,8 +13,8 @@ use Rattle.scr_term.specs.Operations.Steps.{runs, step}
 use Rattle.scr_memory.proofs.FollowLaws.{both, known_state}
 use Rattle.scr_memory.proofs.MemoryViewLaws.{same_size}
 use Rattle.scr_memory.proofs.RememberedRowLaws.{all_true}
-use Rattle.scr_memory.specs.Memories.{Agrees, MemoryLaws, MemoryView, all_followed, followed, is_known, remembered, stepped, unknown}
-use Rattle.scr_memory.specs.MemoryRuns.{KnownMemories, MayBe, MemoryRuns}
+use Rattle.scr_memory.specs.Memories.{Agrees, MayBe, MemoryLaws, MemoryView, all_followed, followed, is_known, remembered, stepped, unknown}
+use Rattle.scr_memory.specs.MemoryRuns.{KnownMemories, MemoryRuns}
 
 -- ---- runs
 
@@ -26,20 +26,20 @@ goes_on (Some next) f new e = (next, refl, e)
 pub same_some : {A : Type 0} (a b : A) → Some a ≡ Some b → a ≡ b
 same_some a b e = (cc)
 
-runs_follow : MemoryLaws → (profile : ProfileView) → IsProfile profile → (memory : MemoryView) (old new : TerminalState) (ops : List Op)
+runs_follow : MemoryLaws → (profile : ProfileView) → IsProfile profile → (memory : MemoryView) → MayBe (abilities profile) memory → (old new : TerminalState) (ops : List Op)
     → Agrees (abilities profile) memory old → runs profile old ops ≡ Some new → Agrees (abilities profile) (all_followed profile ops memory) new
-runs_follow laws profile p memory old new [] agrees e = subst (Agrees (abilities profile) memory) (same_some old new e) agrees
-runs_follow laws profile p memory old new (op ∷ ops) agrees e =
+runs_follow laws profile p memory may old new [] agrees e = subst (Agrees (abilities profile) memory) (same_some old new e) agrees
+runs_follow laws profile p memory may old new (op ∷ ops) agrees e =
     let parts = goes_on (step profile old op) (λ next. runs profile next ops) new e in
-    runs_follow laws profile p (followed profile op memory) parts.0 new ops (laws.follows profile p memory old parts.0 op agrees parts.1) parts.2
+    runs_follow laws profile p (followed profile op memory) (laws.stays_possible profile p memory op may) parts.0 new ops (laws.follows profile p memory may old parts.0 op agrees parts.1) parts.2
 
-runs_stay_known : MemoryLaws → (profile : ProfileView) → IsProfile profile → (memory : MemoryView) (old new : TerminalState) (ops : List Op)
+runs_stay_known : MemoryLaws → (profile : ProfileView) → IsProfile profile → (memory : MemoryView) → MayBe (abilities profile) memory → (old new : TerminalState) (ops : List Op)
     → Agrees (abilities profile) memory old → runs profile old ops ≡ Some new → is_known memory ≡ true → is_known (all_followed profile ops memory) ≡ true
-runs_stay_known laws profile p memory old new [] agrees e known = known
-runs_stay_known laws profile p memory old new (op ∷ ops) agrees e known =
+runs_stay_known laws profile p memory may old new [] agrees e known = known
+runs_stay_known laws profile p memory may old new (op ∷ ops) agrees e known =
     let parts = goes_on (step profile old op) (λ next. runs profile next ops) new e in
-    runs_stay_known laws profile p (followed profile op memory) parts.0 new ops (laws.follows profile p memory old parts.0 op agrees parts.1) parts.2
-    (laws.stays_known profile p memory old parts.0 op agrees parts.1 known)
+    runs_stay_known laws profile p (followed profile op memory) (laws.stays_possible profile p memory op may) parts.0 new ops (laws.follows profile p memory may old parts.0 op agrees parts.1) parts.2
+    (laws.stays_known profile p memory may old parts.0 op agrees parts.1 known)
 
 runs_state : (profile : ProfileView) (memory : MemoryView) (new : TerminalState) (ops : List Op) → runs profile memory.state ops ≡ Some new → (all_followed profile ops memory).state ≡ new
 runs_state profile memory new [] e = same_some memory.state new e
@@ -60,51 +60,48 @@ pub all_columns : (profile : ProfileView) (memory : MemoryView) (ops : List Op) 
 all_columns profile memory [] = refl
 all_columns profile memory (op ∷ ops) = all_columns profile (followed profile op memory) ops ∙ (same_size (abilities profile) op memory (step profile memory.state op)).1
 
--- the remembered state agrees with what is remembered
-agrees_itself : (abilities : Abilities) (memory : MemoryView) → MayBe abilities memory → Agrees abilities memory memory.state
-agrees_itself abilities memory may = record {
-  is_state = may.state;
-  may_be = may.state;
-  high = may.high;
-  rows = λ r h known. refl;
-  spot = λ known. refl;
-  pen = λ known. refl;
-}
+pub runs_stay_possible : MemoryLaws → (profile : ProfileView) → IsProfile profile → (memory : MemoryView) (ops : List Op) → MayBe (abilities profile) memory → MayBe (abilities profile) (all_followed profile ops memory)
+runs_stay_possible laws profile p memory [] may = may
+runs_stay_possible laws profile p memory (op ∷ ops) may = runs_stay_possible laws profile p (followed profile op memory) ops (laws.stays_possible profile p memory op may)
 
--- a blank memory of which nothing is known agrees with every state
-unknown_agrees : BlankLaws → MemoryLaws → (profile : ProfileView) → IsProfile profile → (now : TerminalState) → IsState (abilities profile) now → Agrees (abilities profile) (unknown profile.rows profile.columns) now
-unknown_agrees blanks laws profile p now state =
+-- a blank memory of which nothing is known agrees with every state, and its own is possible
+unknown_agrees : MemoryLaws → (profile : ProfileView) → IsProfile profile → (now : TerminalState) → IsState (abilities profile) now → Agrees (abilities profile) (unknown profile.rows profile.columns) now
+unknown_agrees laws profile p now state =
     let memory : MemoryView = remembered profile.rows profile.columns (blank_state profile.rows profile.columns) in
-    let may : MayBe (abilities profile) memory = record { state = blanks.state profile p; high = length-replicate profile.rows true } in
     subst (λ n. Agrees (abilities profile) (record (unknown profile.rows profile.columns) { known_rows = replicate n false }) now) (length-replicate profile.rows true)
-    (laws.forgets (abilities profile) memory memory.state now (agrees_itself (abilities profile) memory may) state)
+    (laws.forgets (abilities profile) memory now (length-replicate profile.rows true) state)
+
+unknown_possible : BlankLaws → (profile : ProfileView) → IsProfile profile → MayBe (abilities profile) (unknown profile.rows profile.columns)
+unknown_possible blanks profile p = record { state = blanks.state profile p; high = length-replicate profile.rows false }
 
 pub memory_runs : BlankLaws → MemoryLaws → MemoryRuns
 memory_runs blanks laws = record {
   follows = runs_follow laws;
   stays_known = runs_stay_known laws;
+  stays_possible = runs_stay_possible laws;
   state = runs_state;
   joined = all_joined;
   rows = all_rows;
   columns = all_columns;
-  at_first = unknown_agrees blanks laws;
+  at_first = unknown_agrees laws;
+  possible_at_first = unknown_possible blanks;
 }
 
 -- ---- what is all known
 
-known_is : GridLaws LookView → (abilities : Abilities) (memory : MemoryView) (now : TerminalState) → Agrees abilities memory now → is_known memory ≡ true
+known_is : GridLaws LookView → (abilities : Abilities) (memory : MemoryView) → IsGrid abilities.rows abilities.columns memory.state.grid → (now : TerminalState) → Agrees abilities memory now → is_known memory ≡ true
     → memory ≡ record (remembered abilities.rows abilities.columns now) { rows = memory.rows; columns = memory.columns }
-known_is grids abilities memory now agrees known =
+known_is grids abilities memory whole now agrees known =
     let most = both (list_all (λ known. known) memory.known_rows && memory.known_spot) memory.known_pen known in
     let parts = both (list_all (λ known. known) memory.known_rows) memory.known_spot most.0 in
-    let state : memory.state ≡ now = known_state grids abilities memory now agrees known in
+    let state : memory.state ≡ now = known_state grids abilities memory whole now agrees known in
     let rows : memory.known_rows ≡ replicate abilities.rows true = all_true memory.known_rows parts.0 ∙ ap (λ n. replicate n true) agrees.high in
     λ i. record { rows = memory.rows; columns = memory.columns; state = state i; known_rows = rows i; known_spot = parts.1 i; known_pen = most.1 i }
 
 pub known_memories : GridLaws LookView → KnownMemories
 known_memories grids = record {
   state = known_state grids;
-  all = λ abilities memory now agrees known rows columns.
-      known_is grids abilities memory now agrees known ∙ (λ i. record (remembered abilities.rows abilities.columns now) { rows = rows i; columns = columns i });
+  all = λ abilities memory whole now agrees known rows columns.
+      known_is grids abilities memory whole now agrees known ∙ (λ i. record (remembered abilities.rows abilities.columns now) { rows = rows i; columns = columns i });
   is = known_is grids;
 }

@@ -8,7 +8,7 @@ use Rattle.scr_term.specs.declared.operations.operation.Op.{Op}
 use Rattle.scr_term.specs.Operations.Abilities.{Abilities}
 use Rattle.scr_term.specs.Operations.Profiles.{abilities}
 use Rattle.scr_term.specs.Operations.States.{TerminalState}
-use Rattle.scr_memory.specs.Memories.{MemoryView, disturbed, known_from, stepped}
+use Rattle.scr_memory.specs.Memories.{MemoryView, disturbed, known_from, made_plain, stepped}
 use Rattle.scr_memory.specs.Code.Remembering.{IsKept, gone_to, with_run}
 use Rattle.scr_memory.proofs.RememberedRowLaws.{all_are, all_true, from_is_run, from_kept, with_alike}
 
@@ -38,11 +38,11 @@ learnt abilities op old memory (Some next) there is = ap (λ m. stepped abilitie
 -- rows that there are are disturbed
 pub disturbed_is : (memory view : MemoryView) (first n from end rows : ℕ) (new : List Bool) → memory ≡ view → length memory.known_rows ≡ rows
     → ((r : ℕ) → r < rows → (leb from r && ltb r end) ≡ (leb first r && ltb r (first + n))) → new ≡ with_run false from end memory.known_rows
-    → record memory { known_rows = new; known_spot = false; known_pen = false } ≡ disturbed first n view
+    → record memory { state = made_plain memory.state; known_rows = new; known_spot = false; known_pen = false } ≡ disturbed first n view
 disturbed_is memory view first n from end rows new is whole alike new_is =
     let there : new ≡ with_run false first (first + n) memory.known_rows =
     new_is ∙ with_alike false first (first + n) from end memory.known_rows (λ r h. alike r (omega (arith, h, whole))) in
-    ap (λ known. record memory { known_rows = known; known_spot = false; known_pen = false }) there ∙ ap (disturbed first n) is
+    ap (λ known. record memory { state = made_plain memory.state; known_rows = known; known_spot = false; known_pen = false }) there ∙ ap (disturbed first n) is
 
 -- ---- sizes
 

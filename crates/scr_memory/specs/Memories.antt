@@ -4,7 +4,7 @@ use Rattle.std.specs.Prelude.{ℕ, zero, ◌≡◌, ◌+◌, ◌<◌, ◌==◌, 
 use Rattle.std.specs.List.{list_all, range_with_len}
 use Rattle.scr_cells.specs.Grids.{grid_row}
 use Rattle.scr_cells.specs.LookViews.{LookView}
-use Rattle.scr_cells.specs.PenViews.{PenView}
+use Rattle.scr_cells.specs.PenViews.{PenView, plain_pen}
 use Rattle.scr_cells.specs.PictureViews.{IsSize}
 use Rattle.scr_term.specs.declared.operations.operation.Op.{Op}
 use Rattle.scr_term.specs.declared.operations.operation.Op.TheVariants.{Home, Move, Clear, EraseLine, EraseBelow, EraseChars, InsertLines, DeleteLines, InsertChars, DeleteChars, Reset, Set, Put}
@@ -73,25 +73,43 @@ is_placed memory (Some place) = memory.known_spot && is_in_place memory.state.sp
 abbrev pub is_known : MemoryView → Bool
 is_known memory = list_all (λ known. known) memory.known_rows && memory.known_spot && memory.known_pen
 
+-- Nothing is known: no row, neither the cursor's position nor the pen.
+abbrev pub is_nothing_known : MemoryView → Bool
+is_nothing_known memory = list_all not memory.known_rows && not memory.known_spot && not memory.known_pen
+
 -- The terminal's state `now` agrees with the memory: it is the same in everything that is known.
 pub record Agrees (abilities : Abilities) (memory : MemoryView) (now : TerminalState) : Type 0 where
   pub is_state : IsState abilities now
-  pub may_be : IsState abilities memory.state
   pub high : length memory.known_rows ≡ abilities.rows
   pub rows : (r : ℕ) → r < abilities.rows → is_known_row memory r ≡ true → grid_row now.grid r ≡ grid_row memory.state.grid r
   pub spot : memory.known_spot ≡ true → now.spot ≡ memory.state.spot
   pub pen : memory.known_pen ≡ true → now.pen ≡ memory.state.pen
 
+-- The remembered state is possible on a terminal with these abilities.
+pub record MayBe (abilities : Abilities) (memory : MemoryView) : Type 0 where
+  pub state : IsState abilities memory.state
+  pub high : length memory.known_rows ≡ abilities.rows
+
 -- ---- what makes it unknown
+
+-- The state with the plain pen, which every terminal can have.
+abbrev pub made_plain : TerminalState → TerminalState
+made_plain state = record state { pen = plain_pen }
 
 -- Nothing is known any more.
 abbrev pub forgotten : MemoryView → MemoryView
-forgotten memory = record memory { known_rows = replicate (length memory.known_rows) false; known_spot = false; known_pen = false }
+forgotten memory = record memory {
+  state = made_plain memory.state;
+  known_rows = replicate (length memory.known_rows) false;
+  known_spot = false;
+  known_pen = false;
+}
 
 -- The n rows from `first` on, as far as there are any, are no longer known, nor are the cursor's position and the pen:
 -- others wrote there.
 abbrev pub disturbed : ℕ → ℕ → MemoryView → MemoryView
 disturbed first n memory = record memory {
+  state = made_plain memory.state;
   known_rows = map (λ r. if leb first r && ltb r (first + n) then false else is_known_row memory r) (range_with_len 0 (length memory.known_rows));
   known_spot = false;
   known_pen = false;
@@ -104,7 +122,7 @@ pub record IsDisturbance (abilities : Abilities) (rows : ℕ → Bool) (old new 
 
 -- The memory after these rows, the cursor's position and the pen were forgotten, and perhaps further rows.
 pub record IsWithout (lost : ℕ → Bool) (memory less : MemoryView) : Type 0 where
-  pub state : less.state ≡ memory.state
+  pub grid : less.state.grid ≡ memory.state.grid
   pub high : length less.known_rows ≡ length memory.known_rows
   pub rows : (r : ℕ) → r < length memory.known_rows → is_known_row less r ≡ true → (is_known_row memory r ≡ true) × (lost r ≡ false)
   pub spot : less.known_spot ≡ false
@@ -205,15 +223,21 @@ remembered rows columns state = record {
 -- ---- the laws
 
 -- If a state agrees with the memory and an operation is defined there, the state after it agrees with the memory after
--- it; if all was known, all stays known. After forgetting, every state agrees. After others wrote in some rows, the
--- state agrees with the memory without these rows, cursor and pen. A mark forgets its rows, and several marks forget
--- the rows of each.
+-- it; if all was known, all stays known; and a remembered state that is possible stays possible. After forgetting, every
+-- state of every terminal of that size agrees, and the remembered one is possible there. After others wrote in some
+-- rows, the state agrees with the memory without these rows, cursor and pen. A mark forgets its rows, and several marks
+-- forget the rows of each.
 pub record MemoryLaws : Type 0 where
-  pub follows : (profile : ProfileView) → IsProfile profile → (memory : MemoryView) (old new : TerminalState) (op : Op)
+  pub follows : (profile : ProfileView) → IsProfile profile → (memory : MemoryView) → MayBe (abilities profile) memory → (old new : TerminalState) (op : Op)
       → Agrees (abilities profile) memory old → step profile old op ≡ Some new → Agrees (abilities profile) (followed profile op memory) new
-  pub stays_known : (profile : ProfileView) → IsProfile profile → (memory : MemoryView) (old new : TerminalState) (op : Op)
+  pub stays_known : (profile : ProfileView) → IsProfile profile → (memory : MemoryView) → MayBe (abilities profile) memory → (old new : TerminalState) (op : Op)
       → Agrees (abilities profile) memory old → step profile old op ≡ Some new → is_known memory ≡ true → is_known (followed profile op memory) ≡ true
-  pub forgets : (abilities : Abilities) (memory : MemoryView) (old new : TerminalState) → Agrees abilities memory old → IsState abilities new → Agrees abilities (forgotten memory) new
+  pub stays_possible : (profile : ProfileView) → IsProfile profile → (memory : MemoryView) (op : Op) → MayBe (abilities profile) memory → MayBe (abilities profile) (followed profile op memory)
+  pub itself : (abilities : Abilities) (memory : MemoryView) → MayBe abilities memory → Agrees abilities memory memory.state
+  pub forgets : (abilities : Abilities) (memory : MemoryView) (new : TerminalState) → length memory.known_rows ≡ abilities.rows → IsState abilities new → Agrees abilities (forgotten memory) new
+  pub forgotten_possible : (abilities : Abilities) (memory : MemoryView) → MayBe abilities memory → MayBe abilities (forgotten memory)
+  pub possible_again : (abilities : Abilities) (memory : MemoryView) → IsMemory memory → memory.rows ≡ abilities.rows → memory.columns ≡ abilities.columns → MayBe abilities (forgotten memory)
+  pub disturbed_possible : (abilities : Abilities) (memory : MemoryView) (first n : ℕ) → MayBe abilities memory → MayBe abilities (disturbed first n memory)
   pub others : (abilities : Abilities) (rows : ℕ → Bool) (memory less : MemoryView) (old new : TerminalState) → Agrees abilities memory old → IsDisturbance abilities rows old new
       → IsWithout rows memory less → Agrees abilities less new
   pub marks : (memory : MemoryView) (first n : ℕ) → IsWithout (λ r. leb first r && ltb r (first + n)) memory (disturbed first n memory)

@@ -3,14 +3,16 @@ ghost use Rattle.scr_memory.specs.Memories.{MemoryLaws};
 ghost use Rattle.scr_memory.specs.MemoryRuns.{KnownMemories, MemoryRuns};
 
 use scr_cells::{Look, grid_laws};
-use scr_term::{blank_laws, steps_keep_states};
+use scr_term::{blank_laws, shown_pen_laws, steps_keep_states};
 
 /// If a state agrees with what is remembered of the terminal and an operation is defined from it,
 /// the state after it agrees with what is remembered then; and if all was known, all is. A mark
-/// makes what others wrote unknown.
+/// makes what others wrote unknown. After forgetting, every state of every terminal of that size
+/// agrees.
 pub fn memory_laws()
     ensures { MemoryLaws }
 {
+    shown_pen_laws();
     steps_keep_states();
     grid_laws::<Look>();
 }

@@ -4,7 +4,7 @@ ghost use Rattle.std.specs.Option.{is_some};
 ghost use Rattle.scr_term.specs.Operations.Profiles.{abilities};
 ghost use Rattle.scr_term.specs.Operations.States.{IsSpot};
 ghost use Rattle.scr_term.specs.Operations.Steps.{step};
-ghost use Rattle.scr_memory.specs.Memories.{IsMemory, all_followed, changes_cells, clears, disturbed, followed, forgotten, has_one_pen, is_known, is_known_row, is_placed, known_from, loses_rows, moves_rows, pen_if_known, places_spot, row_looks, rows_erased, rows_followed, sets_pen, spot_if_known, stepped, unknown};
+ghost use Rattle.scr_memory.specs.Memories.{IsMemory, all_followed, changes_cells, clears, disturbed, followed, forgotten, has_one_pen, is_known, is_known_row, is_placed, known_from, loses_rows, made_plain, moves_rows, pen_if_known, places_spot, row_looks, rows_erased, rows_followed, sets_pen, spot_if_known, stepped, unknown};
 ghost use Rattle.scr_cells.specs.Grids.{grid_row};
 ghost use Rattle.scr_memory.specs.Code.Remembering.{gone_to};
 
@@ -254,10 +254,13 @@ impl Memory {
         is_defined
     }
 
-    // Forgets the cursor's spot and the pen.
+    // Forgets the cursor's spot and the pen, which is the plain one then, since every terminal can
+    // have that.
     fn forget_spot_and_pen(&mut self)
-        ensures { self.new ≡ record self.old { known_spot = false; known_pen = false } }
+        ensures { self.new ≡ record self.old { state = made_plain self.old.state; known_spot = false; known_pen = false } }
     {
+        self.terminal.make_plain();
+        let _size = self.terminal.size();
         self.spot = false;
         self.pen = false;
     }

@@ -1,7 +1,7 @@
 //! Where operations lead that change no cell: motions to another spot, renditions to another pen.
-ghost use Rattle.std.specs.Prelude.{◌↔◌, ℕ, IsTrue, IfSome};
+ghost use Rattle.std.specs.Prelude.{◌≡◌, ◌↔◌, ℕ, IsTrue, IfNone, IfSome, true};
 ghost use Rattle.scr_term.specs.Operations.Abilities.{full_abilities};
-ghost use Rattle.scr_terminal.specs.Leading.{GoesTo, TurnsTo};
+ghost use Rattle.scr_terminal.specs.Leading.{GoesTo, IsUndefinedAt, TurnsTo, is_motion, is_turn};
 ghost use Rattle.scr_term.specs.Operations.States.{IsShownPen, IsSpot};
 ghost use Rattle.scr_term.specs.Operations.Texts.{has};
 
@@ -21,9 +21,13 @@ use scr_term::{Op, Profile, Spot};
 /// unknown attribute.
 pub fn moved_by(profile: &Profile, spot: Spot, pen: Pen, op: Op) -> Option<Spot>
     requires { IsTrue (has profile.now op) }
-    ensures { IfSome result (GoesTo profile.now spot pen op) }
+    ensures goes { IfSome result (GoesTo profile.now spot pen op) }
+    ensures undefined { IfNone result (is_motion op ≡ true → IsSpot profile.now.rows profile.now.columns spot → IsShownPen (full_abilities profile.now.rows profile.now.columns) pen → IsUndefinedAt profile.now spot pen op) }
 {
-    if !is_on_screen(profile, spot) || !is_shown_by_all(pen) {
+    if !is_on_screen(profile, spot) {
+        return None;
+    }
+    if !is_shown_by_all(pen) {
         return None;
     }
     match op {
@@ -44,7 +48,8 @@ pub fn moved_by(profile: &Profile, spot: Spot, pen: Pen, op: Op) -> Option<Spot>
 /// colour is on.
 #[tactic(auto, unfolding(scr_term::specs::Operations::Texts::has))]
 pub fn turned(profile: &Profile, spot: Spot, pen: Pen, op: Op) -> Option<Pen>
-    ensures { IfSome result (TurnsTo profile.now spot pen op) }
+    ensures turns { IfSome result (TurnsTo profile.now spot pen op) }
+    ensures undefined { IfNone result (is_turn op ≡ true → IsUndefinedAt profile.now spot pen op) }
 {
     if !profile.has(op) {
         return None;
@@ -77,7 +82,8 @@ fn is_on_screen(profile: &Profile, spot: Spot) -> bool
 
 // Whether a terminal that shows everything shows a pen.
 fn is_shown_by_all(pen: Pen) -> bool
-    ensures { (rows columns : ℕ) → IsTrue result → IsShownPen (full_abilities rows columns) pen }
+    ensures shown { (rows columns : ℕ) → IsTrue result → IsShownPen (full_abilities rows columns) pen }
+    ensures hidden { (rows columns : ℕ) → IsShownPen (full_abilities rows columns) pen → IsTrue result }
 {
     Attrs::EVERY.contains(pen.attrs())
 }

@@ -1,13 +1,14 @@
 //! What each operation changes on an emulated terminal, except for writing characters.
 ghost use Rattle.std.specs.Option.{is_none};
-ghost use Rattle.std.specs.Prelude.{◌≡◌, ◌≢◌, ◌||◌, ◌&&◌, ℕ, Some, None, IsTrue, IfSome, if◌then◌else◌};
+ghost use Rattle.std.specs.Prelude.{◌≡◌, ◌≢◌, ◌||◌, ◌&&◌, ℕ, true, Some, None, IsTrue, IfSome, if◌then◌else◌};
 ghost use Rattle.scr_cells.specs.PenViews.{is_plain_pen, plain_pen};
 ghost use Rattle.scr_term.specs.declared.operations.operation.Op.TheVariants.{Put};
 ghost use Rattle.scr_term.specs.Operations.Abilities.{full_abilities};
 ghost use Rattle.scr_term.specs.Operations.States.{IsShownPen, IsSpot, from_place};
 ghost use Rattle.scr_term.specs.Operations.Steps.{act, lines_below_erased};
 ghost use Rattle.scr_term.specs.Operations.Texts.{has};
-ghost use Rattle.scr_terminal.specs.Code.Changes.{IsChange, MakesAt, MakesWith, next_pen};
+ghost use Rattle.scr_terminal.specs.Leading.{is_motion};
+ghost use Rattle.scr_terminal.specs.Code.Changes.{IsChange, IsMoved, MakesAt, MakesWith, next_pen};
 
 use crate::displays::{
     Change, characters_deleted, characters_erased, characters_inserted, lines_deleted,
@@ -28,6 +29,7 @@ pub(crate) fn change_of(profile: &Profile, spot: Spot, pen: Pen, op: Op) -> Opti
     requires other { (byte : ℕ) → op ≢ Put byte }
     ensures value { MakesWith profile.now.rows profile.now.columns spot pen result (λ state. act profile.now state op) }
     ensures change { IfSome result (IsChange profile.now.rows profile.now.columns) }
+    ensures motion { is_motion op ≡ true → IfSome result IsMoved }
 {
     let size = profile.size();
     shown_pen_laws();
@@ -62,6 +64,7 @@ fn motion(profile: &Profile, pen: Pen, change: Option<Change>) -> Option<Change>
     requires { IfSome change (IsChange profile.now.rows profile.now.columns) }
     ensures value { result ≡ if profile.now.msgr || is_plain_pen pen then change else None }
     ensures change { IfSome result (IsChange profile.now.rows profile.now.columns) }
+    ensures moved { IfSome change IsMoved → IfSome result IsMoved }
 {
     if profile.moves_in_any_rendition() || pen.is_plain() {
         change

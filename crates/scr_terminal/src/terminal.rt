@@ -5,6 +5,7 @@ ghost use Rattle.std.specs.Option.{ForSome};
 ghost use Rattle.scr_cells.specs.Attributes.{every_attribute};
 ghost use Rattle.scr_cells.specs.Grids.{grid_at, grid_row};
 ghost use Rattle.scr_cells.specs.LookViews.{IsLook, LookView};
+ghost use Rattle.scr_cells.specs.PenViews.{plain_pen};
 ghost use Rattle.scr_cells.specs.PictureViews.{IsPlace};
 ghost use Rattle.scr_terminal.specs.Displays.{IsDisplay, blank_display, gone_on};
 ghost use Rattle.scr_terminal.specs.Characters.{characters_ahead, is_character_op};
@@ -19,7 +20,7 @@ use crate::displays::{Change, Display};
 use crate::steps::change_of;
 use crate::undefined::Undefined;
 use scr_cells::{Attrs, Look, NoMemory, Pen, Size};
-use scr_term::{Op, Profile, Spot, look_grid_laws};
+use scr_term::{Op, Profile, Spot, look_grid_laws, shown_pen_laws};
 use std::alloc::Global;
 use std::marker::Model;
 
@@ -104,6 +105,15 @@ impl Terminal {
         let count = self.display.write_ahead(ops);
         let _size = self.display.size();
         count
+    }
+
+    /// Turns attributes off and makes the colours default, whatever the terminal has for it.
+    pub fn make_plain(&mut self)
+        ensures { self.new ≡ record self.old { state = record self.old.state { pen = plain_pen } } }
+    {
+        shown_pen_laws();
+        self.display.make(Change::Rendered(Pen::plain()));
+        let _size = self.display.size();
     }
 
     /// The number of rows and columns.

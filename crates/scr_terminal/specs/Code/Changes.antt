@@ -25,6 +25,11 @@ IsChange rows columns (CharactersInserted row column n) = (row < rows) × (colum
 IsChange rows columns (CharactersDeleted row column n) = (row < rows) × (column + n ≤ columns)
 IsChange rows columns (Rendered pen) = IsShownPen (full_abilities rows columns) pen
 
+-- the cursor's position alone
+abbrev pub IsMoved : Change → Type 0
+IsMoved (Moved spot) = Unit {0}
+IsMoved change = ⊥
+
 -- the state with the spot, some places or the pen changed
 abbrev pub changed : ℕ → ℕ → TerminalState → Change → TerminalState
 changed rows columns state (Moved spot) = record state { spot = spot }

@@ -1,7 +1,7 @@
 //! Changes of an emulated terminal, worked out before any of them is made.
 ghost use Rattle.std.specs.Prelude.{◌≤◌, IfSome};
 ghost use Rattle.scr_term.specs.Operations.States.{IsSpot, characters_deleted, characters_erased, characters_inserted, lines_deleted, lines_inserted, moved_down, moved_left, moved_right, moved_to, moved_to_column, moved_to_row, moved_up, rest_of_line_erased};
-ghost use Rattle.scr_terminal.specs.Code.Changes.{IsChange, Makes, MakesAt};
+ghost use Rattle.scr_terminal.specs.Code.Changes.{IsChange, IsMoved, Makes, MakesAt};
 
 use scr_cells::{Pen, Size};
 use scr_term::Spot;
@@ -35,6 +35,7 @@ pub(crate) enum Change {
 pub(crate) fn moved_to(size: Size, row: u32, column: u32) -> Option<Change>
     ensures value { Makes size.rows size.columns result (λ state. moved_to size.rows size.columns state row column) }
     ensures change { IfSome result (IsChange size.rows size.columns) }
+    ensures moved { IfSome result IsMoved }
 {
     if row < size.rows && column < size.columns {
         Some(Change::Moved(Spot::At(row, column)))
@@ -48,6 +49,7 @@ pub(crate) fn moved_up(size: Size, spot: Spot, count: u32) -> Option<Change>
     requires { IsSpot size.rows size.columns spot }
     ensures value { MakesAt size.rows size.columns spot result (λ state. moved_up size.rows size.columns state count) }
     ensures change { IfSome result (IsChange size.rows size.columns) }
+    ensures moved { IfSome result IsMoved }
 {
     match spot {
         Spot::At(row, column) if count <= row => moved_to(size, row - count, column),
@@ -61,6 +63,7 @@ pub(crate) fn moved_down(size: Size, spot: Spot, count: u32) -> Option<Change>
     requires few { count ≤ 65535 }
     ensures value { MakesAt size.rows size.columns spot result (λ state. moved_down size.rows size.columns state count) }
     ensures change { IfSome result (IsChange size.rows size.columns) }
+    ensures moved { IfSome result IsMoved }
 {
     match spot {
         Spot::At(row, column) => moved_to(size, row + count, column),
@@ -74,6 +77,7 @@ pub(crate) fn moved_right(size: Size, spot: Spot, count: u32) -> Option<Change>
     requires few { count ≤ 65535 }
     ensures value { MakesAt size.rows size.columns spot result (λ state. moved_right size.rows size.columns state count) }
     ensures change { IfSome result (IsChange size.rows size.columns) }
+    ensures moved { IfSome result IsMoved }
 {
     match spot {
         Spot::At(row, column) => moved_to(size, row, column + count),
@@ -86,6 +90,7 @@ pub(crate) fn moved_left(size: Size, spot: Spot, count: u32) -> Option<Change>
     requires { IsSpot size.rows size.columns spot }
     ensures value { MakesAt size.rows size.columns spot result (λ state. moved_left size.rows size.columns state count) }
     ensures change { IfSome result (IsChange size.rows size.columns) }
+    ensures moved { IfSome result IsMoved }
 {
     match spot {
         Spot::At(row, column) if count <= column => moved_to(size, row, column - count),
@@ -97,6 +102,7 @@ pub(crate) fn moved_left(size: Size, spot: Spot, count: u32) -> Option<Change>
 pub(crate) fn moved_to_column(size: Size, spot: Spot, column: u32) -> Option<Change>
     ensures value { MakesAt size.rows size.columns spot result (λ state. moved_to_column size.rows size.columns state column) }
     ensures change { IfSome result (IsChange size.rows size.columns) }
+    ensures moved { IfSome result IsMoved }
 {
     match spot {
         Spot::At(row, _) => moved_to(size, row, column),
@@ -108,6 +114,7 @@ pub(crate) fn moved_to_column(size: Size, spot: Spot, column: u32) -> Option<Cha
 pub(crate) fn moved_to_row(size: Size, spot: Spot, row: u32) -> Option<Change>
     ensures value { MakesAt size.rows size.columns spot result (λ state. moved_to_row size.rows size.columns state row) }
     ensures change { IfSome result (IsChange size.rows size.columns) }
+    ensures moved { IfSome result IsMoved }
 {
     match spot {
         Spot::At(_, column) => moved_to(size, row, column),
