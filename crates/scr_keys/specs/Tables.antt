@@ -1,5 +1,5 @@
 -- The keys of an entry: its texts whose names begin with k. terminfo(5), 'Function Keys'.
-use Rattle.std.specs.Prelude.{ℕ, ◌≡◌, suc, zero, ◌==◌, ◌&&◌, not, Bool, false, List, [], ◌∷◌, ◌++◌, length, Option, Some, None, nat_lt, is_some, if◌then◌else◌}
+use Rattle.std.specs.Prelude.{ℕ, ◌≡◌, suc, zero, ◌==◌, ◌&&◌, not, Bool, true, false, List, [], ◌∷◌, ◌++◌, length, Option, Some, None, nat_lt, is_some, if◌then◌else◌}
 use Rattle.ti_caps.specs.declared.table.Kind.TheVariants.{Text}
 use Rattle.ti_caps.specs.Description.{Description, text_at}
 use Rattle.ti_caps.specs.Table.{name_at, or_else}
@@ -62,3 +62,11 @@ abbrev pub AreRefused : Description → KeyFault → Type 0
 AreRefused entry NoMemory = Unit {0}
 AreRefused entry QueueFull = ⊥
 AreRefused entry (KeyTooLong slot) = too_long entry ≡ Some slot.0
+
+-- The entry has a text for a key at this position.
+abbrev pub HasKeyAt : Description → ℕ → Type 0
+HasKeyAt entry slot = (is_key slot && is_some (text_at entry slot)) ≡ true
+
+-- The entry has a text for some key: without one nothing is allocated.
+abbrev pub HasKeys : Description → Type 0
+HasKeys entry = (slot : ℕ) × HasKeyAt entry slot

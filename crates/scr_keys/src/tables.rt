@@ -1,6 +1,6 @@
 //! The keys of a terminal, and how they are found.
-ghost use Rattle.std.specs.Prelude.{◌≡◌, ◌+◌, ◌<◌, ◌≤◌, ◌≢◌, ◌==◌, [], ◌∷◌, ◌++◌, None, IfErr, IfOk, IfSome, length, nat_lt};
-ghost use Rattle.scr_keys.specs.Tables.{AreKeysOf, AreRefused, is_key, is_new, text_of_key, with_key};
+ghost use Rattle.std.specs.Prelude.{◌≡◌, ◌+◌, ◌<◌, ◌≤◌, ◌≢◌, ◌==◌, [], ◌∷◌, ◌++◌, None, IfErr, IfOk, IfSome, IsErrOf, OnErr, length, nat_lt};
+ghost use Rattle.scr_keys.specs.Tables.{AreKeysOf, AreRefused, HasKeyAt, HasKeys, is_key, is_new, text_of_key, with_key};
 ghost use Rattle.scr_keys.specs.Code.Maps.{longest_like};
 ghost use Rattle.scr_keys.specs.Keys.{first_of, goes_on, key_of, longest, longest_text};
 
@@ -42,11 +42,12 @@ impl KeyTable {
     /// Makes the table of an entry's keys: the texts whose names begin with `k`, without padding, all other bytes as
     /// they are. An empty text is no key; of two keys that send the same, the one at the lower position counts.
     ///
-    /// Refused: KeyTooLong with the lowest position whose text has more than 64 bytes; NoMemory if memory runs out.
-    /// terminfo(5), 'Function Keys'.
+    /// Refused: KeyTooLong with the lowest position whose text has more than 64 bytes; NoMemory if memory runs out,
+    /// which it cannot if no key has a text. terminfo(5), 'Function Keys'.
     pub fn of(alloc: Global, entry: &Entry) -> Result<KeyTable, KeyFault>
         ensures ok { IfOk result (AreKeysOf entry.now) }
         ensures err { IfErr result (AreRefused entry.now) }
+        ensures memory { IsErrOf result KeyFault.NoMemory → HasKeys entry.now }
     {
         let mut table = KeyTable::empty(alloc);
         for slot in 0..MOST_TEXTS as u16 {
@@ -74,7 +75,8 @@ impl KeyTable {
     // Adds a key, unless it sends nothing, or what a key before it sends.
     fn with_key(self, alloc: Global, text: &[u8], slot: u16) -> Result<KeyTable, NoMemory>
         requires { length text.now ≤ 64 }
-        ensures { IfOk result (λ table. table ≡ with_key self text.now slot) }
+        ensures table { IfOk result (λ table. table ≡ with_key self text.now slot) }
+        ensures memory { OnErr result (text.now ≢ []) }
     {
         if !self.is_new(text) {
             return Ok(self);
@@ -174,7 +176,9 @@ fn is_too_long(text: &[u8]) -> bool
 
 // What the key at a position sends, without padding; nothing if there is no key.
 fn text_of_key(alloc: Global, entry: &Entry, slot: Slot) -> Result<Vec<u8>, NoMemory>
-    ensures { IfOk result (λ text. text.items ≡ text_of_key entry.now slot.0) }
+    ensures text { IfOk result (λ text. text.items ≡ text_of_key entry.now slot.0) }
+    ensures some { IfOk result (λ text. text.items ≢ [] → HasKeyAt entry.now slot.0) }
+    ensures memory { OnErr result (HasKeyAt entry.now slot.0) }
 {
     padding_is_removed();
     padding_is_removed_once();

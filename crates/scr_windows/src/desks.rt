@@ -17,7 +17,9 @@ use std::marker::Model;
 ///
 /// In every call rows and columns are counted from 0, from the window's first place unless the call says otherwise, and
 /// the corners of a rectangle are both inside it. A refused call changes nothing; if several refusals hold, the first
-/// that the call names is given.
+/// that the definition names is given. A call has a line here: what it does and refuses, and its section of the
+/// standard, is said at the method of `curses::Screen` of the same name, which passes it on, and defined in
+/// `specs/Calls`.
 #[derive(Drop)]
 pub struct Desk {
     pub(crate) rows: u32,

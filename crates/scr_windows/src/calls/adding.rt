@@ -16,20 +16,7 @@ use bitflags::Flags;
 use scr_cells::{Attrs, Cell, is_character};
 
 impl Desk {
-    /// Adds a byte at a window's cursor, with these attributes besides those of the window and of its background. Its
-    /// colour pair is the window's, or the background's if the window's is 0.
-    ///
-    /// A byte 32 to 126 is written, a blank as the background's byte, and the cursor moves right, from the last column
-    /// to the first of the next line. Byte 10 erases to the end of the line and goes to the first column of the next
-    /// line. Byte 9 erases up to the next column that is a multiple of 8 and goes there, or acts as byte 10 if the line
-    /// has no such column. Byte 8 moves the cursor left, at most to column 0, and 13 moves it to column 0. Any other
-    /// byte below 128 is shown as `^` and a character.
-    ///
-    /// In the last row of the scrolling region, the region scrolls up by one if `scroll_ok` is set, and the next line
-    /// is that row again; without `scroll_ok` there is no next line. There is none below the window's last row either.
-    /// `Stayed` says that a next line was needed and there was none, so the cursor stayed.
-    ///
-    /// Refused: NoWindow; NotAscii for a byte from 128 on. X/Open Curses Issue 7, addch().
+    /// Adds a byte at a window's cursor, with these attributes besides those of the window and of its background.
     #[tactic(auto, unfolding(crate::specs::Calls::Adding::add_byte_call))]
     pub fn add_byte(&mut self, win: Win, byte: u8, attrs: Attrs) -> Result<Added, WinFault>
         ensures call { (self.new, result) ≡ add_byte_call self.old win.0 byte attrs }
@@ -42,10 +29,7 @@ impl Desk {
         Ok(self.add_at(index, byte, attrs))
     }
 
-    /// Adds the bytes of a text one after another, as `add_byte` does without attributes. `Stayed` says that at least
-    /// one of them gave it.
-    ///
-    /// Refused: NoWindow; NotAscii if any byte is 128 or more. X/Open Curses Issue 7, addnstr().
+    /// Adds the bytes of a text one after another, as `add_byte` does without attributes.
     #[tactic(auto, unfolding(crate::specs::Calls::Adding::add_text_call))]
     pub fn add_text(&mut self, win: Win, text: &[u8]) -> Result<Added, WinFault>
         ensures call { (self.new, result) ≡ add_text_call self.old win.0 text.now }
@@ -59,9 +43,7 @@ impl Desk {
     }
 
     /// Inserts a byte 32 to 126 at a window's cursor, in the form that `add_byte` writes: the rest of the line moves
-    /// right by one, and its last cell is lost. The cursor stays.
-    ///
-    /// Refused: NoWindow; NotAscii for another byte. X/Open Curses Issue 7, insch().
+    /// right by one, and its last cell is lost.
     #[tactic(auto, unfolding(crate::specs::Calls::Adding::insert_byte_call))]
     pub fn insert_byte(&mut self, win: Win, byte: u8, attrs: Attrs) -> Result<(), WinFault>
         ensures call { (self.new, result) ≡ insert_byte_call self.old win.0 byte attrs }
@@ -83,10 +65,7 @@ impl Desk {
         Ok(())
     }
 
-    /// Writes a byte 32 to 126 in `n` places of a window from the cursor to the right, at most to the edge. Its form is
-    /// that of `add_byte` without attributes. The cursor stays.
-    ///
-    /// Refused: NoWindow; NotAscii for another byte. X/Open Curses Issue 7, hline().
+    /// Writes a byte 32 to 126 in `n` places of a window from the cursor to the right, at most to the edge.
     #[tactic(auto, unfolding(crate::specs::Calls::Adding::line_across_call))]
     pub fn line_across(&mut self, win: Win, byte: u8, n: u32) -> Result<(), WinFault>
         ensures call { (self.new, result) ≡ line_across_call self.old win.0 byte n }
@@ -113,10 +92,7 @@ impl Desk {
         Ok(())
     }
 
-    /// Writes a byte 32 to 126 in `n` places of a window from the cursor down, at most to the edge. Its form is that of
-    /// `add_byte` without attributes. The cursor stays.
-    ///
-    /// Refused: NoWindow; NotAscii for another byte. X/Open Curses Issue 7, vline().
+    /// Writes a byte 32 to 126 in `n` places of a window from the cursor down, at most to the edge.
     #[tactic(auto, unfolding(crate::specs::Calls::Adding::line_down_call))]
     pub fn line_down(&mut self, win: Win, byte: u8, n: u32) -> Result<(), WinFault>
         ensures call { (self.new, result) ≡ line_down_call self.old win.0 byte n }

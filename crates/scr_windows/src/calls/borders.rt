@@ -15,10 +15,7 @@ use scr_cells::{Attrs, Cell, is_character};
 
 impl Desk {
     /// Writes eight bytes 32 to 126 along the edges of a window: on the left, right, top and bottom edge, then in the
-    /// top left, top right, bottom left and bottom right corner. Where two of them meet, the later one stands. A blank
-    /// is written as the background's byte. The cursor stays, and all lines are touched.
-    ///
-    /// Refused: NoWindow; NotAscii if any of them is another byte. X/Open Curses Issue 7, border().
+    /// top left, top right, bottom left and bottom right corner.
     #[tactic(auto, unfolding(crate::specs::Calls::Borders::border_call))]
     pub fn border(&mut self, win: Win, bytes: [u8; 8]) -> Result<(), WinFault>
         ensures call { (self.new, result) ≡ border_call self.old win.0 bytes }

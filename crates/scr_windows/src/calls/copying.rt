@@ -18,13 +18,7 @@ use scr_cells::{Cell, Grid, grid_laws};
 use std::alloc::Global;
 
 impl Desk {
-    /// Copies cells of the source window, from `row` and `column` on, to a rectangle of the target window. The
-    /// rectangle reaches from `top` and `left` to `bottom` and `right`, both corners inside it. The two windows may be
-    /// the same or share cells: all cells are read before any is written. With `overlay`, a blank (byte 32, whatever
-    /// its attributes) leaves the target's cell. All lines of the rectangle are touched.
-    ///
-    /// Refused: NoWindow; OutOfWindow if the rectangle is not wholly in the target, the part copied is not wholly in
-    /// the source, or the corners are the wrong way round; NoMemory. X/Open Curses Issue 7, copywin().
+    /// Copies cells of the source window, from `row` and `column` on, to a rectangle of the target window.
     #[tactic(auto, unfolding(crate::specs::Calls::Copying::copy_call))]
     pub fn copy(
         &mut self,
@@ -60,10 +54,7 @@ impl Desk {
     }
 
     /// Copies the part of the screen that two windows both cover from the source to the target, except for blanks (byte
-    /// 32, whatever its attributes). The target's lines of this part are touched. Nothing changes if there is no such
-    /// part.
-    ///
-    /// Refused: NoWindow; IsPad if either is a pad; NoMemory. X/Open Curses Issue 7, overlay().
+    /// 32, whatever its attributes).
     pub fn overlay(&mut self, alloc: Global, source: Win, target: Win) -> Result<(), WinFault>
         ensures call { Allocated self.old (overlay_call self.old source.0 target.0 true) (self.new, result) }
         ensures size { HasSameSize self.old self.new }
@@ -71,10 +62,7 @@ impl Desk {
         self.lay_over(alloc, source, target, true)
     }
 
-    /// Copies the part of the screen that two windows both cover from the source to the target, blanks included. The
-    /// target's lines of this part are touched. Nothing changes if there is no such part.
-    ///
-    /// Refused: NoWindow; IsPad if either is a pad; NoMemory. X/Open Curses Issue 7, overwrite().
+    /// Copies the part of the screen that two windows both cover from the source to the target, blanks included.
     pub fn overwrite(&mut self, alloc: Global, source: Win, target: Win) -> Result<(), WinFault>
         ensures call { Allocated self.old (overlay_call self.old source.0 target.0 false) (self.new, result) }
         ensures size { HasSameSize self.old self.new }

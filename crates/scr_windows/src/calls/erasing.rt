@@ -9,9 +9,7 @@ use crate::faults::{Win, WinFault};
 use crate::surfaces::Drawing;
 
 impl Desk {
-    /// Erases a window from the cursor to the end of the line: these places get the background. The cursor stays.
-    ///
-    /// Refused: NoWindow. X/Open Curses Issue 7, clrtoeol().
+    /// Erases a window from the cursor to the end of the line: these places get the background.
     #[tactic(auto, unfolding(crate::specs::Calls::Erasing::clear_to_eol_call))]
     pub fn clear_to_eol(&mut self, win: Win) -> Result<(), WinFault>
         ensures call { (self.new, result) ≡ clear_to_eol_call self.old win.0 }
@@ -23,9 +21,6 @@ impl Desk {
     }
 
     /// Erases a window from the cursor to the end of the line, and all lines below: these places get the background.
-    /// The cursor stays.
-    ///
-    /// Refused: NoWindow. X/Open Curses Issue 7, clrtobot().
     #[tactic(auto, unfolding(crate::specs::Calls::Erasing::clear_to_bottom_call))]
     pub fn clear_to_bottom(&mut self, win: Win) -> Result<(), WinFault>
         ensures call { (self.new, result) ≡ clear_to_bottom_call self.old win.0 }
@@ -45,8 +40,6 @@ impl Desk {
     }
 
     /// Erases a whole window: every place gets the background, and the cursor goes to the first place.
-    ///
-    /// Refused: NoWindow. X/Open Curses Issue 7, erase().
     #[tactic(auto, unfolding(crate::specs::Calls::Erasing::erase_call))]
     pub fn erase(&mut self, win: Win) -> Result<(), WinFault>
         ensures call { (self.new, result) ≡ erase_call self.old win.0 }
@@ -69,8 +62,6 @@ impl Desk {
 
     /// Erases a whole window as `erase` does, and sets `clear_ok`: the next update with this window repaints the whole
     /// screen.
-    ///
-    /// Refused: NoWindow. X/Open Curses Issue 7, clear().
     #[tactic(auto, unfolding(crate::specs::Calls::Erasing::clear_call))]
     pub fn clear(&mut self, win: Win) -> Result<(), WinFault>
         ensures call { (self.new, result) ≡ clear_call self.old win.0 }

@@ -23,8 +23,6 @@ const MOST_CELLS: u64 = 1_000_000;
 
 impl Desk {
     /// Makes a desk with one blank window, `Win(0)`, over the whole screen.
-    ///
-    /// Refused: NoMemory. X/Open Curses Issue 7, initscr().
     pub fn new(alloc: Global, size: Size) -> Result<Desk, WinFault>
         ensures { MatchResult result (λ desk. desk ≡ first_desk size.rows size.columns) (λ fault. fault ≡ NoMemory) }
     {
@@ -58,9 +56,6 @@ impl Desk {
     }
 
     /// Makes a blank window at a row and a column of the screen; 0 rows or columns extend to the screen's end.
-    ///
-    /// Refused: OffScreen if it is empty or not wholly on the screen; TooMany if there are 1,000 windows, or
-    /// 4,294,967,295 were made after the first; NoMemory. X/Open Curses Issue 7, newwin().
     #[tactic(auto, unfolding(crate::specs::Calls::Making::new_window_call))]
     pub fn new_window(
         &mut self,
@@ -81,9 +76,6 @@ impl Desk {
     }
 
     /// Makes a blank pad, a window that has no place on the screen.
-    ///
-    /// Refused: OutOfWindow for 0 rows or columns; TooBig above 1,000,000 cells; TooMany as in `new_window`; NoMemory.
-    /// X/Open Curses Issue 7, newpad().
     #[tactic(auto, unfolding(crate::specs::Calls::Making::new_pad_call))]
     pub fn new_pad(&mut self, alloc: Global, rows: u32, columns: u32) -> Result<Win, WinFault>
         ensures call { Allocated self.old (new_pad_call self.old rows columns) (self.new, result) }

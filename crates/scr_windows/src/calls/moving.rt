@@ -21,10 +21,7 @@ pub enum Shift {
 }
 
 impl Desk {
-    /// Moves a window to a row and a column of the screen, and all its descendants with it. Its own lines are touched.
-    ///
-    /// Refused: NoWindow; IsPad; IsSub; OffScreen if it would not be wholly on the screen. X/Open Curses Issue 7,
-    /// mvwin().
+    /// Moves a window to a row and a column of the screen, and all its descendants with it.
     #[tactic(auto, unfolding(crate::specs::Calls::Moving::move_window_call))]
     pub fn move_window(&mut self, win: Win, row: u32, column: u32) -> Result<(), WinFault>
         ensures call { (self.new, result) ≡ move_window_call self.old win.0 row column }
@@ -47,11 +44,7 @@ impl Desk {
         Ok(())
     }
 
-    /// Makes a subwindow share its parent's cells from another row and column of the parent on. Its place on the screen
-    /// stays, its descendants share what is at the same place in it as before, and its own lines are touched.
-    ///
-    /// Refused: NoWindow; IsPad; NotInParent if it has no parent, or would not be wholly in the parent. X/Open Curses
-    /// Issue 7, mvderwin().
+    /// Makes a subwindow share its parent's cells from another row and column of the parent on.
     #[tactic(auto, unfolding(crate::specs::Calls::Moving::move_derived_call))]
     pub fn move_derived(&mut self, win: Win, row: u32, column: u32) -> Result<(), WinFault>
         ensures call { (self.new, result) ≡ move_derived_call self.old win.0 row column }

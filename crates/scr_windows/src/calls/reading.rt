@@ -12,7 +12,7 @@ use crate::sheets::index_of_sheet;
 use scr_cells::{Cell, Size};
 
 impl Desk {
-    /// The size of the screen. X/Open Curses Issue 7, LINES and COLS.
+    /// The size of the screen.
     pub fn screen(&self) -> Size
         ensures rows { result.rows ≡ self.now.rows }
         ensures columns { result.columns ≡ self.now.columns }
@@ -46,8 +46,6 @@ impl Desk {
     }
 
     /// Lends a window for reading: everything that calls set in it or draw on it.
-    ///
-    /// Refused: NoWindow.
     #[tactic(auto, unfolding(crate::specs::Calls::Reading::window_answer))]
     pub fn window(&self, win: Win) -> Result<WindowRef<'_>, WinFault>
         ensures { result ≡ window_answer self.now win.0 }
@@ -57,8 +55,6 @@ impl Desk {
     }
 
     /// The cell at a row and a column of a window.
-    ///
-    /// Refused: NoWindow; OutOfWindow for a place outside the window. X/Open Curses Issue 7, inch().
     #[tactic(auto, unfolding(crate::specs::Calls::Reading::cell_at_answer))]
     pub fn cell_at(&self, win: Win, row: u32, column: u32) -> Result<Cell, WinFault>
         ensures { result ≡ cell_at_answer self.now win.0 row column }
@@ -72,8 +68,6 @@ impl Desk {
     }
 
     /// The row and the column of a window's cursor.
-    ///
-    /// Refused: NoWindow. X/Open Curses Issue 7, getyx().
     #[tactic(auto, unfolding(crate::specs::Calls::Reading::cursor_answer))]
     pub fn cursor(&self, win: Win) -> Result<(u32, u32), WinFault>
         ensures { result ≡ cursor_answer self.now win.0 }
@@ -82,8 +76,6 @@ impl Desk {
     }
 
     /// How many rows and columns a window has.
-    ///
-    /// Refused: NoWindow. X/Open Curses Issue 7, getmaxyx().
     #[tactic(auto, unfolding(crate::specs::Calls::Reading::size_answer))]
     pub fn size(&self, win: Win) -> Result<(u32, u32), WinFault>
         ensures { result ≡ size_answer self.now win.0 }
@@ -93,8 +85,6 @@ impl Desk {
     }
 
     /// The row and the column of the screen where a window's first place is.
-    ///
-    /// Refused: NoWindow; IsPad. X/Open Curses Issue 7, getbegyx().
     #[tactic(auto, unfolding(crate::specs::Calls::Reading::origin_answer))]
     pub fn origin(&self, win: Win) -> Result<(u32, u32), WinFault>
         ensures { result ≡ origin_answer self.now win.0 }
@@ -126,8 +116,6 @@ impl Desk {
     }
 
     /// Whether a line of a window is touched.
-    ///
-    /// Refused: NoWindow; OutOfWindow if the window has no such row. X/Open Curses Issue 7, is_linetouched().
     #[tactic(auto, unfolding(crate::specs::Calls::Reading::line_touched_answer))]
     pub fn line_touched(&self, win: Win, row: u32) -> Result<bool, WinFault>
         ensures { result ≡ line_touched_answer self.now win.0 row }
@@ -140,8 +128,6 @@ impl Desk {
     }
 
     /// Whether any line of a window is touched.
-    ///
-    /// Refused: NoWindow. X/Open Curses Issue 7, is_wintouched().
     #[tactic(auto, unfolding(crate::specs::Calls::Reading::window_touched_answer))]
     pub fn window_touched(&self, win: Win) -> Result<bool, WinFault>
         ensures { result ≡ window_touched_answer self.now win.0 }
@@ -150,9 +136,7 @@ impl Desk {
         Ok(self.window_at(index).is_any_touched())
     }
 
-    /// Lends the cells of a row of a window, from the left, as many as the window has columns. Curses has no such call.
-    ///
-    /// Refused: NoWindow; OutOfWindow if the window has no such row.
+    /// Lends the cells of a row of a window, from the left, as many as the window has columns.
     #[tactic(auto, unfolding(crate::specs::Calls::Reading::row_answer))]
     pub fn line(&self, win: Win, row: u32) -> Result<&[Cell], WinFault>
         ensures cells { MatchResult result (λ cells. row_answer self.now win.0 row ≡ Ok cells.now) (λ fault. row_answer self.now win.0 row ≡ Err fault) }

@@ -8,10 +8,7 @@ use crate::faults::{Win, WinFault};
 use crate::windows::Window;
 
 impl Desk {
-    /// Deletes a window, and its cells if no other window shares them. The first window may go too. Its number is not
-    /// used again.
-    ///
-    /// Refused: NoWindow; HasChildren if it has subwindows. X/Open Curses Issue 7, delwin().
+    /// Deletes a window, and its cells if no other window shares them.
     #[tactic(auto, unfolding(crate::specs::Calls::Removing::delete_call))]
     pub fn delete(&mut self, win: Win) -> Result<(), WinFault>
         ensures call { (self.new, result) ≡ delete_call self.old win.0 }

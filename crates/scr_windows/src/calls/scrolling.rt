@@ -11,9 +11,7 @@ use crate::surfaces::Drawing;
 
 impl Desk {
     /// Deletes the byte at a window's cursor: what is right of it in the line moves left by one, and the last column
-    /// gets the background. The cursor stays.
-    ///
-    /// Refused: NoWindow. X/Open Curses Issue 7, delch().
+    /// gets the background.
     #[tactic(auto, unfolding(crate::specs::Calls::Scrolling::delete_byte_call))]
     pub fn delete_byte(&mut self, win: Win) -> Result<(), WinFault>
         ensures call { (self.new, result) ≡ delete_byte_call self.old win.0 }
@@ -32,10 +30,7 @@ impl Desk {
         Ok(())
     }
 
-    /// Inserts `n` lines at the cursor's row of a window, or deletes `-n` lines from there on if `n` is below 0. The
-    /// lines from the cursor's to the window's last move, and the lines left free get the background. The cursor stays.
-    ///
-    /// Refused: NoWindow. X/Open Curses Issue 7, insdelln().
+    /// Inserts `n` lines at the cursor's row of a window, or deletes `-n` lines from there on if `n` is below 0.
     #[tactic(auto, unfolding(crate::specs::Calls::Scrolling::insert_delete_lines_call))]
     pub fn insert_delete_lines(&mut self, win: Win, n: i32) -> Result<(), WinFault>
         ensures call { (self.new, result) ≡ insert_delete_lines_call self.old win.0 n }
@@ -68,10 +63,7 @@ impl Desk {
         Ok(())
     }
 
-    /// Moves the lines of a window's scrolling region up by `n`, or down by `-n` if `n` is below 0. The lines left free
-    /// get the background. The cursor stays.
-    ///
-    /// Refused: NoWindow; NoScroll if `scroll_ok` is off. X/Open Curses Issue 7, scrl().
+    /// Moves the lines of a window's scrolling region up by `n`, or down by `-n` if `n` is below 0.
     #[tactic(auto, unfolding(crate::specs::Calls::Scrolling::scroll_call))]
     pub fn scroll(&mut self, win: Win, n: i32) -> Result<(), WinFault>
         ensures call { (self.new, result) ≡ scroll_call self.old win.0 n }

@@ -12,8 +12,6 @@ use scr_cells::{Attrs, Cell};
 
 impl Desk {
     /// Moves the cursor of a window to a row and a column.
-    ///
-    /// Refused: NoWindow; OutOfWindow for a place outside the window. X/Open Curses Issue 7, move().
     #[tactic(auto, unfolding(crate::specs::Calls::Settings::move_cursor_call))]
     pub fn move_cursor(&mut self, win: Win, row: u32, column: u32) -> Result<(), WinFault>
         ensures call { (self.new, result) ≡ move_cursor_call self.old win.0 row column }
@@ -28,10 +26,7 @@ impl Desk {
         Ok(())
     }
 
-    /// Sets the first and the last row of a window's scrolling region, both inside it. They may be the same row.
-    ///
-    /// Refused: NoWindow; BadRegion if `top` is greater than `bottom`, or `bottom` is not a row of the window. X/Open
-    /// Curses Issue 7, setscrreg().
+    /// Sets the first and the last row of a window's scrolling region, both inside it.
     #[tactic(auto, unfolding(crate::specs::Calls::Settings::set_region_call))]
     pub fn set_region(&mut self, win: Win, top: u32, bottom: u32) -> Result<(), WinFault>
         ensures call { (self.new, result) ≡ set_region_call self.old win.0 top bottom }
@@ -47,8 +42,6 @@ impl Desk {
     }
 
     /// Sets whether the scrolling region of a window may scroll.
-    ///
-    /// Refused: NoWindow. X/Open Curses Issue 7, scrollok().
     #[tactic(auto, unfolding(crate::specs::Calls::Settings::scroll_ok_call))]
     pub fn scroll_ok(&mut self, win: Win, on: bool) -> Result<(), WinFault>
         ensures call { (self.new, result) ≡ scroll_ok_call self.old win.0 on }
@@ -61,8 +54,6 @@ impl Desk {
     }
 
     /// Sets whether the next update with a window repaints the whole screen.
-    ///
-    /// Refused: NoWindow. X/Open Curses Issue 7, clearok().
     #[tactic(auto, unfolding(crate::specs::Calls::Settings::clear_ok_call))]
     pub fn clear_ok(&mut self, win: Win, on: bool) -> Result<(), WinFault>
         ensures call { (self.new, result) ≡ clear_ok_call self.old win.0 on }
@@ -75,8 +66,6 @@ impl Desk {
     }
 
     /// Sets whether the terminal's cursor may stay where an update with a window leaves it.
-    ///
-    /// Refused: NoWindow. X/Open Curses Issue 7, leaveok().
     #[tactic(auto, unfolding(crate::specs::Calls::Settings::leave_ok_call))]
     pub fn leave_ok(&mut self, win: Win, on: bool) -> Result<(), WinFault>
         ensures call { (self.new, result) ≡ leave_ok_call self.old win.0 on }
@@ -89,8 +78,6 @@ impl Desk {
     }
 
     /// Adds attributes to those that bytes are written with in a window.
-    ///
-    /// Refused: NoWindow. X/Open Curses Issue 7, attron().
     #[tactic(auto, unfolding(crate::specs::Calls::Settings::attr_on_call))]
     pub fn attr_on(&mut self, win: Win, attrs: Attrs) -> Result<(), WinFault>
         ensures call { (self.new, result) ≡ attr_on_call self.old win.0 attrs }
@@ -103,8 +90,6 @@ impl Desk {
     }
 
     /// Removes attributes from those that bytes are written with in a window.
-    ///
-    /// Refused: NoWindow. X/Open Curses Issue 7, attroff().
     #[tactic(auto, unfolding(crate::specs::Calls::Settings::attr_off_call))]
     pub fn attr_off(&mut self, win: Win, attrs: Attrs) -> Result<(), WinFault>
         ensures call { (self.new, result) ≡ attr_off_call self.old win.0 attrs }
@@ -117,8 +102,6 @@ impl Desk {
     }
 
     /// Replaces the attributes that bytes are written with in a window.
-    ///
-    /// Refused: NoWindow. X/Open Curses Issue 7, attrset().
     #[tactic(auto, unfolding(crate::specs::Calls::Settings::attr_set_call))]
     pub fn attr_set(&mut self, win: Win, attrs: Attrs) -> Result<(), WinFault>
         ensures call { (self.new, result) ≡ attr_set_call self.old win.0 attrs }
@@ -131,8 +114,6 @@ impl Desk {
     }
 
     /// Sets the colour pair that bytes are written with in a window; 0 stands for the pair of the background.
-    ///
-    /// Refused: NoWindow; BadPair for a pair above 63. X/Open Curses Issue 7, color_set().
     #[tactic(auto, unfolding(crate::specs::Calls::Settings::color_set_call))]
     pub fn color_set(&mut self, win: Win, pair: u32) -> Result<(), WinFault>
         ensures call { (self.new, result) ≡ color_set_call self.old win.0 pair }
@@ -148,8 +129,6 @@ impl Desk {
     }
 
     /// Sets the background of a window, and changes no cell.
-    ///
-    /// Refused: NoWindow. X/Open Curses Issue 7, bkgdset().
     #[tactic(auto, unfolding(crate::specs::Calls::Settings::set_background_call))]
     pub fn set_background(&mut self, win: Win, cell: Cell) -> Result<(), WinFault>
         ensures call { (self.new, result) ≡ set_background_call self.old win.0 cell }
@@ -162,10 +141,7 @@ impl Desk {
     }
 
     /// Sets the background of a window, and replaces the old one in every cell: the old background's byte becomes the
-    /// new one's, its attributes are removed and the new ones added, and its colour pair becomes the new one. All lines
-    /// are touched.
-    ///
-    /// Refused: NoWindow. X/Open Curses Issue 7, bkgd().
+    /// new one's, its attributes are removed and the new ones added, and its colour pair becomes the new one.
     #[tactic(auto, unfolding(crate::specs::Calls::Settings::change_background_call))]
     pub fn change_background(&mut self, win: Win, cell: Cell) -> Result<(), WinFault>
         ensures call { (self.new, result) ≡ change_background_call self.old win.0 cell }

@@ -17,11 +17,7 @@ use std::alloc::Global;
 pub const MOST: usize = 1000;
 
 impl Desk {
-    /// Makes a subwindow at a row and a column of its parent; 0 rows or columns extend to the parent's end. It shares
-    /// the parent's cells, and begins with its attributes, colour pair and background.
-    ///
-    /// Refused: NoWindow; IsPad; NotInParent if it is empty or not wholly in the parent; TooMany as in `new_window`;
-    /// NoMemory. X/Open Curses Issue 7, derwin().
+    /// Makes a subwindow at a row and a column of its parent; 0 rows or columns extend to the parent's end.
     #[tactic(auto, unfolding(crate::specs::Calls::Subwindows::derive_call))]
     pub fn derive(
         &mut self,
@@ -40,9 +36,6 @@ impl Desk {
     }
 
     /// Makes a subwindow as `derive` does, at a row and a column of the screen.
-    ///
-    /// Refused: NoWindow; IsPad; NotInParent if it is empty or not wholly in the parent; TooMany as in `new_window`;
-    /// NoMemory. X/Open Curses Issue 7, subwin().
     #[tactic(auto, unfolding(crate::specs::Calls::Subwindows::sub_call))]
     pub fn sub(
         &mut self,
@@ -67,9 +60,6 @@ impl Desk {
     }
 
     /// Makes a subwindow of a pad as `derive` does of a window, at a row and a column of the pad.
-    ///
-    /// Refused: NoWindow; NotPad; NotInParent if it is empty or not wholly in the parent; TooMany as in `new_window`;
-    /// NoMemory. X/Open Curses Issue 7, subpad().
     #[tactic(auto, unfolding(crate::specs::Calls::Subwindows::sub_pad_call))]
     pub fn sub_pad(
         &mut self,

@@ -10,8 +10,6 @@ use crate::windows::index_of_number;
 
 impl Desk {
     /// Touches each line of every ancestor of a window that shares a row of cells with a touched line of the window.
-    ///
-    /// Refused: NoWindow. X/Open Curses Issue 7, wsyncup().
     #[tactic(auto, unfolding(crate::specs::Calls::Syncing::sync_up_call))]
     pub fn sync_up(&mut self, win: Win) -> Result<(), WinFault>
         ensures call { (self.new, result) ≡ sync_up_call self.old win.0 }
@@ -23,8 +21,6 @@ impl Desk {
     }
 
     /// Touches each line of a window that shares a row of cells with a touched line of any of its ancestors.
-    ///
-    /// Refused: NoWindow. X/Open Curses Issue 7, wsyncdown().
     #[tactic(auto, unfolding(crate::specs::Calls::Syncing::sync_down_call))]
     pub fn sync_down(&mut self, win: Win) -> Result<(), WinFault>
         ensures call { (self.new, result) ≡ sync_down_call self.old win.0 }

@@ -9,8 +9,6 @@ use crate::faults::{Win, WinFault};
 
 impl Desk {
     /// Touches all lines of a window.
-    ///
-    /// Refused: NoWindow. X/Open Curses Issue 7, touchwin().
     #[tactic(auto, unfolding(crate::specs::Calls::Touching::touch_all_call))]
     pub fn touch_window(&mut self, win: Win) -> Result<(), WinFault>
         ensures call { (self.new, result) ≡ touch_all_call self.old win.0 true }
@@ -22,8 +20,6 @@ impl Desk {
     }
 
     /// Makes all lines of a window untouched.
-    ///
-    /// Refused: NoWindow. X/Open Curses Issue 7, untouchwin().
     #[tactic(auto, unfolding(crate::specs::Calls::Touching::touch_all_call))]
     pub fn untouch(&mut self, win: Win) -> Result<(), WinFault>
         ensures call { (self.new, result) ≡ touch_all_call self.old win.0 false }
@@ -35,9 +31,6 @@ impl Desk {
     }
 
     /// Makes `n` lines of a window, from line `first` on, touched, or untouched if `changed` is false.
-    ///
-    /// Refused: NoWindow; OutOfWindow if the window has fewer than `first + n` lines. X/Open Curses Issue 7,
-    /// wtouchln().
     #[tactic(auto, unfolding(crate::specs::Calls::Touching::touch_lines_call))]
     pub fn touch_lines(
         &mut self,

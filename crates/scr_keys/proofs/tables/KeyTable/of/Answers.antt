@@ -5,12 +5,12 @@ use Rattle.scr_keys.proofs.tables.KeyTable.of.Goals as goal
 pub returns-then-is_too_long-clause-err : goal.returns-then-is_too_long-clause-err
 returns-then-is_too_long-clause-err c =
     long_in_all c.args.entry.now c.loop-slot.slot (omega (arith, c.loop-slot-test.true, c.loop-slot.auto.slot-end)) c.loop-slot.invariant.few
-    (sym (ap (λ t. nat_lt 64 (length t)) (c.deref.ensures.value ∙ c.in_ok-text.ensures)) ∙ sym c.is_too_long.ensures ∙ c.if-is_too_long.true)
+    (sym (ap (λ t. nat_lt 64 (length t)) (c.deref.ensures.value ∙ c.in_ok-text.ensures.text)) ∙ sym c.is_too_long.ensures ∙ c.if-is_too_long.true)
 
 pub loop-slot-preserved : goal.loop-slot-preserved
 loop-slot-preserved c = record {
-  keys = keys_more c.args.entry.now c.loop-slot.table _ c.loop-slot.slot c.deref-in-loop-slot.result.now c.loop-slot.invariant.keys (c.deref-in-loop-slot.ensures.value ∙ c.in_ok-text.ensures) c.in_ok-table.ensures;
-  few = none_long c.args.entry.now c.loop-slot.slot c.loop-slot.invariant.few (sym (ap (λ t. nat_lt 64 (length t)) (c.deref.ensures.value ∙ c.in_ok-text.ensures)) ∙ sym c.is_too_long.ensures ∙ c.if-is_too_long.false);
+  keys = keys_more c.args.entry.now c.loop-slot.table _ c.loop-slot.slot c.deref-in-loop-slot.result.now c.loop-slot.invariant.keys (c.deref-in-loop-slot.ensures.value ∙ c.in_ok-text.ensures.text) c.in_ok-table.ensures.table;
+  few = none_long c.args.entry.now c.loop-slot.slot c.loop-slot.invariant.few (sym (ap (λ t. nat_lt 64 (length t)) (c.deref.ensures.value ∙ c.in_ok-text.ensures.text)) ∙ sym c.is_too_long.ensures ∙ c.if-is_too_long.false);
 }
 
 pub returns-clause-ok : goal.returns-clause-ok
