@@ -1,5 +1,4 @@
 pub mod CutLaws
 pub mod RememberedLaws
 pub mod StartingLaws
-pub mod TextLaws
 pub mod UpdateLaws

@@ -19,36 +19,30 @@ pub remembers_held : UpToDateLaws → (profile : ProfileView) (memory : MemoryVi
 remembers_held laws profile memory old new is changes rows columns = record {
   fits = record { rows = rows ∙ is.fits.rows; columns = columns ∙ is.fits.columns };
   size = record { rows = is.size.rows ∙ sym rows; columns = is.size.columns ∙ sym columns; known_rows = is.size.known_rows ∙ sym rows };
-  agrees = is.agrees;
+  possible = is.possible;
   same = laws.holds profile memory old new changes rows columns is.same;
 }
-
--- a state that agrees goes on to agree where less is remembered
-disturbed_agrees : MemoryLaws → (profile : ProfileView) (memory : MemoryView) (first n : ℕ) (state : TerminalState) → Agrees (abilities profile) memory state → Agrees (abilities profile) (disturbed first n memory) state
-disturbed_agrees memories profile memory first n state agrees =
-    memories.others (abilities profile) (λ r. leb first r && ltb r (first + n)) memory (disturbed first n memory) state state agrees (record { state = agrees.is_state; same = λ r kept. refl })
-    (memories.marks memory first n)
 
 -- less is remembered, since others wrote
 pub remembers_disturbed : UpToDateLaws → MemoryLaws → (profile : ProfileView) (memory : MemoryView) (virtual : VirtualView) (first n : ℕ) → IsRemembered profile memory virtual
     → IsRemembered profile (disturbed first n memory) virtual
 remembers_disturbed laws memories profile memory virtual first n is =
-    let agrees = disturbed_agrees memories profile memory first n memory.state is.agrees in
+    let may = memories.disturbed_possible (abilities profile) memory first n is.possible in
     record {
       fits = is.fits;
-      size = record { rows = is.size.rows; columns = is.size.columns; known_rows = agrees.high ∙ sym is.fits.rows };
-      agrees = agrees;
+      size = record { rows = is.size.rows; columns = is.size.columns; known_rows = may.high ∙ sym is.fits.rows };
+      possible = may;
       same = laws.disturbs profile memory virtual first n is.same;
     }
 
 -- or nothing is
 pub remembers_nothing : UpToDateLaws → MemoryLaws → (profile : ProfileView) (memory : MemoryView) (virtual : VirtualView) → IsRemembered profile memory virtual → IsRemembered profile (forgotten memory) virtual
 remembers_nothing laws memories profile memory virtual is =
-    let agrees = memories.forgets (abilities profile) memory memory.state memory.state is.agrees is.agrees.is_state in
+    let may = memories.forgotten_possible (abilities profile) memory is.possible in
     record {
       fits = is.fits;
-      size = record { rows = is.size.rows; columns = is.size.columns; known_rows = agrees.high ∙ sym is.fits.rows };
-      agrees = agrees;
+      size = record { rows = is.size.rows; columns = is.size.columns; known_rows = may.high ∙ sym is.fits.rows };
+      possible = may;
       same = laws.forgets profile memory virtual;
     }
 
@@ -56,22 +50,22 @@ remembers_nothing laws memories profile memory virtual is =
 pub remembers_followed : UpToDateLaws → MemoryRuns → (profile : ProfileView) → IsProfile profile → (memory : MemoryView) (virtual : VirtualView) (ops : List Op) → IsPicture virtual.picture → IsRemembered profile memory virtual
     → IsPlan profile memory virtual ops → IsRemembered profile (all_followed profile ops memory) (settled virtual)
 remembers_followed laws runs profile p memory virtual ops k is plan =
-    let agrees = laws.agrees profile p memory virtual ops is.agrees plan in
+    let may = runs.stays_possible profile p memory ops is.possible in
     record {
       fits = is.fits;
-      size = record { rows = runs.rows profile memory ops ∙ is.size.rows; columns = runs.columns profile memory ops ∙ is.size.columns; known_rows = agrees.high ∙ sym is.fits.rows };
-      agrees = agrees;
-      same = laws.follows profile memory virtual ops is.agrees k plan;
+      size = record { rows = runs.rows profile memory ops ∙ is.size.rows; columns = runs.columns profile memory ops ∙ is.size.columns; known_rows = may.high ∙ sym is.fits.rows };
+      possible = may;
+      same = laws.follows profile memory virtual ops is.possible k plan;
     }
 
 -- at first
-pub remembers_at_first : UpToDateLaws → MemoryRuns → BlankLaws → (profile : ProfileView) → IsProfile profile → (virtual : VirtualView) → Fits profile virtual.picture
+pub remembers_at_first : UpToDateLaws → MemoryRuns → (profile : ProfileView) → IsProfile profile → (virtual : VirtualView) → Fits profile virtual.picture
     → IsRemembered profile (unknown profile.rows profile.columns) virtual
-remembers_at_first laws runs blanks profile p virtual fits =
-    let agrees = runs.at_first profile p (blank_state profile.rows profile.columns) (blanks.state profile p) in
+remembers_at_first laws runs profile p virtual fits =
+    let may = runs.possible_at_first profile p in
     record {
       fits = fits;
-      size = record { rows = sym fits.rows; columns = sym fits.columns; known_rows = agrees.high ∙ sym fits.rows };
-      agrees = agrees;
+      size = record { rows = sym fits.rows; columns = sym fits.columns; known_rows = may.high ∙ sym fits.rows };
+      possible = may;
       same = laws.at_first profile profile.rows profile.columns virtual;
     }

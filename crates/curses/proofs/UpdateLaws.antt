@@ -1,5 +1,5 @@
 -- A beginning of a plan is defined, and has only what the plan has.
-use Rattle.std.proofs.Common.{◌≡◌, ◌≢◌, ℕ, zero, suc, true, sym, ◌∙◌, ap, subst, arith, List, [], ◌∷◌, length, take, drop, Option, None, Some, refl}
+use Rattle.std.proofs.Common.{◌≡◌, ◌≢◌, ℕ, zero, suc, true, false, sym, ◌∙◌, ap, subst, arith, List, [], ◌∷◌, length, take, drop, Option, None, Some, refl}
 use Rattle.std.specs.List.{All}
 use Rattle.std.specs.Option.{option_and_then}
 use Rattle.std.proofs.lemmas.List.{take-append-drop, take_all}
@@ -11,8 +11,8 @@ use Rattle.scr_term.specs.Operations.Profiles.{ProfileView, IsProfile, abilities
 use Rattle.scr_term.specs.Operations.States.{TerminalState, IsState}
 use Rattle.scr_term.specs.Operations.Steps.{runs}
 use Rattle.scr_term.specs.Operations.Texts.{all_bytes, has}
-use Rattle.scr_memory.specs.Memories.{Agrees, MemoryView, all_followed, is_known}
-use Rattle.scr_plan.specs.Plans.{IsPlan}
+use Rattle.scr_memory.specs.Memories.{Agrees, MayBe, MemoryView, all_followed, is_known}
+use Rattle.scr_plan.specs.Plans.{IsPlan, MayStart}
 use Rattle.curses.specs.Cuts.{IsCut}
 use Rattle.curses.specs.Updates.{BeginsPlan, IsDefined, IsDefinedAnew, IsOfOneText, IsSent}
 use Rattle.curses.specs.Writers.{WriterView}
@@ -32,25 +32,35 @@ beginning laws profile is old new state ops k run =
         never e = (cc)
     from (Some s) here whole = record { new = s; run = here; state = laws.kept profile is old s state (take k ops) here }
 
+-- an update may start from the remembered state
+starts_itself : (profile : ProfileView) (memory : MemoryView) (virtual : VirtualView) → MayBe (abilities profile) memory → MayStart profile memory virtual memory.state
+starts_itself profile memory virtual may = record {
+  state = may.state;
+  agrees = λ _. record { is_state = may.state; high = may.high; rows = λ r h known. refl; spot = λ known. refl; pen = λ known. refl };
+}
+
 -- each beginning of a plan
 pub beginnings : RunLaws → (profile : ProfileView) → IsProfile profile → (memory : MemoryView) (virtual : VirtualView) (ops : List Op) (k : ℕ) → IsPlan profile memory virtual ops
     → (state : TerminalState) → Agrees (abilities profile) memory state → IsDefined profile state (take k ops)
 beginnings laws profile is memory virtual ops k plan state agrees =
-    let shown = plan.shows state agrees in
+    let shown = plan.shows state (record { state = agrees.is_state; agrees = λ _. agrees }) in
     beginning laws profile is state shown.new agrees.is_state ops k shown.run
 
 -- where the screen is to be painted anew, from every state
 pub beginnings_anew : RunLaws → (profile : ProfileView) → IsProfile profile → (memory : MemoryView) (virtual : VirtualView) (plan ops begun : List Op) (k : ℕ) → IsPlan profile memory virtual plan → ops ≡ plan
     → begun ≡ take k ops → IsDefinedAnew profile virtual begun
 beginnings_anew laws profile is memory virtual plan ops begun k whole same taken = λ wished state here.
-    let shown = whole.anew wished state here in
+    let shown = whole.shows state (record { state = here; agrees = λ calm. never (sym wished ∙ calm) }) in
     subst (IsDefined profile state) (sym (taken ∙ ap (take k) same)) (beginning laws profile is state shown.new here plan k shown.run)
+  where
+    never : {R : Type 0} → true ≡ false → R
+    never e = (cc)
 
 -- a plan has only operations that the profile has
-pub had : RunLaws → (profile : ProfileView) (memory : MemoryView) (virtual : VirtualView) (ops : List Op) → Agrees (abilities profile) memory memory.state → IsPlan profile memory virtual ops
+pub had : RunLaws → (profile : ProfileView) (memory : MemoryView) (virtual : VirtualView) (ops : List Op) → MayBe (abilities profile) memory → IsPlan profile memory virtual ops
     → All (λ op. has profile op ≡ true) ops
-had laws profile memory virtual ops agrees plan =
-    let shown = plan.shows memory.state agrees in
+had laws profile memory virtual ops may plan =
+    let shown = plan.shows memory.state (starts_itself profile memory virtual may) in
     laws.had profile memory.state shown.new ops shown.run
 
 -- ---- what was sent of a plan
@@ -87,10 +97,10 @@ planned_whole profile memory virtual plan ops begun k is same taken whole =
     subst (IsPlan profile memory virtual) (sym (taken ∙ ap (λ n. take n ops) whole ∙ take_all (length ops) ops (omega arith) ∙ same)) is
 
 -- all is known after a plan that was begun whole
-pub known_whole : (profile : ProfileView) (memory : MemoryView) (virtual : VirtualView) (plan ops begun : List Op) (k : ℕ) → IsPlan profile memory virtual plan → Agrees (abilities profile) memory memory.state → ops ≡ plan → begun ≡ take k ops → k ≡ length ops
+pub known_whole : (profile : ProfileView) (memory : MemoryView) (virtual : VirtualView) (plan ops begun : List Op) (k : ℕ) → IsPlan profile memory virtual plan → MayBe (abilities profile) memory → ops ≡ plan → begun ≡ take k ops → k ≡ length ops
     → is_known (all_followed profile begun memory) ≡ true
-known_whole profile memory virtual plan ops begun k is agrees same taken whole =
-    (planned_whole profile memory virtual plan ops begun k is same taken whole).known (record { state = agrees.is_state; high = agrees.high })
+known_whole profile memory virtual plan ops begun k is may same taken whole =
+    (planned_whole profile memory virtual plan ops begun k is same taken whole).known may
 
 -- what a writer holds that was not asked
 pub kept_same : (known : Option (List ℕ)) → Keeps known known

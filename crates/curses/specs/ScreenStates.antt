@@ -7,7 +7,7 @@ use Rattle.scr_windows.specs.DeskViews.{DeskView}
 use Rattle.scr_term.specs.declared.operations.operation.Op.{Op}
 use Rattle.scr_term.specs.Operations.Profiles.{ProfileView, abilities}
 use Rattle.scr_term.specs.Operations.Texts.{bytes_of}
-use Rattle.scr_memory.specs.Memories.{Agrees, MemoryView}
+use Rattle.scr_memory.specs.Memories.{MayBe, MemoryView}
 use Rattle.scr_plan.specs.Repaints.{IsSizeOf, IsUpToDate}
 use Rattle.scr_plan.specs.Scratch.{Fits}
 use Rattle.scr_keys.specs.Readers.{ReaderView}
@@ -29,7 +29,7 @@ pub record ScreenState : Type 0 where
 pub record IsRemembered (profile : ProfileView) (memory : MemoryView) (virtual : VirtualView) : Type 0 where
   pub fits : Fits profile virtual.picture
   pub size : IsSizeOf virtual.picture memory
-  pub agrees : Agrees (abilities profile) memory memory.state
+  pub possible : MayBe (abilities profile) memory
   pub same : IsUpToDate profile memory virtual
 
 -- Windows, virtual screen and terminal have one size. The remembered state is one that the terminal can be in; its

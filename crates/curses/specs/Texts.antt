@@ -1,41 +1,25 @@
 -- What a program sends to a terminal before its first update and after its last. terminfo(5), 'Cursor Motions'
 -- (enter_ca_mode, exit_ca_mode) and 'Keypad and Function Keys' (keypad_xmit, keypad_local).
-use Rattle.std.specs.Prelude.{◌≡◌, ◌&&◌, ℕ, List, [], ◌∷◌, ◌++◌, Option, Some, None, option_and_then, option_map, if◌then◌else◌}
+use Rattle.std.specs.Prelude.{◌≡◌, ◌||◌, true, ℕ, List, [], ◌∷◌, ◌++◌, Option, Some, None, if◌then◌else◌}
 use Rattle.std.specs.Option.{is_none, is_some}
 use Rattle.ti_caps.specs.Description.{Description, text_at}
 use Rattle.ti_caps.specs.declared.slots.TheConstants.{RMCUP, RMKX, SMCUP, SMKX}
 use Rattle.ti_caps.specs.declared.table.Kind.TheVariants.{Text}
 use Rattle.ti_caps.specs.declared.table.Slot.{Slot}
-use Rattle.ti_param.specs.Parsed.{parsed}
-use Rattle.ti_param.specs.Stripped.{stripped}
-use Rattle.ti_param.specs.Tree.{Tree}
 use Rattle.scr_term.specs.declared.operations.profile_faults.ProfileFault.{ProfileFault}
-use Rattle.scr_term.specs.declared.operations.profile_faults.ProfileFault.TheVariants.{BadString, LongString}
-use Rattle.scr_term.specs.Operations.Admission.{first_some, is_over_bound, is_unreadable}
+use Rattle.scr_term.specs.declared.operations.profile_faults.ProfileFault.TheVariants.{LongString}
+use Rattle.scr_term.specs.Operations.Admission.{bad_text, first_some, is_over_bound, program_at}
 use Rattle.scr_term.specs.Operations.Texts.{nine, written}
 use Rattle.curses.specs.declared.faults.OpenFault.{OpenFault}
 use Rattle.curses.specs.declared.faults.OpenFault.TheVariants.{KeyTooLong, NoMemory, Profile}
 
--- The text of a capability without its padding; none if the entry lacks it.
-abbrev pub plain_text : Description → Slot → Option (List ℕ)
-plain_text entry slot = option_map stripped (text_at entry slot.0)
-
--- That text as a parsed parameter string; none if it is absent or is not one.
-abbrev pub text_program : Description → Slot → Option Tree
-text_program entry slot = option_and_then parsed (plain_text entry slot)
-
--- What that text sends when all parameters and variables are 0; nothing if it is absent.
+-- What the text at a position sends when all parameters and variables are 0; nothing if it is absent.
 abbrev pub bytes_at : Description → Slot → List ℕ
-bytes_at entry slot = written (text_program entry slot) (nine [])
-
--- The text cannot be run: it is not a parameter string, or its runs may need more than 20 places of stack.
-abbrev pub bad_text : Description → Slot → Option ProfileFault
-bad_text entry slot =
-    if is_some (plain_text entry slot) && is_unreadable (text_program entry slot) then Some (BadString (Text, slot)) else None
+bytes_at entry slot = written (program_at entry slot) (nine [])
 
 -- The text could send more than 1,024 bytes.
 abbrev pub long_text : Description → Slot → Option ProfileFault
-long_text entry slot = if is_over_bound (text_program entry slot) then Some (LongString (Text, slot)) else None
+long_text entry slot = if is_over_bound (program_at entry slot) then Some (LongString (Text, slot)) else None
 
 -- The first reason why two texts cannot be sent; none if both can.
 abbrev pub texts_refusal : Description → Slot → Slot → Option ProfileFault
@@ -52,6 +36,10 @@ abbrev pub AreRefused : Description → Slot → Slot → OpenFault → Type 0
 AreRefused entry first second NoMemory = Unit {0}
 AreRefused entry first second (Profile fault) = texts_refusal entry first second ≡ Some fault
 AreRefused entry first second (KeyTooLong slot) = ⊥
+
+-- The entry has one of the two texts: without one nothing is allocated.
+abbrev pub HasEither : Description → Slot → Slot → Type 0
+HasEither entry first second = (is_some (text_at entry first.0) || is_some (text_at entry second.0)) ≡ true
 
 -- The opening text, which begins a program's use of the screen: `smcup`, then `smkx`.
 abbrev pub IsOpeningText : Description → List ℕ → Type 0

@@ -6,7 +6,7 @@ use Rattle.scr_term.specs.Operations.Profiles.{ProfileView, abilities}
 use Rattle.scr_term.specs.Operations.States.{TerminalState, IsState}
 use Rattle.scr_term.specs.Operations.Steps.{runs}
 use Rattle.scr_term.specs.Operations.Texts.{all_bytes, bytes_of}
-use Rattle.scr_memory.specs.Memories.{Agrees, MemoryView, all_followed, forgotten, is_known}
+use Rattle.scr_memory.specs.Memories.{Agrees, MayBe, MemoryView, all_followed, forgotten, is_known}
 use Rattle.scr_plan.specs.Plans.{IsPlan}
 use Rattle.curses.specs.Cuts.{IsCut}
 use Rattle.curses.specs.Writers.{WriterView, counted}
@@ -38,10 +38,12 @@ pub record IsSent (profile : ProfileView) (memory : MemoryView) (owed : List ℕ
   pub defined : (state : TerminalState) → Agrees (abilities profile) memory state → IsDefined profile state begun
 
 -- A successful update: nothing is owed, no write or flush failed, and the operations are a plan, so they lead every
--- state that agrees to one that shows the picture. The whole state of the terminal is known then.
+-- state that agrees to one that shows the picture and agrees with what is known then, which is everything. What was
+-- remembered was a possible state of the terminal.
 pub record IsUpdated (profile : ProfileView) (memory : MemoryView) (virtual : VirtualView) (owed : List ℕ) (old new : WriterView) (begun : List Op) (count : ℕ) (rest : List ℕ) : Type 0 where
   pub sent : IsSent profile memory owed old new begun count rest
   pub plan : IsPlan profile memory virtual begun
+  pub possible : MayBe (abilities profile) memory
   pub known : is_known (all_followed profile begun memory) ≡ true
   pub nothing : rest ≡ []
   pub puts : new.failed_puts ≡ old.failed_puts

@@ -1,5 +1,6 @@
 -- What a writer reports: the bytes that it took, and how often it failed.
 use Rattle.std.specs.Prelude.{ℕ, Bool, true, false, List, length, Option, Result, Ok, Err, ◌+◌, ◌-◌, ◌^◌, ◌==◌, ◌&&◌, not, min, if◌then◌else◌}
+use Rattle.std.specs.declared.io.Error.{Error}
 
 -- All bytes taken so far, if they are known; the number of puts of a non-empty piece that failed or took nothing; and
 -- the number of finishes that failed.
@@ -7,6 +8,13 @@ pub record WriterView : Type 0 where
   pub taken : Option (List ℕ)
   pub failed_puts : ℕ
   pub failed_finishes : ℕ
+
+-- What a write answers: how many bytes it took, or an error; and what a flush answers.
+abbrev pub WriteAnswer : Type 0
+WriteAnswer = Result ℕ Error
+
+abbrev pub FlushAnswer : Type 0
+FlushAnswer = Result (Unit {0}) Error
 
 -- A count, raised by one after a failure; it stops at the greatest 64-bit number.
 abbrev pub counted : Bool → ℕ → ℕ

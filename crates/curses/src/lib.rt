@@ -17,7 +17,7 @@ pub use faults::{OpenFault, SendFault, Sent, UpdateFault};
 pub use screens::Screen;
 pub use starting::closing_laws;
 pub use texts::{closing_text, opening_text};
-pub use writers::{Counted, Device};
+pub use writers::{Counted, Device, Output};
 
 // What a program names besides: windows, cells and keys, terminals, and the operations and faults of updates; and for a
 // test without a terminal the emulated one.

@@ -1,11 +1,11 @@
 //! Opening a screen on a terminal. The definitions are in `specs/Opening.antt`.
-ghost use Rattle.std.specs.Prelude.{◌≡◌, ◌≤◌, [], IfErr, IfOk, None, Some, length, vec_capacity};
+ghost use Rattle.std.specs.Prelude.{◌≡◌, ◌≤◌, [], IfErr, IfOk, IsErrOf, None, Some, length, vec_capacity};
 ghost use Rattle.curses.specs.Code.Openings.{IsReaderOf, first_screen};
 ghost use Rattle.curses.specs.Opening.{IsOpened, IsUnopened};
 ghost use Rattle.curses.specs.ScreenStates.{HasRoom, HasTextRoom};
 ghost use Rattle.curses.specs.Texts.{texts_or_none};
 ghost use Rattle.ti_caps.specs.declared.slots.TheConstants.{RMCUP, RMKX, SMCUP, SMKX};
-ghost use Rattle.scr_term.specs.Operations.Admission.{IsAdmitted};
+ghost use Rattle.scr_term.specs.Operations.Admission.{IsAdmitted, IsSuitable};
 ghost use Rattle.scr_windows.specs.DeskViews.{first_desk};
 ghost use Rattle.scr_virtual.specs.VirtualViews.{blank_virtual};
 ghost use Rattle.scr_memory.specs.Memories.{unknown};
@@ -17,7 +17,7 @@ use scr_cells::{NoMemory, Size};
 use scr_keys::{KeyFault, KeyReader, KeyTable};
 use scr_memory::{Memory, memory_runs};
 use scr_plan::up_to_date_laws;
-use scr_term::{Profile, ProfileFault, blank_laws};
+use scr_term::{Profile, ProfileFault};
 use scr_virtual::Virtual;
 use scr_windows::Desk;
 use std::alloc::Global;
@@ -32,11 +32,13 @@ impl Screen {
     /// closing text, or nothing in place of one that `opening_text` or `closing_text` refuses.
     ///
     /// Refused: Profile if the entry makes no profile, for the first reason that `Profile::admit` has; KeyTooLong with
-    /// the lowest position of a key whose text has more than 64 bytes; NoMemory if memory runs out. X/Open Curses Issue
-    /// 7, newterm(), keypad().
+    /// the lowest position of a key whose text has more than 64 bytes; NoMemory if memory runs out, which hides none of
+    /// the first two reasons of `Profile::admit`. X/Open Curses Issue 7, newterm(), keypad().
     pub fn open(alloc: Global, entry: &Entry, size: Option<Size>) -> Result<Screen, OpenFault>
         ensures ok { IfOk result (IsOpened entry.now size) }
         ensures err { IfErr result (IsUnopened entry.now size) }
+        ensures suitable { IfOk result (λ _. IsSuitable entry.now) }
+        ensures memory { IsErrOf result OpenFault.NoMemory → IsSuitable entry.now }
     {
         let profile = admitted(alloc, entry, size)?;
         let keys = keys_of(alloc, entry, size, &profile)?;
@@ -49,6 +51,8 @@ impl Screen {
     pub fn open_sized(alloc: Global, entry: &Entry, size: Size) -> Result<Screen, OpenFault>
         ensures ok { IfOk result (IsOpened entry.now (Some size)) }
         ensures err { IfErr result (IsUnopened entry.now (Some size)) }
+        ensures suitable { IfOk result (λ _. IsSuitable entry.now) }
+        ensures memory { IsErrOf result OpenFault.NoMemory → IsSuitable entry.now }
     {
         Screen::open(alloc, entry, Some(size))
     }
@@ -59,6 +63,8 @@ impl Screen {
     pub fn open_at_own_size(alloc: Global, entry: &Entry) -> Result<Screen, OpenFault>
         ensures ok { IfOk result (IsOpened entry.now None) }
         ensures err { IfErr result (IsUnopened entry.now None) }
+        ensures suitable { IfOk result (λ _. IsSuitable entry.now) }
+        ensures memory { IsErrOf result OpenFault.NoMemory → IsSuitable entry.now }
     {
         Screen::open(alloc, entry, None)
     }
@@ -76,7 +82,6 @@ impl Screen {
     {
         memory_runs();
         up_to_date_laws();
-        blank_laws();
         let _size = profile.size();
         let blank = blank_on(alloc, &profile, &texts)?;
         Ok(Screen {
@@ -202,6 +207,8 @@ fn keys_of(
 fn admitted(alloc: Global, entry: &Entry, size: Option<Size>) -> Result<Profile, OpenFault>
     ensures ok { IfOk result (IsAdmitted entry.now size) }
     ensures err { IfErr result (IsUnopened entry.now size) }
+    ensures suitable { IfOk result (λ _. IsSuitable entry.now) }
+    ensures memory { IsErrOf result OpenFault.NoMemory → IsSuitable entry.now }
 {
     match Profile::admit(alloc, entry, size) {
         Ok(profile) => Ok(profile),

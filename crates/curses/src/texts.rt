@@ -1,25 +1,21 @@
 //! What a program sends to a terminal before its first update and after its last. The definitions are in
 //! `specs/Texts.antt`.
-ghost use Rattle.std.specs.Prelude.{◌≡◌, ◌++◌, ◌∷◌, ◌≤◌, [], length, IfErr, IfOk, IfSome, OnOk, option_map};
-ghost use Rattle.ti_param.specs.Parsed.{parsed};
+ghost use Rattle.std.specs.Prelude.{◌≡◌, ◌≢◌, ◌||◌, ◌++◌, ◌∷◌, ◌≤◌, [], length, IfErr, IfOk, IfSome, IsErrOf, OnErr, OnOk, true};
+ghost use Rattle.std.specs.Option.{is_some};
+ghost use Rattle.ti_caps.specs.Description.{text_at};
+ghost use Rattle.ti_caps.specs.declared.slots.TheConstants.{RMCUP, RMKX, SMCUP, SMKX};
 ghost use Rattle.ti_param.specs.Tree.{depth};
-ghost use Rattle.scr_term.specs.Operations.Admission.{first_some};
+ghost use Rattle.scr_term.specs.Operations.Admission.{bad_text, first_some, program_at};
 ghost use Rattle.scr_term.specs.Operations.Texts.{nine, written};
 ghost use Rattle.curses.specs.Code.Texts.{Judges, long_program};
-ghost use Rattle.curses.specs.Texts.{AreRefused, AreTexts, IsClosingText, IsNoClosingText, IsNoOpeningText, IsOpeningText, bad_text, long_text, plain_text, text_program, texts_or_none};
+ghost use Rattle.curses.specs.Texts.{AreRefused, AreTexts, IsClosingText, IsNoClosingText, IsNoOpeningText, IsOpeningText, HasEither, texts_or_none};
 
 use crate::faults::OpenFault;
 use scr_cells::NoMemory;
-use scr_term::ProfileFault;
+use scr_term::{ProfileFault, program_at};
 use std::alloc::Global;
 use ti_caps::{Bytes, Entry, Kind, Slot, slots};
-use ti_param::{
-    ParamFault, Program, RunFault, Vars, padding_is_removed, stack_is_enough, strip_padding,
-    text_is_bounded, text_is_parsed,
-};
-
-// The greatest stack that a text may need.
-const MOST_DEPTH: usize = 20;
+use ti_param::{Program, RunFault, Vars, stack_is_enough, text_is_bounded};
 
 // The most bytes that a text may give.
 const MOST_BYTES: usize = 1_024;
@@ -35,6 +31,7 @@ const MOST_BYTES: usize = 1_024;
 pub fn opening_text(alloc: Global, entry: &Entry) -> Result<Bytes, OpenFault>
     ensures ok { IfOk result (IsOpeningText entry.now) }
     ensures err { IfErr result (IsNoOpeningText entry.now) }
+    ensures memory { IsErrOf result OpenFault.NoMemory → HasEither entry.now SMCUP SMKX }
     ensures few { IfOk result (λ text. length text ≤ 2048) }
 {
     two_texts(alloc, entry, slots::SMCUP, slots::SMKX)
@@ -47,6 +44,7 @@ pub fn opening_text(alloc: Global, entry: &Entry) -> Result<Bytes, OpenFault>
 pub fn closing_text(alloc: Global, entry: &Entry) -> Result<Bytes, OpenFault>
     ensures ok { IfOk result (IsClosingText entry.now) }
     ensures err { IfErr result (IsNoClosingText entry.now) }
+    ensures memory { IsErrOf result OpenFault.NoMemory → HasEither entry.now RMKX RMCUP }
     ensures few { IfOk result (λ text. length text ≤ 2048) }
 {
     two_texts(alloc, entry, slots::RMKX, slots::RMCUP)
@@ -73,6 +71,7 @@ pub(crate) fn texts_or_none(
 fn two_texts(alloc: Global, entry: &Entry, first: Slot, second: Slot) -> Result<Bytes, OpenFault>
     ensures ok { IfOk result (AreTexts entry.now first second) }
     ensures err { IfErr result (AreRefused entry.now first second) }
+    ensures memory { IsErrOf result OpenFault.NoMemory → HasEither entry.now first second }
     ensures few { IfOk result (λ text. length text ≤ 2048) }
 {
     let begin = text_program(alloc, entry, first)?;
@@ -93,6 +92,7 @@ fn both(
     requires end { IfSome end.now (λ p. depth p ≤ 20) }
     ensures bytes { IfOk result (λ bytes. bytes ≡ written begin.now (nine []) ++ written end.now (nine [])) }
     ensures judged { Judges result (first_some (long_program begin.now first ∷ long_program end.now second ∷ [])) }
+    ensures memory { IsErrOf result OpenFault.NoMemory → (is_some begin.now || is_some end.now) ≡ true }
     ensures few { IfOk result (λ text. length text ≤ 2048) }
 {
     text_is_bounded();
@@ -106,47 +106,22 @@ fn both(
 
 // The program of a text, if it is there.
 fn text_program(alloc: Global, entry: &Entry, slot: Slot) -> Result<Option<Program>, OpenFault>
-    ensures program { IfOk result (λ program. program ≡ text_program entry.now slot) }
+    ensures program { IfOk result (λ program. program ≡ program_at entry.now slot) }
     ensures depth { IfOk result (λ program. IfSome program (λ p. depth p ≤ 20)) }
     ensures judged { Judges result (bad_text entry.now slot) }
+    ensures memory { IsErrOf result OpenFault.NoMemory → is_some (text_at entry.now slot.0) ≡ true }
 {
-    let Some(text) = plain_text(alloc, entry, slot)? else {
-        return Ok(None);
-    };
-    match parsed_program(alloc, &text)? {
-        Some(program) if program.depth() <= MOST_DEPTH => Ok(Some(program)),
-        _ => Err(OpenFault::Profile(ProfileFault::BadString((Kind::Text, slot)))),
-    }
-}
-
-// The text of a capability without padding, if it is there.
-fn plain_text(alloc: Global, entry: &Entry, slot: Slot) -> Result<Option<Vec<u8>>, NoMemory>
-    ensures { IfOk result (λ text. option_map (λ t. t.items) text ≡ plain_text entry.now slot) }
-{
-    padding_is_removed();
-    let Some(text) = entry.text(slot) else {
-        return Ok(None);
-    };
-    Ok(Some(strip_padding(alloc, text)?))
-}
-
-// The program of a text; `None` if the text is no parameter string.
-fn parsed_program(alloc: Global, text: &[u8]) -> Result<Option<Program>, NoMemory>
-    ensures { IfOk result (λ program. program ≡ parsed text.now) }
-{
-    text_is_parsed();
-    match Program::read(alloc, text) {
-        Ok(program) => Ok(Some(program)),
-        Err(fault) => match fault {
-            ParamFault::NoMemory => Err(NoMemory),
-            _ => Ok(None),
-        },
+    match program_at(alloc, entry, slot) {
+        Ok(program) => Ok(program),
+        Err(ProfileFault::NoMemory) => Err(OpenFault::NoMemory),
+        Err(fault) => Err(OpenFault::Profile(fault)),
     }
 }
 
 // Refuses a program that could give too many bytes; an absent one gives none.
 fn is_short(program: &Option<Program>, slot: Slot) -> Result<(), OpenFault>
-    ensures { Judges result (long_program program.now slot) }
+    ensures judged { Judges result (long_program program.now slot) }
+    ensures lasting { IfErr result (λ fault. fault ≢ OpenFault.NoMemory) }
 {
     match program {
         Some(program) if program.bound() > MOST_BYTES => Err(OpenFault::Profile(
@@ -159,7 +134,8 @@ fn is_short(program: &Option<Program>, slot: Slot) -> Result<(), OpenFault>
 // Appends what a program gives with all parameters and variables 0.
 fn append(program: &Option<Program>, bytes: &mut Vec<u8>) -> Result<(), NoMemory>
     requires { IfSome program.now (λ p. depth p ≤ 20) }
-    ensures { OnOk result (bytes.new.items ≡ bytes.old.items ++ written program.now (nine [])) }
+    ensures bytes { OnOk result (bytes.new.items ≡ bytes.old.items ++ written program.now (nine [])) }
+    ensures memory { OnErr result (is_some program.now ≡ true) }
 {
     stack_is_enough();
     let Some(program) = program else {

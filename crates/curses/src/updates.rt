@@ -27,13 +27,16 @@ use std::io::ErrorKind;
 
 impl Screen {
     /// Brings the terminal to the virtual screen. Sends what is *owed*, the rest of a text that a failed write cut off;
-    /// then the operations that lead from what is known of the terminal to the picture; and flushes the writer if it
-    /// took something.
+    /// then the operations that lead from what is known of the terminal to the picture.
     ///
-    /// Nothing is sent if nothing differs and the cursor is where it is wanted. Rows that are not known are erased and
-    /// painted, or the whole screen instead, if that is shorter or a repaint was requested. After Ok the terminal shows
+    /// Nothing is sent if nothing differs and the cursor is where it is wanted. If nothing is known of the terminal, or
+    /// a repaint was requested, attributes are turned off first, where the terminal can. After Ok the terminal shows
     /// the picture with its cursor where it is wanted, all that it shows is known, nothing is owed, and no requested
     /// repaint is pending.
+    ///
+    /// Tested, not proved: the writer is flushed if it took something; rows that are not known are erased and painted,
+    /// or the whole screen instead, if that is shorter or a repaint was requested; the pen stays as the last text
+    /// needed it.
     ///
     /// The operations are made before the first byte is sent, and no memory is allocated after that. Windows, virtual
     /// screen and requested repaints stay as they were if it ends early:

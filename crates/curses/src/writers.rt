@@ -1,8 +1,8 @@
 //! Writers that report what they took and count their failures.
-ghost use Rattle.std.specs.Prelude.{◌≡◌};
+ghost use Rattle.std.specs.Prelude.{◌≡◌, ℕ, ⊤, List, Option};
 ghost use Rattle.std.specs.Io.{WritesAtMost};
 ghost use Rattle.std.specs.Io.KnownBytes.{Keeps, WriteAppends};
-ghost use Rattle.curses.specs.Writers.{WriterView, counted, is_failed_finish, is_failed_put, took_none};
+ghost use Rattle.curses.specs.Writers.{FlushAnswer, WriteAnswer, WriterView, counted, is_failed_finish, is_failed_put, took_none};
 
 use std::io::{Result, Write};
 
@@ -32,6 +32,41 @@ pub trait Counted {
         ensures finishes { (told self.new).failed_finishes ≡ counted (is_failed_finish result) (told self.old).failed_finishes };
 }
 
+/// What a `Device` writes to. Any `Write` is one: of it no more is known than that trait says. A writer of one's own
+/// can say by `writes` and `flushes` what exactly it does; `Device` passes that on.
+pub trait Output {
+    // The bytes that it holds, if they are known.
+    ghost holds: { Self → Option (List ℕ) };
+
+    // What a write of a piece, and a flush, answer and leave behind.
+    ghost writes: { Self → List ℕ → WriteAnswer → Self → Type 0 } = { λ _ _ _ _. ⊤ };
+
+    ghost flushes: { Self → FlushAnswer → Self → Type 0 } = { λ _ _ _. ⊤ };
+
+    /// Writes a piece, or a beginning of it, and gives how many bytes were taken.
+    fn write_piece(&mut self, piece: &[u8]) -> Result<usize>
+        ensures bound { WritesAtMost result piece.now }
+        ensures bytes { WriteAppends (holds self.old) (holds self.new) result piece.now }
+        ensures writes { writes self.old piece.now result self.new };
+
+    /// Flushes what was written.
+    fn flush_pieces(&mut self) -> Result<()>
+        ensures bytes { Keeps (holds self.old) (holds self.new) }
+        ensures flushes { flushes self.old result self.new };
+}
+
+impl<W: Write> Output for W {
+    ghost holds = { W.contents };
+
+    fn write_piece(&mut self, piece: &[u8]) -> Result<usize> {
+        self.write(piece)
+    }
+
+    fn flush_pieces(&mut self) -> Result<()> {
+        self.flush()
+    }
+}
+
 /// Makes any `Write` a `Counted` writer: `put` is its `write`, `finish` is its `flush`, and failures are counted.
 ///
 /// It has no buffer: it makes one `write` call for each text of an operation, and most operations of a repaint are
@@ -49,7 +84,7 @@ pub struct Device<W> {
     pub failed_finishes: u64,
 }
 
-impl<W: Write> Device<W> {
+impl<W: Output> Device<W> {
     /// Makes a device of a writer, with no failures counted yet.
     pub fn new(writer: W) -> Device<W>
         ensures { result ≡ record { writer = writer; failed_puts = 0; failed_finishes = 0 } }
@@ -62,18 +97,29 @@ impl<W: Write> Device<W> {
     }
 }
 
-impl<W: Write> Counted for Device<W> {
-    ghost told = { λ d. record { taken = W.contents d.writer; failed_puts = d.failed_puts; failed_finishes = d.failed_finishes } };
+impl<W: Output> Counted for Device<W> {
+    ghost told = { λ d. record { taken = W.holds d.writer; failed_puts = d.failed_puts; failed_finishes = d.failed_finishes } };
 
-    fn put(&mut self, piece: &[u8]) -> Result<usize> {
-        let answer = self.writer.write(piece);
+    fn put(&mut self, piece: &[u8]) -> Result<usize>
+        ensures bound { WritesAtMost result piece.now }
+        ensures bytes { WriteAppends (W.holds self.old.writer) (W.holds self.new.writer) result piece.now }
+        ensures puts { self.new.failed_puts ≡ counted (is_failed_put piece.now result) self.old.failed_puts }
+        ensures finishes { self.new.failed_finishes ≡ self.old.failed_finishes }
+        ensures passed { W.writes self.old.writer piece.now result self.new.writer }
+    {
+        let answer = self.writer.write_piece(piece);
         let failed = !piece.is_empty() && took_none(&answer);
         self.failed_puts = self.failed_puts.saturating_add(u64::from(failed));
         answer
     }
 
-    fn finish(&mut self) -> Result<()> {
-        let answer = self.writer.flush();
+    fn finish(&mut self) -> Result<()>
+        ensures bytes { Keeps (W.holds self.old.writer) (W.holds self.new.writer) }
+        ensures puts { self.new.failed_puts ≡ self.old.failed_puts }
+        ensures finishes { self.new.failed_finishes ≡ counted (is_failed_finish result) self.old.failed_finishes }
+        ensures passed { W.flushes self.old.writer result self.new.writer }
+    {
+        let answer = self.writer.flush_pieces();
         self.failed_finishes = self
             .failed_finishes
             .saturating_add(u64::from(answer.is_err()));

@@ -1,15 +1,14 @@
 -- Places of a row and of a screen that are gone through one by one, and operations that are.
-use Rattle.std.proofs.Common.{◌≡◌, ℕ, ◌+◌, ◌-◌, ◌<◌, ◌≤◌, ◌&&◌, Bool, true, false, refl, sym, ◌∙◌, ap, arith, append_assoc, List, [], ◌∷◌, ◌++◌, filter, map, suc, Option, Some, None, is_some, unwrap_or, if◌then◌else◌}
+use Rattle.std.proofs.Common.{◌≡◌, ℕ, ◌+◌, ◌-◌, ◌<◌, ◌≤◌, ◌&&◌, Bool, true, false, refl, sym, ◌∙◌, ap, arith, append_assoc, List, [], ◌∷◌, ◌++◌, filter, map, suc, if◌then◌else◌}
 use Rattle.std.specs.List.{flat_map, range_with_len}
 use Rattle.std.proofs.lemmas.List.Concat.{flat_map-append}
 use Rattle.std.proofs.lemmas.List.Elements.{filter-append}
 use Rattle.scr_term.specs.declared.operations.operation.Op.{Op}
 use Rattle.scr_term.specs.Operations.Profiles.{ProfileView}
 use Rattle.scr_term.specs.Operations.States.{TerminalState}
-use Rattle.scr_term.specs.Operations.Steps.{step}
-use Rattle.scr_plan.specs.Repaints.{is_idle, is_none_left, kept_unless_idle, without_idle}
+use Rattle.scr_plan.specs.Repaints.{is_idle, is_none_left, state_after, state_after_all, without_idle}
+use Rattle.scr_terminal.specs.Displays.{DisplayView}
 use Rattle.scr_plan.specs.Scratch.{row_places}
-use Rattle.joined_repaint.specs.Walking.{left_of}
 use Rattle.joined_repaint.proofs.RowLaws.{range_before}
 
 -- ---- whether there is none
@@ -64,29 +63,29 @@ row_added f d columns rows row ops new all low made before =
 
 -- ---- what changes nothing
 
-kept_stops : (state : TerminalState) (op : Op) (more : List Op) (next : Option TerminalState) (rest : TerminalState → List Op) → is_some next ≡ false
-    → kept_unless_idle state op more next rest ≡ op ∷ more
-kept_stops state op more None rest none = refl
-kept_stops state op more (Some next) rest none = (cc)
+-- one operation more: what was added, and what the rest adds
+pub one_added : (profile : ProfileView) (state after : TerminalState) (op : Op) (rest kept new : List Op) → new ≡ (if is_idle state op then kept else kept ++ op ∷ []) → after ≡ (if is_idle state op then state else state_after profile state op)
+    → new ++ without_idle profile after rest ≡ kept ++ without_idle profile state (op ∷ rest)
+one_added profile state after op rest kept new made led = (λ i. made i ++ without_idle profile (led i) rest) ∙ by (is_idle state op)
+  where
+    by : (b : Bool) → (if b then kept else kept ++ op ∷ []) ++ without_idle profile (if b then state else state_after profile state op) rest
+        ≡ kept ++ (if b then without_idle profile state rest else op ∷ without_idle profile (state_after profile state op) rest)
+    by true = refl
+    by false = append_assoc kept (op ∷ []) (without_idle profile (state_after profile state op) rest)
 
-kept_goes : (state after : TerminalState) (op : Op) (more : List Op) (next : Option TerminalState) (rest : TerminalState → List Op) → is_some next ≡ true
-    → is_idle state op ≡ false → after ≡ unwrap_or next state → kept_unless_idle state op more next rest ≡ op ∷ rest after
-kept_goes state after op more None rest some acts same = (cc)
-kept_goes state after op more (Some next) rest some acts same = ap (λ b. if b then rest next else op ∷ rest next) acts ∙ ap (λ s. op ∷ rest s) (sym same)
+-- the state after one operation more
+after_more : (profile : ProfileView) (start : TerminalState) (ops : List Op) (op : Op) → state_after_all profile start (ops ++ op ∷ []) ≡ state_after profile (state_after_all profile start ops) op
+after_more profile start [] op = refl
+after_more profile start (x ∷ ops) op = after_more profile (state_after profile start x) ops op
 
--- an operation that is not defined, and all behind it, stay
-pub stops : (profile : ProfileView) (b : Bool) (state : TerminalState) (op : Op) (kept new : List Op) → b ≡ true → is_some (step profile state op) ≡ false → new ≡ kept ++ op ∷ []
-    → (more : List Op) → new ++ more ≡ kept ++ left_of profile b state (op ∷ more)
-stops profile b state op kept new well none made more =
-    ap (λ xs. xs ++ more) made ∙ append_assoc kept (op ∷ []) more
-    ∙ ap (λ xs. kept ++ xs) (sym (kept_stops state op more (step profile state op) (λ next. without_idle profile next more) none))
-    ∙ ap (λ w. kept ++ left_of profile w state (op ∷ more)) (sym well)
-
--- one that is defined and changes something stays
-pub goes_on : (profile : ProfileView) (b : Bool) (state after : TerminalState) (op : Op) (kept new : List Op) → b ≡ true → is_some (step profile state op) ≡ true → is_idle state op ≡ false
-    → after ≡ unwrap_or (step profile state op) state → new ≡ kept ++ op ∷ []
-    → (more : List Op) → new ++ without_idle profile after more ≡ kept ++ left_of profile b state (op ∷ more)
-goes_on profile b state after op kept new well some acts same made more =
-    ap (λ xs. xs ++ without_idle profile after more) made ∙ append_assoc kept (op ∷ []) (without_idle profile after more)
-    ∙ ap (λ xs. kept ++ xs) (sym (kept_goes state after op more (step profile state op) (λ next. without_idle profile next more) some acts same))
-    ∙ ap (λ w. kept ++ left_of profile w state (op ∷ more)) (sym well)
+-- the terminal executes what is added
+pub one_executed : (profile : ProfileView) (start : TerminalState) (old new first : DisplayView) (op : Op) (kept added : List Op) → old ≡ record first { state = state_after_all profile start kept }
+    → added ≡ (if is_idle old.state op then kept else kept ++ op ∷ []) → new ≡ (if is_idle old.state op then old else record old { state = state_after profile old.state op })
+    → new ≡ record first { state = state_after_all profile start added }
+one_executed profile start old new first op kept added was made led = led ∙ by (is_idle old.state op) ∙ ap (λ ops. record first { state = state_after_all profile start ops }) (sym made)
+  where
+    by : (b : Bool) → (if b then old else record old { state = state_after profile old.state op }) ≡ record first { state = state_after_all profile start (if b then kept else kept ++ op ∷ []) }
+    by true = was
+    by false =
+        ap (λ (d : DisplayView). record d { state = state_after profile d.state op }) was
+        ∙ ap (λ s. record first { state = s }) (sym (after_more profile start kept op))

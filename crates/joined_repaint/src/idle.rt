@@ -1,16 +1,15 @@
 //! Leaving out idle operations: those that change nothing.
-ghost use Rattle.std.specs.Prelude.{◌≡◌, ◌++◌, ◌∷◌, List, OnOk, IfOk};
-ghost use Rattle.scr_term.specs.declared.operations.operation.Op.{Op};
-ghost use Rattle.scr_plan.specs.Repaints.{is_idle, without_idle};
-ghost use Rattle.joined_repaint.specs.Walking.{left_of};
+ghost use Rattle.std.specs.Prelude.{◌≡◌, ◌++◌, ◌∷◌, [], OnOk, unwrap_or, if◌then◌else◌};
+ghost use Rattle.scr_term.specs.Operations.Steps.{step};
+ghost use Rattle.scr_plan.specs.Repaints.{is_idle, state_after, state_after_all, without_idle};
 
 use scr_cells::NoMemory;
 use scr_term::{Op, Profile, Spot};
 use scr_terminal::Terminal;
 
 // Adds operations, except those that change nothing: turning attributes off if none is on and the
-// colours are default, and moving to where the cursor is. The terminal executes them one after
-// another, up to the first that is undefined; that one and all after it are added.
+// colours are default, and moving to where the cursor is. The terminal executes those that are
+// added, one after another; one that is undefined changes nothing.
 pub(crate) fn add_without_idle(
     profile: &Profile,
     terminal: &mut Terminal,
@@ -19,44 +18,43 @@ pub(crate) fn add_without_idle(
 ) -> Result<(), NoMemory>
     requires rows { profile.now.rows ≡ terminal.old.rows }
     requires columns { profile.now.columns ≡ terminal.old.columns }
-    ensures { OnOk result (kept.new.items ≡ kept.old.items ++ without_idle profile.now terminal.old.state ops.now) }
+    requires none { kept.old.items ≡ [] }
+    ensures kept { OnOk result (kept.new.items ≡ without_idle profile.now terminal.old.state ops.now) }
+    ensures terminal { OnOk result (terminal.new ≡ record terminal.old { state = state_after_all profile.now terminal.old.state kept.new.items }) }
 {
-    let mut is_defined = true;
     for op in ops {
-        is_defined = add_unless_idle(profile, terminal, *op, is_defined, kept)?;
+        add_unless_idle(profile, terminal, *op, kept)?;
     }
     Ok(())
 }
 
-// Adds an operation unless it changes nothing, and returns whether all operations so far were
-// defined.
+// Adds an operation unless it changes nothing; the terminal executes it.
 fn add_unless_idle(
     profile: &Profile,
     terminal: &mut Terminal,
     op: Op,
-    is_defined: bool,
     kept: &mut Vec<Op>,
-) -> Result<bool, NoMemory>
+) -> Result<(), NoMemory>
     requires rows { profile.now.rows ≡ terminal.old.rows }
     requires columns { profile.now.columns ≡ terminal.old.columns }
-    ensures rows { terminal.new.rows ≡ terminal.old.rows }
-    ensures columns { terminal.new.columns ≡ terminal.old.columns }
-    ensures left { IfOk result (λ defined. (more : List Op) → kept.new.items ++ left_of profile.now defined terminal.new.state more
-        ≡ kept.old.items ++ left_of profile.now is_defined terminal.old.state (op ∷ more)) }
+    ensures kept { OnOk result (kept.new.items ≡ (if is_idle terminal.old.state op then kept.old.items else kept.old.items ++ op ∷ [])) }
+    ensures terminal { OnOk result (terminal.new ≡ (if is_idle terminal.old.state op then terminal.old else record terminal.old { state = state_after profile.now terminal.old.state op })) }
 {
-    if !is_defined {
-        kept.push(op)?;
-        return Ok(false);
+    if is_idle(terminal, op) {
+        return Ok(());
     }
-    let is_idle = is_idle(terminal, op);
-    if terminal.step(profile, op).is_err() {
-        kept.push(op)?;
-        return Ok(false);
-    }
-    if !is_idle {
-        kept.push(op)?;
-    }
-    Ok(true)
+    kept.push(op)?;
+    execute(profile, terminal, op);
+    Ok(())
+}
+
+// The terminal executes an operation; if it is undefined, nothing changes.
+fn execute(profile: &Profile, terminal: &mut Terminal, op: Op)
+    requires rows { profile.now.rows ≡ terminal.old.rows }
+    requires columns { profile.now.columns ≡ terminal.old.columns }
+    ensures { terminal.new ≡ record terminal.old { state = unwrap_or (step profile.now terminal.old.state op) terminal.old.state } }
+{
+    let _ = terminal.step(profile, op);
 }
 
 // Whether an operation that is defined changes nothing.

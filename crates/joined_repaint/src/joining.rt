@@ -3,7 +3,7 @@ ghost use Rattle.std.specs.Prelude.{◌≡◌, ◌<◌, ◌++◌, ◌&&◌, IfOk
 ghost use Rattle.std.specs.List.{flat_map};
 ghost use Rattle.scr_cells.specs.PictureViews.{IsPlace};
 ghost use Rattle.scr_memory.specs.Memories.{is_placed};
-ghost use Rattle.scr_plan.specs.Repaints.{differing, differs, erased_column, is_none_left, joined_of, joined_place, joined_places};
+ghost use Rattle.scr_plan.specs.Repaints.{differing, differs, erased_column, is_none_left, joined_of, joined_place, joined_places, state_after_all};
 ghost use Rattle.scr_plan.specs.Scratch.{Fits, places_cursor, resets, row_places};
 ghost use Rattle.joined_repaint.specs.Shown.{IsOf, known_of};
 ghost use Rattle.joined_repaint.specs.Walking.{place_of};
@@ -25,8 +25,8 @@ use std::alloc::Global;
 /// - Operations that change nothing are left out.
 /// - There are no operations if no place differs and the cursor is where it is wanted.
 ///
-/// The terminal executes the operations. Picture and terminal have the profile's size. Fails only
-/// when memory runs out.
+/// The terminal executes these operations; one that is undefined changes nothing. Picture and
+/// terminal have the profile's size. Fails only when memory runs out.
 pub fn joined(
     alloc: Global,
     profile: &Profile,
@@ -35,7 +35,8 @@ pub fn joined(
 ) -> Result<Ops, NoMemory>
     requires fits { Fits profile.now picture.now }
     requires size { IsOf picture.now terminal.old }
-    ensures { IfOk result (λ ops. ops ≡ joined_of profile.now (known_of terminal.old) picture.now) }
+    ensures joined { IfOk result (λ ops. ops ≡ joined_of profile.now (known_of terminal.old) picture.now) }
+    ensures terminal { IfOk result (λ ops. terminal.new ≡ record terminal.old { state = state_after_all profile.now terminal.old.state ops }) }
 {
     if is_shown(profile, terminal, picture) {
         return Ok(Ops(Vec::new(alloc)));

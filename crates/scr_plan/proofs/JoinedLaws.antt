@@ -31,7 +31,7 @@ use Rattle.scr_plan.specs.Code.Joinings.{joined_at}
 use Rattle.scr_plan.specs.Code.Painters.{part_places}
 use Rattle.scr_memory.specs.Memories.{Agrees, MemoryView, is_in_place, is_placed}
 use Rattle.scr_memory.specs.MemoryRuns.{KnownMemories}
-use Rattle.scr_plan.specs.Repaints.{JoinedShows, begins_place, blank_column, brief_place, cleared, differing, differs, erased_column, erased_if_worth, is_blank_from, is_idle, is_none_left, joined_place, joined_places, joins_left, kept_unless_idle, look_eq, without_idle}
+use Rattle.scr_plan.specs.Repaints.{JoinedShows, begins_place, blank_column, brief_place, cleared, differing, differs, erased_column, erased_if_worth, is_blank_from, is_idle, is_none_left, joined_place, joined_places, joins_left, look_eq, without_idle}
 use Rattle.scr_plan.specs.Scratch.{Fits, PlaceIsPainted, RunsToShow, goes, look_at, paints_place, places, places_cursor, renders, resets, row_places}
 
 -- ---- where the rest of a line is erased
@@ -444,18 +444,24 @@ idle_same profile s next (Move r c) idle e =
     sym after ∙ (λ i. record s { spot = sym (in_place s.spot r c idle) i })
 idle_same profile s next _ idle e = (cc)
 
+-- a step that is defined leads on
+pub after_is : (profile : ProfileView) (s next : TerminalState) (op : Op) → step profile s op ≡ Some next → state_after profile s op ≡ next
+after_is profile s next op there = ap (λ n. unwrap_or n s) there
+
 -- a run without its idle steps leads where it leads
 pub idle_run : (profile : ProfileView) (old new : TerminalState) (ops : List Op) → runs profile old ops ≡ Some new → runs profile old (without_idle profile old ops) ≡ Some new
 idle_run profile old new [] run = run
 idle_run profile old new (op ∷ ops) run = by (step profile old op) refl (λ next rest. idle_run profile next new ops rest) run
   where
     kept : (next : TerminalState) → step profile old op ≡ Some next → runs profile next (without_idle profile next ops) ≡ Some new → (b : Bool) → is_idle old op ≡ b
-        → runs profile old (if b then without_idle profile next ops else op ∷ without_idle profile next ops) ≡ Some new
-    kept next there rest true idle = ap (λ s. runs profile s (without_idle profile next ops)) (sym (idle_same profile old next op idle there)) ∙ rest
-    kept next there rest false idle = ap (option_and_then (λ s. runs profile s (without_idle profile next ops))) there ∙ rest
+        → runs profile old (if b then without_idle profile old ops else op ∷ without_idle profile (state_after profile old op) ops) ≡ Some new
+    kept next there rest true idle = ap (λ s. runs profile s (without_idle profile s ops)) (sym (idle_same profile old next op idle there)) ∙ rest
+    kept next there rest false idle =
+        ap (λ s. option_and_then (λ t. runs profile t (without_idle profile s ops)) (step profile old op)) (after_is profile old next op there)
+        ∙ ap (option_and_then (λ t. runs profile t (without_idle profile next ops))) there ∙ rest
 
     by : (next : Option TerminalState) → step profile old op ≡ next → ((next : TerminalState) → runs profile next ops ≡ Some new → runs profile next (without_idle profile next ops) ≡ Some new)
-        → option_and_then (λ s. runs profile s ops) next ≡ Some new → runs profile old (kept_unless_idle old op ops next (λ s. without_idle profile s ops)) ≡ Some new
+        → option_and_then (λ s. runs profile s ops) next ≡ Some new → runs profile old (if is_idle old op then without_idle profile old ops else op ∷ without_idle profile (state_after profile old op) ops) ≡ Some new
     by None there more rest = none_is_not new rest
     by (Some next) there more rest = kept next there (more next rest) (is_idle old op) refl
 
@@ -514,8 +520,8 @@ cleared_agrees profile picture fits state =
 
 pub joined_shows : RunLaws → BlankLaws → ProfilesHave → PlaceIsPainted → GridLaws LookView → KnownMemories → JoinedShows
 joined_shows laws blanks have place_law grids remembers = record {
-  joined = λ profile p picture k fits memory old agrees known.
-      by profile p picture k fits memory old agrees (remembers.state (abilities profile) memory old agrees known) (is_none_left (differing profile picture memory)) (is_placed memory picture.wish) refl refl;
+  joined = λ profile p picture k fits memory whole old agrees known.
+      by profile p picture k fits memory old agrees (remembers.state (abilities profile) memory whole old agrees known) (is_none_left (differing profile picture memory)) (is_placed memory picture.wish) refl refl;
   anew = λ profile p picture k fits old state.
       let cleared_run : runs profile old (resets profile ++ Clear ∷ []) ≡ Some (blank_state profile.rows profile.columns) = cleared_run laws profile (have profile p) old state.pen in
       let agrees = cleared_agrees profile picture fits (blanks.state profile p) in

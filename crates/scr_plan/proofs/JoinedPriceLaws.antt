@@ -19,7 +19,7 @@ use Rattle.scr_plan.proofs.PlainLaws.{both}
 use Rattle.scr_plan.specs.Code.Joinings.{joined_at}
 use Rattle.scr_plan.specs.Code.Painters.{part_places}
 use Rattle.scr_memory.specs.Memories.{MemoryView, is_placed}
-use Rattle.scr_plan.specs.Repaints.{JoinedIsCheap, anew_of, begins_place, blank_column, brief_place, cleared, differing, differing_from, differs, erased_column, erased_if_worth, is_idle, is_none_left, joined_of, joined_place, joined_places, joins_left, kept_unless_idle, plain_of, without_idle}
+use Rattle.scr_plan.specs.Repaints.{JoinedIsCheap, anew_of, begins_place, blank_column, brief_place, cleared, differing, differing_from, differs, erased_column, erased_if_worth, is_idle, is_none_left, joined_of, joined_place, joined_places, joins_left, plain_of, without_idle}
 use Rattle.scr_plan.specs.Scratch.{goes, look_at, paints_place, paints_places, places, places_cursor, renders, resets, row_places, scratch_of}
 
 -- a number of operations that adds up, as that of their bytes
@@ -32,18 +32,15 @@ pub record IsMeasure (measure : List Op → ℕ) : Type 0 where
 -- without idle steps there are no more
 idle_less : (measure : List Op → ℕ) → IsMeasure measure → (profile : ProfileView) (state : TerminalState) (ops : List Op) → measure (without_idle profile state ops) ≤ measure ops
 idle_less measure m profile state [] = omega arith
-idle_less measure m profile state (op ∷ ops) = by (step profile state op) (λ next. idle_less measure m profile next ops)
+idle_less measure m profile state (op ∷ ops) = by (is_idle state op) (idle_less measure m profile state ops) (idle_less measure m profile (state_after profile state op) ops)
   where
     one : (rest : List Op) → measure (op ∷ rest) ≡ measure (op ∷ []) + measure rest
     one rest = m.joined (op ∷ []) rest
 
-    kept : (next : TerminalState) → measure (without_idle profile next ops) ≤ measure ops → (b : Bool) → measure (if b then without_idle profile next ops else op ∷ without_idle profile next ops) ≤ measure (op ∷ ops)
-    kept next less true = omega (arith, less, one ops)
-    kept next less false = omega (arith, less, one ops, one (without_idle profile next ops))
-
-    by : (next : Option TerminalState) → ((next : TerminalState) → measure (without_idle profile next ops) ≤ measure ops) → measure (kept_unless_idle state op ops next (λ s. without_idle profile s ops)) ≤ measure (op ∷ ops)
-    by None less = omega arith
-    by (Some next) less = kept next (less next) (is_idle state op)
+    by : (b : Bool) → measure (without_idle profile state ops) ≤ measure ops → measure (without_idle profile (state_after profile state op) ops) ≤ measure ops
+        → measure (if b then without_idle profile state ops else op ∷ without_idle profile (state_after profile state op) ops) ≤ measure (op ∷ ops)
+    by true less more = omega (arith, less, one ops)
+    by false less more = omega (arith, more, one ops, one (without_idle profile (state_after profile state op) ops))
 
 -- each place with no more
 each_fewer : (measure : List Op → ℕ) → IsMeasure measure → (f g : ℕ × ℕ → List Op) → ((place : ℕ × ℕ) → measure (f place) ≤ measure (g place)) → (xs : List (ℕ × ℕ)) → measure (flat_map f xs) ≤ measure (flat_map g xs)

@@ -22,13 +22,13 @@ use Rattle.scr_term.specs.Operations.Profiles.{ProfileView, IsProfile, abilities
 use Rattle.scr_term.specs.Operations.States.{TerminalState, AreShownColours, IsShownPen, IsState, erased, from_place, rest_of_line_erased, spot_after, written_at}
 use Rattle.scr_term.specs.Operations.Steps.{act, runs, step}
 use Rattle.scr_term.specs.Operations.Texts.{has}
-use Rattle.scr_plan.proofs.JoinedLaws.{idle_same, plain_is}
+use Rattle.scr_plan.proofs.JoinedLaws.{after_is, idle_same, plain_is}
 use Rattle.scr_plan.proofs.JoinedPriceLaws.{price, price_is, put_price}
 use Rattle.scr_plan.proofs.PlaceLaws.{at_place, begun_run, move_run, one_run, plain, resets_run, then_runs}
 use Rattle.scr_plan.specs.Code.Joinings.{Continues, CountsAtMost, IsCounted, IsJoining, counted_up}
 use Rattle.scr_plan.specs.Code.Painters.{moves_unless_there, painter_begins, painter_leads, painter_of, resets_unless_plain}
 use Rattle.scr_memory.specs.Memories.{IsMemory, MemoryView, is_in_place}
-use Rattle.scr_plan.specs.Repaints.{is_idle, kept_unless_idle, without_idle}
+use Rattle.scr_plan.specs.Repaints.{is_idle, state_after, without_idle}
 use Rattle.scr_plan.specs.Scratch.{enter, goes, look_at, renders, resets, sets_background, sets_foreground}
 use Rattle.scr_plan.specs.declared.joining.Joining.{Joining}
 use Rattle.scr_plan.specs.declared.painting.Painter.{Painter}
@@ -55,29 +55,32 @@ idle_joined profile old next [] ys run = ap (λ s. without_idle profile s ys) (s
   where
     same : (a b : TerminalState) → Some a ≡ Some b → a ≡ b
     same a b e = (cc)
-idle_joined profile old next (op ∷ xs) ys run = by (step profile old op) (λ mid rest. idle_joined profile mid next xs ys rest) run
+idle_joined profile old next (op ∷ xs) ys run = by (step profile old op) refl (λ mid rest. idle_joined profile mid next xs ys rest) run
   where
-    kept : (mid : TerminalState) → without_idle profile mid (xs ++ ys) ≡ without_idle profile mid xs ++ without_idle profile next ys → (b : Bool)
-        → (if b then without_idle profile mid (xs ++ ys) else op ∷ without_idle profile mid (xs ++ ys)) ≡ (if b then without_idle profile mid xs else op ∷ without_idle profile mid xs) ++ without_idle profile next ys
-    kept mid rest true = rest
-    kept mid rest false = ap (λ ops. op ∷ ops) rest
+    never : {R : Type 0} → None ≡ Some next → R
+    never e = (cc)
 
-    by : (mid : Option TerminalState) → ((mid : TerminalState) → runs profile mid xs ≡ Some next → without_idle profile mid (xs ++ ys) ≡ without_idle profile mid xs ++ without_idle profile next ys)
+    kept : (mid : TerminalState) → step profile old op ≡ Some mid → without_idle profile mid (xs ++ ys) ≡ without_idle profile mid xs ++ without_idle profile next ys → (b : Bool) → is_idle old op ≡ b
+        → (if b then without_idle profile old (xs ++ ys) else op ∷ without_idle profile (state_after profile old op) (xs ++ ys))
+            ≡ (if b then without_idle profile old xs else op ∷ without_idle profile (state_after profile old op) xs) ++ without_idle profile next ys
+    kept mid there rest true idle =
+        let same : mid ≡ old = idle_same profile old mid op idle there in
+        subst (λ s. without_idle profile s (xs ++ ys) ≡ without_idle profile s xs ++ without_idle profile next ys) same rest
+    kept mid there rest false idle =
+        ap (λ ops. op ∷ ops) (subst (λ s. without_idle profile s (xs ++ ys) ≡ without_idle profile s xs ++ without_idle profile next ys) (sym (after_is profile old mid op there)) rest)
+
+    by : (mid : Option TerminalState) → step profile old op ≡ mid → ((mid : TerminalState) → runs profile mid xs ≡ Some next → without_idle profile mid (xs ++ ys) ≡ without_idle profile mid xs ++ without_idle profile next ys)
         → option_and_then (λ s. runs profile s xs) mid ≡ Some next
-        → kept_unless_idle old op (xs ++ ys) mid (λ s. without_idle profile s (xs ++ ys)) ≡ kept_unless_idle old op xs mid (λ s. without_idle profile s xs) ++ without_idle profile next ys
-    by None more rest = never rest
-      where
-        never : {R : Type 0} → None ≡ Some next → R
-        never e = (cc)
-    by (Some mid) more rest = kept mid (more mid rest) (is_idle old op)
+        → (if is_idle old op then without_idle profile old (xs ++ ys) else op ∷ without_idle profile (state_after profile old op) (xs ++ ys))
+            ≡ (if is_idle old op then without_idle profile old xs else op ∷ without_idle profile (state_after profile old op) xs) ++ without_idle profile next ys
+    by None there more rest = never rest
+    by (Some mid) there more rest = kept mid there (more mid rest) (is_idle old op) refl
 
 -- operations that change something everywhere
 busy : (profile : ProfileView) (state : TerminalState) (op : Op) → ((s : TerminalState) → is_idle s op ≡ false) → (rest : List Op) → ((s : TerminalState) → without_idle profile s rest ≡ rest) → without_idle profile state (op ∷ rest) ≡ op ∷ rest
-busy profile state op never rest more = by (step profile state op)
-  where
-    by : (next : Option TerminalState) → kept_unless_idle state op rest next (λ s. without_idle profile s rest) ≡ op ∷ rest
-    by None = refl
-    by (Some next) = ap (λ b. if b then without_idle profile next rest else op ∷ without_idle profile next rest) (never state) ∙ ap (λ ops. op ∷ ops) (more next)
+busy profile state op never rest more =
+    ap (λ b. if b then without_idle profile state rest else op ∷ without_idle profile (state_after profile state op) rest) (never state)
+    ∙ ap (λ ops. op ∷ ops) (more (state_after profile state op))
 
 enters_busy : (profile : ProfileView) (attributes : List ℕ) (rest : List Op) → ((s : TerminalState) → without_idle profile s rest ≡ rest) → (s : TerminalState) → without_idle profile s (map enter attributes ++ rest) ≡ map enter attributes ++ rest
 enters_busy profile [] rest more s = more s
@@ -126,12 +129,12 @@ one_becomes profile old new op run b idle = by (step profile old op) refl b idle
     by (Some next) there true idle r = record {
       run = run;
       kept_run = ap (λ s. Some s) (sym (idle_same profile old next op idle there) ∙ same next new r);
-      less = ap (λ n. kept_unless_idle old op [] n (λ s. [])) there ∙ ap (λ b. if b then [] else op ∷ []) idle;
+      less = ap (λ b. if b then [] else op ∷ []) idle;
     }
     by (Some next) there false idle r = record {
       run = run;
       kept_run = run;
-      less = ap (λ n. kept_unless_idle old op [] n (λ s. [])) there ∙ ap (λ b. if b then [] else op ∷ []) idle;
+      less = ap (λ b. if b then [] else op ∷ []) idle;
     }
 
 busy_becomes : (profile : ProfileView) (old new : TerminalState) (ops : List Op) → runs profile old ops ≡ Some new → without_idle profile old ops ≡ ops → Becomes profile old new ops ops

@@ -9,8 +9,8 @@ use Rattle.scr_term.specs.Operations.Laws.{HasLaws, ProfilesHave, RunLaws}
 use Rattle.scr_term.specs.Operations.Profiles.{ProfileView, IsProfile, abilities, is_there}
 use Rattle.scr_term.specs.Operations.States.{TerminalState, IsState, blank_state}
 use Rattle.scr_term.specs.Operations.Steps.{runs, step}
-use Rattle.scr_memory.specs.Memories.{Agrees, MemoryView, all_followed, followed, has_one_pen, is_known, stepped}
-use Rattle.scr_memory.specs.MemoryRuns.{MayBe, MemoryRuns}
+use Rattle.scr_memory.specs.Memories.{Agrees, MayBe, MemoryView, all_followed, followed, has_one_pen, is_known, stepped}
+use Rattle.scr_memory.specs.MemoryRuns.{MemoryRuns}
 use Rattle.scr_plan.proofs.PlaceLaws.{then_runs}
 use Rattle.scr_plan.proofs.ScratchLaws.{cleared_run}
 use Rattle.scr_plan.specs.Plans.{PlansAreRemembered}
@@ -28,7 +28,6 @@ same_some a b e = (cc)
 pub agrees_itself : (abilities : Abilities) (memory : MemoryView) → MayBe abilities memory → Agrees abilities memory memory.state
 agrees_itself abilities memory may = record {
   is_state = may.state;
-  may_be = may.state;
   high = may.high;
   rows = λ r h known. refl;
   spot = λ known. refl;
@@ -51,8 +50,9 @@ known_more : RunLaws → MemoryRuns → (profile : ProfileView) → IsProfile pr
 known_more laws one profile p memory may new ops more e known =
     let parts = run_before laws profile memory.state new ops more e in
     let agrees : Agrees (abilities profile) (all_followed profile ops memory) parts.0 =
-    one.follows profile p memory memory.state parts.0 ops (agrees_itself (abilities profile) memory may) parts.1 in
-    ap is_known (one.joined profile memory ops more) ∙ one.stays_known profile p (all_followed profile ops memory) parts.0 new more agrees parts.2 known
+    one.follows profile p memory may memory.state parts.0 ops (agrees_itself (abilities profile) memory may) parts.1 in
+    ap is_known (one.joined profile memory ops more)
+    ∙ one.stays_known profile p (all_followed profile ops memory) (one.stays_possible profile p memory ops may) parts.0 new more agrees parts.2 known
 
 or_true : (b : Bool) → (b || true) ≡ true
 or_true true = refl
@@ -102,7 +102,7 @@ anew_agrees laws have one profile p memory may old new state ops run =
     let same : first.0 ≡ blanks = same_some first.0 blanks (sym first.1 ∙ cleared_run laws profile (have profile p) old state.pen) in
     let here : runs profile memory.state (begins ++ ops) ≡ Some new =
     then_runs laws profile memory.state blanks new begins ops (cleared_run laws profile (have profile p) memory.state may.state.pen) (subst (λ s. runs profile s ops ≡ Some new) same first.2) in
-    one.follows profile p memory memory.state new (begins ++ ops) (agrees_itself (abilities profile) memory may) here
+    one.follows profile p memory may memory.state new (begins ++ ops) (agrees_itself (abilities profile) memory may) here
 
 pub plans_are_remembered : RunLaws → ProfilesHave → MemoryRuns → ScratchShows → PlansAreRemembered
 plans_are_remembered laws have one scratch = record {

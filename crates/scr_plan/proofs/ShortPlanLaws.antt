@@ -1,5 +1,6 @@
 -- The short plan is all that an update wants, where it has no more bytes than the joined repaint.
-use Rattle.std.proofs.Common.{◌≡◌, ℕ, ◌+◌, ◌*◌, ◌-◌, ◌^◌, ◌<◌, ◌≤◌, ◌==◌, ◌&&◌, ◌||◌, ◌⊎◌, inl, inr, not, Bool, true, false, All, refl, sym, ◌∙◌, ap, subst, arith, bit_and, List, [], ◌∷◌, ◌++◌, length, Option, Some, None, IfSome}
+use Rattle.std.proofs.Common.{◌≡◌, ℕ, ◌+◌, ◌*◌, ◌-◌, ◌^◌, ◌<◌, ◌≤◌, ◌==◌, ◌&&◌, ◌||◌, ◌⊎◌, inl, inr, not, Bool, true, false, All, refl, sym, ◌∙◌, ap, subst, append_assoc, arith, bit_and, List, [], ◌∷◌, ◌++◌, length, Option, Some, None, IfSome, if◌then◌else◌}
+use Rattle.std.specs.List.{list_all}
 use Rattle.std.specs.Option.{is_none}
 use Rattle.std.proofs.lemmas.Bool.Decides.{nat_tests}
 use Rattle.std.proofs.lemmas.List.{append-nil, length-append}
@@ -10,7 +11,7 @@ use Rattle.scr_cells.specs.PictureViews.{PictureView, IsPicture}
 use Rattle.scr_virtual.specs.VirtualViews.{VirtualView}
 use Rattle.scr_term.specs.declared.operations.capability.Capability.TheVariants.{Sgr0}
 use Rattle.scr_term.specs.declared.operations.operation.Op.{Op}
-use Rattle.scr_term.specs.declared.operations.operation.Op.TheVariants.{Clear}
+use Rattle.scr_term.specs.declared.operations.operation.Op.TheVariants.{Clear, Reset}
 use Rattle.scr_term.specs.declared.operations.operation.Spot.TheVariants.{At}
 use Rattle.scr_term.specs.Operations.Abilities.{full_abilities}
 use Rattle.scr_term.specs.Operations.Laws.{BlankLaws, ProfilesHave, RunLaws}
@@ -20,7 +21,7 @@ use Rattle.scr_term.specs.Operations.Steps.{runs}
 use Rattle.scr_term.specs.Operations.Texts.{all_bytes, has}
 use Rattle.scr_plan.proofs.JoinLaws.{cleared_row}
 use Rattle.scr_plan.proofs.RememberedPlanLaws.{agrees_itself}
-use Rattle.scr_plan.proofs.PlaceLaws.{plain_only, then_runs}
+use Rattle.scr_plan.proofs.PlaceLaws.{plain_only, resets_run, then_runs}
 use Rattle.scr_plan.proofs.PlainLaws.{look_same, not_false}
 use Rattle.scr_plan.proofs.RunChangeLaws.{not_in}
 use Rattle.scr_plan.proofs.RunLaws.{leaves_then}
@@ -30,12 +31,12 @@ use Rattle.scr_plan.specs.Code.Joinings.{counted_up}
 use Rattle.scr_plan.specs.Code.Moves.{IsChanged, IsMoved}
 use Rattle.scr_plan.specs.Code.Painters.{painter_of, row_differs}
 use Rattle.scr_plan.specs.Code.Planning.{painted_anew}
-use Rattle.scr_memory.specs.Memories.{Agrees, IsMemory, MemoryView, all_followed, is_known}
-use Rattle.scr_memory.specs.MemoryRuns.{KnownMemories, MayBe, MemoryRuns}
+use Rattle.scr_memory.specs.Memories.{Agrees, IsMemory, MayBe, MemoryView, all_followed, is_known, is_nothing_known, made_plain}
+use Rattle.scr_memory.specs.MemoryRuns.{KnownMemories, MemoryRuns}
 use Rattle.scr_plan.specs.Plans.{PlansAreRemembered}
-use Rattle.scr_plan.specs.Plans.{IsPlan}
-use Rattle.scr_plan.specs.Repaints.{JoinedIsCheap, anew_of, joined_of, look_eq}
-use Rattle.scr_plan.specs.Scratch.{Fits, RunsToShow, look_at, resets}
+use Rattle.scr_plan.specs.Plans.{Begins, IsPlan}
+use Rattle.scr_plan.specs.Repaints.{IsSizeOf, JoinedIsCheap, anew_of, joined_of, look_eq}
+use Rattle.scr_plan.specs.Scratch.{Fits, RunsToShow, look_at, resets, scratch_of}
 use Rattle.scr_plan.specs.declared.painting.Painter.{Painter}
 use Rattle.scr_prices.specs.declared.runs.Run.{Run}
 use Rattle.scr_plan.specs.declared.strokes.Draft.{Draft}
@@ -47,6 +48,10 @@ pub state_of : (profile : ProfileView) (memory : MemoryView) → IsMemory memory
 state_of profile memory is rows columns shown =
     let full : IsState (full_abilities profile.rows profile.columns) memory.state = subst (λ n. IsState (full_abilities profile.rows n) memory.state) columns (subst (λ n. IsState (full_abilities n memory.columns) memory.state) rows is.state) in
     record { whole = full.whole; looks = full.looks; spot = full.spot; pen = shown }
+
+-- what is remembered has the screen's size
+pub whole_of : (profile : ProfileView) (picture : PictureView) (memory : MemoryView) → IsMemory memory → IsSizeOf picture memory → Fits profile picture → IsGrid profile.rows profile.columns memory.state.grid
+whole_of profile picture memory is size fits = rw (← fits.rows, ← fits.columns, ← size.rows, ← size.columns) is.state.whole
 
 -- the runs that are left are painted
 pub changes_done : (profile : ProfileView) (picture : PictureView) (start : TerminalState) (all some : List Run) (old mid new : Draft) → IsMoved profile picture start (in_runs all) old
@@ -122,11 +127,23 @@ both_true false b e = (cc)
 few_bytes : (own whole bytes drafted : ℕ) → drafted ≡ counted_up (0 + own) → drafted ≤ bytes → bytes < 2 ^ 64 - 1 → bytes ≤ counted_up whole → own ≤ whole
 few_bytes own whole bytes drafted counted less exact all = omega (arith, counted, less, exact, all)
 
+not_true : (b : Bool) → not b ≡ true → b ≡ false
+not_true true e = (cc)
+not_true false e = refl
+
+-- if all is known, something is
+pub not_nothing : (memory : MemoryView) (repaint : Bool) → is_known memory ≡ true → (repaint || is_nothing_known memory) ≡ true → repaint ≡ true
+not_nothing memory true known e = refl
+not_nothing memory false known e =
+    let spot : memory.known_spot ≡ true = (both_true (list_all (λ known. known) memory.known_rows) memory.known_spot (both_true (list_all (λ known. known) memory.known_rows && memory.known_spot) memory.known_pen known).0).1 in
+    let none : not memory.known_spot ≡ true = (both_true (list_all not memory.known_rows) (not memory.known_spot) (both_true (list_all not memory.known_rows && not memory.known_spot) (not memory.known_pen) e).0).1 in
+    never (not memory.known_spot) none (ap not spot)
+
 -- where all is known
-pub short_plan : RunLaws → KnownMemories → MemoryRuns → JoinedIsCheap → GridLaws LookView → (profile : ProfileView) → IsProfile profile → (virtual : VirtualView) → IsPicture virtual.picture → Fits profile virtual.picture
-    → (memory : MemoryView) → (is_known memory && not virtual.repaint) ≡ true → (draft : Draft) → IsChanged profile virtual.picture memory.state draft → (bytes : ℕ) → draft.bytes ≤ bytes → bytes < 2 ^ 64 - 1
+pub short_plan : RunLaws → KnownMemories → MemoryRuns → GridLaws LookView → (profile : ProfileView) → IsProfile profile → (virtual : VirtualView) → IsPicture virtual.picture → Fits profile virtual.picture
+    → (memory : MemoryView) → IsGrid profile.rows profile.columns memory.state.grid → (is_known memory && not virtual.repaint) ≡ true → (draft : Draft) → IsChanged profile virtual.picture memory.state draft → (bytes : ℕ) → draft.bytes ≤ bytes → bytes < 2 ^ 64 - 1
     → bytes ≤ counted_up (length (all_bytes profile (joined_of profile memory virtual.picture))) → length draft.ops.items ≤ virtual.picture.rows * virtual.picture.columns * 12 + 4 → IsPlan profile memory virtual draft.ops.items
-short_plan laws known_laws memory_laws cheap grids profile p virtual k fits memory due draft changed bytes less exact all few =
+short_plan laws known_laws memory_laws grids profile p virtual k fits memory whole due draft changed bytes less exact all few =
     let parts = both_true (is_known memory) (not virtual.repaint) due in
     let known : is_known memory ≡ true = parts.0 in
     let moved = changed.moved in
@@ -144,15 +161,34 @@ short_plan laws known_laws memory_laws cheap grids profile p virtual k fits memo
     let fewer : length (all_bytes profile draft.ops.items) ≤ length (all_bytes profile (joined_of profile memory virtual.picture)) =
     few_bytes (length (all_bytes profile draft.ops.items)) (length (all_bytes profile (joined_of profile memory virtual.picture))) bytes draft.bytes
     (moved.right.bytes ∙ ap counted_up (omega (arith, sum))) less exact all in
+    let calm : virtual.repaint ≡ false = not_true virtual.repaint parts.1 in
     record {
-      shows = λ old agrees. subst (λ state. RunsToShow profile state draft.ops.items virtual.picture) (known_laws.state (abilities profile) memory old agrees known) shows;
-      anew = λ wished old state. never (not virtual.repaint) parts.1 (ap not wished);
-      agrees = λ wished may old new state run. never (not virtual.repaint) parts.1 (ap not wished);
-      known = λ may. memory_laws.stays_known profile p memory memory.state shows.new draft.ops.items (agrees_itself (abilities profile) memory may) shows.run known;
+      shows = λ old start. subst (λ state. RunsToShow profile state draft.ops.items virtual.picture) (known_laws.state (abilities profile) memory whole old (start.agrees calm) known) shows;
+      agrees = λ may old new start run. memory_laws.follows profile p memory may old new draft.ops.items (start.agrees calm) run;
+      known = λ may. memory_laws.stays_known profile p memory may memory.state shows.new draft.ops.items (agrees_itself (abilities profile) memory may) shows.run known;
+      begins = λ unknown there. never virtual.repaint (not_nothing memory virtual.repaint known unknown) calm;
       few = few;
-      scratch = omega (arith, fewer, cheap.joined profile memory virtual.picture, cheap.plain profile memory virtual.picture);
-      joined = λ _ _. fewer;
+      cheap = subst (λ due. length (all_bytes profile draft.ops.items) ≤ length (all_bytes profile (if due then joined_of profile memory virtual.picture else scratch_of profile virtual.picture))) (sym due) fewer;
     }
+
+-- where all is known and no terminal of the profile can have the pen, no state agrees
+pub never_plan : (profile : ProfileView) (memory : MemoryView) (virtual : VirtualView) → (is_known memory && not virtual.repaint) ≡ true → (IsShownPen (abilities profile) memory.state.pen → ⊥) → IsPlan profile memory virtual []
+never_plan profile memory virtual due hidden =
+    let parts = both_true (is_known memory) (not virtual.repaint) due in
+    let calm : virtual.repaint ≡ false = not_true virtual.repaint parts.1 in
+    let pen : memory.known_pen ≡ true = (both_true (list_all (λ known. known) memory.known_rows && memory.known_spot) memory.known_pen parts.0).1 in
+    record {
+      shows = λ old start. absurd (hidden (subst (IsShownPen (abilities profile)) ((start.agrees calm).pen pen) (start.agrees calm).is_state.pen));
+      agrees = λ may old new start run. absurd (hidden may.state.pen);
+      known = λ may. absurd (hidden may.state.pen);
+      begins = λ unknown there. never virtual.repaint (not_nothing memory virtual.repaint parts.0 unknown) calm;
+      few = omega arith;
+      cheap = omega arith;
+    }
+
+-- what begins by resetting
+pub begins_with : (profile : ProfileView) (ops more : List Op) → is_there profile Sgr0 ≡ true → ops ≡ resets profile ++ more → Begins Reset ops
+begins_with profile ops more there is = (more, is ∙ ap (λ b. (if b then Reset ∷ [] else []) ++ more) there)
 
 -- where the screen is painted anew
 pub short_plan_anew : RunLaws → ProfilesHave → PlansAreRemembered → JoinedIsCheap → GridLaws LookView → (profile : ProfileView) → IsProfile profile → (virtual : VirtualView) → IsPicture virtual.picture → Fits profile virtual.picture
@@ -177,40 +213,53 @@ short_plan_anew laws have remembered cheap grids profile p virtual k fits memory
     let whole : length (all_bytes profile (anew_of profile picture)) ≡ length (all_bytes profile first) + length (all_bytes profile (painted_anew profile picture)) =
     ap length (laws.bytes profile first (painted_anew profile picture)) ∙ length-append (all_bytes profile first) (all_bytes profile (painted_anew profile picture)) in
     record {
-      shows = λ old agrees. anew old agrees.is_state;
-      anew = λ wished old state. anew old state;
-      agrees = λ wished may old new state run. subst (λ o. Agrees (abilities profile) (all_followed profile o memory) new) (sym ops) (remembered.agrees profile p memory may old new state own (ap (λ o. runs profile old o) (sym ops) ∙ run));
+      shows = λ old start. anew old start.state;
+      agrees = λ may old new start run. subst (λ o. Agrees (abilities profile) (all_followed profile o memory) new) (sym ops) (remembered.agrees profile p memory may old new start.state own (ap (λ o. runs profile old o) (sym ops) ∙ run));
       known = λ may.
           let run = anew memory.state may.state in
           subst (λ o. is_known (all_followed profile o memory) ≡ true) (sym ops) (remembered.cleared profile p memory may run.new own (ap (λ o. runs profile memory.state o) (sym ops) ∙ run.run));
+      begins = λ unknown there. begins_with profile draft.ops.items (Clear ∷ [] ++ own) there (ops ∙ append_assoc (resets profile) (Clear ∷ []) own);
       few = few;
-      scratch = omega (arith, fewer, mine, whole, cheap.anew profile picture);
-      joined = λ known calm. never (is_known memory && not virtual.repaint) (ap (λ b. b && not virtual.repaint) known ∙ ap not calm) due;
+      cheap =
+          let less : length (all_bytes profile draft.ops.items) ≤ length (all_bytes profile (scratch_of profile picture)) = omega (arith, fewer, mine, whole, cheap.anew profile picture) in
+          subst (λ due. length (all_bytes profile draft.ops.items) ≤ length (all_bytes profile (if due then joined_of profile memory picture else scratch_of profile picture))) (sym due) less;
     }
 
 -- where some rows are not known, and a plan that clears the screen has no fewer bytes
-pub partly_plan : RunLaws → GridLaws LookView → (profile : ProfileView) → IsProfile profile → (virtual : VirtualView) → IsPicture virtual.picture → Fits profile virtual.picture
+pub partly_plan : RunLaws → ProfilesHave → MemoryRuns → GridLaws LookView → (profile : ProfileView) → IsProfile profile → (virtual : VirtualView) → IsPicture virtual.picture → Fits profile virtual.picture
     → (memory : MemoryView) → MayBe (abilities profile) memory → (is_known memory && not virtual.repaint) ≡ false → virtual.repaint ≡ false → (draft : Draft) → IsPartly profile virtual.picture memory draft → (whole : List Op) → IsPlan profile memory virtual whole
     → (bytes : ℕ) → draft.bytes ≤ bytes → bytes < 2 ^ 64 - 1 → (All (λ op. has profile op ≡ true) whole → bytes ≡ counted_up (length (all_bytes profile whole))) → length draft.ops.items ≤ virtual.picture.rows * virtual.picture.columns * 12 + 4 → IsPlan profile memory virtual draft.ops.items
-partly_plan laws grids profile p virtual k fits memory may due calm draft partly whole plan bytes less exact priced few =
+partly_plan laws have memories grids profile p virtual k fits memory may due calm draft partly whole plan bytes less exact priced few =
     let here : Agrees (abilities profile) memory memory.state = agrees_itself (abilities profile) memory may in
-    let shown = plan.shows memory.state here in
+    let shown = plan.shows memory.state (record { state = may.state; agrees = λ _. here }) in
     let all : bytes ≡ counted_up (length (all_bytes profile whole)) = priced (laws.had profile memory.state shown.new whole shown.run) in
-    let done = partly.done memory.state here in
+    let mine = partly.right memory.state here in
+    let sum : length (all_bytes profile draft.ops.items) ≡ length (all_bytes profile first) + length (all_bytes profile mine.own) =
+    ap (λ o. length (all_bytes profile o)) mine.ops ∙ ap length (laws.bytes profile first mine.own) ∙ length-append (all_bytes profile first) (all_bytes profile mine.own) in
     let fewer : length (all_bytes profile draft.ops.items) ≤ length (all_bytes profile whole) =
-    subst (λ o. length (all_bytes profile o) ≤ length (all_bytes profile whole)) (sym done.right.ops)
-    (few_bytes (length (all_bytes profile done.right.own)) (length (all_bytes profile whole)) bytes draft.bytes done.right.bytes less exact (omega (arith, all))) in
+    few_bytes (length (all_bytes profile draft.ops.items)) (length (all_bytes profile whole)) bytes draft.bytes (mine.bytes ∙ ap counted_up (omega (arith, sum))) less exact (omega (arith, all)) in
     record {
-      shows = λ old agrees.
-          let own = partly.done old agrees in
-          subst (λ o. RunsToShow profile old o virtual.picture) (sym own.right.ops) (done_shows grids profile virtual.picture k fits [] old draft own);
-      anew = λ wished old state. never virtual.repaint wished calm;
-      agrees = λ wished may old new state run. never virtual.repaint wished calm;
+      shows = λ old start. shows old (start.agrees calm);
+      agrees = λ may old new start run. memories.follows profile p memory may old new draft.ops.items (start.agrees calm) run;
       known = partly.known;
+      begins = λ unknown there. begins_with profile draft.ops.items mine.own there mine.ops;
       few = few;
-      scratch = omega (arith, fewer, plan.scratch);
-      joined = λ known _. never (is_known memory && not virtual.repaint) (λ i. known i && not (calm i)) due;
+      cheap = omega (arith, fewer, plan.cheap);
     }
+  where
+    first : List Op
+    first = resets profile
+
+    shows : (old : TerminalState) → Agrees (abilities profile) memory old → RunsToShow profile old draft.ops.items virtual.picture
+    shows old agrees =
+        let right = partly.right old agrees in
+        let shown = right_shows grids profile virtual.picture k fits (length (all_bytes profile first)) first (made_plain old) draft right partly.spot in
+        record {
+          new = shown.new;
+          run = ap (λ o. runs profile old o) right.ops ∙ then_runs laws profile old (made_plain old) shown.new first right.own (resets_run profile (have profile p) old agrees.is_state.pen) shown.run;
+          shows = shown.shows;
+          state = shown.state;
+        }
 
 -- ---- which pens a terminal can have
 

@@ -1,5 +1,5 @@
 -- Rows that are not known: they are erased, and all is known then.
-use Rattle.std.proofs.Common.{◌≡◌, ℕ, zero, suc, ◌+◌, ◌<◌, ◌≤◌, ◌==◌, ◌&&◌, ◌||◌, not, leb, ltb, Bool, true, false, refl, sym, ◌∙◌, ap, subst, arith, List, [], ◌∷◌, ◌++◌, cond, get_or, length, set, Option, Some, None, IfSome, Result, Ok, Err, IfOk, option_and_then, replicate, if◌then◌else◌}
+use Rattle.std.proofs.Common.{All, ◌≡◌, ℕ, zero, suc, ◌+◌, ◌<◌, ◌≤◌, ◌==◌, ◌&&◌, ◌||◌, not, leb, ltb, Bool, true, false, refl, sym, ◌∙◌, ap, subst, arith, List, [], ◌∷◌, ◌++◌, cond, get_or, length, set, Option, Some, None, IfSome, Result, Ok, Err, IfOk, option_and_then, replicate, if◌then◌else◌}
 use Rattle.std.specs.List.{list_all}
 use Rattle.std.proofs.lemmas.Bool.Decides.{nat_tests}
 use Rattle.std.proofs.lemmas.List.{append-nil, get_or-set_same}
@@ -18,19 +18,19 @@ use Rattle.scr_term.specs.Operations.Profiles.{ProfileView, IsProfile, abilities
 use Rattle.scr_term.specs.Operations.States.{TerminalState, IsState, erased, from_place, is_from_place, rest_of_line_erased}
 use Rattle.scr_term.specs.Operations.Steps.{act, lines_below_erased, runs, step}
 use Rattle.scr_term.specs.Operations.Texts.{all_bytes, has}
-use Rattle.scr_plan.proofs.DraftLaws.{begins_calm, drawn, weaker, weaker_inside}
+use Rattle.scr_plan.proofs.DraftLaws.{drawn, weaker, weaker_inside}
 use Rattle.scr_plan.proofs.RememberedPlanLaws.{agrees_itself}
 use Rattle.scr_plan.proofs.PartLaws.{look_refl}
-use Rattle.scr_plan.proofs.PlaceLaws.{at_place, goes_by, one_run, plain}
+use Rattle.scr_plan.proofs.PlaceLaws.{at_place, move_run, one_run, plain, resets_run, then_runs}
 use Rattle.scr_plan.proofs.PlainLaws.{both, look_same, not_false}
 use Rattle.scr_plan.proofs.RunChangeLaws.{not_in}
-use Rattle.scr_plan.specs.Code.Drafts.{AreUnknown, HasChangesIn, HasDiffering, HasUnsettled, HasUnsettledIn, IsAdded, IsPartly, IsRight, Keeps, KeepsAll, KeepsRuns, Knows, Leaves, RightFrom, Wipes, WipesRow, aim_of, in_runs, is_calm, or_below, or_from, or_row, row_wiped, unsettled, wiped}
+use Rattle.scr_plan.specs.Code.Drafts.{AreUnknown, HasChangesIn, HasDiffering, HasUnsettled, HasUnsettledIn, IsAdded, IsPartly, IsRight, IsRightPlain, Keeps, KeepsAll, KeepsRuns, Knows, Leaves, RightFrom, Wipes, WipesRow, aim_of, in_runs, is_calm, or_below, or_from, or_row, row_wiped, unsettled, wiped}
 use Rattle.scr_plan.specs.Code.Joinings.{counted_up}
-use Rattle.scr_plan.specs.Code.Painters.{painter_begins, painter_of, row_differs}
-use Rattle.scr_memory.specs.Memories.{Agrees, MemoryView, all_followed, changes_cells, clears, followed, has_one_pen, is_known, is_known_row, known_from, moves_rows, places_spot, rows_erased, sets_pen, stepped}
-use Rattle.scr_memory.specs.MemoryRuns.{MayBe, MemoryRuns}
+use Rattle.scr_plan.specs.Code.Painters.{painter_of, painter_resets, row_differs}
+use Rattle.scr_memory.specs.Memories.{Agrees, MayBe, MemoryView, all_followed, changes_cells, clears, followed, has_one_pen, is_known, is_known_row, known_from, made_plain, moves_rows, places_spot, rows_erased, sets_pen, stepped}
+use Rattle.scr_memory.specs.MemoryRuns.{MemoryRuns}
 use Rattle.scr_plan.specs.Repaints.{look_eq, look_in}
-use Rattle.scr_plan.specs.Scratch.{Fits, goes, look_at}
+use Rattle.scr_plan.specs.Scratch.{Fits, look_at, resets}
 use Rattle.scr_plan.specs.declared.painting.Painter.{Painter}
 use Rattle.scr_prices.specs.declared.runs.Run.{Run}
 use Rattle.scr_plan.specs.declared.strokes.Draft.{Draft}
@@ -148,9 +148,8 @@ knows_more laws profile p memory known old new own now knows ops calm run spot p
     let same : all_followed profile new.ops.items memory ≡ all_followed profile own m = ap (λ o. all_followed profile o memory) ops ∙ laws.joined profile memory old.ops.items own in
     let state : (all_followed profile new.ops.items memory).state ≡ now = ap (λ (m : MemoryView). m.state) same ∙ laws.state profile m now own run in
     let stays : Still profile m own = still profile m own now calm knows.known_spot knows.known_pen run in
-    let agrees : Agrees (abilities profile) (all_followed profile own m) now = laws.follows profile p m m.state now own (agrees_itself (abilities profile) m knows.may) run in
     record {
-      may = subst (MayBe (abilities profile)) (sym same) (record { state = agrees.may_be; high = agrees.high });
+      may = subst (MayBe (abilities profile)) (sym same) (laws.stays_possible profile p m own knows.may);
       known_spot = ap (λ (m : MemoryView). m.known_spot) same ∙ stays.known_spot;
       known_pen = ap (λ (m : MemoryView). m.known_pen) same ∙ stays.known_pen;
       spot = ap (λ (s : TerminalState). s.spot) state ∙ spot;
@@ -250,29 +249,59 @@ knows_erased_below run_laws laws profile p memory known top old new had here pla
 
 -- ---- where the draft begins
 
--- no attribute, default colours, and the cursor at the beginning of a row
-begun_run : RunLaws → ProfilesHave → (profile : ProfileView) → IsProfile profile → (painter : Painter) → painter ≡ painter_of profile → (row : ℕ) → row < profile.rows → 0 < profile.columns → (pen : PenView) → pen ≡ plain_pen → (start : TerminalState) → IsState (abilities profile) start
-    → runs profile start (painter_begins painter (row, 0) pen) ≡ Some (plain (at_place start (row, 0)))
-begun_run laws have profile p painter who row high wide pen is start state =
-    ap (λ ops. runs profile start ops) ((λ i. painter_begins (who i) (row, 0) (is i)) ∙ append-nil (goes profile (row, 0)))
-    ∙ goes_by laws profile (have profile p) start state.pen (row, 0) (high, wide) profile.msgr refl
+or_true : (b : Bool) → (b || true) ≡ true
+or_true true = refl
+or_true false = refl
 
-pub begun_right : RunLaws → ProfilesHave → (profile : ProfileView) → IsProfile profile → (picture : PictureView) → Fits profile picture → (painter : Painter) → painter ≡ painter_of profile → (memory : MemoryView) → (row : ℕ) → row < profile.rows → 0 < profile.columns → (pen : PenView) → pen ≡ plain_pen
-    → (old new : Draft) → old.ops.items ≡ [] → old.bytes ≡ 0 → IsAdded profile old new (painter_begins painter (row, 0) pen) (At row 0) pen → RightFrom profile picture memory (unsettled profile picture memory 0) new
-begun_right laws have profile p picture fits painter who memory row high wide pen is old new ops bytes added start agrees =
-    let begins : List Op = painter_begins painter (row, 0) pen in
-    let next : TerminalState = plain (at_place start (row, 0)) in
-    let run : runs profile start begins ≡ Some next = begun_run laws have profile p painter who row high wide pen is start agrees.is_state in
+-- what a draft begins with: no attribute, default colours, and the cursor at the beginning of a row
+abbrev pub begins_plain : ProfileView → ℕ → List Op
+begins_plain profile row = resets profile ++ Move row 0 ∷ []
+
+-- a draft that begins so
+pub record IsBegun (profile : ProfileView) (row : ℕ) (draft : Draft) : Type 0 where
+  pub ops : draft.ops.items ≡ begins_plain profile row
+  pub bytes : draft.bytes ≡ counted_up (length (all_bytes profile (resets profile)) + length (all_bytes profile (Move row 0 ∷ [])))
+  pub spot_is : draft.spot ≡ At row 0
+  pub pen_is : draft.pen ≡ plain_pen
+
+moved_plain : ProfilesHave → (profile : ProfileView) → IsProfile profile → (row : ℕ) → row < profile.rows → 0 < profile.columns → (start : TerminalState) → runs profile (made_plain start) (Move row 0 ∷ []) ≡ Some (plain (at_place start (row, 0)))
+moved_plain have profile p row high wide start = move_run profile (have profile p) (made_plain start) (row, 0) (high, wide) (or_true profile.msgr)
+
+begun_run : RunLaws → ProfilesHave → (profile : ProfileView) → IsProfile profile → (row : ℕ) → row < profile.rows → 0 < profile.columns → (start : TerminalState) → IsState (abilities profile) start
+    → runs profile start (begins_plain profile row) ≡ Some (plain (at_place start (row, 0)))
+begun_run laws have profile p row high wide start state =
+    then_runs laws profile start (made_plain start) (plain (at_place start (row, 0))) (resets profile) (Move row 0 ∷ []) (resets_run profile (have profile p) start state.pen) (moved_plain have profile p row high wide start)
+
+-- how the draft was made
+pub begun_is : RunLaws → ProfilesHave → (profile : ProfileView) → IsProfile profile → (painter : Painter) → painter ≡ painter_of profile → (row : ℕ) → row < profile.rows → 0 < profile.columns → (ops : List Op) → ops ≡ [] ++ painter_resets painter → (price : ℕ)
+    → (All (λ op. has profile op ≡ true) ops → price ≡ counted_up (length (all_bytes profile ops))) → (start : TerminalState) → IsState (abilities profile) start → (old new : Draft) → old.ops.items ≡ ops → old.bytes ≡ price
+    → (pen : PenView) → pen ≡ plain_pen → IsAdded profile old new (Move row 0 ∷ []) (At row 0) pen → IsBegun profile row new
+begun_is laws have profile p painter who row high wide ops made price priced start state old new items bytes pen is added =
+    let first : ops ≡ resets profile = made ∙ ap painter_resets who in
+    let reset : runs profile start ops ≡ Some (made_plain start) = ap (runs profile start) first ∙ resets_run profile (have profile p) start state.pen in
+    let paid : price ≡ counted_up (length (all_bytes profile (resets profile))) = priced (laws.had profile start (made_plain start) ops reset) ∙ ap (λ o. counted_up (length (all_bytes profile o))) first in
+    let more : new.bytes ≡ counted_up (old.bytes + length (all_bytes profile (Move row 0 ∷ []))) = added.bytes (laws.had profile (made_plain start) (plain (at_place start (row, 0))) (Move row 0 ∷ []) (moved_plain have profile p row high wide start)) in
     record {
-      own = begins;
-      ops = added.ops ∙ ap (λ o. o ++ begins) ops;
+      ops = added.ops ∙ ap (λ o. o ++ Move row 0 ∷ []) (items ∙ first);
+      bytes = omega (arith, more, paid, bytes);
+      spot_is = added.spot_is;
+      pen_is = added.pen_is ∙ is;
+    }
+
+pub begun_right : RunLaws → ProfilesHave → (profile : ProfileView) → IsProfile profile → (picture : PictureView) → Fits profile picture → (memory : MemoryView) → (row : ℕ) → row < profile.rows → 0 < profile.columns
+    → (new : Draft) → IsBegun profile row new → RightFrom profile picture memory (unsettled profile picture memory 0) new
+begun_right laws have profile p picture fits memory row high wide new begun start agrees =
+    let next : TerminalState = plain (at_place start (row, 0)) in
+    record {
+      own = Move row 0 ∷ [];
+      ops = begun.ops;
       now = next;
-      run = run;
-      calm = begins_calm painter (row, 0) pen;
-      state = laws.kept profile p start next agrees.is_state begins run;
-      bytes = added.bytes (laws.had profile start next begins run) ∙ ap (λ n. counted_up (n + length (all_bytes profile begins))) bytes;
-      spot = sym added.spot_is;
-      pen = sym is ∙ sym added.pen_is;
+      run = moved_plain have profile p row high wide start;
+      calm = refl;
+      state = laws.kept profile p start next agrees.is_state (begins_plain profile row) (begun_run laws have profile p row high wide start agrees.is_state);
+      bytes = begun.bytes;
+      spot = sym begun.spot_is;
+      pen = sym begun.pen_is;
       shows = λ r c up left e. by r c (omega (arith, up, fits.rows)) (is_known_row memory r) refl e;
     }
   where
@@ -291,34 +320,26 @@ begun_right laws have profile p picture fits painter who memory row high wide pe
         first false e = (cc)
 
 -- what is known of the terminal then
-or_true : (b : Bool) → (b || true) ≡ true
-or_true true = refl
-or_true false = refl
-
 then_step : (first : Option TerminalState) (rest : TerminalState → Option TerminalState) (now : TerminalState) → option_and_then rest first ≡ Some now → (next : TerminalState) × (first ≡ Some next) × (rest next ≡ Some now)
 then_step None rest now e = (cc)
 then_step (Some next) rest now e = (next, refl, e)
 
-pub knows_begun : RunLaws → ProfilesHave → MemoryRuns → (profile : ProfileView) → IsProfile profile → (painter : Painter) → painter ≡ painter_of profile → (memory : MemoryView) → MayBe (abilities profile) memory → (row : ℕ) → row < profile.rows → 0 < profile.columns → (pen : PenView) → pen ≡ plain_pen
-    → (old new : Draft) → old.ops.items ≡ [] → old.bytes ≡ 0 → IsAdded profile old new (painter_begins painter (row, 0) pen) (At row 0) pen → Knows profile memory (is_known_row memory) new
-knows_begun laws have memories profile p painter who memory may row high wide pen is old new ops bytes added =
-    let begins : List Op = painter_begins painter (row, 0) pen in
-    let next : TerminalState = plain (at_place memory.state (row, 0)) in
-    let run : runs profile memory.state begins ≡ Some next = begun_run laws have profile p painter who row high wide pen is memory.state may.state in
-    let all : new.ops.items ≡ begins = added.ops ∙ ap (λ o. o ++ begins) ops in
-    let same : all_followed profile new.ops.items memory ≡ all_followed profile begins memory = ap (λ o. all_followed profile o memory) all in
-    let state : (all_followed profile new.ops.items memory).state ≡ next = ap (λ (m : MemoryView). m.state) same ∙ memories.state profile memory next begins run in
-    let agrees : Agrees (abilities profile) (all_followed profile begins memory) next = memories.follows profile p memory memory.state next begins (agrees_itself (abilities profile) memory may) run in
-    let cut : begins ≡ goes profile (row, 0) = (λ i. painter_begins (who i) (row, 0) (is i)) ∙ append-nil (goes profile (row, 0)) in
-    let learnt = learnt_by profile.msgr (is_there profile Sgr0) refl (ap (λ o. runs profile memory.state o) (sym cut) ∙ run) in
+pub knows_begun : RunLaws → ProfilesHave → MemoryRuns → (profile : ProfileView) → IsProfile profile → (memory : MemoryView) → MayBe (abilities profile) memory → (row : ℕ) → row < profile.rows → 0 < profile.columns
+    → (new : Draft) → IsBegun profile row new → Knows profile memory (is_known_row memory) new
+knows_begun laws have memories profile p memory may row high wide new begun =
+    let begins : List Op = begins_plain profile row in
+    let run : runs profile memory.state begins ≡ Some now = begun_run laws have profile p row high wide memory.state may.state in
+    let same : all_followed profile new.ops.items memory ≡ all_followed profile begins memory = ap (λ o. all_followed profile o memory) begun.ops in
+    let state : (all_followed profile new.ops.items memory).state ≡ now = ap (λ (m : MemoryView). m.state) same ∙ memories.state profile memory now begins run in
+    let learnt = learnt_by (is_there profile Sgr0) refl run in
     record {
-      may = subst (MayBe (abilities profile)) (sym same) (record { state = agrees.may_be; high = agrees.high });
-      known_spot = ap (λ o. (all_followed profile o memory).known_spot) (all ∙ cut) ∙ learnt.0;
-      known_pen = ap (λ o. (all_followed profile o memory).known_pen) (all ∙ cut) ∙ learnt.1;
-      spot = ap (λ (s : TerminalState). s.spot) state ∙ sym added.spot_is;
-      pen = ap (λ (s : TerminalState). s.pen) state ∙ sym is ∙ sym added.pen_is;
-      bytes = omega (arith, added.bytes (laws.had profile memory.state next begins run));
-      rows = λ r e. ap (λ o. is_known_row (all_followed profile o memory) r) (all ∙ cut) ∙ ap (λ rows. get_or rows r false) learnt.2 ∙ e;
+      may = subst (MayBe (abilities profile)) (sym same) (memories.stays_possible profile p memory begins may);
+      known_spot = ap (λ (m : MemoryView). m.known_spot) same ∙ learnt.0;
+      known_pen = ap (λ (m : MemoryView). m.known_pen) same ∙ learnt.1;
+      spot = ap (λ (s : TerminalState). s.spot) state ∙ sym begun.spot_is;
+      pen = ap (λ (s : TerminalState). s.pen) state ∙ sym begun.pen_is;
+      bytes = omega (arith, begun.bytes);
+      rows = λ r e. ap (λ (m : MemoryView). get_or m.known_rows r false) same ∙ ap (λ rows. get_or rows r false) learnt.2 ∙ e;
     }
   where
     can : HasLaws profile
@@ -339,23 +360,13 @@ knows_begun laws have memories profile p painter who memory may row high wide pe
         ap (λ n. followed profile b (stepped (abilities profile) a memory n)) at
         ∙ ap (λ n. stepped (abilities profile) b (stepped (abilities profile) a memory (Some first)) n) then_at
 
-    learnt_by : (msgr sgr0 : Bool) → is_there profile Sgr0 ≡ sgr0 → runs profile memory.state (if msgr then Move row 0 ∷ (if sgr0 then Reset ∷ [] else []) else (if sgr0 then Reset ∷ [] else []) ++ Move row 0 ∷ []) ≡ Some now
-        → Learnt (if msgr then Move row 0 ∷ (if sgr0 then Reset ∷ [] else []) else (if sgr0 then Reset ∷ [] else []) ++ Move row 0 ∷ [])
-    learnt_by true true there e =
-        let first = then_step (step profile memory.state (Move row 0)) (λ s. runs profile s (Reset ∷ [])) now e in
-        let second = then_step (step profile first.0 Reset) (λ s. runs profile s []) now first.2 in
-        let is = two (Move row 0) Reset first.0 second.0 first.1 second.1 in
-        (ap (λ (m : MemoryView). m.known_spot) is ∙ ap (λ b. b || false) (or_true memory.known_spot), ap (λ (m : MemoryView). m.known_pen) is ∙ ap (λ b. b || has_one_pen (abilities profile)) (or_true (memory.known_pen || false || has_one_pen (abilities profile))), ap (λ (m : MemoryView). m.known_rows) is)
-    learnt_by true false there e =
-        let first = then_step (step profile memory.state (Move row 0)) (λ s. runs profile s []) now e in
-        let is : all_followed profile (Move row 0 ∷ []) memory ≡ stepped (abilities profile) (Move row 0) memory (Some first.0) = ap (λ n. stepped (abilities profile) (Move row 0) memory n) first.1 in
-        (ap (λ (m : MemoryView). m.known_spot) is ∙ or_true memory.known_spot, ap (λ (m : MemoryView). m.known_pen) is ∙ ap (λ b. memory.known_pen || false || b) (one there) ∙ or_true (memory.known_pen || false), ap (λ (m : MemoryView). m.known_rows) is)
-    learnt_by false true there e =
+    learnt_by : (sgr0 : Bool) → is_there profile Sgr0 ≡ sgr0 → runs profile memory.state ((if sgr0 then Reset ∷ [] else []) ++ Move row 0 ∷ []) ≡ Some now → Learnt ((if sgr0 then Reset ∷ [] else []) ++ Move row 0 ∷ [])
+    learnt_by true there e =
         let first = then_step (step profile memory.state Reset) (λ s. runs profile s (Move row 0 ∷ [])) now e in
         let second = then_step (step profile first.0 (Move row 0)) (λ s. runs profile s []) now first.2 in
         let is = two Reset (Move row 0) first.0 second.0 first.1 second.1 in
         (ap (λ (m : MemoryView). m.known_spot) is ∙ or_true (memory.known_spot || false), ap (λ (m : MemoryView). m.known_pen) is ∙ ap (λ b. b || has_one_pen (abilities profile) || false || has_one_pen (abilities profile)) (or_true memory.known_pen), ap (λ (m : MemoryView). m.known_rows) is)
-    learnt_by false false there e =
+    learnt_by false there e =
         let first = then_step (step profile memory.state (Move row 0)) (λ s. runs profile s []) now e in
         let is : all_followed profile (Move row 0 ∷ []) memory ≡ stepped (abilities profile) (Move row 0) memory (Some first.0) = ap (λ n. stepped (abilities profile) (Move row 0) memory n) first.1 in
         (ap (λ (m : MemoryView). m.known_spot) is ∙ or_true memory.known_spot, ap (λ (m : MemoryView). m.known_pen) is ∙ ap (λ b. memory.known_pen || false || b) (one there) ∙ or_true (memory.known_pen || false), ap (λ (m : MemoryView). m.known_rows) is)
@@ -492,17 +503,19 @@ all_known n [] same each = refl
 all_known zero (row ∷ rows) same each = absurd (omega (arith, same))
 all_known (suc n) (row ∷ rows) same each = (λ i. each 0 (omega arith) i && all_known n rows (omega (arith, same)) (λ r below. each (suc r) (omega (arith, below))) i)
 
-pub partly_done : MemoryRuns → (profile : ProfileView) → IsProfile profile → (picture : PictureView) → Fits profile picture → (memory : MemoryView) (runs : List Run) → HasUnsettled profile picture memory runs picture.rows → (old mid new : Draft)
+pub partly_done : RunLaws → ProfilesHave → MemoryRuns → (profile : ProfileView) → IsProfile profile → (picture : PictureView) → Fits profile picture → (memory : MemoryView) (runs : List Run) → HasUnsettled profile picture memory runs picture.rows → (old mid new : Draft)
     → RightFrom profile picture memory (unsettled profile picture memory 0) old → (MayBe (abilities profile) memory → Knows profile memory (is_known_row memory) old)
     → Keeps profile picture (unsettled profile picture memory 0) (unsettled profile picture memory picture.rows) old mid → (Knows profile memory (is_known_row memory) old → Knows profile memory (or_below (is_known_row memory) picture.rows) mid)
     → Leaves profile picture runs [] mid new → IfSome picture.wish (λ place. new.spot ≡ At place.0 place.1) → IsPartly profile picture memory new
-partly_done laws profile p picture fits memory runs found old mid new begun knows wiped learns painted placed = record {
-  done = λ start agrees. record { right = painted 0 [] start (settled 0 [] start (wiped 0 [] start (begun start agrees))); spot = placed };
+partly_done run_laws have laws profile p picture fits memory runs found old mid new begun knows wiped learns painted placed = record {
+  right = λ start agrees. painted paid first (made_plain start) (settled paid first (made_plain start) (wiped paid first (made_plain start) (begun start agrees)));
+  spot = placed;
   known = λ may.
       let m : MemoryView = all_followed profile mid.ops.items memory in
       let here : Knows profile memory (or_below (is_known_row memory) picture.rows) mid = learns (knows may) in
-      let there : IsRight profile picture 0 [] memory.state (in_runs runs) mid = settled 0 [] memory.state (wiped 0 [] memory.state (begun memory.state (agrees_itself (abilities profile) memory may))) in
-      let state : m.state ≡ there.now = ap (λ o. (all_followed profile o memory).state) there.ops ∙ laws.state profile memory there.now there.own there.run in
+      let there : IsRightPlain profile picture memory.state (in_runs runs) mid = settled paid first (made_plain memory.state) (wiped paid first (made_plain memory.state) (begun memory.state (agrees_itself (abilities profile) memory may))) in
+      let run = then_runs run_laws profile memory.state (made_plain memory.state) there.now first there.own (resets_run profile (have profile p) memory.state may.state.pen) there.run in
+      let state : m.state ≡ there.now = ap (λ o. (all_followed profile o memory).state) there.ops ∙ laws.state profile memory there.now (first ++ there.own) run in
       let rows : list_all (λ known. known) m.known_rows ≡ true = all_known profile.rows m.known_rows (sym here.may.high) (λ r below. here.rows r (low r (omega (arith, below, fits.rows)))) in
       let known : is_known m ≡ true = (λ i. rows i && here.known_spot i && here.known_pen i) in
       let right : IsRight profile picture mid.bytes mid.ops.items m.state (in_runs []) new =
@@ -519,9 +532,15 @@ partly_done laws profile p picture fits memory runs found old mid new begun know
         shows = λ r c high wide e. ap (λ s. grid_at blank s.grid r c) state ∙ there.shows r c high wide e;
       }) in
       ap (λ o. is_known (all_followed profile o memory)) right.ops ∙ ap is_known (laws.joined profile memory mid.ops.items right.own)
-      ∙ laws.stays_known profile p m m.state right.now right.own (agrees_itself (abilities profile) m here.may) right.run known;
+      ∙ laws.stays_known profile p m here.may m.state right.now right.own (agrees_itself (abilities profile) m here.may) right.run known;
 }
   where
+    first : List Op
+    first = resets profile
+
+    paid : ℕ
+    paid = length (all_bytes profile first)
+
     settled : Keeps profile picture (unsettled profile picture memory picture.rows) (in_runs runs) mid mid
     settled = weaker_inside profile picture (unsettled profile picture memory picture.rows) (in_runs runs) mid (λ r c high wide e. found r high c wide e)
 

@@ -16,7 +16,8 @@ use Rattle.scr_term.specs.Operations.Painted.{painted, seen_on}
 use Rattle.scr_term.specs.Operations.Profiles.{abilities}
 use Rattle.scr_plan.proofs.Rows.{read_any}
 use Rattle.scr_plan.proofs.ScratchLaws.{map_grid_at, map_is_grid}
-use Rattle.scr_memory.specs.Memories.{Agrees, MemoryView, all_followed, disturbed, is_known_row}
+use Rattle.scr_memory.specs.Memories.{MemoryView, disturbed, is_known_row}
+use Rattle.scr_plan.proofs.RememberedPlanLaws.{agrees_itself}
 use Rattle.scr_memory.specs.MemoryRuns.{MemoryRuns}
 use Rattle.scr_plan.specs.Plans.{UpToDateLaws}
 
@@ -70,14 +71,11 @@ up_to_date runs = record {
       let low : r < old.picture.rows = omega (arith, high, rows) in
       let left : c < old.picture.columns = omega (arith, wide, columns) in
       same r c low left known (was_outside old new changes r c out) ∙ sym (changes.altered.holds (abilities profile).shown (abilities profile).colours r c low left out);
-  follows = λ profile memory virtual ops agrees k plan r c high wide known out.
-      let shown = plan.shows memory.state agrees in
+  follows = λ profile memory virtual ops may k plan r c high wide known out.
+      let shown = plan.shows memory.state (record { state = may.state; agrees = λ _. agrees_itself (abilities profile) memory may }) in
       ap (λ state. grid_at blank state.grid r c) (runs.state profile memory shown.new ops shown.run)
       ∙ ap (λ grid. grid_at blank grid r c) shown.shows.grid
       ∙ painted_at (abilities profile) virtual.picture r c k high wide;
-  agrees = λ profile p memory virtual ops agrees plan.
-      let shown = plan.shows memory.state agrees in
-      subst (Agrees (abilities profile) (all_followed profile ops memory)) (sym (runs.state profile memory shown.new ops shown.run)) (runs.follows profile p memory memory.state shown.new ops agrees shown.run);
 }
   where
     by_length : (memory : MemoryView) (first n r : ℕ) → is_known_row (disturbed first n memory) r ≡ true → is_known_row memory r ≡ true

@@ -1,8 +1,8 @@
 -- Painting only the places that differ from what is known of the terminal. curs_refresh(3X), doupdate(); X/Open Curses
 -- Issue 7, doupdate().
-use Rattle.std.specs.Prelude.{ℕ, zero, suc, ◌≡◌, ◌<◌, ◌≤◌, ◌==◌, ◌&&◌, ◌||◌, not, leb, nat_le, Bool, true, false, List, [], ◌∷◌, ◌++◌, length, filter, Option, Some, None, if◌then◌else◌}
+use Rattle.std.specs.Prelude.{ℕ, zero, suc, ◌≡◌, ◌<◌, ◌≤◌, ◌==◌, ◌&&◌, ◌||◌, not, leb, nat_le, Bool, true, false, List, [], ◌∷◌, ◌++◌, length, filter, Option, Some, None, unwrap_or, if◌then◌else◌}
 use Rattle.std.specs.List.{flat_map, list_all, range_with_len}
-use Rattle.scr_cells.specs.Grids.{grid_at}
+use Rattle.scr_cells.specs.Grids.{IsGrid, grid_at}
 use Rattle.scr_cells.specs.LookViews.{LookView, blank}
 use Rattle.scr_cells.specs.PenViews.{is_plain_pen, pen_eq}
 use Rattle.scr_cells.specs.PictureViews.{PictureView, IsPicture}
@@ -132,15 +132,19 @@ is_idle state Reset = is_plain_pen state.pen
 is_idle state (Move r c) = is_in_place state.spot (r, c)
 is_idle state op = false
 
--- An operation is left out if it would change nothing, and kept otherwise; from an undefined one on, all are kept.
-abbrev pub kept_unless_idle : TerminalState → Op → List Op → Option TerminalState → (TerminalState → List Op) → List Op
-kept_unless_idle state op ops None rest = op ∷ ops
-kept_unless_idle state op ops (Some next) rest = if is_idle state op then rest next else op ∷ rest next
+-- The state after an operation, and after several; one that is undefined changes nothing.
+abbrev pub state_after : ProfileView → TerminalState → Op → TerminalState
+state_after profile state op = unwrap_or (step profile state op) state
+
+abbrev pub state_after_all : ProfileView → TerminalState → List Op → TerminalState
+state_after_all profile state [] = state
+state_after_all profile state (op ∷ ops) = state_after_all profile (state_after profile state op) ops
 
 -- These operations without those that would change nothing, from a given state on.
 abbrev pub without_idle : ProfileView → TerminalState → List Op → List Op
 without_idle profile state [] = []
-without_idle profile state (op ∷ ops) = kept_unless_idle state op ops (step profile state op) (λ next. without_idle profile next ops)
+without_idle profile state (op ∷ ops) =
+    if is_idle state op then without_idle profile state ops else op ∷ without_idle profile (state_after profile state op) ops
 
 -- The joined repaint, for a memory that knows everything: the plain repaint with neighbours joined, ends of lines
 -- erased, and operations that would change nothing left out.
@@ -179,7 +183,7 @@ PlainShows =
 -- anew does so from every state.
 pub record JoinedShows : Type 0 where
   pub joined : (profile : ProfileView) → IsProfile profile → (picture : PictureView) → IsPicture picture → Fits profile picture
-      → (memory : MemoryView) (old : TerminalState) → Agrees (abilities profile) memory old → is_known memory ≡ true → RunsToShow profile old (joined_of profile memory picture) picture
+      → (memory : MemoryView) → IsGrid profile.rows profile.columns memory.state.grid → (old : TerminalState) → Agrees (abilities profile) memory old → is_known memory ≡ true → RunsToShow profile old (joined_of profile memory picture) picture
   pub anew : (profile : ProfileView) → IsProfile profile → (picture : PictureView) → IsPicture picture → Fits profile picture
       → (old : TerminalState) → IsState (abilities profile) old → RunsToShow profile old (anew_of profile picture) picture
 

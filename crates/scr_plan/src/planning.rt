@@ -91,9 +91,26 @@ fn plan_by(
         return anew_or_partly(alloc, profile, memory, wanted, by);
     }
     if !may_be(profile, memory) {
-        return Ok(Ops(Vec::new(alloc)));
+        return nothing(alloc, profile, memory, wanted);
     }
     changes(alloc, profile, memory, wanted, by)
+}
+
+// No operations, where all is known and no terminal of the profile can have the remembered pen.
+fn nothing(
+    alloc: Global,
+    profile: &Profile,
+    memory: &Memory,
+    wanted: &Virtual,
+) -> Result<Ops, NoMemory>
+    requires due { (is_known memory.now && not wanted.now.repaint) ≡ true }
+    requires pen { IsShownPen (abilities profile.now) memory.now.state.pen → ⊥ }
+    ensures { IfOk result (IsPlan profile.now memory.now wanted.now) }
+{
+    let _profile = profile.size();
+    let _memory = memory.size();
+    let _wanted = wanted.size();
+    Ok(Ops(Vec::new(alloc)))
 }
 
 // Whether only what differs is to be painted: all is known, and no repaint of the whole screen was
@@ -172,6 +189,8 @@ fn partly_if_shorter(
     ensures { IfOk result (IsPlan profile.now memory.now wanted.now) }
 {
     run_laws();
+    profiles_have();
+    memory_runs();
     grid_laws::<Look>();
     let _profile = profile.size();
     let _memory = memory.size();
@@ -194,6 +213,7 @@ fn anew(
     wanted: &Virtual,
 ) -> Result<Ops, NoMemory>
     requires fits { Fits profile.now wanted.now.picture }
+    requires size { IsSizeOf wanted.now.picture memory.now }
     requires due { (is_known memory.now && not wanted.now.repaint) ≡ false }
     ensures { IfOk result (IsPlan profile.now memory.now wanted.now) }
 {
@@ -204,6 +224,7 @@ fn anew(
     plans_are_remembered();
     grid_laws::<Look>();
     let _profile = profile.size();
+    let _memory = memory.size();
     let _wanted = wanted.size();
     let painter = Painter::of(profile);
     let picture = wanted.picture();
@@ -274,6 +295,7 @@ fn changes(
     profiles_have();
     grid_laws::<Look>();
     let _profile = profile.size();
+    let _memory = memory.size();
     let _wanted = wanted.size();
     let painter = Painter::of(profile);
     if is_nothing_left(painter, profile, memory, wanted, by) {

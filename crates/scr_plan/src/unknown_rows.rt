@@ -5,12 +5,12 @@ ghost use Rattle.std.specs.Prelude.{◌≡◌, ◌+◌, ◌<◌, ◌≤◌, IfOk
 ghost use Rattle.scr_plan.specs.Code.Drafts.{AreUnknown, HasUnsettled, HasUnsettledIn, IsPartly, KeepsRuns, Keeps, Knows, LearnsBelow, LearnsRow, RightFrom, WipesRow, or_below, unsettled};
 ghost use Rattle.scr_plan.specs.Code.Painters.{painter_of};
 ghost use Rattle.scr_plan.specs.Code.Planning.{range_by};
-ghost use Rattle.scr_memory.specs.Memories.{is_known_row};
-ghost use Rattle.scr_memory.specs.MemoryRuns.{MayBe};
+ghost use Rattle.scr_memory.specs.Memories.{MayBe, is_known_row};
 ghost use Rattle.scr_plan.specs.Repaints.{IsSizeOf, ShowsOutside};
 ghost use Rattle.scr_plan.specs.Scratch.{Fits};
 ghost use Rattle.scr_term.specs.Operations.Profiles.{abilities};
 
+use crate::joining::price_of;
 use crate::looked::Looked;
 use crate::painting::Painter;
 use crate::planning::room_of;
@@ -39,6 +39,7 @@ pub(crate) fn short_partly(
     ensures { IfOk result (λ draft. IfSome draft (IsPartly profile.now wanted.now.picture memory.now)) }
 {
     run_laws();
+    profiles_have();
     memory_runs();
     let _profile = profile.size();
     let _memory = memory.size();
@@ -74,14 +75,16 @@ fn begun(
     let _profile = profile.size();
     let _memory = memory.size();
     let size = picture.size();
+    let mut ops = Vec::with_capacity(alloc, room_of(size))?;
+    painter.reset(&mut ops)?;
     let mut draft = Draft {
-        ops: Vec::with_capacity(alloc, room_of(size))?,
-        bytes: 0,
+        bytes: price_of(profile, &ops),
+        ops,
         spot: Spot::At(0, 0),
         pen: Pen::plain(),
     };
     let row = first_unknown(memory);
-    draft.lead(painter, profile, row, 0, Pen::plain())?;
+    draft.add(profile, Op::Move(row, 0), Spot::At(row, 0), Pen::plain())?;
     Ok(draft)
 }
 

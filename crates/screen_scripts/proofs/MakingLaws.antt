@@ -109,7 +109,7 @@ updates laws runs_on old new before after sent bytes ready is first last = recor
     plan = is.updated.plan;
     left = ap (λ s. s.memory) is.screen;
     agrees = λ state next agrees run. subst (λ m. Agrees (abilities old.profile) m next) (sym (ap (λ s. s.memory) is.screen))
-        (runs_on.follows old.profile (laws.is_profile old.profile ready.entry) old.memory state next sent.begun agrees run);
+        (runs_on.follows old.profile (laws.is_profile old.profile ready.entry) old.memory is.updated.possible state next sent.begun agrees run);
   });
   profile = profile;
   ready = record { entry = subst IsEcma48 (sym profile) ready.entry; nothing = is.updated.nothing };

@@ -154,7 +154,9 @@ sent_one profile old new virtual bytes update = record {
   updates = update.ops ∷ [];
   bytes = update.bytes_are ∙ sym (append-nil (all_bytes profile update.ops));
   plans = (update.plan, update.left);
-  show = λ state agrees. (update.plan.shows state agrees, update.agrees state (update.plan.shows state agrees).new agrees (update.plan.shows state agrees).run);
+  show = λ state agrees.
+      let shown = update.plan.shows state (record { state = agrees.is_state; agrees = λ _. agrees }) in
+      (shown, update.agrees state shown.new agrees shown.run);
 }
 
 -- the notes of a line are nothing that is sent
@@ -198,7 +200,7 @@ pub after_feeding : Ecma48Laws → BytesActAsTheirOperations → ScreensFollowTe
 after_feeding laws acts follow profile ecma before after virtual picture old new bytes terminal sending fed valid =
     let update : IsUpdateOf profile before after virtual bytes = sending.sent in
     let shown : RunsToShow profile terminal.state update.ops picture =
-    subst (RunsToShow profile terminal.state update.ops) sending.shown (update.plan.shows terminal.state terminal.agrees) in
+    subst (RunsToShow profile terminal.state update.ops) sending.shown (update.plan.shows terminal.state (record { state = terminal.agrees.is_state; agrees = λ _. terminal.agrees })) in
     let leads : Leads old.rows old.columns old.state bytes (negative_state shown.new) =
     subst (λ r. Leads r old.columns old.state bytes (negative_state shown.new)) (sym terminal.rows)
     (subst (λ c. Leads profile.rows c old.state bytes (negative_state shown.new)) (sym terminal.columns)

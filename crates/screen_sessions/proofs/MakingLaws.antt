@@ -212,7 +212,7 @@ forgets_all : {w v : WriterView} {count : ℕ} {rest : List ℕ} → MemoryLaws 
 forgets_all laws old new begun memory sent state next agrees run =
     let defined = sent.defined state agrees in
     subst (λ m. Agrees (abilities old.profile) m next) (sym memory)
-    (laws.forgets (abilities old.profile) old.memory state next agrees (subst (IsState (abilities old.profile)) (same_some defined.new next (sym defined.run ∙ run)) defined.state))
+    (laws.forgets (abilities old.profile) old.memory next agrees.high (subst (IsState (abilities old.profile)) (same_some defined.new next (sym defined.run ∙ run)) defined.state))
 
 pub shown_made : MemoryRuns → (old new : ScreenState) (sent : SentView) (before after : WriterView) → IsProfile old.profile → IsShown old new before after sent → IsMade old new Doupdate (Sent sent) before after
 shown_made runs old new sent before after is shown = record {
@@ -225,8 +225,8 @@ shown_made runs old new sent before after is shown = record {
   right = shown.updated.plan;
   quiet = λ other. absurd (untrue (sym other));
   sent = shown.updated.sent;
-  agrees = λ state next agrees run. subst (λ m. Agrees (abilities old.profile) m next) (sym (ap (λ s. s.memory) shown.screen)) (runs.follows old.profile is old.memory state next sent.begun agrees run);
-  well = λ well. record { picture = ap (λ s. s.virtual.picture) shown.screen; plan = shown.updated.plan; nothing = ap (λ s. s.owed) shown.screen };
+  agrees = λ state next agrees run. subst (λ m. Agrees (abilities old.profile) m next) (sym (ap (λ s. s.memory) shown.screen)) (runs.follows old.profile is old.memory shown.updated.possible state next sent.begun agrees run);
+  well = λ well. record { picture = ap (λ s. s.virtual.picture) shown.screen; plan = shown.updated.plan; possible = shown.updated.possible; nothing = ap (λ s. s.owed) shown.screen };
   knows = λ b knew e. record { owed = ap (λ s. s.owed) shown.screen; memory = ap (λ s. is_known s.memory) shown.screen ∙ shown.updated.known };
   puts = shown.updated.puts;
   finishes = shown.updated.finishes;

@@ -20,7 +20,7 @@ never_true false not = refl
 -- What is remembered behind calls that are no updates: less in the rows that they mark, and no more elsewhere; and
 -- where a mark is among them, neither the spot nor the pen is known.
 record Left (drawn : Drawn) (memory left : MemoryView) (calls : List Call) (answers : List Answer) : Type 0 where
-  pub state : left.state ≡ memory.state
+  pub grid : left.state.grid ≡ memory.state.grid
   pub high : length left.known_rows ≡ length memory.known_rows
   pub rows : (r : ℕ) → r < length memory.known_rows → is_known_row left r ≡ true → (is_known_row memory r ≡ true) × (is_marked drawn calls answers r ≡ false)
   pub spot : left.known_spot ≡ true → (memory.known_spot ≡ true) × (has_mark drawn calls answers ≡ false)
@@ -34,7 +34,7 @@ behind_quiet profile drawn memory call answer update = ap (λ b. if b then memor
 left_by_one : MemoryLaws → (drawn next : Drawn) (memory left : MemoryView) (call : Call) (answer : Answer) (calls : List Call) (answers : List Answer) (rows : Option (ℕ × ℕ)) → marked_by drawn.desk call ≡ rows → next ≡ after_call drawn call answer
     → Left next (memory_marked memory rows) left calls answers → Left drawn memory left (call ∷ calls) (answer ∷ answers)
 left_by_one laws drawn next memory left call answer calls answers None is same rest = record {
-  state = rest.state;
+  grid = rest.grid;
   high = rest.high;
   rows = λ r few known. let kept = rest.rows r few known in (kept.0, ap (λ m. is_row_of m r || is_marked (after_call drawn call answer) calls answers r) is ∙ sym (ap (λ d. is_marked d calls answers r) same) ∙ kept.1);
   spot = λ known. let kept = rest.spot known in (kept.0, ap (λ m. is_some m || has_mark (after_call drawn call answer) calls answers) is ∙ sym (ap (λ d. has_mark d calls answers) same) ∙ kept.1);
@@ -43,7 +43,7 @@ left_by_one laws drawn next memory left call answer calls answers None is same r
 left_by_one laws drawn next memory left call answer calls answers (Some rows) is same rest =
     let without = laws.marks memory rows.0 rows.1 in
     record {
-      state = rest.state ∙ without.state;
+      grid = rest.grid ∙ without.grid;
       high = rest.high ∙ without.high;
       rows = λ r few known.
           let kept = rest.rows r (omega (arith, few, without.high)) known in
@@ -58,8 +58,8 @@ left_by_one laws drawn next memory left call answer calls answers (Some rows) is
 
 left_behind : MemoryLaws → (profile : ProfileView) (drawn : Drawn) (memory : MemoryView) (calls : List Call) (answers : List Answer) → list_all (λ call. not (is_update call)) calls ≡ true
     → Left drawn memory (remembered_behind profile drawn memory calls answers) calls answers
-left_behind laws profile drawn memory [] answers quiet = record { state = refl; high = refl; rows = λ r few known. (known, refl); spot = λ known. (known, refl); pen = λ known. (known, refl) }
-left_behind laws profile drawn memory (call ∷ calls) [] quiet = record { state = refl; high = refl; rows = λ r few known. (known, refl); spot = λ known. (known, refl); pen = λ known. (known, refl) }
+left_behind laws profile drawn memory [] answers quiet = record { grid = refl; high = refl; rows = λ r few known. (known, refl); spot = λ known. (known, refl); pen = λ known. (known, refl) }
+left_behind laws profile drawn memory (call ∷ calls) [] quiet = record { grid = refl; high = refl; rows = λ r few known. (known, refl); spot = λ known. (known, refl); pen = λ known. (known, refl) }
 left_behind laws profile drawn memory (call ∷ calls) (answer ∷ answers) quiet =
     by_first (is_update call) refl (λ later. left_behind laws profile (after_call drawn call answer) (memory_marked memory (marked_by drawn.desk call)) calls answers later)
   where
@@ -80,14 +80,14 @@ disturbs_marked abilities rows marked before changed each disturbs = record {
 }
 
 pub holds_again : MemoryLaws → DisturbedRowsHoldAgain
-holds_again laws profile first calls answers taken session before changed rows agrees disturbs n few marks =
+holds_again laws profile first calls answers taken session rows changed wrote n few marks =
     let left = left_behind laws profile first.drawn first.memory (take n calls) (take n answers) marks.quiet in
     session.holds n changed few (record {
       quiet = marks.quiet;
-      agrees = laws.others (abilities profile) (is_marked first.drawn (take n calls) (take n answers)) first.memory (remembered_behind profile first.drawn first.memory (take n calls) (take n answers)) before changed agrees
-          (disturbs_marked (abilities profile) rows (is_marked first.drawn (take n calls) (take n answers)) before changed marks.each disturbs)
+      agrees = laws.others (abilities profile) (is_marked first.drawn (take n calls) (take n answers)) first.memory (remembered_behind profile first.drawn first.memory (take n calls) (take n answers)) wrote.before changed wrote.agrees
+          (disturbs_marked (abilities profile) rows (is_marked first.drawn (take n calls) (take n answers)) wrote.before changed marks.each wrote.wrote)
           (record {
-            state = left.state;
+            grid = left.grid;
             high = left.high;
             rows = left.rows;
             spot = never_true _ (λ known. no_bool (sym (left.spot known).1 ∙ marks.some));

@@ -13,9 +13,9 @@ use Rattle.scr_term.specs.Operations.Profiles.{ProfileView, IsProfile, abilities
 use Rattle.scr_term.specs.Operations.States.{TerminalState, IsState, negative_state}
 use Rattle.scr_term.specs.Operations.Steps.{runs}
 use Rattle.scr_term.specs.Operations.Texts.{all_bytes}
-use Rattle.scr_memory.specs.Memories.{Agrees, MemoryView, is_known, remembered}
+use Rattle.scr_memory.specs.Memories.{Agrees, MayBe, MemoryView, is_known, remembered}
 use Rattle.scr_memory.specs.MemoryRuns.{KnownMemories, MemoryRuns}
-use Rattle.scr_plan.specs.Plans.{IsPlan}
+use Rattle.scr_plan.specs.Plans.{IsPlan, PlanIsCheap}
 use Rattle.scr_plan.specs.Repaints.{joined_of}
 use Rattle.scr_plan.specs.Scratch.{RunsToShow}
 use Rattle.screen_sessions.specs.declared.answers.Answer.{Answer}
@@ -171,10 +171,10 @@ moment_now acts profile opened now before begun taken owed picture well state ru
 shows_now : (profile : ProfileView) (old new : TerminalState) (more : List Op) (picture : PictureView) → runs profile old more ≡ Some new → RunsToShow profile old more picture → Shows (abilities profile) new picture
 shows_now profile old new more picture run shown = subst (λ s. Shows (abilities profile) s picture) (some_same shown.new new (sym shown.run ∙ run)) shown.shows
 
-pub one_more : RunLaws → BytesActAsTheirOperations → KnownMemories → (profile : ProfileView) (first : Beginning) (begun : ScreenState) (calls : List Call) (answers : List Answer) (call : Call) (answer : Answer) (old new : ScreenState) (before mid after : WriterView)
+pub one_more : RunLaws → BytesActAsTheirOperations → KnownMemories → PlanIsCheap → (profile : ProfileView) (first : Beginning) (begun : ScreenState) (calls : List Call) (answers : List Answer) (call : Call) (answer : Answer) (old new : ScreenState) (before mid after : WriterView)
     → length answers < length calls → get_or calls (length answers) Doupdate ≡ call → SoFar profile first begun calls answers old before mid → IsMade old new call answer mid after
     → SoFar profile first begun calls (answers ++ answer ∷ []) new before after
-one_more laws acts remembers profile first begun calls answers call answer old new before mid after inside here is made = record {
+one_more laws acts remembers cheap profile first begun calls answers call answer old new before mid after inside here is made = record {
   same = made.profile ∙ is.same;
   keys = made.keys ∙ is.keys;
   opening = made.opening ∙ is.opening;
@@ -319,9 +319,9 @@ one_more laws acts remembers profile first begun calls answers call answer old n
         let bytes : count_of answer ≡ length (all_bytes profile (begun_of answer)) =
         sent.cut.bytes ∙ sym (ap length (append-nil sent.cut.taken)) ∙ sym (ap (λ r. length (sent.cut.taken ++ r)) none) ∙ sym (ap length sent.cut.whole) ∙ ap (λ o. length (o ++ all_bytes profile (begun_of answer))) knows.owed in
         let few : length (all_bytes profile (begun_of answer)) ≤ length (all_bytes profile (joined_of profile old.memory old.virtual.picture)) =
-        subst (λ p. length (all_bytes p (begun_of answer)) ≤ length (all_bytes p (joined_of p old.memory old.virtual.picture))) is.same (plan.joined knows.memory paint) in
+        subst (λ p. length (all_bytes p (begun_of answer)) ≤ length (all_bytes p (joined_of p old.memory old.virtual.picture))) is.same (cheap.joined old.profile old.memory old.virtual (begun_of answer) plan knows.memory paint) in
         let known : joined_of profile old.memory old.virtual.picture ≡ joined_of profile (remembered profile.rows profile.columns state) old.virtual.picture =
-        ap (λ m. joined_of profile m old.virtual.picture) (remembers.is (abilities profile) old.memory state (subst (Agrees (abilities profile) old.memory) same reached.agrees) knows.memory) in
+        ap (λ m. joined_of profile m old.virtual.picture) (remembers.is (abilities profile) old.memory (subst (λ p. MayBe (abilities p) old.memory) is.same (made.well well).possible).state.whole state (subst (Agrees (abilities profile) old.memory) same reached.agrees) knows.memory) in
         let less : length (all_bytes profile (begun_of answer)) ≤ length (all_bytes profile (joined_of profile (remembered profile.rows profile.columns state) old.virtual.picture)) =
         subst (λ ops. length (all_bytes profile (begun_of answer)) ≤ length (all_bytes profile ops)) known few in
         omega (arith, bytes, less)
@@ -359,7 +359,7 @@ one_more laws acts remembers profile first begun calls answers call answer old n
         moment_now acts profile opened next.new first.owed (begun_in (answers ++ answer ∷ [])) (is.taken ++ sent.cut.taken) new.owed new.virtual.picture (tells_sent answer) state run bytes_now one_now
         (λ well. subst (Shows (abilities profile) next.new) (sym (made.well well).picture)
         (shows_now profile reached.now next.new (begun_of answer) old.virtual.picture next.run
-        ((subst (λ p. IsPlan p old.memory old.virtual (begun_of answer)) is.same (made.well well).plan).shows reached.now reached.agrees)))
+        ((subst (λ p. IsPlan p old.memory old.virtual (begun_of answer)) is.same (made.well well).plan).shows reached.now (record { state = reached.agrees.is_state; agrees = λ _. reached.agrees }))))
         (λ well. (made.well well).nothing)
 
     moment_at : (n : ℕ) (opened : TerminalState) → MayBegin profile first calls (answers ++ answer ∷ []) n opened → (i : ℕ) → n ≤ i → (i < length answers) ⊎ (i ≡ length answers)

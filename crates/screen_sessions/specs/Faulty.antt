@@ -1,6 +1,6 @@
 -- A writer for tests: it takes some bytes, fails a number of times, and so on with each further fault, and then takes
 -- everything.
-use Rattle.std.specs.Prelude.{ℕ, zero, ◌-◌, ◌≡◌, ◌⊎◌, ◌&&◌, ◌++◌, Bool, true, nat_le, nat_lt, min, List, [], ◌∷◌, length, take, Result, Ok, Err, if◌then◌else◌}
+use Rattle.std.specs.Prelude.{ℕ, zero, ◌-◌, ◌≡◌, ◌&&◌, ◌++◌, Bool, true, nat_le, nat_lt, min, List, [], ◌∷◌, length, take, Result, Ok, Err, IsOk, if◌then◌else◌}
 use Rattle.std.specs.IoError.{error_kind}
 use Rattle.std.specs.declared.io.Error.{Error}
 use Rattle.std.specs.declared.io.ErrorKind.{ErrorKind}
@@ -79,8 +79,12 @@ flush_that due failure writer = (writer, Ok tt)
 abbrev pub flush_call : FaultyView → FaultyView × Result (Unit {0}) ErrorKind
 flush_call writer = flush_that (is_due writer) writer.fault.failure (called writer)
 
--- Writer and answer are as the call's definition says. Or memory ran out, and the writer has only counted the call.
-abbrev pub IsAnswered : {A : Type 0} → FaultyView → FaultyView → Result A Error → FaultyView × Result A ErrorKind → Type 0
-IsAnswered old new (Ok value) call = (new ≡ call.0) × (call.1 ≡ Ok value)
-IsAnswered old new (Err error) call =
-    ((new ≡ call.0) × (call.1 ≡ Err (error_kind error))) ⊎ ((new ≡ called old) × (error_kind error ≡ OutOfMemory))
+-- Writer and answer are as the call's definition says.
+abbrev pub IsAnswered : {A : Type 0} → FaultyView → Result A Error → FaultyView × Result A ErrorKind → Type 0
+IsAnswered new (Ok value) call = (new ≡ call.0) × (call.1 ≡ Ok value)
+IsAnswered new (Err error) call = (new ≡ call.0) × (call.1 ≡ Err (error_kind error))
+
+-- Memory ran out in a write that was to take bytes; the writer has only counted the call.
+abbrev pub RanOut : FaultyView → FaultyView → Result ℕ Error → FaultyView × Result ℕ ErrorKind → Type 0
+RanOut old new (Ok value) call = ⊥
+RanOut old new (Err error) call = (IsOk call.1) × (new ≡ called old) × (error_kind error ≡ OutOfMemory)

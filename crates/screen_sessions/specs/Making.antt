@@ -4,7 +4,7 @@ use Rattle.screen_sessions.specs.declared.answers.Answer.{Answer}
 use Rattle.screen_sessions.specs.declared.calls.Call.{Call}
 use Rattle.curses.specs.ScreenStates.{ScreenState}
 use Rattle.screen_sessions.specs.Sessions.{Drawn, IsAnswer, after_call, begun_of, count_of, is_cut, is_unfinished, is_update, knows_after, memory_behind, tells_sent}
-use Rattle.scr_memory.specs.Memories.{Agrees, is_known}
+use Rattle.scr_memory.specs.Memories.{Agrees, MayBe, is_known}
 use Rattle.scr_plan.specs.Plans.{IsPlan}
 use Rattle.scr_term.specs.Operations.Profiles.{abilities}
 use Rattle.scr_term.specs.Operations.States.{TerminalState}
@@ -16,10 +16,12 @@ use Rattle.curses.specs.Writers.{WriterView, counted}
 abbrev pub drawn_of : ScreenState → Drawn
 drawn_of screen = record { desk = screen.desk; virtual = screen.virtual }
 
--- A successful update: the operations begun are a plan for the picture, the picture stays, and nothing is owed.
+-- A successful update: the operations begun are a plan for the picture, the picture stays, and nothing is owed. What
+-- was remembered was a possible state of the terminal.
 pub record EndsWell (old new : ScreenState) (answer : Answer) : Type 0 where
   pub picture : new.virtual.picture ≡ old.virtual.picture
   pub plan : IsPlan old.profile old.memory old.virtual (begun_of answer)
+  pub possible : MayBe (abilities old.profile) old.memory
   pub nothing : new.owed ≡ []
 
 -- Nothing is owed, and the whole state of the terminal is known.

@@ -391,11 +391,18 @@ pub record MarksAll (rows : ℕ → Bool) (first : Beginning) (calls : List Call
   pub some : has_mark first.drawn (take n calls) (take n answers) ≡ true
   pub each : (r : ℕ) → rows r ≡ true → is_marked first.drawn (take n calls) (take n answers) r ≡ true
 
--- Others changed rows of the terminal at the start of a session, and each of these rows is marked before the first
--- update. Then all promises hold from there on: after the next successful update the terminal shows the picture, with
--- its bytes and economy.
+-- Others wrote on the terminal at the start of a session: it was in a state that agrees with what is known, and is in
+-- the state `changed` now, which differs in these rows, the cursor's position and the pen at most.
+pub record OthersWrote (profile : ProfileView) (first : Beginning) (rows : ℕ → Bool) (changed : TerminalState) : Type 0 where
+  pub before : TerminalState
+  pub agrees : Agrees (abilities profile) first.memory before
+  pub wrote : IsDisturbance (abilities profile) rows before changed
+
+-- If others wrote on the terminal at the start of a session, and each of the rows is marked before the first update,
+-- all promises hold from there on: after the next successful update the terminal shows the picture, with its bytes and
+-- economy.
 abbrev pub DisturbedRowsHoldAgain : Type 0
 DisturbedRowsHoldAgain =
     (profile : ProfileView) (first : Beginning) (calls : List Call) (answers : List Answer) (taken : List ℕ) → IsSession profile first calls answers taken
-    → (before changed : TerminalState) (rows : ℕ → Bool) → Agrees (abilities profile) first.memory before → IsDisturbance (abilities profile) rows before changed
+    → (rows : ℕ → Bool) (changed : TerminalState) → OthersWrote profile first rows changed
     → (n : ℕ) → n ≤ length answers → MarksAll rows first calls answers n → HoldsFrom profile first calls answers taken n changed

@@ -1,8 +1,8 @@
 //! A writer for tests, which fails when it is told to. The definitions are in `specs/Faulty.antt`.
-ghost use Rattle.std.specs.Prelude.{◌≡◌, ◌<◌, [], Some};
+ghost use Rattle.std.specs.Prelude.{◌≡◌, ◌<◌, ◌⊎◌, [], Some};
 ghost use Rattle.std.specs.Io.{WritesAtMost};
 ghost use Rattle.std.specs.Io.KnownBytes.{Keeps, WriteAppends};
-ghost use Rattle.screen_sessions.specs.Faulty.{IsAnswered, called, failed_once, flush_call, going_on, is_due, room_for, with_faults, write_call};
+ghost use Rattle.screen_sessions.specs.Faulty.{IsAnswered, RanOut, called, failed_once, flush_call, going_on, is_due, room_for, with_faults, write_call};
 
 use std::alloc::Global;
 use std::io;
@@ -162,7 +162,7 @@ impl Write for Faulty {
     fn write(&mut self, piece: &[u8]) -> io::Result<usize>
         ensures bound { WritesAtMost result piece.now }
         ensures bytes { WriteAppends (Some self.old.taken) (Some self.new.taken) result piece.now }
-        ensures answered { IsAnswered self.old self.new result (write_call self.old piece.now) }
+        ensures answered { IsAnswered self.new result (write_call self.old piece.now) ⊎ RanOut self.old self.new result (write_call self.old piece.now) }
     {
         self.count();
         if self.is_due() && self.fault.failure != WriterFailure::Flush {
@@ -179,7 +179,7 @@ impl Write for Faulty {
 
     fn flush(&mut self) -> io::Result<()>
         ensures bytes { Keeps (Some self.old.taken) (Some self.new.taken) }
-        ensures answered { IsAnswered self.old self.new result (flush_call self.old) }
+        ensures answered { IsAnswered self.new result (flush_call self.old) }
     {
         self.count();
         if self.is_due() && self.fault.failure == WriterFailure::Flush {

@@ -1,9 +1,10 @@
 //! Sessions: lists of calls on one screen. The definitions are in `specs/Sessions.antt`.
-ghost use Rattle.std.specs.Prelude.{◌≡◌, IfErr, IfOk, OnErr};
+ghost use Rattle.std.specs.Prelude.{◌≡◌, IfErr, IfOk, IsErrOf, OnErr};
 ghost use Rattle.screen_sessions.specs.declared.calls.Call.TheVariants.{Doupdate};
 ghost use Rattle.screen_sessions.specs.Code.Progress.{AreMadeAfresh, IsFresh};
 ghost use Rattle.screen_sessions.specs.Making.{IsMade};
 ghost use Rattle.curses.specs.Opening.{IsUnopened};
+ghost use Rattle.scr_term.specs.Operations.Admission.{IsSuitable};
 ghost use Rattle.screen_sessions.specs.Sessions.{AreMade, DisturbedRowsHoldAgain, IsReport, ended_well};
 
 use crate::answers::{Answer, done_answer};
@@ -11,6 +12,7 @@ use crate::calls::{Call, make_window_call};
 use curses::{Counted, OpenFault, Screen};
 use scr_cells::{NoMemory, Size};
 use scr_memory::{known_memories, memory_laws, memory_runs};
+use scr_plan::plan_is_cheap;
 use scr_term::{bytes_act_as_their_operations, run_laws};
 use std::alloc::Global;
 use std::marker::Model;
@@ -58,6 +60,7 @@ pub fn session<W: Counted>(
 ) -> Result<Report, OpenFault>
     ensures ok { IfOk result (IsReport entry.now size calls.now (W.told out.old) (W.told out.new)) }
     ensures err { IfErr result (IsUnopened entry.now size) }
+    ensures memory { IsErrOf result OpenFault.NoMemory → IsSuitable entry.now }
     ensures untouched { OnErr result (out.new ≡ out.old) }
 {
     let screen = Screen::open(alloc, entry, size)?;
@@ -83,7 +86,8 @@ fn made_on<W: Counted>(
 /// Makes a call that is given as a value, by the method of `Screen` of its name, and gives its answer.
 /// `specs/Making.antt` says what that does to the screen and to the writer; only an update writes to it.
 pub fn make_call<W: Counted>(alloc: Global, screen: &mut Screen, call: &Call, out: &mut W) -> Answer
-    ensures { IsMade screen.old screen.new call.now result (W.told out.old) (W.told out.new) }
+    ensures made { IsMade screen.old screen.new call.now result (W.told out.old) (W.told out.new) }
+    ensures quiet { is_update call.now ≡ false → out.new ≡ out.old }
 {
     memory_laws();
     match call {
@@ -124,6 +128,7 @@ pub fn make_calls<W: Counted>(
     bytes_act_as_their_operations();
     memory_runs();
     known_memories();
+    plan_is_cheap();
     let _size = screen.screen();
     let mut answers = Vec::with_capacity(alloc, calls.len())?;
     let mut last_ok = false;

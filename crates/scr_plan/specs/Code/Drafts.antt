@@ -14,10 +14,9 @@ use Rattle.scr_term.specs.Operations.Steps.{runs}
 use Rattle.scr_term.specs.Operations.Texts.{all_bytes, has}
 use Rattle.scr_plan.specs.Code.Joinings.{counted_up}
 use Rattle.scr_plan.specs.Code.Painters.{row_differs}
-use Rattle.scr_memory.specs.Memories.{Agrees, MemoryView, all_followed, is_known, is_known_row, moves_rows}
-use Rattle.scr_memory.specs.MemoryRuns.{MayBe}
+use Rattle.scr_memory.specs.Memories.{Agrees, MayBe, MemoryView, all_followed, is_known, is_known_row, made_plain, moves_rows}
 use Rattle.scr_plan.specs.Repaints.{look_eq, look_in}
-use Rattle.scr_plan.specs.Scratch.{look_at}
+use Rattle.scr_plan.specs.Scratch.{look_at, resets}
 use Rattle.scr_plan.specs.declared.painting.Painter.{Painter}
 use Rattle.scr_prices.specs.declared.runs.How.TheVariants.{Write}
 use Rattle.scr_prices.specs.declared.runs.Run.{Run}
@@ -168,9 +167,13 @@ row_wiped profile picture row waits place = if place.0 == row then not (look_eq 
 abbrev pub WipesRow : ProfileView → PictureView → ℕ → Draft → Draft → Type 0
 WipesRow profile picture row old new = (waits : ℕ × ℕ → Bool) → Keeps profile picture waits (row_wiped profile picture row waits) old new
 
--- from every state that agrees with what is remembered, the draft is right while these places wait
+-- the draft begins by turning attributes off and making the colours default, and is right from there while these places wait
+abbrev pub IsRightPlain : ProfileView → PictureView → TerminalState → (ℕ × ℕ → Bool) → Draft → Type 0
+IsRightPlain profile picture old waits draft = IsRight profile picture (length (all_bytes profile (resets profile))) (resets profile) (made_plain old) waits draft
+
+-- so it is from every state that agrees with what is remembered
 abbrev pub RightFrom : ProfileView → PictureView → MemoryView → (ℕ × ℕ → Bool) → Draft → Type 0
-RightFrom profile picture memory waits draft = (old : TerminalState) → Agrees (abilities profile) memory old → IsRight profile picture 0 [] old waits draft
+RightFrom profile picture memory waits draft = (old : TerminalState) → Agrees (abilities profile) memory old → IsRightPlain profile picture old waits draft
 
 -- After the draft's operations this is remembered: the cursor's spot and the pen are known to be the draft's, and so are these rows.
 pub record Knows (profile : ProfileView) (memory : MemoryView) (known : ℕ → Bool) (draft : Draft) : Type 0 where
@@ -209,7 +212,8 @@ HasUnsettledIn profile picture memory runs r = (c : ℕ) → c < picture.columns
 abbrev pub HasUnsettled : ProfileView → PictureView → MemoryView → List Run → ℕ → Type 0
 HasUnsettled profile picture memory runs n = (r : ℕ) → r < n → HasUnsettledIn profile picture memory runs r
 
--- a finished draft where not all was known: it is done from every state that agrees, and all is known after it
+-- a finished draft where not all was known: no place waits any more, from every state that agrees, the cursor is as wished, and all is known after it
 pub record IsPartly (profile : ProfileView) (picture : PictureView) (memory : MemoryView) (draft : Draft) : Type 0 where
-  pub done : (old : TerminalState) → Agrees (abilities profile) memory old → IsDone profile picture [] old draft
+  pub right : RightFrom profile picture memory (in_runs []) draft
+  pub spot : IfSome picture.wish (λ place. draft.spot ≡ At place.0 place.1)
   pub known : MayBe (abilities profile) memory → is_known (all_followed profile draft.ops.items memory) ≡ true

@@ -10,7 +10,7 @@ use Rattle.curses.proofs.updates.update.Goals as goal
 pub send_all-sent-requires-clause-has : goal.send_all-sent-requires-clause-has
 send_all-sent-requires-clause-has g c =
     subst (λ ops. All (λ op. has c.args.profile.now op ≡ true) ops) (sym (c.deref.ensures.value ∙ c.plan.view_is))
-    (had c.run_laws.ensures c.args.profile.now c.args.memory.now c.args.wanted.now c.in_ok-plan.plan c.requires.remembered.agrees c.in_ok-plan.ensures.plan)
+    (had c.run_laws.ensures c.args.profile.now c.args.memory.now c.args.wanted.now c.in_ok-plan.plan c.requires.remembered.possible c.in_ok-plan.ensures.plan)
 
 pub returns-in-Some-clause-err : goal.returns-in-Some-clause-err
 returns-in-Some-clause-err g c = record {
@@ -45,8 +45,9 @@ returns-clause-ok g c = record {
       (c.send_all-sent.ensures.nothing c.in_default.is)) c.finish_after.ensures.bytes;
   plan = planned_whole c.args.profile.now c.args.memory.now c.args.wanted.now c.in_ok-plan.plan c.deref.result.now c.truncate.new.self.items c.send_all-sent.result.begun c.in_ok-plan.ensures.plan (c.deref.ensures.value ∙ c.plan.view_is)
       (c.truncate.ensures.items ∙ sym (ap (take c.send_all-sent.result.begun) c.deref.ensures.value)) (c.send_all-sent.ensures.whole c.in_default.is);
+  possible = c.requires.remembered.possible;
   known =
-      known_whole c.args.profile.now c.args.memory.now c.args.wanted.now c.in_ok-plan.plan c.deref.result.now c.truncate.new.self.items c.send_all-sent.result.begun c.in_ok-plan.ensures.plan c.requires.remembered.agrees
+      known_whole c.args.profile.now c.args.memory.now c.args.wanted.now c.in_ok-plan.plan c.deref.result.now c.truncate.new.self.items c.send_all-sent.result.begun c.in_ok-plan.ensures.plan c.requires.remembered.possible
       (c.deref.ensures.value ∙ c.plan.view_is) (c.truncate.ensures.items ∙ sym (ap (take c.send_all-sent.result.begun) c.deref.ensures.value)) (c.send_all-sent.ensures.whole c.in_default.is);
   nothing = c.send_all-sent.ensures.nothing c.in_default.is;
   puts = c.finish_after.ensures.puts ∙ c.send_all-sent.ensures.puts ∙ ap (λ f. counted (is_some f) (g.W.Counted.told c.args.out.now).failed_puts) c.in_default.is;

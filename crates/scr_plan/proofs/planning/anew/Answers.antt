@@ -8,7 +8,7 @@ use Rattle.scr_plan.specs.Code.Planning.{painted_anew}
 use Rattle.scr_plan.specs.Repaints.{anew_of}
 use Rattle.scr_plan.specs.Scratch.{resets}
 use Rattle.scr_plan.proofs.PlanMadeLaws.{sure_plans}
-use Rattle.scr_plan.proofs.ShortPlanLaws.{short_plan_anew}
+use Rattle.scr_plan.proofs.ShortPlanLaws.{short_plan_anew, whole_of}
 use Rattle.scr_plan.proofs.planning.anew.Goals as goal
 
 pub returns-then-is_worth : goal.returns-then-is_worth
@@ -25,5 +25,6 @@ returns-then-is_worth c =
 pub returns : goal.returns
 returns c =
     let profile = c.args.profile.now in
-    sure_plans c.plans_are_made.ensures profile c.size-profile.ensures.profile c.args.wanted.now c.size-wanted.ensures.screen.picture c.requires.fits c.args.memory.now false c.requires.due c.joined_anew.result
+    sure_plans c.plans_are_made.ensures profile c.size-profile.ensures.profile c.args.wanted.now c.size-wanted.ensures.screen.picture c.requires.fits c.args.memory.now
+    (whole_of profile c.args.wanted.now.picture c.args.memory.now c.size-memory.ensures.memory c.requires.size c.requires.fits) false c.requires.due c.joined_anew.result
     (subst (λ picture. IfOk c.joined_anew.result (λ ops. ops ≡ anew_of profile picture)) c.picture-picture.ensures c.joined_anew.ensures)

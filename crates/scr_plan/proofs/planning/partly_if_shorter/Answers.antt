@@ -11,7 +11,7 @@ returns-then-is_worth c =
     let memory = c.args.memory.now in
     let virtual = c.args.wanted.now in
     let n = length c.in-Some.draft.ops.items in
-    partly_plan c.run_laws.ensures c.grid_laws.ensures profile c.size-profile.ensures.profile virtual c.size-size.ensures.screen.picture c.requires.fits memory
+    partly_plan c.run_laws.ensures c.profiles_have.ensures c.memory_runs.ensures c.grid_laws.ensures profile c.size-profile.ensures.profile virtual c.size-size.ensures.screen.picture c.requires.fits memory
     (record {
       state = state_of profile memory c.size-memory.ensures.memory (c.requires.size.rows ∙ c.requires.fits.rows) (c.requires.size.columns ∙ c.requires.fits.columns) c.requires.pen;
       high = c.requires.size.known_rows ∙ c.requires.fits.rows;

@@ -11,6 +11,6 @@ returns c =
     let same = c.picture-picture.ensures in
     let runs = c.find_unsettled.new.runs.items in
     subst (λ picture. IsPartly profile picture memory c.paint_all.new.self) same
-    (partly_done c.memory_runs.ensures profile c.size-profile.ensures.profile c.picture-picture.result.now (subst (λ picture. Fits profile picture) (sym same) c.requires.fits) memory runs (subst (λ picture. HasUnsettled profile picture memory runs picture.rows) (sym same) c.in_ok-find_unsettled.ensures)
+    (partly_done c.run_laws.ensures c.profiles_have.ensures c.memory_runs.ensures profile c.size-profile.ensures.profile c.picture-picture.result.now (subst (λ picture. Fits profile picture) (sym same) c.requires.fits) memory runs (subst (λ picture. HasUnsettled profile picture memory runs picture.rows) (sym same) c.in_ok-find_unsettled.ensures)
     c.in_ok-draft.draft c.wipe_unknown.new.self c.paint_all.new.self c.in_ok-draft.ensures.right c.in_ok-draft.ensures.knows (c.in_ok-wipe_unknown.ensures.right (search rules)) (c.in_ok-wipe_unknown.ensures.knows (search rules))
     c.in_ok-paint_all.ensures.right c.in_ok-paint_all.ensures.spot)

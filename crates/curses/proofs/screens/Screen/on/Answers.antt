@@ -10,7 +10,7 @@ invariant_of-result c =
         desk_rows = ap (λ d. d.rows) c.in_ok-blank.ensures.desk;
         desk_columns = ap (λ d. d.columns) c.in_ok-blank.ensures.desk;
         memory = subst (λ m. IsRemembered profile m c.in_ok-blank.blank.surfaces.wanted) (sym c.in_ok-blank.ensures.memory)
-            (remembers_at_first c.up_to_date_laws.ensures c.memory_runs.ensures c.blank_laws.ensures profile c.size-size.ensures.profile c.in_ok-blank.blank.surfaces.wanted
+            (remembers_at_first c.up_to_date_laws.ensures c.memory_runs.ensures profile c.size-size.ensures.profile c.in_ok-blank.blank.surfaces.wanted
             (record { rows = ap (λ v. v.picture.rows) c.in_ok-blank.ensures.wanted; columns = ap (λ v. v.picture.columns) c.in_ok-blank.ensures.wanted }));
       },
       c.in_ok-blank.ensures.room,
