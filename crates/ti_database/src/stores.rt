@@ -2,9 +2,10 @@
 ghost use Rattle.std.specs.Prelude.{◌≡◌, ◌≤◌, ℕ, List, Option, None, length, option_map, IfOk, IfSome};
 ghost use Rattle.ti_database.specs.Search.{beginning};
 
+use program_input::{InputFault, read_up_to};
 use std::alloc::{AllocError, Global};
 use std::fs;
-use std::io::{ErrorKind, Read};
+use std::io::Read;
 use std::rt::Files;
 use ti_caps::Bytes;
 
@@ -22,12 +23,6 @@ pub trait Store {
 
 /// The most bytes that are read of a file.
 const MOST_BYTES: usize = 32_769;
-
-/// How many bytes each read asks for.
-const PIECE: usize = 4_096;
-
-/// The most reads that are made of a file. Each gives a byte or more, unless it is interrupted.
-const MOST_READS: u32 = 100_000;
 
 /// The files of the system. What stands at which path is not known: others change them.
 #[derive(Clone, Copy)]
@@ -61,32 +56,11 @@ pub(crate) fn beginning(file: &[u8]) -> &[u8]
 // The first bytes of a file; `None` if it cannot be read, as a folder.
 fn read_beginning<F: Read>(alloc: Global, file: &mut F) -> Result<Option<Bytes>, AllocError>
     ensures few { IfOk result (λ read. IfSome read (λ bytes. length bytes ≤ 32769)) }
+    ensures bytes { IfOk result (λ read. IfSome read (λ bytes. IfSome (F.remaining file.old) (λ all. bytes ≡ beginning all))) }
 {
-    let mut bytes = Vec::new(alloc);
-    match fill(file, &mut bytes) {
-        Ok(true) => Ok(Some(Bytes(bytes))),
-        Ok(false) => Ok(None),
-        Err(error) => Err(error),
+    match read_up_to(alloc, file, MOST_BYTES) {
+        Ok(bytes) => Ok(Some(Bytes(bytes))),
+        Err(InputFault::Failed) => Ok(None),
+        Err(InputFault::NoMemory) => Err(AllocError),
     }
-}
-
-// Appends what a reader has left, up to the most bytes of a file. Whether all reads went well.
-fn fill<F: Read>(file: &mut F, bytes: &mut Vec<u8>) -> Result<bool, AllocError>
-    requires { length bytes.old.items ≤ 32769 }
-    ensures { length bytes.new.items ≤ 32769 }
-{
-    let mut piece = [0u8; PIECE];
-    for _ in 0..MOST_READS {
-        let wanted = PIECE.min(MOST_BYTES - bytes.len());
-        if wanted == 0 {
-            return Ok(true);
-        }
-        match file.read(&mut piece[..wanted]) {
-            Ok(0) => return Ok(true),
-            Ok(count) => bytes.extend_from_slice(&piece[..count])?,
-            Err(error) if error.kind() == ErrorKind::Interrupted => {}
-            Err(_) => return Ok(false),
-        }
-    }
-    Ok(false)
 }
