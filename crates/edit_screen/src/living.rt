@@ -10,7 +10,7 @@ use crate::typing::{take_byte, update};
 use curses::{Counted, Device, Entry, OpenFault, Screen, Size, UpdateFault};
 use std::alloc::Global;
 use std::io::BufWriter;
-use terminal_line::{Input, TerminalLine};
+use terminal::{Input, TerminalLine};
 
 /// How many updates may fail one after another before the program ends.
 const MOST_FAILURES: u32 = 20;

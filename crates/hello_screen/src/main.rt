@@ -3,7 +3,7 @@
 
 use anyhow::Result;
 use curses::{Attrs, Screen, Win, bundled};
-use terminal_screen::{Event, TerminalScreen};
+use terminal::{Event, TerminalScreen};
 
 fn draw(screen: &mut Screen) -> Result<()> {
     let (rows, columns) = screen.size(Win(0))?;

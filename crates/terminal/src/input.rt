@@ -1,0 +1,70 @@
+//! What comes of a read of the keyboard, and how an input that has ended is told from one that is silent.
+ghost use Rattle.std.specs.Prelude.{◌≡◌};
+ghost use Rattle.std.specs.Duration.{as_nanos};
+ghost use Rattle.std.specs.IoError.{error_kind};
+ghost use Rattle.terminal.specs.Inputs.{empty_input, failed_input, heard, sudden_after};
+
+use std::io::ErrorKind;
+use std::time::Duration;
+
+/// What came of a read of the keyboard.
+#[derive(Clone, Copy, Debug, PartialEq, Eq)]
+pub enum Input {
+    /// So many bytes were read, at least one.
+    Bytes(usize),
+    /// Nothing came for as long as the line lets a read wait.
+    Idle,
+    /// The input has ended: a file is at its end, the terminal has hung up, or the program is asked to end.
+    Ended,
+    /// The read failed.
+    Failed,
+}
+
+/// An empty read that takes fewer milliseconds is sudden. A silent line lets one wait for a tenth of a second.
+const SUDDEN: u64 = 20;
+
+/// After so many sudden empty reads in a row the input has ended.
+const ENOUGH: u32 = 3;
+
+/// How many sudden empty reads in a row there are after one that took this long, `ENOUGH` at most.
+pub(crate) fn sudden_after(sudden: u32, took: Duration) -> u32
+    ensures { result ≡ sudden_after sudden (as_nanos took) }
+{
+    if took < Duration::from_millis(SUDDEN) {
+        sudden.saturating_add(1).min(ENOUGH)
+    } else {
+        0
+    }
+}
+
+/// What an empty read means, where so many in a row were sudden.
+pub(crate) fn empty_input(sudden: u32) -> Input
+    ensures { result ≡ empty_input sudden }
+{
+    if sudden < ENOUGH {
+        Input::Idle
+    } else {
+        Input::Ended
+    }
+}
+
+/// What a read means that failed so: a signal ends one that waits.
+pub(crate) fn failed_input(kind: ErrorKind) -> Input
+    ensures { result ≡ failed_input kind }
+{
+    match kind {
+        ErrorKind::Interrupted => Input::Idle,
+        _ => Input::Failed,
+    }
+}
+
+/// What a program hears of a read: if it is asked to end, it ends where nothing came.
+pub(crate) fn heard(is_ending: bool, input: Input) -> Input
+    ensures { result ≡ heard is_ending input }
+{
+    if is_ending && input == Input::Idle {
+        Input::Ended
+    } else {
+        input
+    }
+}

@@ -1,0 +1,194 @@
+//! The terminal line that a program reads.
+ghost use Rattle.std.specs.Prelude.{◌≡◌, ◌<◌, ◌⊎◌, false, true, IfErr, IfOk, List, Option, length, ℕ};
+ghost use Rattle.std.specs.Duration.{as_nanos};
+ghost use Rattle.terminal.specs.Inputs.{IsWithin, empty_input, sudden_after};
+ghost use Rattle.terminal.specs.Lines.{IsEmptyRead, IsFailedRead, IsKeyboardRead, IsLineRead, IsLook, after_told};
+
+use crate::folders::Folder;
+use crate::input::{Input, empty_input, failed_input, heard, sudden_after};
+use crate::sizes::{Told, size_said};
+use scr_cells::{NoMemory, Size};
+use std::env::VarError;
+use std::io::Read;
+use std::marker::Model;
+use std::rt::{Clock, Env, Files};
+use std::time::{Duration, Instant};
+use std::{env, io};
+
+/// The line of the terminal that a program runs on, or whatever else its standard input is.
+#[derive(Drop)]
+pub struct TerminalLine {
+    folder: Option<Folder>,
+    size: Option<Size>,
+    is_ending: bool,
+    // How many empty reads came back at once, one after another.
+    sudden: u32,
+}
+
+impl Model for TerminalLine {
+    ghost use Rattle.std.specs.Option.{is_some};
+    ghost use Rattle.terminal.specs.Lines.{LineView};
+
+    ghost Value = { LineView };
+
+    ghost view = { λ l. record { size = l.size; is_ending = l.is_ending; sudden = l.sudden; has_folder = is_some l.folder } };
+}
+
+impl TerminalLine {
+    /// Takes the folder that `TERMINAL_FOLDER` names, if it is set, and the terminal's size from there; where there is
+    /// none, the size that `LINES` and `COLUMNS` say, if they are numbers. Fails only when memory runs out.
+    pub fn open<R: Env + Files + AllocGlobal>(rt: &R) -> Result<TerminalLine, NoMemory>
+        ensures { IfOk result (λ line. line.sudden ≡ 0) }
+    {
+        let mut line = TerminalLine {
+            folder: folder_of(rt)?,
+            size: size_of(rt)?,
+            is_ending: false,
+            sudden: 0,
+        };
+        line.look(rt);
+        Ok(line)
+    }
+
+    /// The terminal's size as of the last read or suspension; `None` if nothing says what it is. A terminal of more
+    /// than 500 rows or columns is used at 500.
+    pub fn size(&self) -> Option<Size>
+        ensures { result ≡ self.now.size }
+    {
+        self.size
+    }
+
+    /// Reads a piece of the keyboard's bytes by one read of the standard input, and looks once whether the size has
+    /// changed.
+    ///
+    /// Idle if nothing came while the read waited, or a signal ended it. Ended if the program is asked to end, at once
+    /// if it was asked before, else if no byte came; and if the input has ended. How that is told from silence: three
+    /// empty reads in a row came back within 20 milliseconds, while a line in raw mode lets each wait for a tenth of a
+    /// second. So a program whose input is a file gets Idle twice first. Failed if the piece is empty, the read fails
+    /// or the clock cannot be read.
+    /// POSIX, read(); General Terminal Interface, 'Non-Canonical Mode Input Processing', case C.
+    pub fn read<R: io::Input + Files + Clock>(&mut self, rt: &R, piece: &mut [u8]) -> Input
+        ensures within { IsWithin piece.new result }
+        ensures ending { self.old.is_ending ≡ true → (self.new ≡ self.old) × (piece.new ≡ piece.old) × (result ≡ Input.Ended) }
+        ensures reads { self.old.is_ending ≡ false → IsLineRead piece.new self.old self.new result }
+    {
+        // A program that was suspended and is asked to end may not be the one that the terminal's keys are for.
+        if self.is_ending {
+            return Input::Ended;
+        }
+        let found = self.read_keyboard(rt, piece);
+        self.look(rt);
+        heard(self.is_ending, found)
+    }
+
+    /// Suspends the program until its user continues it, as with `fg`. Call it when the screen is closed; start the
+    /// screen again behind it, or another one if the size is another now. Answers whether there is anyone who suspends
+    /// programs: if not, it does nothing.
+    pub fn suspend<R: Files>(&mut self, rt: &R) -> bool
+        ensures looks { IsLook self.old self.new }
+        ensures alone { self.old.has_folder ≡ false → result ≡ false }
+    {
+        let suspended = match &self.folder {
+            Some(folder) => folder.suspend(rt),
+            None => false,
+        };
+        self.look(rt);
+        suspended
+    }
+
+    // Looks at what the folder says.
+    fn look<R: Files>(&mut self, rt: &R)
+        ensures { IsLook self.old self.new }
+    {
+        let told = match &self.folder {
+            Some(folder) => folder.told(rt),
+            None => Told::Nothing,
+        };
+        self.take(told);
+    }
+
+    // Takes over what the folder said.
+    fn take(&mut self, told: Told)
+        ensures { self.new ≡ after_told self.old told }
+    {
+        match told {
+            Told::Size(size) => self.size = Some(size),
+            Told::End => self.is_ending = true,
+            Told::Nothing => {}
+        }
+    }
+
+    // Reads the keyboard once.
+    fn read_keyboard<R: io::Input + Clock>(&mut self, rt: &R, piece: &mut [u8]) -> Input
+        ensures within { IsWithin piece.new result }
+        ensures reads { IsFailedRead self.old self.new result ⊎ ((before : Option (List ℕ)) × (after : Option (List ℕ)) × IsKeyboardRead before after piece.new self.old self.new result) }
+    {
+        if piece.is_empty() {
+            return Input::Failed;
+        }
+        let Ok(start) = Instant::now(rt) else {
+            return Input::Failed;
+        };
+        self.read_from(rt, start, &mut rt.reader(), piece)
+    }
+
+    // Reads once from a reader; the read began then.
+    fn read_from<R: Clock, T: Read>(
+        &mut self,
+        rt: &R,
+        start: Instant,
+        reader: &mut T,
+        piece: &mut [u8],
+    ) -> Input
+        ensures within { IsWithin piece.new result }
+        ensures reads { IsKeyboardRead (T.remaining reader.old) (T.remaining reader.new) piece.new self.old self.new result }
+    {
+        match reader.read(piece) {
+            Ok(0) => self.empty(start.elapsed(rt)),
+            Ok(count) => {
+                self.sudden = 0;
+                Input::Bytes(count)
+            }
+            Err(error) => failed_input(error.kind()),
+        }
+    }
+
+    // What an empty read means that took this long, if the clock says how long.
+    fn empty(&mut self, took: io::Result<Duration>) -> Input
+        ensures known { IfOk took (λ t. (self.new ≡ record self.old { sudden = sudden_after self.old.sudden (as_nanos t) }) × (result ≡ empty_input self.new.sudden)) }
+        ensures unknown { IfErr took (λ _. IsFailedRead self.old self.new result) }
+    {
+        let Ok(took) = took else {
+            return Input::Failed;
+        };
+        self.sudden = sudden_after(self.sudden, took);
+        empty_input(self.sudden)
+    }
+}
+
+// The folder that the environment names.
+fn folder_of<R: Env + AllocGlobal>(rt: &R) -> Result<Option<Folder>, NoMemory> {
+    match text_of(rt, "TERMINAL_FOLDER")? {
+        Some(path) => Ok(Some(Folder::new(rt.alloc(), path.as_str())?)),
+        None => Ok(None),
+    }
+}
+
+// The size that the environment says.
+fn size_of<R: Env + AllocGlobal>(rt: &R) -> Result<Option<Size>, NoMemory> {
+    let rows = text_of(rt, "LINES")?;
+    let columns = text_of(rt, "COLUMNS")?;
+    match (rows, columns) {
+        (Some(rows), Some(columns)) => Ok(size_said(rows.as_str(), columns.as_str())),
+        _ => Ok(None),
+    }
+}
+
+// What a variable says, if it is set and says a text.
+fn text_of<R: Env + AllocGlobal>(rt: &R, name: &str) -> Result<Option<String>, NoMemory> {
+    match env::var(rt, name) {
+        Ok(text) => Ok(Some(text)),
+        Err(VarError::OutOfMemory) => Err(NoMemory),
+        Err(_) => Ok(None),
+    }
+}
