@@ -1,4 +1,5 @@
 pub mod CutLaws
 pub mod RememberedLaws
 pub mod StartingLaws
+pub mod TextLaws
 pub mod UpdateLaws

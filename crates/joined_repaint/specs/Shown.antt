@@ -4,6 +4,7 @@ use Rattle.scr_cells.specs.PictureViews.{PictureView}
 use Rattle.scr_terminal.specs.Displays.{DisplayView}
 use Rattle.scr_memory.specs.Memories.{MemoryView, remembered}
 
+-- everything is known of the terminal
 abbrev pub known_of : DisplayView → MemoryView
 known_of display = remembered display.rows display.columns display.state
 

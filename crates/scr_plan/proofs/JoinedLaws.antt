@@ -1,5 +1,5 @@
 -- The joined repaint shows the picture.
-use Rattle.std.proofs.Common.{◌≡◌, ℕ, ◌+◌, ◌-◌, ◌<◌, ◌≤◌, ◌==◌, ◌&&◌, ◌||◌, ◌⊎◌, inl, inr, not, leb, Bool, true, false, refl, sym, ◌∙◌, ap, subst, arith, List, [], ◌∷◌, ◌++◌, append_assoc, nat_lt, filter, Option, Some, None, IfSome, option_and_then, zero, suc, if◌then◌else◌}
+use Rattle.std.proofs.Common.{◌≡◌, ℕ, ◌+◌, ◌-◌, ◌<◌, ◌≤◌, ◌==◌, ◌&&◌, ◌||◌, ◌⊎◌, inl, inr, not, leb, Bool, true, false, refl, sym, ◌∙◌, ap, subst, arith, List, [], ◌∷◌, ◌++◌, append_assoc, nat_lt, filter, Option, Some, None, unwrap_or, IfSome, option_and_then, zero, suc, if◌then◌else◌}
 use Rattle.std.specs.List.{flat_map, list_all, range_with_len}
 use Rattle.std.specs.Option.{is_none}
 use Rattle.std.proofs.lemmas.Bool.Decides.{nat_tests}
@@ -31,7 +31,7 @@ use Rattle.scr_plan.specs.Code.Joinings.{joined_at}
 use Rattle.scr_plan.specs.Code.Painters.{part_places}
 use Rattle.scr_memory.specs.Memories.{Agrees, MemoryView, is_in_place, is_placed}
 use Rattle.scr_memory.specs.MemoryRuns.{KnownMemories}
-use Rattle.scr_plan.specs.Repaints.{JoinedShows, begins_place, blank_column, brief_place, cleared, differing, differs, erased_column, erased_if_worth, is_blank_from, is_idle, is_none_left, joined_place, joined_places, joins_left, look_eq, without_idle}
+use Rattle.scr_plan.specs.Repaints.{JoinedShows, begins_place, blank_column, brief_place, cleared, differing, differs, erased_column, erased_if_worth, is_blank_from, is_idle, is_none_left, joined_place, joined_places, joins_left, look_eq, state_after, without_idle}
 use Rattle.scr_plan.specs.Scratch.{Fits, PlaceIsPainted, RunsToShow, goes, look_at, paints_place, places, places_cursor, renders, resets, row_places}
 
 -- ---- where the rest of a line is erased

@@ -19,7 +19,7 @@ use Rattle.scr_plan.proofs.PlainLaws.{both}
 use Rattle.scr_plan.specs.Code.Joinings.{joined_at}
 use Rattle.scr_plan.specs.Code.Painters.{part_places}
 use Rattle.scr_memory.specs.Memories.{MemoryView, is_placed}
-use Rattle.scr_plan.specs.Repaints.{JoinedIsCheap, anew_of, begins_place, blank_column, brief_place, cleared, differing, differing_from, differs, erased_column, erased_if_worth, is_idle, is_none_left, joined_of, joined_place, joined_places, joins_left, plain_of, without_idle}
+use Rattle.scr_plan.specs.Repaints.{JoinedIsCheap, anew_of, begins_place, blank_column, brief_place, cleared, differing, differing_from, differs, erased_column, erased_if_worth, is_idle, is_none_left, joined_of, joined_place, joined_places, joins_left, plain_of, state_after, without_idle}
 use Rattle.scr_plan.specs.Scratch.{goes, look_at, paints_place, paints_places, places, places_cursor, renders, resets, row_places, scratch_of}
 
 -- a number of operations that adds up, as that of their bytes

@@ -1,5 +1,10 @@
+use Rattle.std.proofs.Common.{rules, subst, sym, [], ◌≡◌}
+use Rattle.scr_plan.specs.Plans.{IsPlan}
 use Rattle.scr_plan.proofs.ShortPlanLaws.{never_plan}
 use Rattle.scr_plan.proofs.planning.nothing.Goals as goal
 
 pub returns : goal.returns
-returns c = never_plan c.args.profile.now c.args.memory.now c.args.wanted.now c.requires.due c.requires.pen
+returns c =
+    let none : c.new.result.items ≡ [] = search rules in
+    subst (IsPlan c.args.profile.now c.args.memory.now c.args.wanted.now) (sym none)
+    (never_plan c.args.profile.now c.args.memory.now c.args.wanted.now c.requires.due c.requires.pen)

@@ -6,5 +6,5 @@ use Rattle.scr_plan.proofs.strokes.Draft.turn.Goals as goal
 pub returns-in-Some : goal.returns-in-Some
 returns-in-Some c =
     on_ok c.add.result _ (KeepsEvery c.args.profile.now c.args.self.now c.add.new.self)
-    (λ added. set_on c.run_laws.ensures c.args.profile.now c.size-size.ensures.profile c.args.self.now c.add.new.self c.args.op c.in-Some.pen c.in-Some.ensures added)
+    (λ added. set_on c.run_laws.ensures c.args.profile.now c.size-size.ensures.profile c.args.self.now c.add.new.self c.args.op c.in-Some.pen c.in-Some.ensures.turns added)
     c.add.ensures
