@@ -15,6 +15,7 @@ pub mod LinesBackLaws
 pub mod MeaningLaws
 pub mod MergedBackLaws
 pub mod NamedLaws
+pub mod NoteLaws
 pub mod NumberLaws
 pub mod NumbersBackLaws
 pub mod PassingLaws

@@ -3,6 +3,7 @@
 pub mod Keyed
 pub mod Laid
 pub mod Marked
+pub mod Notes
 pub mod Plain
 pub mod Seen
 pub mod Stored

@@ -3,6 +3,7 @@
 
 mod faults;
 mod note;
+mod notes;
 mod ordinals;
 mod printing;
 mod reading;
@@ -11,12 +12,13 @@ mod source;
 
 pub use faults::SourceFault;
 pub use note::{Cause, Note};
+pub use notes::{NoteView, Notes};
 pub use printing::printer::{
     Printed, numbers_read_back, print, printed_reads_back, texts_read_back,
 };
 pub use reading::escape::texts_are_spelled;
 pub use reading::field::fields_are_cut;
-pub use reading::reader::read;
+pub use reading::reader::{read, read_apart};
 pub use resolving::resolver::{
     Resolver, entries_pass_on, names_have_one_fault, names_resolve_once, resolve,
     resolved_names_have_no_fault,

@@ -40,14 +40,6 @@ impl Source {
         Source { entries, notes }
     }
 
-    pub(crate) fn into_parts(self) -> (Entries, Vec<Note>)
-        ensures entries { result.0 ≡ self.entries }
-        ensures notes { result.1.items ≡ self.notes }
-    {
-        let Source { entries, notes } = self;
-        (entries, notes)
-    }
-
     /// The notes, in the order of the fields.
     pub fn notes(&self) -> &[Note]
         ensures { result.now ≡ self.now.notes }
@@ -59,7 +51,8 @@ impl Source {
     pub fn into_notes(self) -> Vec<Note>
         ensures { result.items ≡ self.notes }
     {
-        self.into_parts().1
+        let Source { entries: _, notes } = self;
+        notes
     }
 
     /// The number of entries.

@@ -236,6 +236,11 @@ whole_of ls = record { entries = map described (written_entries ls); notes = fla
 unfoldable pub source_of : List ℕ → Result Whole SourceFault
 source_of bytes = unless_faulty (each_beside line_faults (source_lines bytes)) (whole_of (source_lines bytes))
 
+-- A source without its notes, and its notes.
+abbrev pub apart : Result Whole SourceFault → Result (Whole × List Note) SourceFault
+apart (Ok w) = Ok (record w { notes = [] }, w.notes)
+apart (Err fault) = Err fault
+
 -- The statement is about this capability.
 abbrev pub concerns : Kind → ℕ → Statement → Bool
 concerns kind slot s = same_kind s.kind kind && s.slot.0 == slot

@@ -10,7 +10,8 @@ ghost use Rattle.ti_source.specs.Described.{IsGood};
 ghost use Rattle.ti_source.specs.Code.Seen.{seen_form};
 
 use crate::faults::SourceFault;
-use crate::note::{Cause, Note};
+use crate::note::Cause;
+use crate::notes::Notes;
 use crate::reading::escape::decode;
 use crate::reading::field::{Form, form_of, split_field};
 use crate::reading::number::number;
@@ -26,7 +27,7 @@ const USES: usize = 32;
 #[derive(Drop)]
 pub(crate) struct OpenEntry {
     pub(crate) entry: SourceEntry,
-    pub(crate) notes: Vec<Note>,
+    pub(crate) notes: Notes,
 }
 
 impl Model for OpenEntry {
@@ -34,7 +35,7 @@ impl Model for OpenEntry {
 
     ghost Value = { OpenEntry };
 
-    ghost view = { λ f. record { entry = f.entry; notes = f.notes.items } };
+    ghost view = { λ f. record { entry = f.entry; notes = f.notes } };
 }
 
 impl OpenEntry {
@@ -58,17 +59,10 @@ impl OpenEntry {
         }
     }
 
-    fn noted(
-        &mut self,
-        alloc: Global,
-        line: u32,
-        cause: Cause,
-        name: &[u8],
-    ) -> Result<(), SourceFault>
+    fn noted(&mut self, line: u32, cause: Cause, name: &[u8]) -> Result<(), SourceFault>
         ensures { Becomes result (Ok (noted line cause name.now self.old)) self.new }
     {
-        let name = Bytes(Vec::from_slice(alloc, name)?);
-        self.notes.push(Note { line, cause, name })?;
+        self.notes.push(line, cause, name)?;
         Ok(())
     }
 
@@ -97,7 +91,7 @@ impl OpenEntry {
         ensures { Becomes result (Ok (stated line name.now kind slot.0 field_value self.old)) self.new }
     {
         if self.entry.is_stated(kind, slot) {
-            return self.noted(alloc, line, Cause::Repeated, name);
+            return self.noted(line, Cause::Repeated, name);
         }
         self.with_statement(kind, slot, field_value)
     }
@@ -114,20 +108,20 @@ impl OpenEntry {
         ensures { (n : ℕ) → value ≡ min n 32768 → Becomes result (Ok (with_number line name.now slot.0 n self.old)) self.new }
     {
         if self.entry.is_stated(Kind::Number, slot) {
-            return self.noted(alloc, line, Cause::Repeated, name);
+            return self.noted(line, Cause::Repeated, name);
         }
         if value <= u32::from(MOST_NUMBER) {
             return self.with_statement(Kind::Number, slot, FieldValue::Number(value as u16));
         }
         self.with_statement(Kind::Number, slot, FieldValue::Number(MOST_NUMBER))?;
-        self.noted(alloc, line, Cause::TooGreat, name)
+        self.noted(line, Cause::TooGreat, name)
     }
 
     fn plain(&mut self, alloc: Global, line: u32, name: &[u8]) -> Result<(), SourceFault>
         ensures { Becomes result (Ok (plain line name.now (capability_of name.now) self.old)) self.new }
     {
         match find_name(name) {
-            None => self.noted(alloc, line, Cause::Unknown, name),
+            None => self.noted(line, Cause::Unknown, name),
             Some((Kind::Flag, slot)) => self.stated(
                 alloc,
                 line,
@@ -136,7 +130,7 @@ impl OpenEntry {
                 slot,
                 FieldValue::Present,
             ),
-            Some(_) => self.noted(alloc, line, Cause::WrongKind, name),
+            Some(_) => self.noted(line, Cause::WrongKind, name),
         }
     }
 
@@ -150,15 +144,15 @@ impl OpenEntry {
         ensures { Becomes result (Ok (textual line name.now text.now (capability_of name.now) self.old)) self.new }
     {
         match find_name(name) {
-            None => self.noted(alloc, line, Cause::Unknown, name),
+            None => self.noted(line, Cause::Unknown, name),
             Some((Kind::Text, slot)) => {
                 if self.entry.is_stated(Kind::Text, slot) {
-                    return self.noted(alloc, line, Cause::Repeated, name);
+                    return self.noted(line, Cause::Repeated, name);
                 }
                 let text = decode(alloc, text)?;
                 self.with_statement(Kind::Text, slot, FieldValue::Text(text))
             }
-            Some(_) => self.noted(alloc, line, Cause::WrongKind, name),
+            Some(_) => self.noted(line, Cause::WrongKind, name),
         }
     }
 
@@ -166,7 +160,7 @@ impl OpenEntry {
         ensures { Becomes result (Ok (cancelled line name.now (capability_of name.now) self.old)) self.new }
     {
         match find_name(name) {
-            None => self.noted(alloc, line, Cause::Unknown, name),
+            None => self.noted(line, Cause::Unknown, name),
             Some((kind, slot)) => self.stated(alloc, line, name, kind, slot, FieldValue::Cancelled),
         }
     }
@@ -197,9 +191,9 @@ impl OpenEntry {
         ensures { Becomes result (numeric line name.now text.now (capability_of name.now) self.old) self.new }
     {
         match find_name(name) {
-            None => self.noted(alloc, line, Cause::Unknown, name),
+            None => self.noted(line, Cause::Unknown, name),
             Some((Kind::Number, slot)) => self.valued(alloc, line, name, slot, text),
-            Some(_) => self.noted(alloc, line, Cause::WrongKind, name),
+            Some(_) => self.noted(line, Cause::WrongKind, name),
         }
     }
 
@@ -224,7 +218,7 @@ impl OpenEntry {
             Form::Textual(name, text) => self.textual(alloc, line, name, text),
             Form::Cancelled(name) => self.cancelled(alloc, line, name),
             Form::Refers(other) => self.referring(alloc, other),
-            Form::Odd(name) => self.noted(alloc, line, Cause::Unknown, name),
+            Form::Odd(name) => self.noted(line, Cause::Unknown, name),
         }
     }
 }

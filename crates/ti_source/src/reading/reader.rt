@@ -1,7 +1,7 @@
 //! Reading a source line by line.
 
 ghost use Rattle.std.specs.Prelude.{◌≡◌, [], None, Some, Ok};
-ghost use Rattle.ti_source.specs.Reading.Sources.{source_of};
+ghost use Rattle.ti_source.specs.Reading.Sources.{apart, source_of};
 ghost use Rattle.ti_source.specs.Code.Steps.{begun, continued, filled_by, whole, with_line};
 ghost use Rattle.ti_source.specs.Reading.Field.{fields};
 ghost use Rattle.ti_source.specs.Reading.Line.{line_of};
@@ -9,6 +9,7 @@ ghost use Rattle.ti_source.specs.Result.{Becomes, Gives};
 ghost use Rattle.ti_source.specs.Code.Seen.{seen_line};
 
 use crate::faults::SourceFault;
+use crate::notes::Notes;
 use crate::reading::entries::Entries;
 use crate::reading::keyed_hasher::KeyedHasher;
 use crate::reading::line::{Line, line_of};
@@ -38,6 +39,31 @@ impl Model for ReaderState {
     ghost view = { λ s. record { done = s.done; current = entry_of s.current; notes = notes_of s.current } };
 }
 
+/// All entries and the notes on them.
+#[derive(Drop)]
+struct ReadSource {
+    entries: Entries,
+    notes: Notes,
+}
+
+impl Model for ReadSource {
+    ghost use Rattle.ti_source.specs.Reading.Sources.{Whole};
+
+    ghost Value = { Whole };
+
+    ghost view = { λ s. record { entries = s.entries; notes = s.notes } };
+}
+
+impl ReadSource {
+    fn into_parts(self) -> (Entries, Notes)
+        ensures entries { result.0 ≡ self.entries }
+        ensures notes { result.1 ≡ self.notes }
+    {
+        let ReadSource { entries, notes } = self;
+        (entries, notes)
+    }
+}
+
 /// Reads a source: its entries in order, and a note for each doubtful field, in the order of fields
 /// (terminfo(5)).
 ///
@@ -45,6 +71,24 @@ impl Model for ReaderState {
 /// that of the first faulty line: `NotAscii` before any other fault of that line, otherwise the
 /// leftmost one; `BadNames` before `DuplicateName`.
 pub fn read(alloc: Global, bytes: &[u8]) -> Result<Source, SourceFault>
+    ensures { Gives result (source_of bytes.now) }
+{
+    let (entries, notes) = read_whole(alloc, bytes)?.into_parts();
+    Ok(Source::new(entries, notes.to_vec(alloc)?))
+}
+
+/// The same, with the notes apart: the source itself has none. For sources of any size, since a
+/// note takes less room among `Notes`.
+///
+/// Refused as `read`.
+pub fn read_apart(alloc: Global, bytes: &[u8]) -> Result<(Source, Notes), SourceFault>
+    ensures { Gives result (apart (source_of bytes.now)) }
+{
+    let (entries, notes) = read_whole(alloc, bytes)?.into_parts();
+    Ok((Source::new(entries, Vec::new(alloc)), notes))
+}
+
+fn read_whole(alloc: Global, bytes: &[u8]) -> Result<ReadSource, SourceFault>
     ensures { Gives result (source_of bytes.now) }
 {
     let mut state = ReaderState::new(alloc, KeyedHasher::new(bytes));
@@ -75,7 +119,7 @@ impl ReaderState {
     }
 
     /// All entries, with the last one among them, and the notes.
-    fn close(self, alloc: Global) -> Result<Source, SourceFault>
+    fn close(self, alloc: Global) -> Result<ReadSource, SourceFault>
         ensures { Gives result (whole self) }
     {
         let ReaderState {
@@ -84,11 +128,13 @@ impl ReaderState {
             current,
         } = self;
         let Some(open_entry) = current else {
-            return Ok(Source::new(done, Vec::new(alloc)));
+            let (entries, notes) = (done, Notes::new(alloc));
+            return Ok(ReadSource { entries, notes });
         };
         let OpenEntry { entry, notes } = open_entry;
         let entry = entry.stored(alloc)?;
-        Ok(Source::new(done.with_entry(alloc, entry)?, notes))
+        let entries = done.with_entry(alloc, entry)?;
+        Ok(ReadSource { entries, notes })
     }
 
     fn continued(&mut self, alloc: Global, line: u32, text: &[u8]) -> Result<(), SourceFault>

@@ -5,7 +5,7 @@ use Rattle.ti_source.specs.Code.Steps.{ReaderState, read_through, with_lines, wh
 use Rattle.ti_source.specs.Code.Seen.{seen_line}
 use Rattle.ti_source.proofs.ReadingLaws.{Fails-bind, lines-fail, lines-go, lines-end}
 use Rattle.ti_source.proofs.StepLaws.{read-through}
-use Rattle.ti_source.proofs.reading.reader.read.Goals as goal
+use Rattle.ti_source.proofs.reading.reader.read_whole.Goals as goal
 
 abbrev start : ReaderState
 start = record { done = []; current = None; notes = [] }

@@ -1,7 +1,7 @@
 use Rattle.std.proofs.Common.{◌≡◌, None, []}
 use Rattle.ti_source.specs.Reading.Line.{lines}
 use Rattle.ti_source.specs.Code.Steps.{with_lines}
-use Rattle.ti_source.proofs.reading.reader.read.Given as goal
+use Rattle.ti_source.proofs.reading.reader.read_whole.Given as goal
 
 -- the lines that are left give the answer
 abbrev pub invariant-loop-line : goal.invariant-loop-line
