@@ -64,9 +64,9 @@ row_added f d columns rows row ops new all low made before =
 -- ---- what changes nothing
 
 -- one operation more: what was added, and what the rest adds
-pub one_added : (profile : ProfileView) (state after : TerminalState) (op : Op) (rest kept new : List Op) → new ≡ (if is_idle state op then kept else kept ++ op ∷ []) → after ≡ (if is_idle state op then state else state_after profile state op)
+pub one_kept : (profile : ProfileView) (state after : TerminalState) (op : Op) (rest kept new : List Op) → new ≡ (if is_idle state op then kept else kept ++ op ∷ []) → after ≡ (if is_idle state op then state else state_after profile state op)
     → new ++ without_idle profile after rest ≡ kept ++ without_idle profile state (op ∷ rest)
-one_added profile state after op rest kept new made led = (λ i. made i ++ without_idle profile (led i) rest) ∙ by (is_idle state op)
+one_kept profile state after op rest kept new made led = (λ i. made i ++ without_idle profile (led i) rest) ∙ by (is_idle state op)
   where
     by : (b : Bool) → (if b then kept else kept ++ op ∷ []) ++ without_idle profile (if b then state else state_after profile state op) rest
         ≡ kept ++ (if b then without_idle profile state rest else op ∷ without_idle profile (state_after profile state op) rest)
@@ -89,3 +89,21 @@ one_executed profile start old new first op kept added was made led = led ∙ by
     by false =
         ap (λ (d : DisplayView). record d { state = state_after profile d.state op }) was
         ∙ ap (λ s. record first { state = s }) (sym (after_more profile start kept op))
+
+-- what is added with one operation more, and what the rest adds
+pub more_kept : (profile : ProfileView) (old new : DisplayView) (op : Op) (rest left kept added all : List Op) → left ≡ op ∷ rest
+    → added ≡ (if is_idle old.state op then kept else kept ++ op ∷ []) → new ≡ (if is_idle old.state op then old else record old { state = state_after profile old.state op })
+    → kept ++ without_idle profile old.state left ≡ all → added ++ without_idle profile new.state rest ≡ all
+more_kept profile old new op rest left kept added all next made led before =
+    one_kept profile old.state new.state op rest kept added made (ap (λ (d : DisplayView). d.state) led ∙ chosen (is_idle old.state op))
+    ∙ ap (λ ops. kept ++ without_idle profile old.state ops) (sym next)
+    ∙ before
+  where
+    chosen : (b : Bool) → (if b then old else record old { state = state_after profile old.state op }).state ≡ (if b then old.state else state_after profile old.state op)
+    chosen true = refl
+    chosen false = refl
+
+-- a terminal's size stays
+pub size_stays : (old new : DisplayView) (after : TerminalState) (b : Bool) → new ≡ (if b then old else record old { state = after }) → (old.rows ≡ new.rows) × (old.columns ≡ new.columns)
+size_stays old new after true led = (sym (ap (λ (d : DisplayView). d.rows) led), sym (ap (λ (d : DisplayView). d.columns) led))
+size_stays old new after false led = (sym (ap (λ (d : DisplayView). d.rows) led), sym (ap (λ (d : DisplayView). d.columns) led))
