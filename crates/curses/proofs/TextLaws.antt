@@ -16,9 +16,12 @@ there entry slot e = by (text_at entry slot.0) e
     by None e = (cc)
     by (Some text) e = refl
 
+any : (d : Bool) → false ≡ true → d ≡ true
+any d e = (cc)
+
 either : (a b : Bool) → (a ≡ true → b ≡ true) → (c d : Bool) → (c ≡ true → d ≡ true) → (a || c) ≡ true → (b || d) ≡ true
 either a true f c d g e = refl
-either true false f c d g e = f refl
+either true false f c d g e = any d (f refl)
 either false false f c d g e = g e
 
 -- where one of two programs is there, one of the two texts is
