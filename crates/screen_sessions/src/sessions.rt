@@ -1,11 +1,11 @@
 //! Sessions: lists of calls on one screen. The definitions are in `specs/Sessions.antt`.
-ghost use Rattle.std.specs.Prelude.{◌≡◌, IfErr, IfOk, IsErrOf, OnErr};
+ghost use Rattle.std.specs.Prelude.{◌≡◌, IfErr, IfOk, IsErrOf, OnErr, false};
 ghost use Rattle.screen_sessions.specs.declared.calls.Call.TheVariants.{Doupdate};
 ghost use Rattle.screen_sessions.specs.Code.Progress.{AreMadeAfresh, IsFresh};
 ghost use Rattle.screen_sessions.specs.Making.{IsMade};
 ghost use Rattle.curses.specs.Opening.{IsUnopened};
 ghost use Rattle.scr_term.specs.Operations.Admission.{IsSuitable};
-ghost use Rattle.screen_sessions.specs.Sessions.{AreMade, DisturbedRowsHoldAgain, IsReport, ended_well};
+ghost use Rattle.screen_sessions.specs.Sessions.{AreMade, DisturbedRowsHoldAgain, IsReport, ended_well, is_update};
 
 use crate::answers::{Answer, done_answer};
 use crate::calls::{Call, make_window_call};

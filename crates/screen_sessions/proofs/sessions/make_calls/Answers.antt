@@ -15,7 +15,7 @@ loop-call-preserved g c =
       made = ap length c.in_ok-push.ensures.items ∙ length-append c.loop-call.answers.items (c.make_call-answer.result ∷ []) ∙ omega (arith, c.loop-call.invariant.made);
       so_far = subst (λ a. SoFar c.args.screen.now.profile (beginning_of c.args.screen.now) c.args.screen.now c.args.calls.now a c.make_call-answer.new.screen (g.W.Counted.told c.args.out.now) (g.W.Counted.told c.make_call-answer.new.out)) (sym c.in_ok-push.ensures.items)
           (one_more c.run_laws.ensures c.bytes_act_as_their_operations.ensures c.known_memories.ensures c.plan_is_cheap.ensures c.args.screen.now.profile (beginning_of c.args.screen.now) c.args.screen.now c.args.calls.now c.loop-call.answers.items c.call-item.result c.make_call-answer.result c.loop-call.screen c.make_call-answer.new.screen
-          (g.W.Counted.told c.args.out.now) (g.W.Counted.told c.loop-call.out) (g.W.Counted.told c.make_call-answer.new.out) inside here c.loop-call.invariant.so_far c.make_call-answer.ensures);
+          (g.W.Counted.told c.args.out.now) (g.W.Counted.told c.loop-call.out) (g.W.Counted.told c.make_call-answer.new.out) inside here c.loop-call.invariant.so_far c.make_call-answer.ensures.made);
       last = c.is_last_ok-last_ok.ensures ∙ ap (λ b. ended_well b c.make_call-answer.result) c.loop-call.invariant.last ∙ sym (last_more false c.loop-call.answers.items c.make_call-answer.result)
           ∙ sym (ap (last_ok_behind false) c.in_ok-push.ensures.items);
     }
