@@ -9,6 +9,7 @@ mod answers;
 mod bounds;
 mod calls;
 mod cuts;
+mod displays;
 mod emulated;
 mod entries;
 mod made_up;

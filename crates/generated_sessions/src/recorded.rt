@@ -1,9 +1,7 @@
 //! A screen whose calls and answers are kept, and the emulated terminal that takes what its updates send.
 
 use crate::answers::{Ended, add_answer, add_answers, add_sent, begun_by, end_of, ran_out};
-use crate::bounds::Left;
-use crate::emulated::Emulated;
-use crate::plain::Plain;
+use crate::displays::{Display, has_ends, may_paint_all, open_display};
 use crate::writers::{End, Fails, writer_that};
 use check_harness::answers::add_word;
 use check_harness::buffers::{Buffer, are_same};
@@ -11,12 +9,12 @@ use check_harness::checking::put;
 use check_harness::troubles::Trouble;
 use curses::{Counted, Device, OpenFault, Screen, UpdateFault};
 use scr_cells::{NoMemory, Size};
-use scr_term::{Op, Ops, Profile, ProfileFault};
+use scr_term::{Op, Ops};
 use screen_sessions::{
     Answer, Call, Faulty, Report, WriterFailure, WriterFault, make_call, make_calls, session,
 };
 use std::alloc::Global;
-use ti_caps::{Entry, slots};
+use ti_caps::Entry;
 
 /// A screen, its terminal, and what was called, answered and sent since it was opened.
 #[derive(Drop)]
@@ -41,18 +39,6 @@ pub struct Recorded {
     pub is_listed: bool,
     // The operations of the last update.
     last: Ops,
-}
-
-/// A terminal, what it has to show, and what the last update left there.
-#[derive(Drop)]
-pub struct Display {
-    /// The terminal's operations.
-    pub profile: Profile,
-    /// What the terminal shows.
-    pub emulated: Emulated,
-    /// What it has to show after an update that ends well.
-    pub plain: Plain,
-    left: Left,
 }
 
 impl Recorded {
@@ -359,36 +345,6 @@ fn add_screen(
     }
 }
 
-// The terminal of an entry, or why it has none.
-fn open_display(
-    alloc: Global,
-    entry: &Entry,
-    size: Size,
-) -> Result<Result<Display, OpenFault>, Trouble> {
-    let Ok(emulated) = Emulated::new(alloc, entry, size) else {
-        return Ok(Err(OpenFault::NoMemory));
-    };
-    match Profile::admit(alloc, entry, Some(size)) {
-        Ok(profile) => Ok(Ok(blank_display(alloc, size, profile, emulated)?)),
-        Err(ProfileFault::NoMemory) => Ok(Err(OpenFault::NoMemory)),
-        Err(fault) => Ok(Err(OpenFault::Profile(fault))),
-    }
-}
-
-fn blank_display(
-    alloc: Global,
-    size: Size,
-    profile: Profile,
-    emulated: Emulated,
-) -> Result<Display, Trouble> {
-    Ok(Display {
-        profile,
-        emulated,
-        plain: Plain::blank(alloc, size)?,
-        left: Left::unknown(alloc, size)?,
-    })
-}
-
 // Makes a call by a list of it alone, and gives it back with its answer. Want of memory for the list's answers is
 // answered as that of an update is.
 fn make_listed(
@@ -407,24 +363,4 @@ fn make_listed(
         .pop()
         .zip(answer)
         .ok_or(Trouble::Bad("no answer of a listed call"))
-}
-
-// Whether an entry has a text for the beginning or the end of a program's use of the screen.
-fn has_ends(entry: &Entry) -> bool {
-    [slots::SMCUP, slots::SMKX, slots::RMKX, slots::RMCUP]
-        .iter()
-        .any(|slot| entry.text(*slot).is_some())
-}
-
-// Whether an update behind a call may paint more than what differs: a redrawing, or a window that wishes the whole
-// screen anew.
-fn may_paint_all(screen: &Screen, call: &Call) -> bool {
-    match call {
-        Call::RedrawWindow(_) | Call::RedrawLines(..) => true,
-        Call::Noutrefresh(win) | Call::PadNoutrefresh(win, ..) => match screen.window(*win) {
-            Ok(window) => window.clear_ok(),
-            Err(_) => false,
-        },
-        _ => false,
-    }
 }
