@@ -1,0 +1,230 @@
+//! Lines about an emulated screen.
+
+use crate::terminals::{add_at, add_colours, keep};
+use check_harness::answers::{add_flag, add_number, add_place, add_text, add_word, read_size};
+use check_harness::buffers::{Buffer, are_same};
+use check_harness::troubles::Trouble;
+use check_harness::words::Words;
+use generated_sessions::add_spot;
+use scr_cells::{Look, NoMemory, Size};
+use scr_terminal::EcmaScreen;
+use screen_scripts::print_screen;
+use std::alloc::Global;
+
+/// The lines `screen R C`, `feed TEXT`, `cuts TEXT` and `undefined_after TEXT TEXT`, and those that ask. Tells whether
+/// a line is one of them.
+pub fn answer_of_ecma(
+    alloc: Global,
+    screen: &mut Option<EcmaScreen>,
+    word: &str,
+    words: &mut Words<'_>,
+    came: &mut Buffer,
+) -> bool {
+    match (word, screen) {
+        ("screen", screen) => {
+            if let Some(size) = read_size(words) {
+                keep(EcmaScreen::new(alloc, size), screen, came);
+            }
+        }
+        ("feed", Some(screen)) => feed(alloc, screen, words, came),
+        ("cuts", Some(screen)) => add_cuts(alloc, screen.size(), words, came),
+        ("undefined_after", Some(screen)) => add_undefined_after(alloc, screen.size(), words, came),
+        (word, Some(screen)) => return ask(alloc, screen, word, words, came),
+        (_, None) => return false,
+    }
+    true
+}
+
+/// Adds the lines of a screen, the attributes that are on, the colours that are set where one is not the default, and
+/// whether it waits for the rest of a sequence.
+pub fn print_state(screen: &EcmaScreen, text: &mut Buffer) {
+    let printed = print_screen(screen, text.vector());
+    text.check(printed.is_ok());
+    text.extend(b"on");
+    add_number(i64::from(screen.rendition().0), text);
+    let colours = screen.colours();
+    if colours != (None, None) {
+        add_word("colours", text);
+        add_colours(colours, text);
+    }
+    if screen.waiting() {
+        add_word("waiting", text);
+    }
+    text.push(b'\n');
+}
+
+// The lines `screen_size`, `shown R C`, `spot`, `rendition`, `colours`, `marked`, how many places show something,
+// `printed` and `state`.
+fn ask(
+    alloc: Global,
+    screen: &EcmaScreen,
+    word: &str,
+    words: &mut Words<'_>,
+    came: &mut Buffer,
+) -> bool {
+    match word {
+        "screen_size" => {
+            let size = screen.size();
+            add_place(size.rows, size.columns, came)
+        }
+        "shown" => {
+            let (row, column) = (words.number(), words.number());
+            words.check(add_at(row_of(screen, row), column, came))
+        }
+        "spot" => add_spot(screen.spot(), came),
+        "rendition" => add_number(i64::from(screen.rendition().0), came),
+        "colours" => add_colours(screen.colours(), came),
+        "marked" => add_number(i64::from(marked(screen)), came),
+        "printed" => add_printed(alloc, screen, came),
+        "state" => add_state(alloc, screen, came),
+        _ => return false,
+    }
+    true
+}
+
+// The looks of a row, none where there is no such row.
+fn row_of(screen: &EcmaScreen, row: u32) -> &[Look] {
+    if row < screen.size().rows {
+        screen.row(row)
+    } else {
+        &[]
+    }
+}
+
+fn add_printed(alloc: Global, screen: &EcmaScreen, came: &mut Buffer) {
+    let mut text = Vec::new(alloc);
+    match print_screen(screen, &mut text) {
+        Ok(()) => add_text(&text, came),
+        Err(NoMemory) => add_word("NoMemory", came),
+    }
+}
+
+fn add_state(alloc: Global, screen: &EcmaScreen, came: &mut Buffer) {
+    let mut text = Buffer::new(alloc);
+    print_state(screen, &mut text);
+    add_text(text.bytes(), came);
+    came.check(text.done().is_ok());
+}
+
+// Feeds a text, and adds whether it is defined and whether the screen waits for more.
+fn feed(alloc: Global, screen: &mut EcmaScreen, words: &mut Words<'_>, came: &mut Buffer) {
+    let mut text = Buffer::new(alloc);
+    words.text(&mut text);
+    let fed = screen.feed(text.bytes());
+    add_word(if fed.is_ok() { "Ok" } else { "Undefined" }, came);
+    if screen.waiting() {
+        add_word("waiting", came);
+    }
+}
+
+// Feeds a text to a blank screen of the same size in two pieces, once for each place where it can be cut, and adds
+// the state after, or the first cut that makes it another.
+fn add_cuts(alloc: Global, size: Size, words: &mut Words<'_>, came: &mut Buffer) {
+    let mut text = Buffer::new(alloc);
+    let mut whole = Buffer::new(alloc);
+    let mut state = Buffer::new(alloc);
+    words.text(&mut text);
+    words.check(add_cuts_of(alloc, size, text.bytes(), &mut whole, &mut state, came));
+}
+
+// The same of a text, with room for the state after the first cut and after another.
+fn add_cuts_of(
+    alloc: Global,
+    size: Size,
+    text: &[u8],
+    whole: &mut Buffer,
+    state: &mut Buffer,
+    came: &mut Buffer,
+) -> Result<(), Trouble> {
+    if feed_two(alloc, size, &[], text, whole).is_err() {
+        add_word("NoMemory", came);
+        return Ok(());
+    }
+    for cut in 1..=text.len() {
+        state.clear();
+        let (head, tail) = text.split_at(cut);
+        if feed_two(alloc, size, head, tail, state).is_err() {
+            add_word("NoMemory", came);
+            return Ok(());
+        }
+        if !are_same(whole, state)? {
+            add_word("cut", came);
+            add_number(i64::try_from(cut).unwrap_or(0), came);
+            return Ok(());
+        }
+    }
+    add_text(whole.bytes(), came);
+    whole.done()
+}
+
+// Whether a text that is fed behind another, which is defined, to a blank screen of the same size is undefined, and
+// the screen then stays as it was.
+fn add_undefined_after(alloc: Global, size: Size, words: &mut Words<'_>, came: &mut Buffer) {
+    let mut head = Buffer::new(alloc);
+    let mut tail = Buffer::new(alloc);
+    words.text(&mut head);
+    words.text(&mut tail);
+    match EcmaScreen::new(alloc, size) {
+        Ok(mut screen) => {
+            let stays = stays_after(alloc, &mut screen, head.bytes(), tail.bytes());
+            words.check(add_whether(stays, came));
+        }
+        Err(NoMemory) => add_word("NoMemory", came),
+    }
+}
+
+fn add_whether(stays: Result<bool, Trouble>, came: &mut Buffer) -> Result<(), Trouble> {
+    add_flag(stays?, came);
+    Ok(())
+}
+
+// How many places show something other than a blank without attributes, in default colours.
+fn marked(screen: &EcmaScreen) -> u32 {
+    let mut count: u32 = 0;
+    for row in 0..screen.size().rows {
+        for look in row_of(screen, row) {
+            if *look != Look::blank() {
+                count = count.saturating_add(1);
+            }
+        }
+    }
+    count
+}
+
+fn feed_two(
+    alloc: Global,
+    size: Size,
+    head: &[u8],
+    tail: &[u8],
+    state: &mut Buffer,
+) -> Result<(), NoMemory> {
+    let mut screen = EcmaScreen::new(alloc, size)?;
+    feed_both(&mut screen, head, tail, state);
+    Ok(())
+}
+
+// Feeds a screen a text in two pieces, and adds its state.
+fn feed_both(screen: &mut EcmaScreen, head: &[u8], tail: &[u8], state: &mut Buffer) {
+    let both = screen.feed(head).and(screen.feed(tail));
+    print_state(screen, state);
+    if both.is_err() {
+        state.extend(b"undefined\n");
+    }
+}
+
+// Whether the second text is undefined behind the first, and the screen stays as it was before it.
+fn stays_after(
+    alloc: Global,
+    screen: &mut EcmaScreen,
+    head: &[u8],
+    tail: &[u8],
+) -> Result<bool, Trouble> {
+    let mut before = Buffer::new(alloc);
+    let mut after = Buffer::new(alloc);
+    let first = screen.feed(head);
+    print_state(screen, &mut before);
+    let second = screen.feed(tail);
+    print_state(screen, &mut after);
+    let same = are_same(&before, &after);
+    same.map(|same| same && first.is_ok() && second.is_err())
+}

@@ -1,0 +1,180 @@
+//! Lines about keys, which are read from a reader by itself, or from a screen.
+
+use check_harness::answers::{add_number, add_word};
+use check_harness::buffers::Buffer;
+use check_harness::checking::put;
+use check_harness::troubles::Trouble;
+use check_harness::words::Words;
+use curses::{OpenFault, Screen};
+use scr_cells::Size;
+use scr_keys::{Key, KeyFault, KeyReader, KeyTable};
+use std::alloc::Global;
+use ti_caps::{Entry, Slot};
+
+// More keys than may wait.
+const ALL: u32 = 100;
+
+/// What keys are read from.
+#[derive(Drop)]
+pub enum Keyboard {
+    /// A reader by itself.
+    Reader(KeyReader),
+    /// A screen.
+    Screen(Screen),
+}
+
+impl Keyboard {
+    // A byte came, or none for a while.
+    fn take(&mut self, byte: Option<u8>) -> Result<(), KeyFault> {
+        match (self, byte) {
+            (Keyboard::Reader(reader), Some(byte)) => reader.byte(byte),
+            (Keyboard::Reader(reader), None) => reader.idle(),
+            (Keyboard::Screen(screen), Some(byte)) => screen.key_byte(byte),
+            (Keyboard::Screen(screen), None) => screen.key_idle(),
+        }
+    }
+
+    // The first key that waits.
+    fn next(&mut self) -> Option<Key> {
+        match self {
+            Keyboard::Reader(reader) => reader.next(),
+            Keyboard::Screen(screen) => screen.key(),
+        }
+    }
+}
+
+/// Two keyboards of an entry's keys.
+#[derive(Drop)]
+pub struct Keyboards {
+    /// That which the lines are about.
+    pub used: Option<Keyboard>,
+    /// One that was opened beside it, and is not used.
+    pub beside: Option<Keyboard>,
+}
+
+/// The lines `reader` and `screen`, which open a keyboard, and `beside reader` and `beside screen`, which open one
+/// beside it; and `byte BYTE`, `bytes TEXT`, `idle`, and `keys`, which takes all keys that wait, or has `none`. Tells
+/// whether a line is one of them.
+pub fn answer_of_keys(
+    alloc: Global,
+    entry: &Option<Entry>,
+    keyboards: &mut Keyboards,
+    word: &str,
+    words: &mut Words<'_>,
+    came: &mut Buffer,
+) -> bool {
+    match (word, entry) {
+        ("reader" | "screen", Some(entry)) => open(alloc, entry, word, &mut keyboards.used, came),
+        ("beside", Some(entry)) => {
+            open(alloc, entry, words.name(), &mut keyboards.beside, came);
+        }
+        _ => match &mut keyboards.used {
+            Some(keyboard) => return answer_of_keyboard(alloc, keyboard, word, words, came),
+            None => return false,
+        },
+    }
+    true
+}
+
+// Opens a keyboard in place of another, by the word `reader`, or on a screen. A function that owns a keyboard takes
+// long to prove, so there is this one alone.
+fn open(
+    alloc: Global,
+    entry: &Entry,
+    word: &str,
+    keyboard: &mut Option<Keyboard>,
+    came: &mut Buffer,
+) {
+    let opened = match word {
+        "reader" => open_reader(alloc, entry),
+        _ => open_screen(alloc, entry),
+    };
+    match opened {
+        Ok(opened) => {
+            put(keyboard, Some(opened));
+            add_word("Ok", came);
+        }
+        Err(OpenFault::Profile(_)) => add_word("Refused Profile", came),
+        Err(OpenFault::KeyTooLong(slot)) => add_done(Err(KeyFault::KeyTooLong(slot)), came),
+        Err(OpenFault::NoMemory) => add_done(Err(KeyFault::NoMemory), came),
+    }
+}
+
+fn open_reader(alloc: Global, entry: &Entry) -> Result<Keyboard, OpenFault> {
+    match KeyTable::of(alloc, entry).and_then(|table| KeyReader::new(alloc, table)) {
+        Ok(reader) => Ok(Keyboard::Reader(reader)),
+        Err(KeyFault::KeyTooLong(slot)) => Err(OpenFault::KeyTooLong(slot)),
+        Err(_) => Err(OpenFault::NoMemory),
+    }
+}
+
+fn open_screen(alloc: Global, entry: &Entry) -> Result<Keyboard, OpenFault> {
+    Ok(Keyboard::Screen(Screen::open(alloc, entry, Size::new(2, 5))?))
+}
+
+fn answer_of_keyboard(
+    alloc: Global,
+    keyboard: &mut Keyboard,
+    word: &str,
+    words: &mut Words<'_>,
+    came: &mut Buffer,
+) -> bool {
+    match word {
+        "byte" => add_done(keyboard.take(Some(words.byte())), came),
+        "bytes" => {
+            let mut text = Buffer::new(alloc);
+            words.text(&mut text);
+            add_done(give(keyboard, text.bytes()), came);
+        }
+        "idle" => add_done(keyboard.take(None), came),
+        "keys" => add_keys(keyboard, came),
+        _ => return false,
+    }
+    true
+}
+
+// Gives bytes to a keyboard, up to the first that is refused.
+fn give(keyboard: &mut Keyboard, bytes: &[u8]) -> Result<(), KeyFault> {
+    for byte in bytes {
+        keyboard.take(Some(*byte))?;
+    }
+    Ok(())
+}
+
+// Takes all keys that wait: `Slot` and its position, or `Byte` and the byte.
+fn add_keys(keyboard: &mut Keyboard, came: &mut Buffer) {
+    if !add_next(keyboard, came) {
+        add_word("none", came);
+        return;
+    }
+    for _ in 0..ALL {
+        if !add_next(keyboard, came) {
+            break;
+        }
+    }
+}
+
+// Takes the next key, and tells whether one waited.
+fn add_next(keyboard: &mut Keyboard, came: &mut Buffer) -> bool {
+    let (word, number) = match keyboard.next() {
+        Some(Key::Slot(slot)) => ("Slot", i64::from(slot)),
+        Some(Key::Byte(byte)) => ("Byte", i64::from(byte)),
+        None => return false,
+    };
+    add_word(word, came);
+    add_number(number, came);
+    true
+}
+
+// Adds `Ok`, or `Refused` and why; or `NoMemory`.
+fn add_done(done: Result<(), KeyFault>, came: &mut Buffer) {
+    match done {
+        Ok(()) => add_word("Ok", came),
+        Err(KeyFault::KeyTooLong(Slot(slot))) => {
+            add_word("Refused KeyTooLong", came);
+            add_number(i64::from(slot), came)
+        }
+        Err(KeyFault::QueueFull) => add_word("Refused QueueFull", came),
+        Err(KeyFault::NoMemory) => add_word("NoMemory", came),
+    }
+}

@@ -1,0 +1,261 @@
+//! Lines about a screen with its terminal.
+
+use crate::changed::check_changed;
+use crate::shown::answer_of_shown;
+use crate::windows::answer_of_windows;
+use check_harness::answers::{add_name, add_word, read_size};
+use check_harness::buffers::{Buffer, are_same};
+use check_harness::troubles::Trouble;
+use check_harness::words::Words;
+use curses::{Device, OpenFault, Screen};
+use generated_sessions::{
+    MOVING, Obeyed, Recorded, add_count, check_sessions, cut_update, obey, read_entry,
+};
+use scr_cells::Size;
+use screen_sessions::session;
+use std::alloc::Global;
+use ti_caps::Entry;
+
+/// Screens with their terminals.
+#[derive(Drop)]
+pub struct Screens {
+    /// That which the lines are about.
+    pub opened: Option<Recorded>,
+    /// That of the sessions that are made up.
+    pub made_up: Option<Recorded>,
+}
+
+/// Makes the call of a line about a screen, and adds what it answers.
+pub fn answer_of_screen(
+    alloc: Global,
+    screens: &mut Screens,
+    word: &str,
+    words: &mut Words<'_>,
+    came: &mut Buffer,
+) -> Result<(), Trouble> {
+    match word {
+        "screen" => open(alloc, &mut screens.opened, words, came),
+        "moving" => open_moving(alloc, &mut screens.opened, words, came),
+        "drawn" => open_drawn(alloc, &mut screens.opened, words, came),
+        "sessions" => check_sessions(alloc, &mut screens.made_up, false, words, came),
+        "cut_sessions" => check_sessions(alloc, &mut screens.made_up, true, words, came),
+        "changed" => check_changed(alloc, words, came),
+        "refusal" => add_refusal(alloc, words, came),
+        _ => match &mut screens.opened {
+            Some(opened) => answer_of_opened(alloc, opened, word, words, came),
+            None => Err(Trouble::Bad("no screen")),
+        },
+    }
+}
+
+// The line `screen R C NAME ..`, which opens a screen of so many rows and columns on the bundled entry without the
+// texts and flags of these names; a number's name has its value behind it, and that of a text that is another has this
+// text.
+fn open(
+    alloc: Global,
+    opened: &mut Option<Recorded>,
+    words: &mut Words<'_>,
+    came: &mut Buffer,
+) -> Result<(), Trouble> {
+    match read_size(words) {
+        Some(size) => open_on(alloc, size, opened, words, came),
+        None => Ok(()),
+    }
+}
+
+// The line `moving R C`, which opens one on the bundled entry with texts that insert and delete lines and characters.
+fn open_moving(
+    alloc: Global,
+    opened: &mut Option<Recorded>,
+    words: &mut Words<'_>,
+    came: &mut Buffer,
+) -> Result<(), Trouble> {
+    match read_size(words) {
+        Some(size) => {
+            let mut names = Words::new(MOVING.as_bytes());
+            open_on(alloc, size, opened, &mut names, came)
+        }
+        None => Ok(()),
+    }
+}
+
+// Opens a screen on the entry that words tell.
+fn open_on(
+    alloc: Global,
+    size: Size,
+    opened: &mut Option<Recorded>,
+    names: &mut Words<'_>,
+    came: &mut Buffer,
+) -> Result<(), Trouble> {
+    let refusal = match read_entry(alloc, names) {
+        Some(entry) => Recorded::open_into(alloc, entry, size, opened)?,
+        None => Some(OpenFault::NoMemory),
+    };
+    add_refused(refusal, came);
+    names.done()
+}
+
+fn add_refused(refusal: Option<OpenFault>, came: &mut Buffer) {
+    match refusal {
+        Some(fault) => add_name(&fault, came),
+        None => add_word("Ok", came),
+    }
+}
+
+// The line `drawn R C TEXT`, which opens a screen of so many rows and columns on the bundled entry, with a text in its
+// first window, whose lines are untouched then and whose cursor is in the first place.
+fn open_drawn(
+    alloc: Global,
+    opened: &mut Option<Recorded>,
+    words: &mut Words<'_>,
+    came: &mut Buffer,
+) -> Result<(), Trouble> {
+    let Some(size) = read_size(words) else {
+        return Ok(());
+    };
+    let mut line = Buffer::new(alloc);
+    line.extend(b"0 ");
+    line.extend(words.next());
+    line.done()?;
+    open_on(alloc, size, opened, &mut Words::new(b""), came)?;
+    match opened {
+        Some(opened) if came.bytes() == b" Ok".as_slice() => draw(
+            alloc,
+            opened,
+            line.bytes(),
+            came,
+        ),
+        _ => Ok(()),
+    }
+}
+
+fn draw(
+    alloc: Global,
+    opened: &mut Recorded,
+    text: &[u8],
+    came: &mut Buffer,
+) -> Result<(), Trouble> {
+    for (word, rest) in [
+        ("add_text", text),
+        ("move_cursor", b"0 0 0"),
+        ("untouch", b"0"),
+    ] {
+        let mut words = Words::new(rest);
+        let _obeyed = obey(alloc, opened, word, &mut words, came)?;
+        words.done()?;
+    }
+    came.clear();
+    add_word("Ok", came);
+    Ok(())
+}
+
+// The line `refusal R C NAME ..`: opens a screen and makes a session without calls, and adds why both are refused, `Ok`
+// where neither is, or `differs`. Nothing may be written then.
+fn add_refusal(alloc: Global, words: &mut Words<'_>, came: &mut Buffer) -> Result<(), Trouble> {
+    let Some(size) = read_size(words) else {
+        return Ok(());
+    };
+    match read_entry(alloc, words) {
+        Some(entry) => add_both(alloc, &entry, size, came),
+        None => add_word("NoMemory", came),
+    }
+    Ok(())
+}
+
+fn add_both(alloc: Global, entry: &Entry, size: Size, came: &mut Buffer) {
+    let opened = Screen::open(alloc, entry, Some(size)).err();
+    let mut device = Device::new(Vec::new(alloc));
+    let made = session(alloc, entry, Some(size), &[], &mut device).err();
+    if opened == Some(OpenFault::NoMemory) || made == Some(OpenFault::NoMemory) {
+        add_word("NoMemory", came);
+    } else if opened != made || !device.writer.is_empty() {
+        add_word("differs", came);
+    } else {
+        add_refused(opened, came);
+    }
+}
+
+// Makes the call of a line about a screen that is open.
+fn answer_of_opened(
+    alloc: Global,
+    opened: &mut Recorded,
+    word: &str,
+    words: &mut Words<'_>,
+    came: &mut Buffer,
+) -> Result<(), Trouble> {
+    match word {
+        "session" => opened.add_session(came),
+        "cuts" => add_cuts(alloc, opened, came),
+        "update_within" => update_within(alloc, opened, words, came),
+        "all" => call_listed(alloc, opened, words, came),
+        _ => call(alloc, opened, word, words, came),
+    }
+}
+
+// The line `cuts`: cuts the last update, which ended well, at every byte. Adds how many cuts there are, or how and
+// where the first was made that does not agree.
+fn add_cuts(alloc: Global, opened: &mut Recorded, came: &mut Buffer) -> Result<(), Trouble> {
+    if let Some(cuts) = cut_update(alloc, opened, came)? {
+        add_count(cuts, came);
+    }
+    Ok(())
+}
+
+// Makes a call or an update, or adds what is shown.
+fn call(
+    alloc: Global,
+    opened: &mut Recorded,
+    word: &str,
+    words: &mut Words<'_>,
+    came: &mut Buffer,
+) -> Result<(), Trouble> {
+    if obey(alloc, opened, word, words, came)? == Obeyed::No
+        && !answer_of_shown(opened, word, words, came)
+        && !answer_of_windows(&opened.screen, word, words, came)
+    {
+        return Err(Trouble::Bad("no such call"));
+    }
+    Ok(())
+}
+
+// The line `all CALL`, where the call or the update is made by a list of it alone.
+fn call_listed(
+    alloc: Global,
+    opened: &mut Recorded,
+    words: &mut Words<'_>,
+    came: &mut Buffer,
+) -> Result<(), Trouble> {
+    let word = words.name();
+    opened.is_listed = true;
+    let done = match word {
+        "update_within" => update_within(alloc, opened, words, came),
+        _ => call(alloc, opened, word, words, came),
+    };
+    opened.is_listed = false;
+    done
+}
+
+// The line `update_within N`, an update that answers `Ok` alone where it ends well and sends at most N bytes.
+fn update_within(
+    alloc: Global,
+    opened: &mut Recorded,
+    words: &mut Words<'_>,
+    came: &mut Buffer,
+) -> Result<(), Trouble> {
+    let most = words.number() as usize;
+    let _obeyed = obey(alloc, opened, "update", words, came)?;
+    let sent = opened.last_sent().len();
+    if sent <= most && is_well(alloc, sent, came)? {
+        came.clear();
+        add_word("Ok", came);
+    }
+    Ok(())
+}
+
+// Whether an update answered that it sent so many bytes.
+fn is_well(alloc: Global, sent: usize, came: &Buffer) -> Result<bool, Trouble> {
+    let mut well = Buffer::new(alloc);
+    add_word("Ok", &mut well);
+    add_count(sent as u64, &mut well);
+    are_same(came, &well)
+}

@@ -1,0 +1,101 @@
+//! Lines about the scripts of the demonstration program.
+
+use check_harness::answers::{add_number, add_text, add_word};
+use check_harness::buffers::Buffer;
+use check_harness::troubles::Trouble;
+use check_harness::words::Words;
+use generated_sessions::{Fails, writer_that};
+use scr_cells::NoMemory;
+use scr_terminal::EcmaScreen;
+use screen_scripts::{DemoFault, refusals, run};
+use std::alloc::Global;
+use std::io::ErrorKind;
+
+/// The lines `run TEXT`, `run_raw TEXT`, `refusals TEXT`, `run_writing N TEXT`, `run_stuck N TEXT`, `run_flushing TEXT`
+/// and `feed_run TEXT`, where the text is a script. Tells whether a line is one of them.
+pub fn answer_of_script(
+    alloc: Global,
+    screen: &mut Option<EcmaScreen>,
+    word: &str,
+    words: &mut Words<'_>,
+    came: &mut Buffer,
+) -> bool {
+    let fails = match word {
+        "run" | "run_raw" | "refusals" | "feed_run" => Fails::Never,
+        "run_writing" => Fails::Behind(words.number()),
+        "run_stuck" => Fails::StuckBehind(words.number()),
+        "run_flushing" => Fails::Flushed,
+        _ => return false,
+    };
+    let mut text = Buffer::new(alloc);
+    words.text(&mut text);
+    let done = match (word, screen) {
+        ("refusals", _) => {
+            add_refusals(alloc, text.bytes(), came);
+            Ok(())
+        }
+        ("feed_run", Some(screen)) => feed_run(alloc, screen, text.bytes(), came),
+        ("feed_run", None) => Err(Trouble::Bad("no screen")),
+        _ => add_run(alloc, fails, word == "run_raw", text.bytes(), came),
+    };
+    words.check(done);
+    true
+}
+
+// Runs a script into a writer that fails so, and adds what that took and how the run ends.
+fn add_run(
+    alloc: Global,
+    fails: Fails,
+    raw: bool,
+    text: &[u8],
+    came: &mut Buffer,
+) -> Result<(), Trouble> {
+    let mut out = writer_that(alloc, fails)?;
+    let ended = run(alloc, text, raw, &mut out);
+    add_text(out.taken(), came);
+    add_end(&ended, came);
+    Ok(())
+}
+
+fn add_refusals(alloc: Global, text: &[u8], came: &mut Buffer) {
+    match refusals(alloc, text) {
+        Ok(lines) => add_text(&lines, came),
+        Err(NoMemory) => add_word("NoMemory", came),
+    }
+}
+
+// Feeds a screen the bytes that a script sends.
+fn feed_run(
+    alloc: Global,
+    screen: &mut EcmaScreen,
+    text: &[u8],
+    came: &mut Buffer,
+) -> Result<(), Trouble> {
+    let mut out = writer_that(alloc, Fails::Never)?;
+    let ended = run(alloc, text, true, &mut out);
+    if ended.is_err() {
+        add_end(&ended, came);
+    } else {
+        let fed = screen.feed(out.taken());
+        add_word(if fed.is_ok() { "Ok" } else { "Undefined" }, came);
+    }
+    Ok(())
+}
+
+// How a run ended. The growth of a vector that is written to may be refused too.
+fn add_end(ended: &Result<(), DemoFault>, came: &mut Buffer) {
+    match ended {
+        Ok(()) => add_word("Ok", came),
+        Err(DemoFault::BadCommand(line)) => {
+            add_word("BadCommand", came);
+            add_number(i64::from(*line), came)
+        }
+        Err(DemoFault::NoMemory) | Err(DemoFault::Write(ErrorKind::OutOfMemory)) => {
+            add_word("NoMemory", came)
+        }
+        Err(DemoFault::Write(ErrorKind::BrokenPipe)) => add_word("Write(BrokenPipe)", came),
+        Err(DemoFault::Write(ErrorKind::WriteZero)) => add_word("Write(WriteZero)", came),
+        Err(DemoFault::Write(ErrorKind::Other)) => add_word("Write(Other)", came),
+        Err(DemoFault::Write(_)) => add_word("Write(another)", came),
+    }
+}

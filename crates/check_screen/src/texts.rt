@@ -1,0 +1,145 @@
+//! Lines about a text that is edited.
+
+use check_harness::answers::{add_flag, add_name, add_text, add_word};
+use check_harness::buffers::Buffer;
+use check_harness::checking::put;
+use check_harness::words::Words;
+use edit_text::{EditFault, NoMemory, Place, Text};
+use generated_sessions::add_count;
+use std::alloc::Global;
+
+/// The lines `new` and `read TEXT`, which make a text, and those that change it or ask. Tells whether a line is one of
+/// them.
+pub fn answer_of_text(
+    alloc: Global,
+    text: &mut Option<Text>,
+    word: &str,
+    words: &mut Words<'_>,
+    came: &mut Buffer,
+) -> bool {
+    match word {
+        "new" => keep_text(Text::new(alloc), text, came),
+        "read" => {
+            let mut bytes = Buffer::new(alloc);
+            words.text(&mut bytes);
+            keep_text(Text::read(alloc, bytes.bytes()), text, came);
+        }
+        _ => match text {
+            Some(text) => {
+                return change(text, word, words, came) || ask(alloc, text, word, words, came);
+            }
+            None => return false,
+        },
+    }
+    true
+}
+
+// Puts a text that was made in the place of another.
+fn keep_text(made: Result<Text, NoMemory>, text: &mut Option<Text>, came: &mut Buffer) {
+    match made {
+        Ok(made) => {
+            put(text, Some(made));
+            add_word("Ok", came);
+        }
+        Err(NoMemory) => add_word("NoMemory", came),
+    }
+}
+
+/// Adds every line, and the number of changes.
+pub fn dump_text(text: &Text, bytes: &mut Buffer) {
+    for line in 0..text.line_count() {
+        bytes.extend(text.line(line).unwrap_or(b""));
+        bytes.push(b'\n');
+    }
+    bytes.extend(&text.version().to_be_bytes());
+}
+
+// The lines `insert LINE COLUMN BYTE`, `split LINE COLUMN`, `delete LINE COLUMN`, which has `yes` or `no`, and `undo`,
+// which has a place or `none`.
+fn change(text: &mut Text, word: &str, words: &mut Words<'_>, came: &mut Buffer) -> bool {
+    match word {
+        "insert" => {
+            let place = place(words);
+            add_edit(text.insert(place, words.byte()), came);
+        }
+        "split" => add_edit(text.split(place(words)), came),
+        "delete" => add_deleted(text.delete(place(words)), came),
+        "undo" => add_undone(text.undo(), came),
+        _ => return false,
+    }
+    true
+}
+
+// The lines `lines`, `line LINE`, `length LINE`, `inside LINE COLUMN`, `find LINE COLUMN TEXT`, `version` and `bytes`.
+fn ask(alloc: Global, text: &Text, word: &str, words: &mut Words<'_>, came: &mut Buffer) -> bool {
+    match word {
+        "lines" => add_count(text.line_count() as u64, came),
+        "line" => add_line(text.line(words.number() as usize), came),
+        "length" => add_count(text.line_length(words.number() as usize) as u64, came),
+        "inside" => add_flag(text.is_inside(place(words)), came),
+        "find" => find(alloc, text, words, came),
+        "version" => add_count(text.version(), came),
+        "bytes" => add_bytes(text.bytes(alloc), came),
+        _ => return false,
+    }
+    true
+}
+
+fn find(alloc: Global, text: &Text, words: &mut Words<'_>, came: &mut Buffer) {
+    let from = place(words);
+    let mut bytes = Buffer::new(alloc);
+    words.text(&mut bytes);
+    add_place(text.find(from, bytes.bytes()), came);
+}
+
+fn place(words: &mut Words<'_>) -> Place {
+    let (line, column) = (words.number() as usize, words.number() as usize);
+    Place { line, column }
+}
+
+// Adds a line, or `none`.
+fn add_line(line: Option<&[u8]>, came: &mut Buffer) {
+    match line {
+        Some(line) => add_text(line, came),
+        None => add_word("none", came),
+    }
+}
+
+// Adds a place, or `none`.
+fn add_place(place: Option<Place>, came: &mut Buffer) {
+    match place {
+        Some(place) => {
+            add_count(place.line as u64, came);
+            add_count(place.column as u64, came);
+        }
+        None => add_word("none", came),
+    }
+}
+
+fn add_edit(edit: Result<(), EditFault>, came: &mut Buffer) {
+    match edit {
+        Ok(()) => add_word("Ok", came),
+        Err(fault) => add_name(&fault, came),
+    }
+}
+
+fn add_deleted(deleted: Result<bool, EditFault>, came: &mut Buffer) {
+    match deleted {
+        Ok(some) => add_flag(some, came),
+        Err(fault) => add_name(&fault, came),
+    }
+}
+
+fn add_undone(undone: Result<Option<Place>, NoMemory>, came: &mut Buffer) {
+    match undone {
+        Ok(place) => add_place(place, came),
+        Err(NoMemory) => add_word("NoMemory", came),
+    }
+}
+
+fn add_bytes(bytes: Result<Vec<u8>, NoMemory>, came: &mut Buffer) {
+    match bytes {
+        Ok(bytes) => add_text(&bytes, came),
+        Err(NoMemory) => add_word("NoMemory", came),
+    }
+}

@@ -1,0 +1,170 @@
+//! Lines about sizes, sets of attributes, cells and looks, and rows of these.
+
+use bitflags::Flags;
+use check_harness::answers::{add_cell, add_flag, add_look, add_number, add_word};
+use check_harness::buffers::Buffer;
+use check_harness::troubles::Trouble;
+use check_harness::words::Words;
+use generated_sessions::add_count;
+use scr_cells::{
+    Attrs, Cell, Look, Size, first_difference, first_look_difference, last_difference,
+    last_look_difference, shown_before,
+};
+use std::alloc::Global;
+
+/// The lines `new_size R C`, `union A B`, `difference A B`, `contains A B`, `all_attributes`, `new_cell B A`, `paired B
+/// A P`, `new_look B A F G`, `blank_cell`, `blank_look` and `same_look B A F G B A F G`, where a look is a byte,
+/// attributes, a foreground and a background; and those about rows. Tells whether a line is one of them.
+pub fn answer_of_values(
+    alloc: Global,
+    word: &str,
+    words: &mut Words<'_>,
+    came: &mut Buffer,
+) -> bool {
+    match word {
+        "new_size" => {
+            let (rows, columns) = (words.number(), words.number());
+            add_flag(Size::new(rows, columns).is_some(), came);
+        }
+        "union" | "difference" | "contains" | "all_attributes" => {
+            answer_of_sets(word, words, came);
+        }
+        "new_cell" => add_new_cell(words, came),
+        "paired" => add_paired(words, came),
+        "blank_cell" => add_cell(Cell::blank(), came),
+        "new_look" => add_new_look(words, came),
+        "blank_look" => add_look(Look::blank(), came),
+        "same_look" => add_same_look(words, came),
+        "differences" | "shown_before" => {
+            let done = add_of_rows(alloc, word, words, came);
+            words.check(done);
+        }
+        _ => return false,
+    }
+    true
+}
+
+// The line `differences TEXT TEXT`: the first and the last place in which two rows of cells differ, and then two rows
+// of looks; and the line `shown_before TEXT TEXT A`: how far the looks of the first surely show the cells of the second
+// on a terminal that shows these attributes.
+fn add_of_rows(
+    alloc: Global,
+    word: &str,
+    words: &mut Words<'_>,
+    came: &mut Buffer,
+) -> Result<(), Trouble> {
+    let (one, other) = (read_row(alloc, words)?, read_row(alloc, words)?);
+    if one.cells.len() != other.cells.len() || one.looks.len() != other.looks.len() {
+        return Err(Trouble::Bad("rows of different lengths"));
+    }
+    if word == "differences" {
+        add_place(first_difference(&one.cells, &other.cells), came);
+        add_place(last_difference(&one.cells, &other.cells), came);
+        add_place(first_look_difference(&one.looks, &other.looks), came);
+        add_place(last_look_difference(&one.looks, &other.looks), came);
+        return Ok(());
+    }
+    let shown = Attrs(words.byte());
+    if one.looks.len() == other.cells.len() {
+        add_place(Some(shown_before(&one.looks, &other.cells, shown)), came);
+    }
+    Ok(())
+}
+
+// A row of plain cells, and what a terminal shows of it.
+#[derive(Drop)]
+struct Row {
+    cells: Vec<Cell>,
+    looks: Vec<Look>,
+}
+
+fn read_row(alloc: Global, words: &mut Words<'_>) -> Result<Row, Trouble> {
+    let mut text = Buffer::new(alloc);
+    words.text(&mut text);
+    let mut row = Row {
+        cells: Vec::new(alloc),
+        looks: Vec::new(alloc),
+    };
+    fill_row(text.bytes(), &mut row)?;
+    Ok(row)
+}
+
+fn fill_row(text: &[u8], row: &mut Row) -> Result<(), Trouble> {
+    for byte in text {
+        row.cells
+            .push(Cell::new(*byte, Attrs(0)).unwrap_or(Cell::blank()))?;
+        row.looks.push(Look::new(*byte, Attrs(0), None, None).unwrap_or(Look::blank()))?;
+    }
+    Ok(())
+}
+
+fn add_place(place: Option<usize>, came: &mut Buffer) {
+    match place {
+        Some(place) => add_count(place as u64, came),
+        None => add_word("none", came),
+    }
+}
+
+fn answer_of_sets(word: &str, words: &mut Words<'_>, came: &mut Buffer) {
+    if word == "all_attributes" {
+        add_number(i64::from(Attrs::all().0), came);
+        return;
+    }
+    let (one, other) = (Attrs(words.byte()), Attrs(words.byte()));
+    match word {
+        "union" => add_number(i64::from(one.union(other).0), came),
+        "difference" => add_number(i64::from(one.difference(other).0), came),
+        _ => add_flag(one.contains(other), came),
+    }
+}
+
+fn add_new_cell(words: &mut Words<'_>, came: &mut Buffer) {
+    match Cell::new(words.byte(), Attrs(words.byte())) {
+        Some(cell) => add_cell(cell, came),
+        None => add_word("none", came),
+    }
+}
+
+fn add_paired(words: &mut Words<'_>, came: &mut Buffer) {
+    match Cell::paired(words.byte(), Attrs(words.byte()), words.number()) {
+        Some(cell) => add_cell(cell, came),
+        None => add_word("none", came),
+    }
+}
+
+fn add_new_look(words: &mut Words<'_>, came: &mut Buffer) {
+    match look_of(read_look(words)) {
+        Some(look) => add_look(look, came),
+        None => add_word("none", came),
+    }
+}
+
+// A byte, attributes, a foreground and a background.
+type LookParts = (u8, Attrs, Option<u8>, Option<u8>);
+
+// Reads what a look is made of; a colour that is `-` is the default.
+fn read_look(words: &mut Words<'_>) -> LookParts {
+    let (byte, attrs) = (words.byte(), Attrs(words.byte()));
+    let (foreground, background) = (read_colour(words), read_colour(words));
+    (byte, attrs, foreground, background)
+}
+
+fn look_of(parts: LookParts) -> Option<Look> {
+    Look::new(parts.0, parts.1, parts.2, parts.3)
+}
+
+fn read_colour(words: &mut Words<'_>) -> Option<u8> {
+    if words.peek() == b"-".as_slice() {
+        let _default = words.next();
+        return None;
+    }
+    Some(words.byte())
+}
+
+fn add_same_look(words: &mut Words<'_>, came: &mut Buffer) {
+    let (one, other) = (read_look(words), read_look(words));
+    match (look_of(one), look_of(other)) {
+        (Some(one), Some(other)) => add_flag(one == other, came),
+        _ => words.fail(Trouble::Bad("no look")),
+    }
+}

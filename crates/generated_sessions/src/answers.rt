@@ -1,0 +1,142 @@
+//! Answers of calls on a screen, in words.
+
+use check_harness::answers::{add_cell, add_flag, add_name, add_number, add_place, add_word};
+use check_harness::buffers::Buffer;
+use curses::{SendFault, UpdateFault};
+use scr_term::{Op, Spot};
+use scr_windows::{Added, WinFault};
+use screen_sessions::{Answer, Report};
+use std::io::ErrorKind;
+
+/// Adds what a call answered: `Ok` or what it gives, an update `Ok` and the number of its bytes; or why it was refused.
+pub fn add_answer(answer: &Answer, came: &mut Buffer) {
+    match answer {
+        Answer::Nothing => add_word("Ok", came),
+        Answer::Made(win) => add_number(i64::from(win.0), came),
+        Answer::Added(Added::Done) => add_word("Done", came),
+        Answer::Added(Added::Stayed) => add_word("Stayed", came),
+        Answer::Seen(cell) => add_cell(*cell, came),
+        Answer::Pair(row, column) => add_place(*row, *column, came),
+        Answer::Touched(touched) => add_flag(*touched, came),
+        Answer::Refused(fault) => add_name(fault, came),
+        Answer::Sent(sent) => add_well(sent.bytes, came),
+        Answer::Failed(fault) => add_fault(fault, came),
+    }
+}
+
+/// Adds the answers of a session, and tells whether there was memory for all calls.
+pub fn add_answers(report: &Report, answers: &mut Buffer) -> bool {
+    for answer in &report.answers.0 {
+        if ran_out(answer) {
+            return false;
+        }
+        add_answer(answer, answers);
+    }
+    true
+}
+
+/// Whether a call wanted memory and got none.
+pub fn ran_out(answer: &Answer) -> bool {
+    matches!(
+        answer,
+        Answer::Refused(WinFault::NoMemory) | Answer::Failed(UpdateFault::NoMemory)
+    )
+}
+
+/// How an update ended.
+#[derive(Clone, Copy)]
+pub enum Ended {
+    /// It sent so many bytes.
+    Well(u64),
+    /// It got no memory.
+    RanOut,
+    /// A write or the flush failed.
+    Failed,
+}
+
+/// How an update ended that answered so.
+pub fn end_of(answer: &Answer) -> Ended {
+    match answer {
+        Answer::Sent(sent) => Ended::Well(sent.bytes),
+        answer if ran_out(answer) => Ended::RanOut,
+        _ => Ended::Failed,
+    }
+}
+
+/// The operations that an update began which answered so.
+pub fn begun_by(answer: &Answer) -> &[Op] {
+    match answer {
+        Answer::Sent(sent) => &sent.begun.0,
+        Answer::Failed(UpdateFault::Write { begun, .. } | UpdateFault::Flush { begun, .. }) =>
+            &begun.0,
+        _ => &[],
+    }
+}
+
+// Adds that so many bytes were sent.
+fn add_well(bytes: u64, came: &mut Buffer) {
+    add_word("Ok", came);
+    add_count(bytes, came);
+}
+
+// Adds why an update ended early, how many operations it began, and how many bytes it sent.
+fn add_fault(fault: &UpdateFault, came: &mut Buffer) {
+    match fault {
+        UpdateFault::NoMemory => add_word("NoMemory", came),
+        UpdateFault::Write { begun, sent, kind } => {
+            add_failed("Write", *kind, came);
+            add_count(begun.0.len() as u64, came);
+            add_count(*sent, came)
+        }
+        UpdateFault::Flush { begun, sent, kind } => {
+            add_failed("Flush", *kind, came);
+            add_count(begun.0.len() as u64, came);
+            add_count(*sent, came)
+        }
+    }
+}
+
+/// Adds how many bytes a text at an end of a screen's use had, or why not all were sent, and how many.
+pub fn add_sent(sent: &Result<u64, SendFault>, came: &mut Buffer) {
+    match sent {
+        Ok(bytes) => add_well(*bytes, came),
+        Err(SendFault::Write { sent, kind }) => {
+            add_failed("Write", *kind, came);
+            add_count(*sent, came)
+        }
+        Err(SendFault::Flush { sent, kind }) => {
+            add_failed("Flush", *kind, came);
+            add_count(*sent, came)
+        }
+    }
+}
+
+// Adds what failed, and the kind of its error.
+fn add_failed(what: &str, kind: ErrorKind, came: &mut Buffer) {
+    add_word(what, came);
+    add_word(
+        match kind {
+            ErrorKind::BrokenPipe => "BrokenPipe",
+            ErrorKind::WriteZero => "WriteZero",
+            ErrorKind::Other => "Other",
+            _ => "another",
+        },
+        came,
+    );
+}
+
+/// Adds a count.
+pub fn add_count(count: u64, came: &mut Buffer) {
+    add_number(i64::try_from(count).unwrap_or(-1), came);
+}
+
+/// Adds where a cursor is.
+pub fn add_spot(spot: Spot, came: &mut Buffer) {
+    match spot {
+        Spot::At(row, column) => add_place(row, column, came),
+        Spot::Margin(row) => {
+            add_word("margin", came);
+            add_number(i64::from(row), came)
+        }
+    }
+}

@@ -1,0 +1,88 @@
+//! Entries of a screen: the bundled one, without some of its texts and flags, with others, and with other numbers.
+
+use check_harness::buffers::Buffer;
+use check_harness::troubles::Trouble;
+use check_harness::words::Words;
+use std::alloc::Global;
+use ti_caps::{CapFault, Entry, Kind, Slot, bundled, find_name};
+
+/// The names and texts of the capabilities that insert and delete lines and characters, as a line has them.
+pub static MOVING: &str =
+    "il1 \"\\e[L\" il \"\\e[%p1%dL\" dl1 \"\\e[M\" dl \"\\e[%p1%dM\" ich \"\\e[%p1%d@\" \
+    dch1 \"\\e[P\" dch \"\\e[%p1%dP\"";
+
+// How many names a line has at most.
+const MOST: usize = 64;
+
+/// The bundled entry without the flags and the texts that a line names, up to its `=`, and with the numbers that it
+/// names and gives; a text that stands behind its name is taken in place of the bundled one. `None` where the library
+/// was refused memory.
+pub fn read_entry(alloc: Global, words: &mut Words<'_>) -> Option<Entry> {
+    let entry = match bundled(alloc) {
+        Ok(mut entry) => change_all(alloc, &mut entry, words).then_some(entry),
+        Err(_) => None,
+    };
+    // What is wanted of the line stands behind the names that are left.
+    for _ in 0..MOST {
+        if words.is_at_end() {
+            break;
+        }
+        let _name = words.next();
+    }
+    entry
+}
+
+// Changes an entry as a line says, and tells whether there was memory for it.
+fn change_all(alloc: Global, entry: &mut Entry, words: &mut Words<'_>) -> bool {
+    for _ in 0..MOST {
+        if words.is_at_end() {
+            return true;
+        }
+        if change_capability(alloc, entry, words).is_err() {
+            return false;
+        }
+    }
+    true
+}
+
+/// Has an entry no flag of the name that follows, or the text or the number that stands behind the name, or no text.
+pub fn change_capability(
+    alloc: Global,
+    entry: &mut Entry,
+    words: &mut Words<'_>,
+) -> Result<(), CapFault> {
+    match find_name(words.next()) {
+        Some((Kind::Flag, slot)) => entry.set_flag(slot, false),
+        Some((Kind::Text, slot)) => set_text(alloc, entry, slot, words),
+        Some((Kind::Number, slot)) => set_number(entry, slot, words),
+        None => {
+            words.fail(Trouble::Bad("no such capability"));
+            Ok(())
+        }
+    }
+}
+
+// Sets the text that follows in quotation marks, or none.
+fn set_text(
+    alloc: Global,
+    entry: &mut Entry,
+    slot: Slot,
+    words: &mut Words<'_>,
+) -> Result<(), CapFault> {
+    if !words.peek().starts_with(b"\"") {
+        return entry.set_text(slot, None);
+    }
+    let mut text = Buffer::new(alloc);
+    words.text(&mut text);
+    entry.set_text(slot, Some(text.bytes()))
+}
+
+fn set_number(entry: &mut Entry, slot: Slot, words: &mut Words<'_>) -> Result<(), CapFault> {
+    match u16::try_from(words.number()) {
+        Ok(number) if number <= 32767 => entry.set_number(slot, Some(number)),
+        _ => {
+            words.fail(Trouble::Bad("a number is out of range"));
+            Ok(())
+        }
+    }
+}

@@ -1,0 +1,226 @@
+//! A plain picture of what was taken from windows and pads, put together here, place by place: what a terminal has to
+//! show after an update that ends well.
+
+use crate::emulated::Emulated;
+use check_harness::troubles::Trouble;
+use curses::Screen;
+use scr_cells::{Cell, Look, Size};
+use scr_term::{Profile, Spot};
+use scr_windows::{Win, WindowRef};
+use screen_sessions::Call;
+use std::alloc::Global;
+
+// What a place has: a byte, attributes and a colour pair.
+type Place = (u8, u8, u32);
+
+/// The picture.
+#[derive(Drop)]
+pub struct Plain {
+    size: Size,
+    places: Vec<Place>,
+    // The foreground and the background of each colour pair.
+    pairs: Vec<(u8, u8)>,
+    wish: Option<(u32, u32)>,
+    // Which lines of the window that is taken next are touched.
+    touched: Vec<bool>,
+}
+
+// A part of a window, and where its first place comes on the screen.
+#[derive(Clone, Copy)]
+struct Part {
+    row: u32,
+    column: u32,
+    top: u32,
+    left: u32,
+    rows: u32,
+    columns: u32,
+    // Whether untouched lines are taken, too.
+    is_whole: bool,
+}
+
+impl Plain {
+    /// A blank picture, whose pairs are white on black.
+    pub fn blank(alloc: Global, size: Size) -> Result<Plain, Trouble> {
+        let places = (size.rows as usize).saturating_mul(size.columns as usize);
+        Ok(Plain {
+            size,
+            places: vec![in alloc; (b' ', 0, 0); places]?,
+            pairs: vec![in alloc; (7, 0); 64]?,
+            wish: None,
+            touched: Vec::new(alloc),
+        })
+    }
+
+    /// Keeps which lines a call takes that is made next.
+    pub fn prepare(&mut self, screen: &Screen, call: &Call) -> Result<(), Trouble> {
+        if let Call::Noutrefresh(win) = call
+            && let Ok(window) = screen.window(*win)
+        {
+            self.touched.clear();
+            let (rows, _) = window.size();
+            for row in 0..rows {
+                self.touched.push(is_touched(&window, row))?;
+            }
+        }
+        Ok(())
+    }
+
+    /// Follows that call, which was not refused.
+    pub fn follow(&mut self, screen: &Screen, call: &Call) {
+        match call {
+            Call::SetPair(pair, foreground, background) => {
+                self.set_pair(*pair, *foreground, *background);
+            }
+            Call::Noutrefresh(win) => {
+                if let Some(part) = window_part(screen, *win) {
+                    self.take(screen, *win, part);
+                }
+            }
+            Call::PadNoutrefresh(win, row, column, top, left, bottom, right) => {
+                let part = Part {
+                    row: *row,
+                    column: *column,
+                    top: *top,
+                    left: *left,
+                    rows: bottom.saturating_sub(*top).saturating_add(1),
+                    columns: right.saturating_sub(*left).saturating_add(1),
+                    is_whole: true,
+                };
+                self.take(screen, *win, part);
+            }
+            _ => {}
+        }
+    }
+
+    fn set_pair(&mut self, pair: u32, foreground: u32, background: u32) {
+        let foreground = u8::try_from(foreground).unwrap_or(0);
+        let background = u8::try_from(background).unwrap_or(0);
+        if let Some(there) = self.pairs.get_mut(pair as usize) {
+            *there = (foreground, background);
+        }
+    }
+
+    // Takes a part of a window, and the window's cursor, where it lies in that.
+    fn take(&mut self, screen: &Screen, win: Win, part: Part) {
+        let Ok(window) = screen.window(win) else {
+            return;
+        };
+        for row in 0..part.rows {
+            let line = part.row.saturating_add(row);
+            if part.is_whole || self.was_touched(line) {
+                self.take_line(line_of(&window, line), part, row);
+            }
+        }
+        self.wish = if window.leave_ok() {
+            None
+        } else {
+            part.shown_at(window.cursor())
+        };
+    }
+
+    // Whether a line of the window that is taken was touched.
+    fn was_touched(&self, line: u32) -> bool {
+        self.touched.get(line as usize).copied().unwrap_or(false)
+    }
+
+    fn take_line(&mut self, line: &[Cell], part: Part, row: u32) {
+        let cells = line
+            .iter()
+            .skip(part.column as usize)
+            .take(part.columns as usize);
+        for (column, cell) in cells.enumerate() {
+            let column = (part.left as usize).saturating_add(column);
+            let first = (part.top.saturating_add(row) as usize).saturating_mul(
+                self.size.columns as usize,
+            );
+            if let Some(place) = self.places.get_mut(first.saturating_add(column)) {
+                *place = (cell.byte(), cell.attrs().0, cell.pair());
+            }
+        }
+    }
+
+    /// Whether a terminal shows it, with the cursor where it is wished.
+    pub fn is_shown(&self, emulated: &Emulated, profile: &Profile) -> bool {
+        let size = emulated.size();
+        if size.rows != self.size.rows || size.columns != self.size.columns {
+            return false;
+        }
+        for row in 0..size.rows {
+            if !self.is_row_shown(emulated, profile, row) {
+                return false;
+            }
+        }
+        match self.wish {
+            Some((row, column)) => emulated.spot() == Spot::At(row, column),
+            None => true,
+        }
+    }
+
+    fn is_row_shown(&self, emulated: &Emulated, profile: &Profile, row: u32) -> bool {
+        let columns = self.size.columns as usize;
+        let first = (row as usize).saturating_mul(columns);
+        let looks = emulated.row(row);
+        for (look, place) in looks.iter().zip(self.places.iter().skip(first)) {
+            if !self.is_seen(emulated, profile, *look, *place) {
+                return false;
+            }
+        }
+        looks.len() == columns
+    }
+
+    // Whether a look is what a terminal with these operations shows of a place.
+    fn is_seen(&self, emulated: &Emulated, profile: &Profile, look: Look, place: Place) -> bool {
+        let (byte, attrs, pair) = place;
+        let colours = match self.pairs.get(pair as usize) {
+            Some((foreground, background)) if pair > 0 && profile.colours() => {
+                (Some(*foreground), Some(*background))
+            }
+            _ => (None, None),
+        };
+        look.byte() == byte
+            && look.attrs().0 == emulated.seen(attrs & profile.shows().0)
+            && (look.foreground(), look.background()) == colours
+    }
+}
+
+impl Part {
+    // Where a place of the window is shown, if it is.
+    fn shown_at(self, (row, column): (u32, u32)) -> Option<(u32, u32)> {
+        let down = row.checked_sub(self.row)?;
+        let across = column.checked_sub(self.column)?;
+        if down >= self.rows || across >= self.columns {
+            return None;
+        }
+        Some((
+            self.top.saturating_add(down),
+            self.left.saturating_add(across),
+        ))
+    }
+}
+
+// All of a window, in its place on the screen.
+fn window_part(screen: &Screen, win: Win) -> Option<Part> {
+    let (top, left) = screen.origin(win).ok()?;
+    let (rows, columns) = screen.size(win).ok()?;
+    Some(Part {
+        row: 0,
+        column: 0,
+        top,
+        left,
+        rows,
+        columns,
+        is_whole: false,
+    })
+}
+
+/// The cells of a line of a window, none where it has no such line.
+pub fn line_of<'a>(window: &WindowRef<'a>, row: u32) -> &'a [Cell] {
+    let (rows, _) = window.size();
+    if row < rows { window.line(row) } else { &[] }
+}
+
+/// Whether a line of a window is touched.
+pub fn is_touched(window: &WindowRef<'_>, row: u32) -> bool {
+    let (rows, _) = window.size();
+    row < rows && window.is_touched(row)
+}

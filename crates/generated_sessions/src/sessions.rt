@@ -1,0 +1,306 @@
+//! Sessions that are made up: what a program does with windows, pads, colours, marks and wishes, and updates that fail
+//! now and then, or are cut at every byte.
+
+use crate::answers::add_count;
+use crate::cuts::cut_update;
+use crate::entries::read_entry;
+use crate::made_up::{add_line, add_taking};
+use crate::obeying::{Obeyed, obey};
+use crate::recorded::Recorded;
+use check_harness::answers::{add_number, add_text, add_word, read_size};
+use check_harness::buffers::Buffer;
+use check_harness::random::Random;
+use check_harness::troubles::Trouble;
+use check_harness::words::Words;
+use scr_cells::Size;
+use scr_term::Op;
+use std::alloc::Global;
+use std::io::Write;
+
+// What each session begins with: two pairs of colours, a small window, a pad, a subwindow, and some rows of text.
+static BEGIN: [&str; 8] = [
+    "set_pair 1 3 4",
+    "set_pair 2 1 0",
+    "new_window 1 3 1 1",
+    "new_pad 3 8",
+    "add_text 2 \"pad one pad two\"",
+    "derive 0 1 2 1 2",
+    "add_text 0 \"alpha be gamma delta pi rho omicron\\ngamma delta pi rho omicron x be alpha\\n\"",
+    "add_text 0 \"pi rho omicron alpha be gamma delta\\n\\nx be alpha rho gamma delta pi\\nbe\\n\"",
+];
+
+// How many updates sent something and ended well, failed, and moved rows or characters; or how many were cut.
+#[derive(Clone, Copy)]
+struct Counts {
+    sent: u64,
+    failed: u64,
+    moved: u64,
+    cuts: u64,
+}
+
+// The sessions of a line, up to now.
+#[derive(Drop)]
+struct Sessions {
+    alloc: Global,
+    size: Size,
+    updates: u32,
+    is_cut: bool,
+    random: Random,
+    counts: Counts,
+    line: Buffer,
+    answer: Buffer,
+    // All lines of this session.
+    story: Buffer,
+}
+
+/// The line `sessions R C COUNT UPDATES SEED SENT FAILED MOVED NAME ..`: so many sessions on a screen as with `screen R
+/// C NAME ..`, each of so many updates behind calls that are made up, and now and then behind others' bytes on a row
+/// that is marked. Some updates fail behind some of their bytes. Each that is Ok has to show the plain picture and to
+/// send no more than it may, and all calls of a session, made again by `session`, answer and send the same. Adds
+/// `agrees`, where at least so many updates sent something, failed, and moved rows or characters. Where something does
+/// not agree, adds the number of the session, what came of its last line, and all its lines.
+///
+/// The line `cut_sessions R C COUNT UPDATES SEED CUTS NAME ..`: the same, but that each update is cut at every byte and
+/// at its flush, which is at least so many cuts.
+pub fn check_sessions(
+    alloc: Global,
+    opened: &mut Option<Recorded>,
+    is_cut: bool,
+    words: &mut Words<'_>,
+    came: &mut Buffer,
+) -> Result<(), Trouble> {
+    let Some(size) = read_size(words) else {
+        return Ok(());
+    };
+    let (count, updates, seed) = (words.number(), words.number(), words.number());
+    let least = read_least(is_cut, words);
+    let names = *words;
+    let _entry = read_entry(alloc, words);
+    words.done()?;
+    let mut sessions = Sessions::new(alloc, size, updates, is_cut, seed);
+    for number in 0..count {
+        if !sessions.check(opened, names)? {
+            sessions.add_trouble(number, came);
+            return Ok(());
+        }
+    }
+    sessions.counts.add(least, came);
+    Ok(())
+}
+
+// How many there have to be at least.
+fn read_least(is_cut: bool, words: &mut Words<'_>) -> Counts {
+    let mut least = Counts::none();
+    if is_cut {
+        least.cuts = u64::from(words.number());
+    } else {
+        least.sent = u64::from(words.number());
+        least.failed = u64::from(words.number());
+        least.moved = u64::from(words.number());
+    }
+    least
+}
+
+impl Counts {
+    fn none() -> Counts {
+        Counts {
+            sent: 0,
+            failed: 0,
+            moved: 0,
+            cuts: 0,
+        }
+    }
+
+    // Counts an update that answered so and began these operations.
+    fn count(&mut self, answer: &[u8], ops: &[Op]) {
+        if !answer.starts_with(b" Ok") {
+            self.failed = self.failed.saturating_add(1);
+        } else if !ops.is_empty() {
+            self.sent = self.sent.saturating_add(1);
+        }
+        if has_moved(ops) {
+            self.moved = self.moved.saturating_add(1);
+        }
+    }
+
+    // Adds `agrees`, or how many there are of each, where these are fewer than at least wanted.
+    fn add(&self, least: Counts, came: &mut Buffer) {
+        let are_enough = self.sent >= least.sent
+            && self.failed >= least.failed
+            && self.moved >= least.moved
+            && self.cuts >= least.cuts;
+        if are_enough {
+            add_word("agrees", came);
+            return;
+        }
+        for count in [self.sent, self.failed, self.moved, self.cuts] {
+            add_count(count, came);
+        }
+    }
+}
+
+// Whether an operation inserts or deletes something.
+fn has_moved(ops: &[Op]) -> bool {
+    for op in ops {
+        match op {
+            Op::InsertLines(_) | Op::DeleteLines(_) | Op::InsertChars(_) | Op::DeleteChars(_) =>
+                return true,
+            _ => {}
+        }
+    }
+    false
+}
+
+impl Sessions {
+    fn new(alloc: Global, size: Size, updates: u32, is_cut: bool, seed: u32) -> Sessions {
+        Sessions {
+            alloc,
+            size,
+            updates,
+            is_cut,
+            random: Random::new(seed),
+            counts: Counts::none(),
+            line: Buffer::new(alloc),
+            answer: Buffer::new(alloc),
+            story: Buffer::new(alloc),
+        }
+    }
+
+    // Adds the session that does not agree, what came of its last line, and all its lines.
+    fn add_trouble(&self, number: u32, came: &mut Buffer) {
+        add_word("session", came);
+        add_number(i64::from(number), came);
+        came.extend(self.answer.bytes());
+        add_text(self.story.bytes(), came);
+    }
+
+    // Checks a session on a screen of its own.
+    fn check(&mut self, opened: &mut Option<Recorded>, names: Words<'_>) -> Result<bool, Trouble> {
+        let mut names = names;
+        let entry = read_entry(self.alloc, &mut names).ok_or(Trouble::NoMemory)?;
+        if Recorded::open_into(self.alloc, entry, self.size, opened)?.is_some() {
+            return Err(Trouble::NoMemory);
+        }
+        self.story.clear();
+        match opened {
+            Some(opened) => self.check_opened(opened),
+            None => Ok(false),
+        }
+    }
+
+    fn check_opened(&mut self, opened: &mut Recorded) -> Result<bool, Trouble> {
+        for line in &BEGIN {
+            self.line.extend(line.as_bytes());
+            let _is_well = self.make(opened)?;
+        }
+        for _ in 0..self.updates {
+            if !self.check_update(opened)? {
+                return Ok(false);
+            }
+        }
+        self.answer.clear();
+        opened.add_session(&mut self.answer)?;
+        self.refuse_shortage()?;
+        Ok(self.answer.bytes().ends_with(b" agrees"))
+    }
+
+    // Makes the next calls and an update, and cuts that everywhere, or it may fail.
+    fn check_update(&mut self, opened: &mut Recorded) -> Result<bool, Trouble> {
+        for _ in 0..=self.random.below(8) {
+            add_line(self.alloc, &opened.screen, &mut self.random, &mut self.line);
+            let _is_well = self.make(opened)?;
+        }
+        if !self.is_cut && self.random.below(16) == 0 && opened.display.emulated.is_free() {
+            self.write_as_others(opened)?;
+        }
+        add_taking(self.alloc, &opened.screen, &mut self.random, &mut self.line);
+        let _is_well = self.make(opened)?;
+        self.add_update();
+        let is_well = self.make(opened)?;
+        self.counts.count(self.answer.bytes(), opened.last_begun());
+        Ok(is_well && (!self.is_cut || self.cut(opened)?))
+    }
+
+    // Cuts the last update everywhere, and tells whether all cuts agree.
+    fn cut(&mut self, opened: &mut Recorded) -> Result<bool, Trouble> {
+        match cut_update(self.alloc, opened, &mut self.answer)? {
+            Some(cuts) => {
+                self.counts.cuts = self.counts.cuts.saturating_add(cuts);
+                Ok(true)
+            }
+            None => Ok(false),
+        }
+    }
+
+    // Marks a row, and has others write there, if it could be marked: an attribute where it can be turned off, and a
+    // character.
+    fn write_as_others(&mut self, opened: &mut Recorded) -> Result<(), Trouble> {
+        let row = self.random.below(self.size.rows);
+        let mark = write!(self.line.vector(), "redraw_lines 0 {row} 1");
+        self.line.check(mark.is_ok());
+        let _marked = self.make(opened)?;
+        if self.answer.bytes() != b" Ok".as_slice() {
+            return Ok(());
+        }
+        let pen = if opened.display.profile.can_reset() {
+            "\\e[7;32m"
+        } else {
+            ""
+        };
+        let number = row.saturating_add(1);
+        let text = write!(self.line.vector(), "others \"\\e[{number}H{pen}?\"");
+        self.line.check(text.is_ok());
+        let _others = self.make(opened)?;
+        Ok(())
+    }
+
+    // Adds an update, which fails now and then, most often behind a few bytes.
+    fn add_update(&mut self) {
+        let kind = if self.is_cut {
+            9
+        } else {
+            self.random.below(10)
+        };
+        let word = match kind {
+            0..3 => "update_writing",
+            3 => "update_stuck",
+            4 => "update_flushing",
+            _ => "update",
+        };
+        add_word(word, &mut self.line);
+        if kind < 4 {
+            let most = if self.random.below(4) == 0 { 300 } else { 20 };
+            add_number(i64::from(self.random.below(most)), &mut self.line);
+        }
+    }
+
+    // Makes the line, and tells whether what came of it is as it has to be.
+    fn make(&mut self, opened: &mut Recorded) -> Result<bool, Trouble> {
+        self.line.done()?;
+        self.story.extend(self.line.bytes());
+        self.story.push(b'\n');
+        self.answer.clear();
+        let obeyed = self.obey(opened);
+        self.line.clear();
+        self.refuse_shortage()?;
+        Ok(obeyed? == Obeyed::Well)
+    }
+
+    fn obey(&mut self, opened: &mut Recorded) -> Result<Obeyed, Trouble> {
+        let mut words = Words::new(self.line.bytes());
+        let word = words.name();
+        let obeyed = obey(self.alloc, opened, word, &mut words, &mut self.answer);
+        words.done()?;
+        obeyed
+    }
+
+    // Refuses an answer that says that memory ran out.
+    fn refuse_shortage(&self) -> Result<(), Trouble> {
+        self.answer.done()?;
+        if self.answer.bytes().ends_with(b" NoMemory") {
+            Err(Trouble::NoMemory)
+        } else {
+            Ok(())
+        }
+    }
+}
