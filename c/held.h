@@ -46,7 +46,6 @@ enum window_call {
 };
 
 enum number_call {
-    MOVE_CURSOR,
     SET_REGION,
     MOVE_WINDOW,
     MOVE_DERIVED,
@@ -102,6 +101,7 @@ enum screen_question {
 };
 
 uint32_t huttavel_held_on_window(huttavel *handle, uint32_t window, uint32_t call);
+uint32_t huttavel_held_move_cursor(huttavel *handle, uint32_t window, uint32_t row, uint32_t column);
 uint32_t huttavel_held_with_numbers(huttavel *handle, uint32_t window, uint32_t first, uint32_t second, uint32_t call);
 uint32_t huttavel_held_set(huttavel *handle, uint32_t window, uint8_t bits, uint32_t call);
 uint32_t huttavel_held_move_lines(huttavel *handle, uint32_t window, int32_t n, bool scrolls);

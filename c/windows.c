@@ -197,7 +197,7 @@ uint32_t huttavel_change_background(huttavel *handle, uint32_t window, uint8_t b
 
 uint32_t huttavel_move_cursor(huttavel *handle, uint32_t window, uint32_t row, uint32_t column)
 {
-    return with_numbers(handle, window, row, column, MOVE_CURSOR);
+    return handle == NULL ? HUTTAVEL_CLOSED : huttavel_held_move_cursor(handle, window, row, column);
 }
 
 uint32_t huttavel_set_region(huttavel *handle, uint32_t window, uint32_t top, uint32_t bottom)

@@ -11,7 +11,7 @@ use Rattle.scr_windows.specs.Calls.Moving.{move_derived_call, move_window_call}
 use Rattle.scr_windows.specs.Calls.Reading.{cell_at_answer, cursor_answer, line_touched_answer, nth_answer, origin_answer, size_answer, window_answer, window_touched_answer}
 use Rattle.scr_windows.specs.Calls.Removing.{delete_call}
 use Rattle.scr_windows.specs.Calls.Scrolling.{delete_byte_call}
-use Rattle.scr_windows.specs.Calls.Settings.{attr_off_call, attr_on_call, attr_set_call, clear_ok_call, color_set_call, leave_ok_call, move_cursor_call, scroll_ok_call, set_region_call}
+use Rattle.scr_windows.specs.Calls.Settings.{attr_off_call, attr_on_call, attr_set_call, clear_ok_call, color_set_call, leave_ok_call, scroll_ok_call, set_region_call}
 use Rattle.scr_windows.specs.Calls.Subwindows.{derive_call, sub_call, sub_pad_call}
 use Rattle.scr_windows.specs.Calls.Syncing.{sync_down_call, sync_up_call}
 use Rattle.scr_windows.specs.Calls.Touching.{touch_all_call, touch_lines_call}
@@ -23,7 +23,7 @@ use Rattle.curses.specs.Refreshing.{lines_disturbed, redraw_lines_call, redraw_w
 use Rattle.curses.specs.ScreenStates.{ScreenState}
 use Rattle.huttavel_c.specs.Asking.{on_both, on_terminal, on_virtual, on_windows}
 use Rattle.huttavel_c.specs.Lending.{property_reply}
-use Rattle.huttavel_c.specs.Replies.{as_number, pair_reply, seen_reply, touched_reply, with_one, with_two}
+use Rattle.huttavel_c.specs.Replies.{as_number, done_number, pair_reply, seen_reply, touched_reply, with_one, with_two}
 use Rattle.huttavel_c.specs.Showing.{colours_of, cursor_reply, nth_reply, wanted_reply}
 use Rattle.huttavel_c.specs.declared.answers.Reply.{Reply}
 
@@ -50,14 +50,13 @@ window_call kind window screen =
 -- A call on a window with two numbers, of which some need the first alone; the last is on a colour pair.
 unfoldable pub number_call : ℕ → ℕ → ℕ → ℕ → ScreenState → Called
 number_call kind window first second screen =
-    if kind == 0 then on_windows screen (move_cursor_call screen.desk window first second) else
-    if kind == 1 then on_windows screen (set_region_call screen.desk window first second) else
-    if kind == 2 then on_windows screen (move_window_call screen.desk window first second) else
-    if kind == 3 then on_windows screen (move_derived_call screen.desk window first second) else
-    if kind == 4 then on_windows screen (color_set_call screen.desk window first) else
-    if kind == 5 then on_windows screen (touch_lines_call screen.desk window first second true) else
-    if kind == 6 then on_windows screen (touch_lines_call screen.desk window first second false) else
-    if kind == 7 then on_terminal screen (redraw_lines_call screen.virtual screen.desk window first second) (lines_disturbed screen.memory screen.desk window first second) else
+    if kind == 0 then on_windows screen (set_region_call screen.desk window first second) else
+    if kind == 1 then on_windows screen (move_window_call screen.desk window first second) else
+    if kind == 2 then on_windows screen (move_derived_call screen.desk window first second) else
+    if kind == 3 then on_windows screen (color_set_call screen.desk window first) else
+    if kind == 4 then on_windows screen (touch_lines_call screen.desk window first second true) else
+    if kind == 5 then on_windows screen (touch_lines_call screen.desk window first second false) else
+    if kind == 6 then on_terminal screen (redraw_lines_call screen.virtual screen.desk window first second) (lines_disturbed screen.memory screen.desk window first second) else
     on_virtual screen (set_pair_call screen.virtual window first second)
 
 -- A setting of a window: bits are on if they are not 0, or are attributes.
@@ -106,7 +105,11 @@ screen_reply kind first second screen =
 abbrev pub IsMade : {A : Type 0} → ScreenState → A → ScreenState × A → Type 0
 IsMade new answer call = (new ≡ call.0) × (answer ≡ call.1)
 
--- The same; or memory ran out in a call that nothing else refuses, and all stays as it was.
+-- The same, with the answer as a number.
+abbrev pub IsAnswered : ScreenState → ℕ → Called → Type 0
+IsAnswered new answer call = (new ≡ call.0) × (answer ≡ done_number call.1)
+
+-- The call was made; or memory ran out in a call that nothing else refuses, and all stays as it was.
 abbrev pub IsMadeForMemory : {A : Type 0} → ScreenState → ScreenState → Result A WinFault → ScreenState × Result A WinFault → Type 0
 IsMadeForMemory old new answer call =
     IsMade new answer call ⊎ ((new ≡ old) × (answer ≡ Err windows.NoMemory) × IsOk call.1)
