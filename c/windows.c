@@ -33,52 +33,82 @@ static uint32_t give_cell(reply came, huttavel_cell *cell)
     return came.fault;
 }
 
+/* The functions that make several calls, of a handle that may be NULL. */
+static const reply closed = {HUTTAVEL_CLOSED, 0, 0, 0};
+
+static inline uint32_t on_window(huttavel *handle, uint32_t window, uint32_t call)
+{
+    return handle == NULL ? HUTTAVEL_CLOSED : huttavel_held_on_window(handle, window, call);
+}
+
+static inline uint32_t with_numbers(huttavel *handle, uint32_t window, uint32_t first, uint32_t second, uint32_t call)
+{
+    return handle == NULL ? HUTTAVEL_CLOSED : huttavel_held_with_numbers(handle, window, first, second, call);
+}
+
+static inline uint32_t set(huttavel *handle, uint32_t window, uint8_t bits, uint32_t call)
+{
+    return handle == NULL ? HUTTAVEL_CLOSED : huttavel_held_set(handle, window, bits, call);
+}
+
+static inline reply make(huttavel *handle, uint32_t window, uint32_t rows, uint32_t columns, uint32_t row,
+                         uint32_t column, uint32_t call)
+{
+    return handle == NULL ? closed : huttavel_held_make(handle, window, rows, columns, row, column, call);
+}
+
+static inline reply ask_window(huttavel *handle, uint32_t window, uint32_t row, uint32_t column, uint32_t question)
+{
+    return handle == NULL ? closed : huttavel_held_ask_window(handle, window, row, column, question);
+}
+
+static inline reply ask_screen(huttavel *handle, uint32_t first, uint32_t second, uint32_t question)
+{
+    return handle == NULL ? closed : huttavel_held_ask_screen(handle, first, second, question);
+}
+
 uint32_t huttavel_new_window(huttavel *handle, uint32_t rows, uint32_t columns, uint32_t row, uint32_t column,
                              uint32_t *made)
 {
-    return handle == NULL ? HUTTAVEL_CLOSED : give(huttavel_held_new_window(handle, rows, columns, row, column),
-                                                   made, NULL);
+    return give(make(handle, 0, rows, columns, row, column, NEW_WINDOW), made, NULL);
 }
 
 uint32_t huttavel_new_pad(huttavel *handle, uint32_t rows, uint32_t columns, uint32_t *made)
 {
-    return handle == NULL ? HUTTAVEL_CLOSED : give(huttavel_held_new_pad(handle, rows, columns), made, NULL);
+    return give(make(handle, 0, rows, columns, 0, 0, NEW_PAD), made, NULL);
 }
 
 uint32_t huttavel_derive(huttavel *handle, uint32_t window, uint32_t rows, uint32_t columns, uint32_t row,
                          uint32_t column, uint32_t *made)
 {
-    return handle == NULL ? HUTTAVEL_CLOSED : give(huttavel_held_derive(handle, window, rows, columns, row, column),
-                                                   made, NULL);
+    return give(make(handle, window, rows, columns, row, column, DERIVE), made, NULL);
 }
 
 uint32_t huttavel_sub(huttavel *handle, uint32_t window, uint32_t rows, uint32_t columns, uint32_t row,
                       uint32_t column, uint32_t *made)
 {
-    return handle == NULL ? HUTTAVEL_CLOSED : give(huttavel_held_sub(handle, window, rows, columns, row, column),
-                                                   made, NULL);
+    return give(make(handle, window, rows, columns, row, column, SUB), made, NULL);
 }
 
 uint32_t huttavel_sub_pad(huttavel *handle, uint32_t window, uint32_t rows, uint32_t columns, uint32_t row,
                           uint32_t column, uint32_t *made)
 {
-    return handle == NULL ? HUTTAVEL_CLOSED : give(huttavel_held_sub_pad(handle, window, rows, columns, row, column),
-                                                   made, NULL);
+    return give(make(handle, window, rows, columns, row, column, SUB_PAD), made, NULL);
 }
 
 uint32_t huttavel_delete(huttavel *handle, uint32_t window)
 {
-    return handle == NULL ? HUTTAVEL_CLOSED : huttavel_held_delete(handle, window);
+    return on_window(handle, window, DELETE);
 }
 
 uint32_t huttavel_move_window(huttavel *handle, uint32_t window, uint32_t row, uint32_t column)
 {
-    return handle == NULL ? HUTTAVEL_CLOSED : huttavel_held_move_window(handle, window, row, column);
+    return with_numbers(handle, window, row, column, MOVE_WINDOW);
 }
 
 uint32_t huttavel_move_derived(huttavel *handle, uint32_t window, uint32_t row, uint32_t column)
 {
-    return handle == NULL ? HUTTAVEL_CLOSED : huttavel_held_move_derived(handle, window, row, column);
+    return with_numbers(handle, window, row, column, MOVE_DERIVED);
 }
 
 uint32_t huttavel_add_byte(huttavel *handle, uint32_t window, uint8_t byte, uint8_t attrs, bool *stayed)
@@ -102,12 +132,12 @@ uint32_t huttavel_insert_byte(huttavel *handle, uint32_t window, uint8_t byte, u
 
 uint32_t huttavel_line_across(huttavel *handle, uint32_t window, uint8_t byte, uint32_t n)
 {
-    return handle == NULL ? HUTTAVEL_CLOSED : huttavel_held_line_across(handle, window, byte, n);
+    return handle == NULL ? HUTTAVEL_CLOSED : huttavel_held_line(handle, window, byte, n, false);
 }
 
 uint32_t huttavel_line_down(huttavel *handle, uint32_t window, uint8_t byte, uint32_t n)
 {
-    return handle == NULL ? HUTTAVEL_CLOSED : huttavel_held_line_down(handle, window, byte, n);
+    return handle == NULL ? HUTTAVEL_CLOSED : huttavel_held_line(handle, window, byte, n, true);
 }
 
 uint32_t huttavel_border(huttavel *handle, uint32_t window, const uint8_t bytes[8])
@@ -122,47 +152,47 @@ uint32_t huttavel_border(huttavel *handle, uint32_t window, const uint8_t bytes[
 
 uint32_t huttavel_clear_to_eol(huttavel *handle, uint32_t window)
 {
-    return handle == NULL ? HUTTAVEL_CLOSED : huttavel_held_clear_to_eol(handle, window);
+    return on_window(handle, window, CLEAR_TO_EOL);
 }
 
 uint32_t huttavel_clear_to_bottom(huttavel *handle, uint32_t window)
 {
-    return handle == NULL ? HUTTAVEL_CLOSED : huttavel_held_clear_to_bottom(handle, window);
+    return on_window(handle, window, CLEAR_TO_BOTTOM);
 }
 
 uint32_t huttavel_erase(huttavel *handle, uint32_t window)
 {
-    return handle == NULL ? HUTTAVEL_CLOSED : huttavel_held_erase(handle, window);
+    return on_window(handle, window, ERASE);
 }
 
 uint32_t huttavel_clear(huttavel *handle, uint32_t window)
 {
-    return handle == NULL ? HUTTAVEL_CLOSED : huttavel_held_clear(handle, window);
+    return on_window(handle, window, CLEAR);
 }
 
 uint32_t huttavel_delete_byte(huttavel *handle, uint32_t window)
 {
-    return handle == NULL ? HUTTAVEL_CLOSED : huttavel_held_delete_byte(handle, window);
+    return on_window(handle, window, DELETE_BYTE);
 }
 
 uint32_t huttavel_insert_delete_lines(huttavel *handle, uint32_t window, int32_t n)
 {
-    return handle == NULL ? HUTTAVEL_CLOSED : huttavel_held_insert_delete_lines(handle, window, n);
+    return handle == NULL ? HUTTAVEL_CLOSED : huttavel_held_move_lines(handle, window, n, false);
 }
 
 uint32_t huttavel_scroll(huttavel *handle, uint32_t window, int32_t n)
 {
-    return handle == NULL ? HUTTAVEL_CLOSED : huttavel_held_scroll(handle, window, n);
+    return handle == NULL ? HUTTAVEL_CLOSED : huttavel_held_move_lines(handle, window, n, true);
 }
 
 uint32_t huttavel_set_background(huttavel *handle, uint32_t window, uint8_t byte, uint8_t attrs, uint32_t pair)
 {
-    return handle == NULL ? HUTTAVEL_CLOSED : huttavel_held_set_background(handle, window, byte, attrs, pair);
+    return handle == NULL ? HUTTAVEL_CLOSED : huttavel_held_background(handle, window, byte, attrs, pair, false);
 }
 
 uint32_t huttavel_change_background(huttavel *handle, uint32_t window, uint8_t byte, uint8_t attrs, uint32_t pair)
 {
-    return handle == NULL ? HUTTAVEL_CLOSED : huttavel_held_change_background(handle, window, byte, attrs, pair);
+    return handle == NULL ? HUTTAVEL_CLOSED : huttavel_held_background(handle, window, byte, attrs, pair, true);
 }
 
 uint32_t huttavel_move_cursor(huttavel *handle, uint32_t window, uint32_t row, uint32_t column)
@@ -172,67 +202,67 @@ uint32_t huttavel_move_cursor(huttavel *handle, uint32_t window, uint32_t row, u
 
 uint32_t huttavel_set_region(huttavel *handle, uint32_t window, uint32_t top, uint32_t bottom)
 {
-    return handle == NULL ? HUTTAVEL_CLOSED : huttavel_held_set_region(handle, window, top, bottom);
+    return with_numbers(handle, window, top, bottom, SET_REGION);
 }
 
 uint32_t huttavel_scroll_ok(huttavel *handle, uint32_t window, bool on)
 {
-    return handle == NULL ? HUTTAVEL_CLOSED : huttavel_held_scroll_ok(handle, window, on);
+    return set(handle, window, on, SCROLL_OK);
 }
 
 uint32_t huttavel_clear_ok(huttavel *handle, uint32_t window, bool on)
 {
-    return handle == NULL ? HUTTAVEL_CLOSED : huttavel_held_clear_ok(handle, window, on);
+    return set(handle, window, on, CLEAR_OK);
 }
 
 uint32_t huttavel_leave_ok(huttavel *handle, uint32_t window, bool on)
 {
-    return handle == NULL ? HUTTAVEL_CLOSED : huttavel_held_leave_ok(handle, window, on);
+    return set(handle, window, on, LEAVE_OK);
 }
 
 uint32_t huttavel_attr_on(huttavel *handle, uint32_t window, uint8_t attrs)
 {
-    return handle == NULL ? HUTTAVEL_CLOSED : huttavel_held_attr_on(handle, window, attrs);
+    return set(handle, window, attrs, ATTR_ON);
 }
 
 uint32_t huttavel_attr_off(huttavel *handle, uint32_t window, uint8_t attrs)
 {
-    return handle == NULL ? HUTTAVEL_CLOSED : huttavel_held_attr_off(handle, window, attrs);
+    return set(handle, window, attrs, ATTR_OFF);
 }
 
 uint32_t huttavel_attr_set(huttavel *handle, uint32_t window, uint8_t attrs)
 {
-    return handle == NULL ? HUTTAVEL_CLOSED : huttavel_held_attr_set(handle, window, attrs);
+    return set(handle, window, attrs, ATTR_SET);
 }
 
 uint32_t huttavel_color_set(huttavel *handle, uint32_t window, uint32_t pair)
 {
-    return handle == NULL ? HUTTAVEL_CLOSED : huttavel_held_color_set(handle, window, pair);
+    return with_numbers(handle, window, pair, 0, COLOR_SET);
 }
 
 uint32_t huttavel_touch_window(huttavel *handle, uint32_t window)
 {
-    return handle == NULL ? HUTTAVEL_CLOSED : huttavel_held_touch_window(handle, window);
+    return on_window(handle, window, TOUCH_WINDOW);
 }
 
 uint32_t huttavel_untouch(huttavel *handle, uint32_t window)
 {
-    return handle == NULL ? HUTTAVEL_CLOSED : huttavel_held_untouch(handle, window);
+    return on_window(handle, window, UNTOUCH);
 }
 
 uint32_t huttavel_touch_lines(huttavel *handle, uint32_t window, uint32_t first, uint32_t n, bool changed)
 {
-    return handle == NULL ? HUTTAVEL_CLOSED : huttavel_held_touch_lines(handle, window, first, n, changed);
+    return with_numbers(handle, window, first, n, changed ? TOUCH_LINES : UNTOUCH_LINES);
 }
 
 uint32_t huttavel_sync_up(huttavel *handle, uint32_t window)
 {
-    return handle == NULL ? HUTTAVEL_CLOSED : huttavel_held_sync_up(handle, window);
+    return on_window(handle, window, SYNC_UP);
 }
 
 uint32_t huttavel_sync_down(huttavel *handle, uint32_t window)
 {
-    return handle == NULL ? HUTTAVEL_CLOSED : huttavel_held_sync_down(handle, window);
+    return on_window(handle, window, SYNC_DOWN);
 }
 
 uint32_t huttavel_copy(huttavel *handle, uint32_t source, uint32_t target, uint32_t row, uint32_t column,
@@ -244,17 +274,17 @@ uint32_t huttavel_copy(huttavel *handle, uint32_t source, uint32_t target, uint3
 
 uint32_t huttavel_overlay(huttavel *handle, uint32_t source, uint32_t target)
 {
-    return handle == NULL ? HUTTAVEL_CLOSED : huttavel_held_overlay(handle, source, target);
+    return handle == NULL ? HUTTAVEL_CLOSED : huttavel_held_copy_common(handle, source, target, true);
 }
 
 uint32_t huttavel_overwrite(huttavel *handle, uint32_t source, uint32_t target)
 {
-    return handle == NULL ? HUTTAVEL_CLOSED : huttavel_held_overwrite(handle, source, target);
+    return handle == NULL ? HUTTAVEL_CLOSED : huttavel_held_copy_common(handle, source, target, false);
 }
 
 uint32_t huttavel_noutrefresh(huttavel *handle, uint32_t window)
 {
-    return handle == NULL ? HUTTAVEL_CLOSED : huttavel_held_noutrefresh(handle, window);
+    return on_window(handle, window, NOUTREFRESH);
 }
 
 uint32_t huttavel_pad_noutrefresh(huttavel *handle, uint32_t window, uint32_t row, uint32_t column, uint32_t top,
@@ -266,120 +296,120 @@ uint32_t huttavel_pad_noutrefresh(huttavel *handle, uint32_t window, uint32_t ro
 
 uint32_t huttavel_set_pair(huttavel *handle, uint32_t pair, uint32_t foreground, uint32_t background)
 {
-    return handle == NULL ? HUTTAVEL_CLOSED : huttavel_held_set_pair(handle, pair, foreground, background);
+    return with_numbers(handle, pair, foreground, background, SET_PAIR);
 }
 
 uint32_t huttavel_redraw_window(huttavel *handle, uint32_t window)
 {
-    return handle == NULL ? HUTTAVEL_CLOSED : huttavel_held_redraw_window(handle, window);
+    return on_window(handle, window, REDRAW_WINDOW);
 }
 
 uint32_t huttavel_redraw_lines(huttavel *handle, uint32_t window, uint32_t first, uint32_t n)
 {
-    return handle == NULL ? HUTTAVEL_CLOSED : huttavel_held_redraw_lines(handle, window, first, n);
+    return with_numbers(handle, window, first, n, REDRAW_LINES);
 }
 
 uint32_t huttavel_screen_size(huttavel *handle, uint32_t *rows, uint32_t *columns)
 {
-    return handle == NULL ? HUTTAVEL_CLOSED : give(huttavel_held_screen_size(handle), rows, columns);
+    return give(ask_screen(handle, 0, 0, SCREEN_SIZE), rows, columns);
 }
 
 uint32_t huttavel_window_count(huttavel *handle, uint32_t *count)
 {
-    return handle == NULL ? HUTTAVEL_CLOSED : give(huttavel_held_window_count(handle), count, NULL);
+    return give(ask_screen(handle, 0, 0, WINDOW_COUNT), count, NULL);
 }
 
 uint32_t huttavel_nth_window(huttavel *handle, uint32_t index, uint32_t *window)
 {
-    return handle == NULL ? HUTTAVEL_CLOSED : give(huttavel_held_nth_window(handle, index), window, NULL);
+    return give(ask_screen(handle, index, 0, NTH_WINDOW), window, NULL);
 }
 
 uint32_t huttavel_shown_attrs(huttavel *handle, uint8_t *attrs)
 {
-    return handle == NULL ? HUTTAVEL_CLOSED : give_byte(huttavel_held_shown_attrs(handle), attrs, NULL);
+    return give_byte(ask_screen(handle, 0, 0, SHOWN_ATTRS), attrs, NULL);
 }
 
 uint32_t huttavel_has_colours(huttavel *handle, bool *colours)
 {
-    return handle == NULL ? HUTTAVEL_CLOSED : give_bool(huttavel_held_has_colours(handle), colours);
+    return give_bool(ask_screen(handle, 0, 0, HAS_COLOURS), colours);
 }
 
 uint32_t huttavel_pair_colours(huttavel *handle, uint32_t pair, uint32_t *foreground, uint32_t *background)
 {
-    return handle == NULL ? HUTTAVEL_CLOSED : give(huttavel_held_pair_colours(handle, pair), foreground, background);
+    return give(ask_screen(handle, pair, 0, PAIR_COLOURS), foreground, background);
 }
 
 uint32_t huttavel_size(huttavel *handle, uint32_t window, uint32_t *rows, uint32_t *columns)
 {
-    return handle == NULL ? HUTTAVEL_CLOSED : give(huttavel_held_size(handle, window), rows, columns);
+    return give(ask_window(handle, window, 0, 0, SIZE), rows, columns);
 }
 
 uint32_t huttavel_cursor(huttavel *handle, uint32_t window, uint32_t *row, uint32_t *column)
 {
-    return handle == NULL ? HUTTAVEL_CLOSED : give(huttavel_held_cursor(handle, window), row, column);
+    return give(ask_window(handle, window, 0, 0, CURSOR), row, column);
 }
 
 uint32_t huttavel_origin(huttavel *handle, uint32_t window, uint32_t *row, uint32_t *column)
 {
-    return handle == NULL ? HUTTAVEL_CLOSED : give(huttavel_held_origin(handle, window), row, column);
+    return give(ask_window(handle, window, 0, 0, ORIGIN), row, column);
 }
 
 uint32_t huttavel_parent(huttavel *handle, uint32_t window, uint32_t *parent)
 {
-    return handle == NULL ? HUTTAVEL_CLOSED : give(huttavel_held_parent(handle, window), parent, NULL);
+    return give(ask_window(handle, window, 0, 0, PARENT), parent, NULL);
 }
 
 uint32_t huttavel_cell_at(huttavel *handle, uint32_t window, uint32_t row, uint32_t column, huttavel_cell *cell)
 {
-    return handle == NULL ? HUTTAVEL_CLOSED : give_cell(huttavel_held_cell_at(handle, window, row, column), cell);
+    return give_cell(ask_window(handle, window, row, column, CELL_AT), cell);
 }
 
 uint32_t huttavel_written_attrs(huttavel *handle, uint32_t window, uint8_t *attrs, uint32_t *pair)
 {
-    return handle == NULL ? HUTTAVEL_CLOSED : give_byte(huttavel_held_written_attrs(handle, window), attrs, pair);
+    return give_byte(ask_window(handle, window, 0, 0, WRITTEN_ATTRS), attrs, pair);
 }
 
 uint32_t huttavel_background(huttavel *handle, uint32_t window, huttavel_cell *cell)
 {
-    return handle == NULL ? HUTTAVEL_CLOSED : give_cell(huttavel_held_background(handle, window), cell);
+    return give_cell(ask_window(handle, window, 0, 0, BACKGROUND), cell);
 }
 
 uint32_t huttavel_region(huttavel *handle, uint32_t window, uint32_t *top, uint32_t *bottom)
 {
-    return handle == NULL ? HUTTAVEL_CLOSED : give(huttavel_held_region(handle, window), top, bottom);
+    return give(ask_window(handle, window, 0, 0, REGION), top, bottom);
 }
 
 uint32_t huttavel_is_scroll_ok(huttavel *handle, uint32_t window, bool *on)
 {
-    return handle == NULL ? HUTTAVEL_CLOSED : give_bool(huttavel_held_is_scroll_ok(handle, window), on);
+    return give_bool(ask_window(handle, window, 0, 0, IS_SCROLL_OK), on);
 }
 
 uint32_t huttavel_is_clear_ok(huttavel *handle, uint32_t window, bool *on)
 {
-    return handle == NULL ? HUTTAVEL_CLOSED : give_bool(huttavel_held_is_clear_ok(handle, window), on);
+    return give_bool(ask_window(handle, window, 0, 0, IS_CLEAR_OK), on);
 }
 
 uint32_t huttavel_is_leave_ok(huttavel *handle, uint32_t window, bool *on)
 {
-    return handle == NULL ? HUTTAVEL_CLOSED : give_bool(huttavel_held_is_leave_ok(handle, window), on);
+    return give_bool(ask_window(handle, window, 0, 0, IS_LEAVE_OK), on);
 }
 
 uint32_t huttavel_line_touched(huttavel *handle, uint32_t window, uint32_t row, bool *touched)
 {
-    return handle == NULL ? HUTTAVEL_CLOSED : give_bool(huttavel_held_line_touched(handle, window, row), touched);
+    return give_bool(ask_window(handle, window, row, 0, LINE_TOUCHED), touched);
 }
 
 uint32_t huttavel_window_touched(huttavel *handle, uint32_t window, bool *touched)
 {
-    return handle == NULL ? HUTTAVEL_CLOSED : give_bool(huttavel_held_window_touched(handle, window), touched);
+    return give_bool(ask_window(handle, window, 0, 0, WINDOW_TOUCHED), touched);
 }
 
 uint32_t huttavel_wanted_cell(huttavel *handle, uint32_t row, uint32_t column, huttavel_cell *cell)
 {
-    return handle == NULL ? HUTTAVEL_CLOSED : give_cell(huttavel_held_wanted_cell(handle, row, column), cell);
+    return give_cell(ask_screen(handle, row, column, WANTED_CELL), cell);
 }
 
 uint32_t huttavel_wanted_cursor(huttavel *handle, uint32_t *row, uint32_t *column)
 {
-    return handle == NULL ? HUTTAVEL_CLOSED : give(huttavel_held_wanted_cursor(handle), row, column);
+    return give(ask_screen(handle, 0, 0, WANTED_CURSOR), row, column);
 }

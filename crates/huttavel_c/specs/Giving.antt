@@ -1,6 +1,7 @@
 -- Cells that C gives by three numbers.
-use Rattle.std.specs.Prelude.{ℕ, Result, Ok, Err, nat_le, if◌then◌else◌}
+use Rattle.std.specs.Prelude.{ℕ, Bool, Result, Ok, Err, nat_le, if◌then◌else◌}
 use Rattle.scr_cells.specs.CellViews.{CellView, is_character}
+use Rattle.scr_windows.specs.Calls.Settings.{change_background_call, set_background_call}
 use Rattle.scr_windows.specs.DeskViews.{DeskView}
 use Rattle.scr_windows.specs.declared.faults.WinFault.{WinFault}
 use Rattle.huttavel_c.specs.Replies.{done_number}
@@ -10,6 +11,11 @@ abbrev pub cell_given : ℕ → ℕ → ℕ → Result CellView ℕ
 cell_given byte attrs pair =
     if is_character byte then (if nat_le pair 63 then Ok (record { byte = byte; attrs = attrs; pair = pair }) else Err 23)
     else Err 15
+
+-- A background is changed, or set.
+abbrev pub background_call : Bool → DeskView → ℕ → CellView → DeskView × Result (Unit {0}) WinFault
+background_call changes desk window cell =
+    if changes then change_background_call desk window cell else set_background_call desk window cell
 
 -- A call on the windows with that cell: its answer as a number. Without a cell no window changes.
 abbrev pub with_given : (CellView → DeskView × Result (Unit {0}) WinFault) → DeskView → Result CellView ℕ → DeskView × ℕ

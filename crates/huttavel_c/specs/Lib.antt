@@ -1,4 +1,5 @@
 pub mod Asking
+pub mod Families
 pub mod Giving
 pub mod Holding
 pub mod Lending

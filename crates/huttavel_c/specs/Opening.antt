@@ -1,6 +1,5 @@
 -- Opening and closing a handle.
 use Rattle.std.specs.Prelude.{ℕ, ◌≡◌, ◌⊎◌, [], List, Option, Some, None, MatchOption}
-use Rattle.scr_cells.specs.PictureViews.{IsSize}
 use Rattle.scr_cells.specs.declared.sizes.Size.{Size}
 use Rattle.scr_term.specs.declared.operations.profile_faults.ProfileFault.{ProfileFault}
 use Rattle.scr_term.specs.declared.operations.profile_faults.ProfileFault.TheVariants as profiles
@@ -16,7 +15,8 @@ use Rattle.curses.specs.declared.faults.OpenFault.{OpenFault}
 use Rattle.curses.specs.declared.faults.OpenFault.TheVariants.{KeyTooLong, NoMemory, Profile}
 use Rattle.huttavel_c.specs.Numbers.{binary_number}
 use Rattle.huttavel_c.specs.Replies.{refused}
-use Rattle.huttavel_c.specs.Sending.{waiting}
+use Rattle.curses.specs.Writers.{WriterView}
+use Rattle.huttavel_c.specs.Sending.{writer}
 use Rattle.huttavel_c.specs.declared.answers.Reply.{Reply}
 use Rattle.huttavel_c.specs.declared.sessions.Session.{Session}
 
@@ -52,17 +52,26 @@ abbrev pub IsSizeGiven : ℕ → ℕ → Option Size → Type 0
 IsSizeGiven rows columns None = (rows ≡ 0) × (columns ≡ 0)
 IsSizeGiven rows columns (Some size) = (size.rows ≡ rows) × (size.columns ≡ columns)
 
--- No screen has this size.
+-- No size is given so.
 abbrev pub IsNoSize : ℕ → ℕ → Reply → Type 0
-IsNoSize rows columns reply = (reply ≡ refused 54) × (IsSize rows columns → ⊥)
+IsNoSize rows columns reply = (reply ≡ refused 54) × ((size : Option Size) → IsSizeGiven rows columns size → ⊥)
 
--- The bytes are no compiled entry, or memory ran out.
+-- A size is given.
+abbrev pub HasSize : ℕ → ℕ → Type 0
+HasSize rows columns = (size : Option Size) × IsSizeGiven rows columns size
+
+-- The bytes are no compiled entry; or they are one, and memory ran out.
 abbrev pub IsNoEntry : List ℕ → Reply → Type 0
-IsNoEntry bytes reply = (fault : BinFault) × ((fault ≡ files.NoMemory) ⊎ (entry_refusal bytes ≡ Some fault)) × (reply ≡ refused (binary_number fault))
+IsNoEntry bytes reply =
+    (fault : BinFault) × ((entry_refusal bytes ≡ Some fault) ⊎ ((entry_refusal bytes ≡ None) × (fault ≡ files.NoMemory))) × (reply ≡ refused (binary_number fault))
 
--- A screen just opened on the terminal of an entry, for which no bytes wait.
+-- The writer of a session that was just opened: no bytes wait, and nothing failed.
+abbrev pub fresh_writer : WriterView
+fresh_writer = record { taken = Some []; failed_puts = 0; failed_finishes = 0 }
+
+-- A screen just opened on the terminal of an entry.
 abbrev pub IsOpenedOn : Description → Option Size → Session → Type 0
-IsOpenedOn entry size session = IsOpened entry size session.screen × (waiting session ≡ [])
+IsOpenedOn entry size session = IsOpened entry size session.screen × (writer session ≡ fresh_writer)
 
 -- None was opened.
 abbrev pub IsUnopenedOn : Description → Option Size → Reply → Type 0
@@ -84,9 +93,10 @@ pub record IsUnopenedFrom (IsKnown : Description → Type 0) (rows columns : ℕ
   pub given : IsSizeGiven rows columns size
   pub unopened : IsUnopenedOn entry size reply
 
--- Why none was opened: no screen has the size, there is no entry, or it makes no screen.
+-- Why none was opened: no size is given; or one is, and there is no entry, or it makes no screen.
 abbrev pub IsClosedFrom : (Description → Type 0) → (Reply → Type 0) → ℕ → ℕ → Reply → Type 0
-IsClosedFrom IsKnown IsNone rows columns reply = IsNoSize rows columns reply ⊎ (IsNone reply ⊎ IsUnopenedFrom IsKnown rows columns reply)
+IsClosedFrom IsKnown IsNone rows columns reply =
+    IsNoSize rows columns reply ⊎ (HasSize rows columns × (IsNone reply ⊎ IsUnopenedFrom IsKnown rows columns reply))
 
 -- Memory ran out.
 abbrev pub IsNoMemory : Reply → Type 0

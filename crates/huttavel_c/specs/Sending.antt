@@ -59,10 +59,13 @@ Copies before after old new answer =
 abbrev pub taken_off : ℕ → List ℕ → List ℕ × ℕ
 taken_off count bytes = if nat_le count (length bytes) then (drop count bytes, 0) else (bytes, 33)
 
--- The terminal took bytes. The screen does not change.
-abbrev pub Takes : ℕ → Session → Session → ℕ → Type 0
-Takes count old new answer =
-    (new.screen ≡ old.screen) × (waiting new ≡ (taken_off count (waiting old)).0) × (answer ≡ (taken_off count (waiting old)).1)
+-- The terminal took bytes. The screen does not change, nor how many puts and finishes failed.
+pub record Takes (count : ℕ) (old new : Session) (answer : ℕ) : Type 0 where
+  pub screen : new.screen ≡ old.screen
+  pub waits : waiting new ≡ (taken_off count (waiting old)).0
+  pub puts : new.out.failed_puts ≡ old.out.failed_puts
+  pub finishes : new.out.failed_finishes ≡ old.out.failed_finishes
+  pub number : answer ≡ (taken_off count (waiting old)).1
 
 -- Nothing is known of the terminal any more.
 abbrev pub forgetting : ScreenState → ScreenState × ℕ

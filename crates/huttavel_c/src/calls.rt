@@ -1,12 +1,6 @@
-//! The calls on the windows of a screen, by kinds.
+//! The calls on the windows of a screen, by families: where a function is for several calls, C says by a number which.
 
-mod backgrounds;
-mod erasing;
-mod lending;
+mod changing;
 mod making;
 mod reading;
-mod refreshing;
-mod settings;
-mod shown;
-mod touching;
 mod writing;

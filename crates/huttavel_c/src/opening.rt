@@ -1,11 +1,10 @@
 //! Opening and closing.
-ghost use Rattle.std.specs.Prelude.{◌≡◌, IfErr, IfOk, None, Some, []};
+ghost use Rattle.std.specs.Prelude.{◌≡◌, IfErr, IfOk, None, Some};
 ghost use Rattle.ti_caps.specs.Bundled.{IsBundled};
 ghost use Rattle.ti_database.specs.Search.{IsEntry};
-ghost use Rattle.huttavel_c.specs.Opening.{IsClosedFrom, IsNoEntry, IsNoMemory, IsNoSize, IsOpenedFrom, IsOpenedOn, IsSizeGiven, IsUnopenedOn, Opens, about, close_number, kind_number, open_reply, profile_reply};
+ghost use Rattle.huttavel_c.specs.Opening.{IsClosedFrom, IsNoEntry, IsNoMemory, IsNoSize, IsOpenedFrom, IsOpenedOn, IsSizeGiven, IsUnopenedOn, Opens, about, close_number, fresh_writer, kind_number, open_reply, profile_reply};
 ghost use Rattle.huttavel_c.specs.Replies.{refused};
-ghost use Rattle.huttavel_c.specs.Sending.{waiting};
-ghost use Rattle.huttavel_c.specs.Replies.{refused};
+ghost use Rattle.huttavel_c.specs.Sending.{writer};
 
 use crate::answers::{Reply, refused};
 use crate::faults::{
@@ -104,7 +103,7 @@ fn open_reply(fault: OpenFault) -> Reply
 // A session on a screen, for which no bytes wait.
 fn session_on(alloc: Global, screen: Screen) -> Result<Box<Session>, Reply>
     ensures screen { IfOk result (λ session. session.value.screen ≡ screen) }
-    ensures waiting { IfOk result (λ session. waiting session.value ≡ []) }
+    ensures writer { IfOk result (λ session. writer session.value ≡ fresh_writer) }
     ensures err { IfErr result IsNoMemory }
 {
     let session = Session {

@@ -1,8 +1,8 @@
 //! The terminal line that a program reads.
-ghost use Rattle.std.specs.Prelude.{◌≡◌, ◌<◌, ◌⊎◌, false, true, IfErr, IfOk, List, Option, length, ℕ};
+ghost use Rattle.std.specs.Prelude.{◌≡◌, ◌⊎◌, false, true, IfErr, IfOk, List, Option, ℕ};
 ghost use Rattle.std.specs.Duration.{as_nanos};
 ghost use Rattle.terminal.specs.Inputs.{IsWithin, empty_input, sudden_after};
-ghost use Rattle.terminal.specs.Lines.{IsEmptyRead, IsFailedRead, IsKeyboardRead, IsLineRead, IsLook, after_told};
+ghost use Rattle.terminal.specs.Lines.{IsFailedRead, IsKeyboardRead, IsLineRead, IsLook, after_told};
 
 use crate::folders::Folder;
 use crate::input::{Input, empty_input, failed_input, heard, sudden_after};

@@ -2,12 +2,13 @@
 
 use crate::events::Event;
 use crate::faults::TerminalFault;
+use crate::input::Input;
+use crate::lines::TerminalLine;
 use curses::{Device, Entry, Key, OpenFault, Screen, Sent, Size};
 use std::alloc::Global;
 use std::env;
 use std::env::VarError;
 use std::io::{BufWriter, Stdout};
-use terminal::{Input, TerminalLine};
 use ti_database::find;
 
 // The key that asks for suspension: `^Z`, as at a shell's own line.

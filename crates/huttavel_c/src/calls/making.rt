@@ -1,63 +1,60 @@
-//! Making, deleting and moving windows.
-//!
-//! Each is the call of `curses::Screen` that it names, on the screen that the handle holds.
-ghost use Rattle.scr_windows.specs.Calls.Making.{new_window_call, new_pad_call};
-ghost use Rattle.scr_windows.specs.Calls.Moving.{move_window_call, move_derived_call};
-ghost use Rattle.scr_windows.specs.Calls.Removing.{delete_call};
-ghost use Rattle.scr_windows.specs.Calls.Subwindows.{derive_call, sub_call, sub_pad_call};
-ghost use Rattle.huttavel_c.specs.Asking.{Asked, AskedForMemory, on_windows};
+//! Making windows, and copying from one to another: by a number, each one call of `curses::Screen`.
+ghost use Rattle.scr_windows.specs.Calls.Copying.{copy_call, overlay_call};
+ghost use Rattle.scr_virtual.specs.Taking.{take_pad_call};
+ghost use Rattle.huttavel_c.specs.Asking.{Asked, AskedForMemory, on_both, on_windows};
+ghost use Rattle.huttavel_c.specs.Families.{IsMadeForMemory, making_call};
 ghost use Rattle.huttavel_c.specs.Replies.{done_number, made_reply, refused};
 
 use crate::answers::{Reply, done, made, refused};
 use crate::faults::CLOSED;
 use crate::handles::Handle;
-use curses::Win;
+use curses::{Screen, Win, WinFault};
 use std::alloc::Global;
 
-/// Makes a blank window at a row and a column of the screen, and gives its number; 0 rows or columns reach to the
-/// screen's end, by `Screen::new_window`. Refused: CLOSED; OFF_SCREEN; TOO_MANY; NO_MEMORY.
-#[unsafe(no_mangle)]
-pub extern "C" fn huttavel_held_new_window(
+// Makes a window.
+#[tactic(auto, unfolding(crate::specs::Families::making_call))]
+fn make(
     alloc: Global,
-    handle: &mut Handle,
+    screen: &mut Screen,
+    kind: u32,
+    window: Win,
     rows: u32,
     columns: u32,
     row: u32,
     column: u32,
-) -> Reply
-    ensures { AskedForMemory (λ screen. on_windows screen (new_window_call screen.desk rows columns row column)) made_reply (refused 4) (refused 1) handle.old.held.value handle.new.held.value result }
+) -> Result<Win, WinFault>
+    ensures { IsMadeForMemory screen.old screen.new result (making_call kind window.0 rows columns row column screen.old) }
 {
-    let Some(mut session) = handle.take(alloc) else {
-        return refused(CLOSED);
-    };
-    let came = session.screen.new_window(alloc, rows, columns, row, column);
-    handle.put(session);
-    made(came)
+    match kind {
+        0 => screen.new_window(alloc, rows, columns, row, column),
+        1 => screen.new_pad(alloc, rows, columns),
+        2 => screen.derive(alloc, window, rows, columns, row, column),
+        3 => screen.sub(alloc, window, rows, columns, row, column),
+        _ => screen.sub_pad(alloc, window, rows, columns, row, column),
+    }
 }
 
-/// Makes a blank pad of so many rows and columns, and gives its number, by `Screen::new_pad`. Refused: CLOSED;
-/// OUT_OF_WINDOW; TOO_BIG; TOO_MANY; NO_MEMORY.
-#[unsafe(no_mangle)]
-pub extern "C" fn huttavel_held_new_pad(
+// Copies where two windows cover the same part of the screen: all but blanks, or all cells.
+fn copy_common(
     alloc: Global,
-    handle: &mut Handle,
-    rows: u32,
-    columns: u32,
-) -> Reply
-    ensures { AskedForMemory (λ screen. on_windows screen (new_pad_call screen.desk rows columns)) made_reply (refused 4) (refused 1) handle.old.held.value handle.new.held.value result }
+    screen: &mut Screen,
+    source: Win,
+    target: Win,
+    overlays: bool,
+) -> Result<(), WinFault>
+    ensures { IsMadeForMemory screen.old screen.new result (on_windows screen.old (overlay_call screen.old.desk source.0 target.0 overlays)) }
 {
-    let Some(mut session) = handle.take(alloc) else {
-        return refused(CLOSED);
-    };
-    let came = session.screen.new_pad(alloc, rows, columns);
-    handle.put(session);
-    made(came)
+    if overlays {
+        screen.overlay(alloc, source, target)
+    } else {
+        screen.overwrite(alloc, source, target)
+    }
 }
 
-/// Makes a subwindow at a row and a column of a window, and gives its number; 0 rows or columns reach to the window's
-/// end, by `Screen::derive`. Refused: CLOSED; NO_WINDOW; IS_PAD; NOT_IN_PARENT; TOO_MANY; NO_MEMORY.
+/// Makes a window by the call of this number in `enum making_call` of `held.h`, and gives the window's number. The
+/// first two make one of the screen's own and take no window. Refused: CLOSED; as the call.
 #[unsafe(no_mangle)]
-pub extern "C" fn huttavel_held_derive(
+pub extern "C" fn huttavel_held_make(
     alloc: Global,
     handle: &mut Handle,
     window: u32,
@@ -65,116 +62,92 @@ pub extern "C" fn huttavel_held_derive(
     columns: u32,
     row: u32,
     column: u32,
+    kind: u32,
 ) -> Reply
-    ensures { AskedForMemory (λ screen. on_windows screen (derive_call screen.desk window rows columns row column)) made_reply (refused 4) (refused 1) handle.old.held.value handle.new.held.value result }
+    ensures { AskedForMemory (making_call kind window rows columns row column) made_reply (refused 4) (refused 1) handle.old.held.value handle.new.held.value result }
 {
     let Some(mut session) = handle.take(alloc) else {
         return refused(CLOSED);
     };
-    let came = session
-        .screen
-        .derive(alloc, Win(window), rows, columns, row, column);
+    let screen = &mut session.screen;
+    let came = make(alloc, screen, kind, Win(window), rows, columns, row, column);
     handle.put(session);
     made(came)
 }
 
-/// Makes a subwindow at a row and a column of the screen, and gives its number, by `Screen::sub`. Refused: CLOSED;
-/// NO_WINDOW; IS_PAD; NOT_IN_PARENT; TOO_MANY; NO_MEMORY.
+/// Copies cells of the source, from a row and a column on, to a rectangle of the target; with `overlay` all but blanks,
+/// by `Screen::copy`. Refused: CLOSED; NO_WINDOW; OUT_OF_WINDOW; NO_MEMORY.
 #[unsafe(no_mangle)]
-pub extern "C" fn huttavel_held_sub(
+pub extern "C" fn huttavel_held_copy(
     alloc: Global,
     handle: &mut Handle,
-    window: u32,
-    rows: u32,
-    columns: u32,
+    source: u32,
+    target: u32,
     row: u32,
     column: u32,
-) -> Reply
-    ensures { AskedForMemory (λ screen. on_windows screen (sub_call screen.desk window rows columns row column)) made_reply (refused 4) (refused 1) handle.old.held.value handle.new.held.value result }
-{
-    let Some(mut session) = handle.take(alloc) else {
-        return refused(CLOSED);
-    };
-    let came = session
-        .screen
-        .sub(alloc, Win(window), rows, columns, row, column);
-    handle.put(session);
-    made(came)
-}
-
-/// Makes a subwindow of a pad at a row and a column of it, and gives its number, by `Screen::sub_pad`. Refused: CLOSED;
-/// NO_WINDOW; NOT_PAD; NOT_IN_PARENT; TOO_MANY; NO_MEMORY.
-#[unsafe(no_mangle)]
-pub extern "C" fn huttavel_held_sub_pad(
-    alloc: Global,
-    handle: &mut Handle,
-    window: u32,
-    rows: u32,
-    columns: u32,
-    row: u32,
-    column: u32,
-) -> Reply
-    ensures { AskedForMemory (λ screen. on_windows screen (sub_pad_call screen.desk window rows columns row column)) made_reply (refused 4) (refused 1) handle.old.held.value handle.new.held.value result }
-{
-    let Some(mut session) = handle.take(alloc) else {
-        return refused(CLOSED);
-    };
-    let came = session
-        .screen
-        .sub_pad(alloc, Win(window), rows, columns, row, column);
-    handle.put(session);
-    made(came)
-}
-
-/// Deletes a window, by `Screen::delete`. Refused: CLOSED; NO_WINDOW; HAS_CHILDREN.
-#[unsafe(no_mangle)]
-pub extern "C" fn huttavel_held_delete(alloc: Global, handle: &mut Handle, window: u32) -> u32
-    ensures { Asked (λ screen. on_windows screen (delete_call screen.desk window)) done_number 1 handle.old.held.value handle.new.held.value result }
+    top: u32,
+    left: u32,
+    bottom: u32,
+    right: u32,
+    overlay: bool,
+) -> u32
+    ensures { AskedForMemory (λ screen. on_windows screen (copy_call screen.desk source target row column top left bottom right overlay)) done_number 4 1 handle.old.held.value handle.new.held.value result }
 {
     let Some(mut session) = handle.take(alloc) else {
         return CLOSED;
     };
-    let came = session.screen.delete(Win(window));
+    let (from, to) = (Win(source), Win(target));
+    let screen = &mut session.screen;
+    let came = screen.copy(
+        alloc, from, to, row, column, top, left, bottom, right, overlay,
+    );
     handle.put(session);
     done(came)
 }
 
-/// Moves a window to a row and a column of the screen, by `Screen::move_window`. Refused: CLOSED; NO_WINDOW; IS_PAD;
-/// IS_SUB; OFF_SCREEN.
+/// Copies where two windows cover the same part of the screen: all but blanks by `Screen::overlay`, or all cells by
+/// `Screen::overwrite`. Refused: CLOSED; NO_WINDOW; IS_PAD; NO_MEMORY.
 #[unsafe(no_mangle)]
-pub extern "C" fn huttavel_held_move_window(
+pub extern "C" fn huttavel_held_copy_common(
     alloc: Global,
     handle: &mut Handle,
-    window: u32,
-    row: u32,
-    column: u32,
+    source: u32,
+    target: u32,
+    overlays: bool,
 ) -> u32
-    ensures { Asked (λ screen. on_windows screen (move_window_call screen.desk window row column)) done_number 1 handle.old.held.value handle.new.held.value result }
+    ensures { AskedForMemory (λ screen. on_windows screen (overlay_call screen.desk source target overlays)) done_number 4 1 handle.old.held.value handle.new.held.value result }
 {
     let Some(mut session) = handle.take(alloc) else {
         return CLOSED;
     };
-    let came = session.screen.move_window(Win(window), row, column);
+    let screen = &mut session.screen;
+    let came = copy_common(alloc, screen, Win(source), Win(target), overlays);
     handle.put(session);
     done(came)
 }
 
-/// Moves a subwindow to a row and a column of its parent's cells, by `Screen::move_derived`. Refused: CLOSED;
-/// NO_WINDOW; IS_PAD; NOT_IN_PARENT.
+/// Copies a part of a pad, from a row and a column on, onto a rectangle of the virtual screen, by
+/// `Screen::pad_noutrefresh`. Refused: CLOSED; NO_WINDOW; NOT_PAD; OFF_SCREEN; OUT_OF_WINDOW.
 #[unsafe(no_mangle)]
-pub extern "C" fn huttavel_held_move_derived(
+pub extern "C" fn huttavel_held_pad_noutrefresh(
     alloc: Global,
     handle: &mut Handle,
     window: u32,
     row: u32,
     column: u32,
+    top: u32,
+    left: u32,
+    bottom: u32,
+    right: u32,
 ) -> u32
-    ensures { Asked (λ screen. on_windows screen (move_derived_call screen.desk window row column)) done_number 1 handle.old.held.value handle.new.held.value result }
+    ensures { Asked (λ screen. on_both screen (take_pad_call screen.virtual screen.desk window row column top left bottom right)) done_number 1 handle.old.held.value handle.new.held.value result }
 {
     let Some(mut session) = handle.take(alloc) else {
         return CLOSED;
     };
-    let came = session.screen.move_derived(Win(window), row, column);
+    let pad = Win(window);
+    let screen = &mut session.screen;
+    let came = screen.pad_noutrefresh(pad, row, column, top, left, bottom, right);
     handle.put(session);
     done(came)
 }

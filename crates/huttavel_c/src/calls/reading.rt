@@ -1,107 +1,169 @@
-//! Reading sizes, cursors, cells and touched lines.
-//!
-//! Each is the call of `curses::Screen` that it names, on the screen that the handle holds.
-ghost use Rattle.scr_windows.specs.Calls.Reading.{cell_at_answer, cursor_answer, line_touched_answer, origin_answer, size_answer, window_touched_answer};
+//! What is asked of windows and of the screen: by a number, each one call of `curses::Screen`.
+ghost use Rattle.std.specs.Prelude.{◌≡◌, ◌≤◌};
+ghost use Rattle.scr_windows.specs.Calls.Reading.{window_answer};
 ghost use Rattle.huttavel_c.specs.Asking.{Asked, reading};
-ghost use Rattle.huttavel_c.specs.Replies.{pair_reply, refused, seen_reply, touched_reply};
+ghost use Rattle.huttavel_c.specs.Families.{screen_reply, window_reply};
+ghost use Rattle.huttavel_c.specs.Giving.{unchanged};
+ghost use Rattle.huttavel_c.specs.Lending.{property_of_lent, property_reply};
+ghost use Rattle.huttavel_c.specs.Replies.{refused};
+ghost use Rattle.huttavel_c.specs.Showing.{colours_of, cursor_reply, nth_reply, wanted_reply};
 
-use crate::answers::{Reply, pair, refused, seen, touched};
-use crate::faults::CLOSED;
+use crate::answers::{Reply, one, pair, refused, seen, three, touched, two};
+use crate::faults::{BAD_PAIR, CLOSED, NO_CURSOR, NO_PARENT, NO_WINDOW, OFF_SCREEN, window_number};
 use crate::handles::Handle;
-use curses::Win;
+use curses::{Picture, Screen, Win, WindowRef};
 use std::alloc::Global;
 
-/// A window's numbers of rows and columns, by `Screen::size`. Refused: CLOSED; NO_WINDOW.
-#[unsafe(no_mangle)]
-pub extern "C" fn huttavel_held_size(alloc: Global, handle: &mut Handle, window: u32) -> Reply
-    ensures { Asked (λ screen. reading screen (size_answer screen.desk window)) pair_reply (refused 1) handle.old.held.value handle.new.held.value result }
+// What calls have set in a window that is lent.
+#[tactic(auto, unfolding(crate::specs::Lending::property_of_lent))]
+fn property_of_lent(lent: &WindowRef<'_>, kind: u32) -> Reply
+    ensures { result ≡ property_of_lent kind lent.now }
 {
-    let Some(session) = handle.take(alloc) else {
-        return refused(CLOSED);
-    };
-    let came = session.screen.size(Win(window));
-    handle.put(session);
-    pair(came)
+    match kind {
+        6 => match lent.parent() {
+            Some(window) => one(window.0),
+            None => refused(NO_PARENT),
+        },
+        7 => two((u32::from(lent.attrs().0), lent.pair())),
+        8 => three(lent.background()),
+        9 => two(lent.region()),
+        10 => one(u32::from(lent.scroll_ok())),
+        11 => one(u32::from(lent.clear_ok())),
+        _ => one(u32::from(lent.leave_ok())),
+    }
 }
 
-/// The row and the column of a window's cursor, by `Screen::cursor`. Refused: CLOSED; NO_WINDOW.
-#[unsafe(no_mangle)]
-pub extern "C" fn huttavel_held_cursor(alloc: Global, handle: &mut Handle, window: u32) -> Reply
-    ensures { Asked (λ screen. reading screen (cursor_answer screen.desk window)) pair_reply (refused 1) handle.old.held.value handle.new.held.value result }
+// The same of a window.
+fn property(screen: &Screen, kind: u32, window: Win) -> Reply
+    ensures { result ≡ property_reply kind (window_answer screen.now.desk window.0) }
 {
-    let Some(session) = handle.take(alloc) else {
-        return refused(CLOSED);
-    };
-    let came = session.screen.cursor(Win(window));
-    handle.put(session);
-    pair(came)
+    match screen.window(window) {
+        Ok(lent) => property_of_lent(&lent, kind),
+        Err(fault) => refused(window_number(fault)),
+    }
 }
 
-/// The row and the column of the screen where a window's first place is, by `Screen::origin`. Refused: CLOSED;
-/// NO_WINDOW; IS_PAD.
-#[unsafe(no_mangle)]
-pub extern "C" fn huttavel_held_origin(alloc: Global, handle: &mut Handle, window: u32) -> Reply
-    ensures { Asked (λ screen. reading screen (origin_answer screen.desk window)) pair_reply (refused 1) handle.old.held.value handle.new.held.value result }
+// What is asked of a window.
+#[tactic(auto, unfolding(crate::specs::Families::window_reply))]
+fn ask_window(screen: &Screen, kind: u32, window: Win, row: u32, column: u32) -> Reply
+    ensures { result ≡ window_reply kind window.0 row column screen.now.desk }
 {
-    let Some(session) = handle.take(alloc) else {
-        return refused(CLOSED);
-    };
-    let came = session.screen.origin(Win(window));
-    handle.put(session);
-    pair(came)
+    match kind {
+        0 => pair(screen.size(window)),
+        1 => pair(screen.cursor(window)),
+        2 => pair(screen.origin(window)),
+        3 => seen(screen.cell_at(window, row, column)),
+        4 => touched(screen.line_touched(window, row)),
+        5 => touched(screen.window_touched(window)),
+        _ => property(screen, kind, window),
+    }
 }
 
-/// The byte, attributes and colour pair of the cell at a place of a window, by `Screen::cell_at`. Refused: CLOSED;
-/// NO_WINDOW; OUT_OF_WINDOW.
+// A window at an index, if there is one.
+fn nth(found: Option<Win>) -> Reply
+    ensures { result ≡ nth_reply found }
+{
+    match found {
+        Some(window) => one(window.0),
+        None => refused(NO_WINDOW),
+    }
+}
+
+// The colours of a pair.
+fn colours(picture: &Picture, pair: u32) -> Reply
+    ensures { result ≡ colours_of picture.now.pairs pair }
+{
+    match picture.pair(pair) {
+        Some((foreground, background)) => two((u32::from(foreground), u32::from(background))),
+        None => refused(BAD_PAIR),
+    }
+}
+
+// The cell at a place.
+fn cell(picture: &Picture, row: u32, column: u32) -> Reply
+    ensures { result ≡ wanted_reply picture.now row column }
+{
+    let size = picture.size();
+    if row < size.rows && column < size.columns {
+        three(picture.row(row)[column as usize])
+    } else {
+        refused(OFF_SCREEN)
+    }
+}
+
+// Where the cursor is wanted.
+fn cursor(picture: &Picture) -> Reply
+    ensures { result ≡ cursor_reply picture.now.wish }
+{
+    match picture.wish() {
+        Some(place) => two(place),
+        None => refused(NO_CURSOR),
+    }
+}
+
+// The rows and the columns of the screen.
+fn size(screen: &Screen) -> (u32, u32)
+    ensures { result ≡ (screen.now.desk.rows, screen.now.desk.columns) }
+{
+    let size = screen.screen();
+    (size.rows, size.columns)
+}
+
+// What is asked of the screen.
+#[tactic(auto, unfolding(crate::specs::Families::screen_reply))]
+fn ask_screen(screen: &Screen, kind: u32, first: u32, second: u32) -> Reply
+    ensures { result ≡ screen_reply kind first second screen.now }
+{
+    match kind {
+        0 => two(size(screen)),
+        1 => one(screen.count() as u32),
+        2 => nth(screen.nth(first as usize)),
+        3 => one(u32::from(screen.shows().0)),
+        4 => one(u32::from(screen.colours())),
+        5 => colours(screen.picture(), first),
+        6 => cell(screen.picture(), first, second),
+        _ => cursor(screen.picture()),
+    }
+}
+
+/// What is asked of a window, by its number in `enum window_question` of `held.h`; some questions are about a row, or a
+/// place. Refused: CLOSED; as the call; NO_PARENT of a window that is no subwindow.
 #[unsafe(no_mangle)]
-pub extern "C" fn huttavel_held_cell_at(
+pub extern "C" fn huttavel_held_ask_window(
     alloc: Global,
     handle: &mut Handle,
     window: u32,
     row: u32,
     column: u32,
+    kind: u32,
 ) -> Reply
-    ensures { Asked (λ screen. reading screen (cell_at_answer screen.desk window row column)) seen_reply (refused 1) handle.old.held.value handle.new.held.value result }
+    ensures { Asked (λ screen. reading screen (window_reply kind window row column screen.desk)) unchanged (refused 1) handle.old.held.value handle.new.held.value result }
 {
     let Some(session) = handle.take(alloc) else {
         return refused(CLOSED);
     };
-    let came = session.screen.cell_at(Win(window), row, column);
+    let answer = ask_window(&session.screen, kind, Win(window), row, column);
     handle.put(session);
-    seen(came)
+    answer
 }
 
-/// 1 if a line of a window is touched, else 0, by `Screen::line_touched`. Refused: CLOSED; NO_WINDOW; OUT_OF_WINDOW.
+/// What is asked of the screen, by its number in `enum screen_question`; some questions are about an index, a colour
+/// pair or a place. Refused: CLOSED; NO_WINDOW past the last index; BAD_PAIR; OFF_SCREEN; NO_CURSOR if the cursor is
+/// wanted nowhere.
 #[unsafe(no_mangle)]
-pub extern "C" fn huttavel_held_line_touched(
+pub extern "C" fn huttavel_held_ask_screen(
     alloc: Global,
     handle: &mut Handle,
-    window: u32,
-    row: u32,
+    first: u32,
+    second: u32,
+    kind: u32,
 ) -> Reply
-    ensures { Asked (λ screen. reading screen (line_touched_answer screen.desk window row)) touched_reply (refused 1) handle.old.held.value handle.new.held.value result }
+    ensures { Asked (λ screen. reading screen (screen_reply kind first second screen)) unchanged (refused 1) handle.old.held.value handle.new.held.value result }
 {
     let Some(session) = handle.take(alloc) else {
         return refused(CLOSED);
     };
-    let came = session.screen.line_touched(Win(window), row);
+    let answer = ask_screen(&session.screen, kind, first, second);
     handle.put(session);
-    touched(came)
-}
-
-/// 1 if any line of a window is touched, else 0, by `Screen::window_touched`. Refused: CLOSED; NO_WINDOW.
-#[unsafe(no_mangle)]
-pub extern "C" fn huttavel_held_window_touched(
-    alloc: Global,
-    handle: &mut Handle,
-    window: u32,
-) -> Reply
-    ensures { Asked (λ screen. reading screen (window_touched_answer screen.desk window)) touched_reply (refused 1) handle.old.held.value handle.new.held.value result }
-{
-    let Some(session) = handle.take(alloc) else {
-        return refused(CLOSED);
-    };
-    let came = session.screen.window_touched(Win(window));
-    handle.put(session);
-    touched(came)
+    answer
 }
