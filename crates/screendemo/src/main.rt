@@ -30,9 +30,7 @@ fn script(rt: &HostRuntime) -> Result<Vec<u8>, DemoFailure> {
 }
 
 fn demonstrate(rt: &HostRuntime) -> Result<(), DemoFailure> {
-    let Some(task) = asked(rt)? else {
-        return Ok(());
-    };
+    let task = asked(rt)?;
     let script = script(rt)?;
     perform(rt, task, &script)
 }

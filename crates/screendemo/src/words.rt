@@ -3,7 +3,6 @@
 use crate::failures::DemoFailure;
 use clap::error::ErrorKind;
 use clap::{Arg, ArgAction, Command};
-use screen_scripts::DemoFault;
 use std::alloc::{AllocError, Global};
 use std::env::Env;
 use std::io;
@@ -19,17 +18,13 @@ pub enum Task {
     Explain,
 }
 
-/// What the command line asks for; `None` if that is the help or the version, which is printed.
-pub fn asked(rt: &HostRuntime) -> Result<Option<Task>, DemoFailure> {
+/// What the command line asks for. A request for the usage text is refused with it.
+pub fn asked(rt: &HostRuntime) -> Result<Task, DemoFailure> {
     let words = words(rt)?;
     match task_in(rt.alloc(), words.as_slice()) {
-        Ok(task) => Ok(Some(task)),
+        Ok(task) => Ok(task),
         Err(error) if error.kind() == ErrorKind::OutOfMemory => Err(DemoFailure::NoMemory),
-        Err(error) if error.use_stderr() => Err(DemoFailure::Words(error)),
-        Err(error) => match error.print(rt) {
-            Ok(()) => Ok(None),
-            Err(fault) => Err(DemoFailure::Demo(DemoFault::Write(fault.kind()))),
-        },
+        Err(error) => Err(DemoFailure::Words(error)),
     }
 }
 
@@ -43,11 +38,19 @@ fn command<'a>(alloc: Global) -> Result<Command<'a>, AllocError> {
         .action(ArgAction::SetTrue)
         .exclusive(true)
         .help("Explains the last update: what is sent, and how many bytes each part takes");
+    // The usage text tells the version in its first line.
+    let version = Arg::new(alloc, "version")
+        .short('V')
+        .long("version")
+        .action(ArgAction::Help)
+        .help("Print version");
     Command::new(alloc, "screendemo")
-        .version("0.1.0")
+        .before_help("screendemo 0.1.0")
         .about("Draws what a script on the standard input says, and prints the screen")
+        .disable_version_flag(true)
         .arg(raw)?
-        .arg(explain)
+        .arg(explain)?
+        .arg(version)
 }
 
 fn task_in(alloc: Global, words: &[String]) -> Result<Task, clap::Error> {

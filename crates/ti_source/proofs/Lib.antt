@@ -18,9 +18,11 @@ pub mod NamedLaws
 pub mod NoteLaws
 pub mod NumberLaws
 pub mod NumbersBackLaws
+pub mod PartLaws
 pub mod PassingLaws
 pub mod OnceLaws
 pub mod IndexLaws
+pub mod KeptLaws
 pub mod KeyLaws
 pub mod LaidLaws
 pub mod MarkLaws

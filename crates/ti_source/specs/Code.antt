@@ -1,12 +1,13 @@
 -- How the functions of src/ do their work. Their results are proved to be what the other files define; nobody has to
 -- read this.
+pub mod Kept
 pub mod Keyed
 pub mod Laid
 pub mod Marked
 pub mod Notes
+pub mod Parts
 pub mod Plain
 pub mod Seen
-pub mod Stored
 pub mod FirstFields
 pub mod Steps
 pub mod Walk

@@ -5,6 +5,7 @@ mod faults;
 mod note;
 mod notes;
 mod ordinals;
+mod parts;
 mod printing;
 mod reading;
 mod resolving;

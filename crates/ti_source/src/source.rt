@@ -59,14 +59,14 @@ impl Source {
     pub fn len(&self) -> usize
         ensures { result ≡ length self.now.entries }
     {
-        self.entries.as_slice().len()
+        self.entries.len()
     }
 
     /// Whether there are no entries.
     pub fn is_empty(&self) -> bool
         ensures { IsTrue result ↔ (length self.now.entries ≡ 0) }
     {
-        self.entries.as_slice().is_empty()
+        self.entries.len() == 0
     }
 
     /// The first reference name of the entry at index `i`, which is less than `len()`: the name by
@@ -75,8 +75,7 @@ impl Source {
         requires { i < length self.now.entries }
         ensures { slice_get (map (λ e. first_name e.names) self.now.entries) i ≡ Some result.now }
     {
-        let entry = &self.entries.as_slice()[i];
-        first_name(entry.names())
+        first_name(self.entries.at(i).names())
     }
 
     /// For the entry with this name, if it has no fields of its own and exactly one use: its names,
@@ -86,7 +85,7 @@ impl Source {
         ensures named { IfSome result (λ r. are_names r.0.now ≡ true) }
     {
         let i = self.entries.index_of(name)?;
-        let entry = self.entries.as_slice().get(i)?;
+        let entry = self.entries.at(i);
         Some((entry.names(), entry.only_use()?))
     }
 

@@ -12,7 +12,7 @@ use crate::report::{add_entry, add_note, add_size, add_unknown};
 use std::alloc::AllocError;
 use std::io::Write;
 use ti_compile::{CompiledEntry, EntryCompiler, TicFault};
-use ti_source::{Note, Source, SourceFault, read};
+use ti_source::{Notes, Source, SourceFault, read_apart};
 
 /// Lines are written once they have this many bytes.
 const PIECE: usize = 65_536;
@@ -36,6 +36,7 @@ struct Job<'a> {
     rt: &'a HostRuntime,
     text: &'a [u8],
     source: &'a Source,
+    notes: &'a Notes,
     verbose: bool,
 }
 
@@ -56,14 +57,15 @@ fn compile_text<'a>(
     text: &[u8],
     verbose: bool,
 ) -> Result<(), Failure<'a>> {
-    match read(rt.alloc(), text) {
-        Ok(source) => {
-            let source = &source;
+    match read_apart(rt.alloc(), text) {
+        Ok((source, notes)) => {
+            let (source, notes) = (&source, &notes);
             compile_source(
                 &Job {
                     rt,
                     text,
                     source,
+                    notes,
                     verbose,
                 },
                 purpose,
@@ -300,19 +302,19 @@ fn write_next<'a>(
 // Prints the notes on doubtful fields on standard error.
 fn tell_notes(job: &Job<'_>) -> Result<(), AllocError> {
     let mut lines = Vec::new(job.rt.alloc());
-    tell_all(job, job.source.notes(), &mut lines)
+    tell_all(job, &mut lines)
 }
 
-fn tell_all(job: &Job<'_>, notes: &[Note], lines: &mut Vec<u8>) -> Result<(), AllocError> {
-    for note in notes {
-        add_note(job.rt.alloc(), note, lines)?;
+fn tell_all(job: &Job<'_>, lines: &mut Vec<u8>) -> Result<(), AllocError> {
+    for i in 0..job.notes.len() {
+        add_note(job.rt.alloc(), job.notes.at(i), lines)?;
         if lines.len() >= PIECE {
             tell(job.rt, lines);
         }
     }
     tell(job.rt, lines);
     if job.verbose {
-        add_unknown(job.rt.alloc(), notes, lines)?;
+        add_unknown(job.rt.alloc(), job.notes, lines)?;
         tell(job.rt, lines);
     }
     Ok(())

@@ -7,8 +7,8 @@
 //!
 //! Notes on doubtful fields, and what a listing leaves out, go to standard error; with `-v` also
 //! the entry of a fault that has no line, and how often each unknown name occurs. A fault is
-//! printed there as `tic: ` and its text. `--help` and `--version` answer on standard output. The
-//! status is 0, 1 for a fault and 2 for a usage error.
+//! printed there as `tic: ` and its text. So is the usage text, which `--help` and `--version` ask
+//! for. The status is 0, 1 for a fault and 2 for a usage error, as these two are.
 #![tactic(auto)]
 
 mod compiling;
@@ -58,21 +58,17 @@ fn words_given<'a>(rt: &HostRuntime) -> Result<Vec<String>, Failure<'a>> {
 fn perform(rt: &HostRuntime, words: &[String]) -> u8 {
     match words::matches(rt.alloc(), words) {
         Ok(matches) => perform_task(rt, &matches),
-        Err(error) => answered(rt, &error),
+        Err(error) => refused(rt, &error),
     }
 }
 
-// Prints the help or the version, if asked for; any other command line that does not parse is a
-// usage error.
-fn answered(rt: &HostRuntime, error: &clap::Error) -> u8 {
+// Prints why a command line is refused. A request for the usage text is one of the reasons.
+fn refused(rt: &HostRuntime, error: &clap::Error) -> u8 {
     if error.kind() == ErrorKind::OutOfMemory {
         return told(rt, &Failure::NoMemory);
     }
-    match error.print(rt) {
-        _ if error.use_stderr() => 2,
-        Ok(()) => 0,
-        Err(_) => told(rt, &Failure::Output),
-    }
+    let _ = eprint!(rt; "{error}");
+    2
 }
 
 fn perform_task(rt: &HostRuntime, matches: &ArgMatches<'_>) -> u8 {

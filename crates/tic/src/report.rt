@@ -2,13 +2,17 @@
 
 use crate::places::Place;
 use std::alloc::{AllocError, Global};
-use ti_source::{Cause, Note};
+use ti_source::{Cause, NoteView, Notes};
 
 /// Adds the line for a note: its line number, its cause and the field's name.
-pub(crate) fn add_note(alloc: Global, note: &Note, lines: &mut Vec<u8>) -> Result<(), AllocError> {
+pub(crate) fn add_note(
+    alloc: Global,
+    note: NoteView<'_>,
+    lines: &mut Vec<u8>,
+) -> Result<(), AllocError> {
     let (number, word) = (note.line, word_of(note.cause));
     let head = format!(in alloc; "line {number}: {word} ")?;
-    add_line(head.as_bytes(), note.name.0.as_slice(), lines)
+    add_line(head.as_bytes(), note.name, lines)
 }
 
 /// Adds the line for an entry: its first reference name and the size of its file.
@@ -39,7 +43,7 @@ pub(crate) fn add_entry(
 /// equally frequent ones are in the order of their bytes. Nothing if no name is unknown.
 pub(crate) fn add_unknown(
     alloc: Global,
-    notes: &[Note],
+    notes: &Notes,
     lines: &mut Vec<u8>,
 ) -> Result<(), AllocError> {
     let names = unknown_names(alloc, notes)?;
@@ -86,11 +90,12 @@ fn add_name(
 }
 
 // The names of the unknown fields, in the order of their bytes.
-fn unknown_names<'a>(alloc: Global, notes: &'a [Note]) -> Result<Vec<&'a [u8]>, AllocError> {
+fn unknown_names<'a>(alloc: Global, notes: &'a Notes) -> Result<Vec<&'a [u8]>, AllocError> {
     let mut names = Vec::new(alloc);
-    for note in notes {
+    for i in 0..notes.len() {
+        let note = notes.at(i);
         if note.cause == Cause::Unknown {
-            names.push(note.name.0.as_slice())?;
+            names.push(note.name)?;
         }
     }
     names.sort_unstable();

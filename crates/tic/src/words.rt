@@ -21,13 +21,13 @@ pub(crate) fn matches<'a>(alloc: Global, words: &'a [String]) -> Result<ArgMatch
 }
 
 fn command<'a>(alloc: Global) -> Result<Command<'a>, AllocError> {
-    arguments(
-        alloc,
-        Command::new(alloc, "tic").version("0.1.0").about(
+    let command = Command::new(alloc, "tic")
+        .before_help("tic 0.1.0")
+        .about(
             "Compiles terminfo sources, and lists compiled files; - stands for the standard input",
-        ),
-    )?
-    .group(forms(alloc)?)
+        )
+        .disable_version_flag(true);
+    arguments(alloc, command)?.group(forms(alloc)?)
 }
 
 fn arguments<'a>(alloc: Global, command: Command<'a>) -> Result<Command<'a>, AllocError> {
@@ -35,7 +35,8 @@ fn arguments<'a>(alloc: Global, command: Command<'a>) -> Result<Command<'a>, All
         .arg(sizes(alloc))?
         .arg(files(alloc))?
         .arg(listing(alloc))?
-        .arg(verbose(alloc))
+        .arg(verbose(alloc))?
+        .arg(version(alloc))
 }
 
 fn sizes<'a>(alloc: Global) -> Arg<'a> {
@@ -68,6 +69,15 @@ fn verbose<'a>(alloc: Global) -> Arg<'a> {
         .short('v')
         .action(ArgAction::SetTrue)
         .help("Says which entry a fault is in, and how often each unknown name stands")
+}
+
+// The usage text tells the version in its first line.
+fn version<'a>(alloc: Global) -> Arg<'a> {
+    Arg::new(alloc, "version")
+        .short('V')
+        .long("version")
+        .action(ArgAction::Help)
+        .help("Print version")
 }
 
 // Exactly one of the three has to be given.

@@ -1,6 +1,6 @@
 //! The entries of a source, by index and by reference name.
 
-ghost use Rattle.std.specs.Prelude.{◌≡◌, ◌<◌, ◌∷◌, [], ◌++◌, Ok, IfOk, OnOk, ℕ, List};
+ghost use Rattle.std.specs.Prelude.{◌≡◌, ◌<◌, ◌∷◌, [], ◌++◌, Ok, Some, IfOk, OnOk, ℕ, List, length, slice_get};
 ghost use Rattle.std.specs.List.{list_any};
 ghost use Rattle.ti_caps.specs.Names.{alternatives};
 ghost use Rattle.ti_caps.specs.Table.{or_else};
@@ -9,32 +9,41 @@ ghost use Rattle.ti_source.specs.Reading.Sources.{is_taken};
 ghost use Rattle.ti_source.specs.Result.{Gives};
 
 use crate::faults::SourceFault;
+use crate::parts::Parts;
+use crate::reading::entry_view::EntryView;
 use crate::reading::keyed_hasher::KeyedHasher;
-use crate::reading::stored_entry::{Names, StoredEntry};
+use crate::reading::statement::{SourceEntry, Statement};
 use crate::reading::wanted::Wanted;
 use indexmap::IndexMap;
 use smallvec::SmallVec;
 use std::alloc::{AllocError, Global};
 use std::marker::Model;
-use ti_caps::{cut_name, has_no_blank};
+use ti_caps::{Bytes, cut_name, has_no_blank};
 
-/// Entries in order, each of which can be found by its reference names.
+/// Names that need no allocation up to this length.
+type Names = SmallVec<u8, 16>;
+
+/// Entries in order, each of which can be found by its reference names. A source may have very many
+/// entries with little in each, so the names, the statements and the uses of all are three lists.
 #[derive(Drop)]
 pub(crate) struct Entries {
-    items: Vec<StoredEntry>,
+    names: Parts<u8>,
+    statements: Parts<Statement>,
+    uses: Parts<Bytes>,
     indices: IndexMap<Names, u32, KeyedHasher>,
 }
 
 impl Model for Entries {
     ghost use Rattle.std.specs.Prelude.{List};
     ghost use Rattle.ti_source.specs.Described.{Described};
+    ghost use Rattle.ti_source.specs.Code.Kept.{AreKept, described_of};
     ghost use Rattle.ti_source.specs.Resolving.Named.{AreIndexed};
 
     ghost Value = { List Described };
 
-    ghost view = { λ e. e.items.items };
+    ghost view = { λ e. described_of e.names e.statements e.uses };
 
-    ghost invariant = { λ e. AreIndexed (λ k. k.items) e.indices.entries e.items.items };
+    ghost invariant = { λ e. AreKept e.names e.statements e.uses × AreIndexed (λ k. k.items) e.indices.entries (described_of e.names e.statements e.uses) };
 }
 
 impl Entries {
@@ -42,7 +51,9 @@ impl Entries {
         ensures { result ≡ [] }
     {
         Entries {
-            items: Vec::new(alloc),
+            names: Parts::new(alloc),
+            statements: Parts::new(alloc),
+            uses: Parts::new(alloc),
             indices: IndexMap::with_hasher(alloc, hasher),
         }
     }
@@ -51,22 +62,39 @@ impl Entries {
     pub(crate) fn with_entry(
         self,
         alloc: Global,
-        entry: StoredEntry,
+        entry: SourceEntry,
     ) -> Result<Entries, SourceFault>
         ensures { Gives result (Ok (self ++ entry ∷ [])) }
     {
         let Entries {
-            mut items,
+            names,
+            statements,
+            uses,
             mut indices,
         } = self;
-        put_names(
-            alloc,
-            &mut indices,
-            entry.names(),
-            index_after(items.len())?,
-        )?;
-        items.push(entry)?;
-        Ok(Entries { items, indices })
+        let (own_names, own_statements, own_uses) = entry.into_parts();
+        put_names(alloc, &mut indices, &own_names, index_after(names.len())?)?;
+        Ok(Entries {
+            names: names.with(own_names)?,
+            statements: statements.with(own_statements)?,
+            uses: uses.with(own_uses)?,
+            indices,
+        })
+    }
+
+    /// The number of entries.
+    pub(crate) fn len(&self) -> usize
+        ensures { result ≡ length self.now }
+    {
+        self.names.len()
+    }
+
+    /// The entry at an index.
+    pub(crate) fn at(&self, i: usize) -> EntryView<'_>
+        requires { i < length self.now }
+        ensures { slice_get self.now i ≡ Some result }
+    {
+        EntryView::new(self.names.at(i), self.statements.at(i), self.uses.at(i))
     }
 
     /// Whether any entry has one of these names as a reference name.
@@ -94,12 +122,6 @@ impl Entries {
             Some(index) => Some(*index as usize),
             None => None,
         }
-    }
-
-    pub(crate) fn as_slice(&self) -> &[StoredEntry]
-        ensures { result.now ≡ self.now }
-    {
-        self.items.as_slice()
     }
 
     /// Whether any entry has this reference name.

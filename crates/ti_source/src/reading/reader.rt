@@ -132,7 +132,6 @@ impl ReaderState {
             return Ok(ReadSource { entries, notes });
         };
         let OpenEntry { entry, notes } = open_entry;
-        let entry = entry.stored(alloc)?;
         let entries = done.with_entry(alloc, entry)?;
         Ok(ReadSource { entries, notes })
     }

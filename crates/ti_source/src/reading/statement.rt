@@ -4,7 +4,7 @@ ghost use Rattle.std.specs.Prelude.{◌≡◌, ◌≤◌, ◌<◌, ◌∷◌, []
 ghost use Rattle.std.specs.List.{list_any};
 ghost use Rattle.ti_source.specs.Reading.Sources.{concerns};
 ghost use Rattle.ti_source.specs.Result.{Becomes, Gives};
-ghost use Rattle.ti_source.specs.Described.{AreGood, IsGood};
+ghost use Rattle.ti_source.specs.Described.{AreGood, IsDescribed, IsGood};
 ghost use Rattle.ti_source.specs.Code.FirstFields.{ordinal};
 ghost use Rattle.ti_source.specs.Code.Marked.{AreMarked};
 ghost use Rattle.ti_caps.specs.Table.{same_kind};
@@ -12,8 +12,6 @@ ghost use Rattle.ti_caps.specs.Names.{are_names};
 
 use crate::faults::SourceFault;
 use crate::ordinals::{CAPABILITIES, ordinal};
-use crate::reading::stored_entry::StoredEntry;
-use smallvec::SmallVec;
 use std::alloc::{AllocError, Global};
 use std::marker::Model;
 use ti_caps::{Bytes, Kind, Slot};
@@ -112,31 +110,26 @@ impl SourceEntry {
         Ok(())
     }
 
-    /// The entry as it is stored: without its marks and spare room, which only serve reading more
-    /// fields.
-    pub(crate) fn stored(self, alloc: Global) -> Result<StoredEntry, SourceFault>
-        ensures { Gives result (Ok self) }
+    /// The names, statements and uses.
+    pub(crate) fn into_parts(self) -> (Vec<u8>, Vec<Statement>, Vec<Bytes>)
+        ensures names { result.0.items ≡ self.names }
+        ensures statements { result.1.items ≡ self.statements }
+        ensures uses { result.2.items ≡ self.uses }
+        ensures described { IsDescribed self }
     {
         let SourceEntry {
             names,
-            mut statements,
-            mut uses,
+            statements,
+            uses,
             marks: _,
         } = self;
-        statements.shrink_to_fit();
-        uses.shrink_to_fit();
-        let names = SmallVec::from_slice(alloc, names.0.as_slice())?;
-        Ok(StoredEntry::new(alloc, names, statements, uses)?)
+        (names.0, statements, uses)
     }
 
     pub(crate) fn put_use(&mut self, other: Bytes) -> Result<(), SourceFault>
         requires { length self.old.uses < 32 }
         ensures { Becomes result (Ok (record self.old { uses = self.old.uses ++ other ∷ [] })) self.new }
     {
-        // Most entries have one use: they get room for exactly one, so that none is wasted.
-        if self.uses.is_empty() {
-            self.uses.reserve_exact(1)?;
-        }
         self.uses.push(other)?;
         Ok(())
     }
@@ -159,15 +152,11 @@ fn no_marks(alloc: Global, count: usize) -> Result<Vec<bool>, AllocError>
     vec![in alloc; false; count]
 }
 
-/// Adds a statement. The first one gets room for exactly one, so that none is wasted if it stays
-/// the only one.
+/// Adds a statement.
 fn push_statement(statements: &mut Vec<Statement>, statement: Statement) -> Result<(), AllocError>
     ensures ok { OnOk result (statements.new.items ≡ statements.old.items ++ statement ∷ []) }
     ensures err { OnErr result (statements.new.items ≡ statements.old.items) }
 {
-    if statements.is_empty() {
-        statements.reserve_exact(1)?;
-    }
     statements.push(statement)?;
     Ok(())
 }

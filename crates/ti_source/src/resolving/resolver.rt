@@ -11,7 +11,7 @@ ghost use Rattle.ti_source.specs.Code.Walk.{FaultAt, ResolvedAt};
 
 use crate::faults::SourceFault;
 use crate::reading::entries::Entries;
-use crate::reading::stored_entry::StoredEntry;
+use crate::reading::entry_view::EntryView;
 use crate::resolving::fields::Fields;
 use crate::resolving::merge::merge;
 use crate::resolving::walk::Walk;
@@ -78,7 +78,7 @@ impl<'a> Resolver<'a> {
     {
         let entries = self.entries;
         if let Some(entry) = without_uses(entries, index) {
-            return alone(alloc, entry);
+            return alone(alloc, &entry);
         }
         let mut walk = match self.walk.take() {
             Some(walk) => walk,
@@ -132,11 +132,14 @@ pub fn entries_pass_on()
 {}
 
 /// The entry at an index, if it uses no other.
-fn without_uses(entries: &Entries, index: Option<usize>) -> Option<&StoredEntry>
-    ensures { IfSome result (λ e. StandsAlone entries.now index e.now) }
+fn without_uses(entries: &Entries, index: Option<usize>) -> Option<EntryView<'_>>
+    ensures { IfSome result (λ e. StandsAlone entries.now index e) }
 {
     let i = index?;
-    let entry = entries.as_slice().get(i)?;
+    if i >= entries.len() {
+        return None;
+    }
+    let entry = entries.at(i);
     if entry.uses().is_empty() {
         Some(entry)
     } else {
@@ -145,7 +148,7 @@ fn without_uses(entries: &Entries, index: Option<usize>) -> Option<&StoredEntry>
 }
 
 /// An entry that uses no other, resolved.
-fn alone(alloc: Global, entry: &StoredEntry) -> Result<Entry, SourceFault>
+fn alone(alloc: Global, entry: &EntryView<'_>) -> Result<Entry, SourceFault>
     ensures ok { IfOk result (λ e. e ≡ merged entry.now []) }
     ensures err { IfErr result (λ f. f ≡ SourceFault.NoMemory) }
 {

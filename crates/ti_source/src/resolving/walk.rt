@@ -7,7 +7,7 @@ ghost use Rattle.ti_source.specs.Result.{Stops};
 
 use crate::faults::SourceFault;
 use crate::reading::entries::Entries;
-use crate::reading::stored_entry::StoredEntry;
+use crate::reading::entry_view::EntryView;
 use crate::resolving::fields::Fields;
 use crate::resolving::first_fields::effective_fields;
 use crate::resolving::merge::merge;
@@ -51,7 +51,7 @@ impl<'a> Walk<'a> {
         ensures err { IfErr result (λ f. f ≡ SourceFault.NoMemory) }
     {
         Ok(Walk {
-            marks: new_marks(alloc, entries.as_slice().len())?,
+            marks: new_marks(alloc, entries.len())?,
             kept: Vec::new(alloc),
             tasks: Vec::new(alloc),
         })
@@ -127,7 +127,7 @@ impl<'a> Walk<'a> {
     {
         let i = index.unwrap();
         let position = done_at(&self.marks, index).unwrap();
-        let entry = &entries.as_slice()[i];
+        let entry = entries.at(i);
         merge(alloc, entry.names(), &self.kept[position])
     }
 
@@ -139,7 +139,7 @@ impl<'a> Walk<'a> {
         ensures err { IfErr result (λ f. f ≡ SourceFault.NoMemory) }
         ensures kept { OnErr result ((self.new.marks.items ≡ self.old.marks.items) × (self.new.kept.items ≡ self.old.kept.items)) }
     {
-        let entry = &entries.as_slice()[i];
+        let entry = entries.at(i);
         self.tasks.push(Task::Leave(i))?;
         put_visits(&mut self.tasks, entries, entry.uses())?;
         self.marks[i] = Mark::Open;
@@ -169,13 +169,13 @@ impl<'a> Walk<'a> {
         ensures err { IfErr result (λ f. f ≡ SourceFault.NoMemory) }
         ensures kept { OnErr result ((self.new.marks.items ≡ self.old.marks.items) × (self.new.kept.items ≡ self.old.kept.items)) }
     {
-        let entry = &entries.as_slice()[i];
-        if let Some(position) = passed_on(entries, &self.marks, entry) {
+        let entry = entries.at(i);
+        if let Some(position) = passed_on(entries, &self.marks, &entry) {
             self.marks[i] = Mark::Done(position);
             return Ok(());
         }
         let position = self.kept.len();
-        let fields = gathered(alloc, entries, &self.marks, &self.kept, entry)?;
+        let fields = gathered(alloc, entries, &self.marks, &self.kept, &entry)?;
         self.kept.push(effective_fields(alloc, &fields)?)?;
         self.marks[i] = Mark::Done(position);
         Ok(())
@@ -258,7 +258,7 @@ fn put_visits(tasks: &mut Vec<Task>, entries: &Entries, uses: &[Bytes]) -> Resul
 
 /// Where the fields of an entry are kept that has none of its own and exactly one use: with the
 /// used entry, which is done.
-fn passed_on(entries: &Entries, marks: &[Mark], entry: &StoredEntry) -> Option<usize>
+fn passed_on(entries: &Entries, marks: &[Mark], entry: &EntryView<'_>) -> Option<usize>
     ensures { IfSome result (λ k. PassesOn entries.now marks.now entry.now k) }
 {
     done_at(marks, entries.index_of(entry.only_use()?))
@@ -276,11 +276,11 @@ fn made(
     ensures ok { IfOk result (λ e. ResolvedAt entries.now (Some i) e) }
     ensures err { IfErr result (λ f. f ≡ SourceFault.NoMemory) }
 {
-    let entry = &entries.as_slice()[i];
-    if let Some(position) = passed_on(entries, marks, entry) {
+    let entry = entries.at(i);
+    if let Some(position) = passed_on(entries, marks, &entry) {
         return merge(alloc, entry.names(), &kept[position]);
     }
-    let fields = gathered(alloc, entries, marks, kept, entry)?;
+    let fields = gathered(alloc, entries, marks, kept, &entry)?;
     merge(alloc, entry.names(), &effective_fields(alloc, &fields)?)
 }
 
@@ -290,7 +290,7 @@ fn gathered<'a>(
     entries: &Entries,
     marks: &[Mark],
     kept: &[Fields<'a>],
-    entry: &'a StoredEntry,
+    entry: &EntryView<'a>,
 ) -> Result<Fields<'a>, AllocError>
     requires known { AreKnown marks.now (map (index_of entries.now) entry.now.uses) }
     requires kept { Keeps entries.now marks.now kept.now }

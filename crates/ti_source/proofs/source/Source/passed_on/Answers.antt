@@ -1,20 +1,21 @@
 use Rattle.std.proofs.Common.{◌∙◌, subst, sym}
 use Rattle.ti_source.specs.Reading.Sources.{Whole}
 use Rattle.ti_source.specs.Resolving.Passing.{IsPassedOn}
-use Rattle.ti_source.proofs.AloneLaws.{found-in}
-use Rattle.ti_source.proofs.TaskLaws.{found-at}
+use Rattle.ti_source.proofs.TaskLaws.{found-at, index-there}
 use Rattle.ti_source.proofs.source.Source.passed_on.Goals as goal
 
 pub returns-clause-passes : goal.returns-clause-passes
 returns-clause-passes c =
     let entries = c.self.inside.entries in
-    let entry = c.in_ok-entry.entry.now in
-    let at = found-in entries c.as_slice.result.now c.in_ok-i.i entry _ c.as_slice.ensures (sym c.in_ok-entry.ensures.lookup.0) c.in_ok-entry.ensures.lookup.1 in
+    let entry = c.at-entry.result in
     subst (λ (s : Whole). IsPassedOn s.entries c.args.name.now c.names.result.now c.in_ok-only_use.field-0.now) c.self.view_is
     (record {
       found = (c.in_ok-i.i, entry);
-      finds = found-at entries c.args.name.now c.in_ok-i.i entry (sym c.index_of.ensures ∙ c.in_ok-i.was) at;
+      finds = found-at entries c.args.name.now c.in_ok-i.i entry (sym c.index_of.ensures ∙ c.in_ok-i.was) c.at-entry.ensures;
       names = sym c.names.ensures.value;
       none = c.in_ok-only_use.ensures.0;
       uses = c.in_ok-only_use.ensures.1;
     })
+
+pub at-entry-requires : goal.at-entry-requires
+at-entry-requires c = index-there c.self.inside.entries c.args.name.now c.in_ok-i.i (sym c.index_of.ensures ∙ c.in_ok-i.was)
