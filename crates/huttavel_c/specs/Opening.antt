@@ -1,6 +1,7 @@
 -- Opening and closing a handle.
 use Rattle.std.specs.Prelude.{ℕ, ◌≡◌, ◌⊎◌, [], List, Option, Some, None, MatchOption}
 use Rattle.scr_cells.specs.declared.sizes.Size.{Size}
+use Rattle.scr_term.specs.Operations.Admission.{IsSuitable}
 use Rattle.scr_term.specs.declared.operations.profile_faults.ProfileFault.{ProfileFault}
 use Rattle.scr_term.specs.declared.operations.profile_faults.ProfileFault.TheVariants as profiles
 use Rattle.ti_binary.specs.declared.faults.BinFault.{BinFault}
@@ -73,9 +74,9 @@ fresh_writer = record { taken = Some []; failed_puts = 0; failed_finishes = 0 }
 abbrev pub IsOpenedOn : Description → Option Size → Session → Type 0
 IsOpenedOn entry size session = IsOpened entry size session.screen × (writer session ≡ fresh_writer)
 
--- None was opened.
+-- None was opened. Memory runs out only for an entry that makes a screen of some size.
 abbrev pub IsUnopenedOn : Description → Option Size → Reply → Type 0
-IsUnopenedOn entry size reply = (fault : OpenFault) × IsUnopened entry size fault × (reply ≡ open_reply fault)
+IsUnopenedOn entry size reply = (fault : OpenFault) × IsUnopened entry size fault × (fault ≡ NoMemory → IsSuitable entry) × (reply ≡ open_reply fault)
 
 -- A screen just opened on the terminal of an entry that is known so, of the size that is given.
 pub record IsOpenedFrom (IsKnown : Description → Type 0) (rows columns : ℕ) (session : Session) : Type 0 where
