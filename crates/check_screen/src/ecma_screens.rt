@@ -20,17 +20,31 @@ pub fn answer_of_ecma(
     words: &mut Words<'_>,
     came: &mut Buffer,
 ) -> bool {
-    match (word, screen) {
-        ("screen", screen) => {
-            if let Some(size) = read_size(words) {
-                keep(EcmaScreen::new(alloc, size), screen, came);
-            }
+    if word == "screen" {
+        if let Some(size) = read_size(words) {
+            keep(EcmaScreen::new(alloc, size), screen, came);
         }
-        ("feed", Some(screen)) => feed(alloc, screen, words, came),
-        ("cuts", Some(screen)) => add_cuts(alloc, screen.size(), words, came),
-        ("undefined_after", Some(screen)) => add_undefined_after(alloc, screen.size(), words, came),
-        (word, Some(screen)) => return ask(alloc, screen, word, words, came),
-        (_, None) => return false,
+        return true;
+    }
+    match screen {
+        Some(screen) => answer_of_made(alloc, screen, word, words, came),
+        None => false,
+    }
+}
+
+// The lines about a screen that there is.
+fn answer_of_made(
+    alloc: Global,
+    screen: &mut EcmaScreen,
+    word: &str,
+    words: &mut Words<'_>,
+    came: &mut Buffer,
+) -> bool {
+    match word {
+        "feed" => feed(alloc, screen, words, came),
+        "cuts" => add_cuts(alloc, screen.size(), words, came),
+        "undefined_after" => add_undefined_after(alloc, screen.size(), words, came),
+        _ => return ask(alloc, screen, word, words, came),
     }
     true
 }

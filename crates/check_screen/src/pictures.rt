@@ -96,7 +96,9 @@ fn put(picture: &mut Picture, word: &str, words: &mut Words<'_>) -> Result<(), T
         _ => column.saturating_add(1),
     };
     let (byte, attrs, pair) = read_parts(words);
-    let cell = Cell::paired(byte, attrs, pair).ok_or(Trouble::Bad("no cell"))?;
+    let Some(cell) = Cell::paired(byte, attrs, pair) else {
+        return Err(Trouble::Bad("no cell"));
+    };
     if word == "put_row" {
         return put_row(picture, row, column, cell);
     }

@@ -30,7 +30,7 @@ enum Form {
 }
 
 /// What a repaint is made of.
-#[derive(Drop)]
+#[derive(Clone, Copy)]
 pub struct Scene<'a> {
     /// The terminal's operations.
     pub profile: &'a Option<Profile>,
@@ -38,18 +38,17 @@ pub struct Scene<'a> {
     pub picture: &'a Option<Picture>,
     /// What is remembered.
     pub memory: &'a Option<Memory>,
-    /// What does the operations of the joined repaint.
-    pub terminal: &'a mut Option<Terminal>,
-    /// What is fed.
-    pub screen: &'a mut Option<EcmaScreen>,
 }
 
 /// The lines `scratch`, `painted`, `painted_count`, `feed_painted`, `joined`, `joined_count`, `plain`, `plain_texts`
 /// and `plain_count`: operations by their names, each by its bytes and how many there are, or how many operations and
-/// how many bytes there are; and `scratch_bytes`, all bytes of the first. Tells whether a line is one of them.
+/// how many bytes there are; and `scratch_bytes`, all bytes of the first. The terminal does the joined repaint. Tells
+/// whether a line is one of them.
 pub fn answer_of_repaint(
     alloc: Global,
-    scene: &mut Scene<'_>,
+    scene: &Scene<'_>,
+    terminal: &mut Option<Terminal>,
+    screen: &mut Option<EcmaScreen>,
     word: &str,
     words: &mut Words<'_>,
     came: &mut Buffer,
@@ -65,34 +64,40 @@ pub fn answer_of_repaint(
         }
         _ => return false,
     };
-    words.check(add_repaint(alloc, scene, word, form, came));
+    words.check(add_repaint(alloc, scene, terminal, screen, word, form, came));
     true
 }
 
 // Adds the operations of a line.
 fn add_repaint(
     alloc: Global,
-    scene: &mut Scene<'_>,
+    scene: &Scene<'_>,
+    terminal: &mut Option<Terminal>,
+    screen: &mut Option<EcmaScreen>,
     word: &str,
     form: Form,
     came: &mut Buffer,
 ) -> Result<(), Trouble> {
     let made = match word {
-        "joined" | "joined_count" => joined_of(alloc, scene),
+        "joined" | "joined_count" => joined_of(alloc, scene, terminal),
         "plain" | "plain_texts" | "plain_count" => plain_of(alloc, scene),
         _ => scratch_of(alloc, scene),
     };
     match made {
-        Ok(ops) => add_ops(alloc, ready(scene.profile)?, &ops, scene.screen, form, came),
+        Ok(ops) => add_ops(alloc, ready(scene.profile)?, &ops, screen, form, came),
         Err(Trouble::NoMemory) => add_word("NoMemory", came),
         Err(trouble) => return Err(trouble),
     }
     Ok(())
 }
 
-fn joined_of(alloc: Global, scene: &mut Scene<'_>) -> Result<Ops, Trouble> {
+fn joined_of(
+    alloc: Global,
+    scene: &Scene<'_>,
+    terminal: &mut Option<Terminal>,
+) -> Result<Ops, Trouble> {
     let (profile, picture) = (ready(scene.profile)?, ready_picture(scene.picture)?);
-    match scene.terminal {
+    match terminal {
         Some(terminal) => joined_on(alloc, profile, terminal, picture),
         None => Err(Trouble::Bad("no terminal")),
     }

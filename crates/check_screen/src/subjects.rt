@@ -190,18 +190,23 @@ impl Terminals {
             || answer_of_picture(alloc, &mut self.picture, word, words, came)
             || answer_of_ecma(alloc, screen, word, words, came)
             || answer_of_script(alloc, screen, word, words, came)
-            || answer_of_repaint(alloc, &mut self.scene(), word, words, came)
+            || self.answer_of_repaint(alloc, word, words, came)
     }
 
-    // What a repaint is made of.
-    fn scene(&mut self) -> Scene<'_> {
-        Scene {
+    fn answer_of_repaint(
+        &mut self,
+        alloc: Global,
+        word: &str,
+        words: &mut Words<'_>,
+        came: &mut Buffer,
+    ) -> bool {
+        let scene = Scene {
             profile: &self.profile,
             picture: &self.picture,
             memory: &self.memory,
-            terminal: &mut self.terminal,
-            screen: &mut self.screen,
-        }
+        };
+        let (terminal, screen) = (&mut self.terminal, &mut self.screen);
+        answer_of_repaint(alloc, &scene, terminal, screen, word, words, came)
     }
 
     fn dump(&self, bytes: &mut Buffer) {
