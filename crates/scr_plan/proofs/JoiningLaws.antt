@@ -62,7 +62,7 @@ idle_joined profile old next (op ∷ xs) ys run = by (step profile old op) refl 
 
     kept : (mid : TerminalState) → step profile old op ≡ Some mid → without_idle profile mid (xs ++ ys) ≡ without_idle profile mid xs ++ without_idle profile next ys → (b : Bool) → is_idle old op ≡ b
         → (if b then without_idle profile old (xs ++ ys) else op ∷ without_idle profile (state_after profile old op) (xs ++ ys))
-            ≡ (if b then without_idle profile old xs else op ∷ without_idle profile (state_after profile old op) xs) ++ without_idle profile next ys
+        ≡ (if b then without_idle profile old xs else op ∷ without_idle profile (state_after profile old op) xs) ++ without_idle profile next ys
     kept mid there rest true idle =
         let same : mid ≡ old = idle_same profile old mid op idle there in
         subst (λ s. without_idle profile s (xs ++ ys) ≡ without_idle profile s xs ++ without_idle profile next ys) same rest
@@ -72,7 +72,7 @@ idle_joined profile old next (op ∷ xs) ys run = by (step profile old op) refl 
     by : (mid : Option TerminalState) → step profile old op ≡ mid → ((mid : TerminalState) → runs profile mid xs ≡ Some next → without_idle profile mid (xs ++ ys) ≡ without_idle profile mid xs ++ without_idle profile next ys)
         → option_and_then (λ s. runs profile s xs) mid ≡ Some next
         → (if is_idle old op then without_idle profile old (xs ++ ys) else op ∷ without_idle profile (state_after profile old op) (xs ++ ys))
-            ≡ (if is_idle old op then without_idle profile old xs else op ∷ without_idle profile (state_after profile old op) xs) ++ without_idle profile next ys
+        ≡ (if is_idle old op then without_idle profile old xs else op ∷ without_idle profile (state_after profile old op) xs) ++ without_idle profile next ys
     by None there more rest = never rest
     by (Some mid) there more rest = kept mid there (more mid rest) (is_idle old op) refl
 

@@ -15,7 +15,7 @@ loop-op-preserved c =
       rows = c.loop-op.invariant.rows ∙ stays.0;
       columns = c.loop-op.invariant.columns ∙ stays.1;
       kept =
-        sym (ap (λ n. c.add_unless_idle.new.kept.items ++ without_idle profile c.add_unless_idle.new.terminal.state (drop n c.args.ops.now)) next)
-        ∙ more_kept profile c.loop-op.terminal c.add_unless_idle.new.terminal _ _ _ c.loop-op.kept.items c.add_unless_idle.new.kept.items _ (drop-cons c.args.ops.now c.loop-op.op-index _ c.loop-op-test.true) made led c.loop-op.invariant.kept;
+          sym (ap (λ n. c.add_unless_idle.new.kept.items ++ without_idle profile c.add_unless_idle.new.terminal.state (drop n c.args.ops.now)) next)
+          ∙ more_kept profile c.loop-op.terminal c.add_unless_idle.new.terminal _ _ _ c.loop-op.kept.items c.add_unless_idle.new.kept.items _ (drop-cons c.args.ops.now c.loop-op.op-index _ c.loop-op-test.true) made led c.loop-op.invariant.kept;
       terminal = one_executed profile c.args.terminal.now.state c.loop-op.terminal c.add_unless_idle.new.terminal c.args.terminal.now _ c.loop-op.kept.items c.add_unless_idle.new.kept.items c.loop-op.invariant.terminal made led;
     }

@@ -5,12 +5,12 @@ use Rattle.curses.proofs.screens.Screen.forget.Goals as goal
 
 pub invariant_of-self : goal.invariant_of-self
 invariant_of-self c = (
-    record {
-      desk_rows = c.self.invariant.0.desk_rows;
-      desk_columns = c.self.invariant.0.desk_columns;
-      memory = subst (λ memory. IsRemembered c.self.inside.profile memory c.self.inside.wanted) (sym c.forget.ensures)
-          (remembers_nothing c.up_to_date_laws.ensures c.memory_laws.ensures c.self.inside.profile c.self.inside.memory c.self.inside.wanted c.self.invariant.0.memory);
-    },
-    c.self.invariant.1,
-    c.self.invariant.2,
-  )
+  record {
+    desk_rows = c.self.invariant.0.desk_rows;
+    desk_columns = c.self.invariant.0.desk_columns;
+    memory = subst (λ memory. IsRemembered c.self.inside.profile memory c.self.inside.wanted) (sym c.forget.ensures)
+        (remembers_nothing c.up_to_date_laws.ensures c.memory_laws.ensures c.self.inside.profile c.self.inside.memory c.self.inside.wanted c.self.invariant.0.memory);
+  },
+  c.self.invariant.1,
+  c.self.invariant.2,
+)
