@@ -4,6 +4,7 @@
 #![tactic(auto)]
 
 mod answers;
+mod chains;
 mod changes;
 mod cuts;
 mod database;

@@ -4,6 +4,7 @@ use crate::answers::{
     add_entry, add_entry_if_any, add_note, add_notes, add_number_if_any, add_refusal, add_size,
     add_text_if_any, is_taken_back, keep,
 };
+use crate::chains::{add_beginnings, write_chain};
 use check_harness::answers::{add_text, add_word};
 use check_harness::buffers::Buffer;
 use check_harness::troubles::Trouble;
@@ -13,7 +14,8 @@ use ti_caps::{Entry, Slot};
 use ti_compile::{Compiled, CompiledEntry, EntryCompiler, TicFault};
 use ti_source::{Resolver, Source, SourceFault};
 
-/// The line `source TEXT`, and those about the source that there is. Tells whether a line is one of them.
+/// The lines `source TEXT`, `chained COUNT USES LAST` and `source-cuts TEXT`, and those about the source that there is.
+/// Tells whether a line is one of them.
 pub fn answer_of_source(
     alloc: Global,
     source: &mut Option<Source>,
@@ -23,7 +25,18 @@ pub fn answer_of_source(
     came: &mut Buffer,
 ) -> bool {
     match word {
-        "source" => read_source(alloc, source, words, text, came),
+        "source" => {
+            words.text(text);
+            read_source(alloc, source, words, text, came);
+        }
+        "chained" => {
+            write_chain(alloc, words, text);
+            read_source(alloc, source, words, text, came);
+        }
+        "source-cuts" => {
+            words.text(text);
+            words.check(add_beginnings(alloc, text.bytes(), came));
+        }
         "take-notes" => take_notes(source, words, came),
         "listed" | "notes" | "resolver" | "compiler" => match source {
             Some(source) => show(alloc, source, word, words, text, came),
@@ -38,10 +51,10 @@ fn read_source(
     alloc: Global,
     source: &mut Option<Source>,
     words: &mut Words<'_>,
-    text: &mut Buffer,
+    text: &Buffer,
     came: &mut Buffer,
 ) {
-    words.text(text);
+    words.check(text.done());
     if keep(ti_source::read(alloc, text.bytes()), source, came) {
         add_length(source, words, came);
     }
