@@ -1,4 +1,4 @@
--- Beginning and ending a program's use of a screen: what is sent, and what a fault leaves. X/Open Curses Issue 7,
+-- Beginning and ending a program's use of a screen: what is sent, and what an error leaves. X/Open Curses Issue 7,
 -- initscr(), endwin(); terminfo(5), 'Cursor Motions' and 'Keypad and Function Keys'.
 use Rattle.std.specs.Prelude.{ℕ, ◌≡◌, ◌≢◌, ◌≤◌, ◌-◌, ◌⊎◌, true, List, [], ◌∷◌, ◌++◌, length, take, Some}
 use Rattle.scr_cells.specs.PenViews.{plain_pen}
@@ -45,9 +45,9 @@ AlwaysClosesPlain profile = (state : TerminalState) → IsState (abilities profi
 abbrev pub ClosingLaws : Type 0
 ClosingLaws = (profile : ProfileView) → IsProfile profile → AlwaysClosesPlain profile
 
--- ---- operations, and a text behind them
+-- ---- operations, and a text after them
 
--- What was owed, the texts of the operations and the text were all taken.
+-- What was owed, the texts of the operations and the text were all accepted.
 pub record AreSent (profile : ProfileView) (ops : List Op) (text owed : List ℕ) (old new : WriterView) (count : ℕ) (rest : List ℕ) : Type 0 where
   pub cut : IsCut owed (all_bytes profile ops ++ text) old.taken new.taken count rest
   pub nothing : rest ≡ []

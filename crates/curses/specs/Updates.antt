@@ -1,4 +1,4 @@
--- An update: what it sends, what the terminal shows after it, and what a fault leaves. curs_refresh(3X), doupdate();
+-- An update: what it sends, what the terminal shows after it, and what an error leaves. curs_refresh(3X), doupdate();
 -- X/Open Curses Issue 7, doupdate().
 use Rattle.std.specs.Prelude.{ℕ, ◌≡◌, ◌≢◌, ◌≤◌, true, List, [], ◌∷◌, length, take, Some}
 use Rattle.scr_term.specs.declared.operations.operation.Op.{Op}
@@ -29,9 +29,9 @@ IsOfOneText profile owed [] rest = length rest ≤ length owed
 IsOfOneText profile owed (op ∷ []) rest = length rest ≤ length (bytes_of profile op)
 IsOfOneText profile owed (op ∷ next ∷ ops) rest = IsOfOneText profile owed (next ∷ ops) rest
 
--- What an update sent: what was owed, then the texts of the operations that it began, as far as the writer took them.
--- At most one text is owed after it. The operations are defined from every state of the terminal that agrees with what
--- was known of it.
+-- What an update sent: what was owed, then the texts of the operations that it began, as far as the writer accepted
+-- them. At most one text is owed after it. The operations are defined from every state of the terminal that agrees with
+-- what was known of it.
 pub record IsSent (profile : ProfileView) (memory : MemoryView) (owed : List ℕ) (old new : WriterView) (begun : List Op) (count : ℕ) (rest : List ℕ) : Type 0 where
   pub cut : IsCut owed (all_bytes profile begun) old.taken new.taken count rest
   pub one : IsOfOneText profile owed begun rest
@@ -72,13 +72,13 @@ pub record IsUnfinished (profile : ProfileView) (memory : MemoryView) (virtual :
   pub puts : new.failed_puts ≡ old.failed_puts
   pub finishes : new.failed_finishes ≡ counted true old.failed_finishes
 
--- What each fault says about what was sent; if memory ran out, nothing was.
+-- What each error says about what was sent; if memory ran out, nothing was.
 abbrev pub AfterFault : ProfileView → MemoryView → VirtualView → List ℕ → WriterView → WriterView → UpdateFault → List ℕ → Type 0
 AfterFault profile memory virtual owed old new NoMemory rest = (rest ≡ owed) × (new ≡ old)
 AfterFault profile memory virtual owed old new (Write begun sent kind) rest = IsCutShort profile memory virtual owed old new begun sent rest
 AfterFault profile memory virtual owed old new (Flush begun sent kind) rest = IsUnfinished profile memory virtual owed old new begun sent rest
 
--- The operations begun before the fault.
+-- The operations begun before the error.
 abbrev pub begun_before : UpdateFault → List Op
 begun_before NoMemory = []
 begun_before (Write begun sent kind) = begun
@@ -88,7 +88,7 @@ begun_before (Flush begun sent kind) = begun
 abbrev pub IsDefinedAnew : ProfileView → VirtualView → List Op → Type 0
 IsDefinedAnew profile virtual begun = virtual.repaint ≡ true → (state : TerminalState) → IsState (abilities profile) state → IsDefined profile state begun
 
--- What is known of the terminal after a fault: nothing, unless memory ran out, which leaves it as it was.
+-- What is known of the terminal after an error: nothing, unless memory ran out, which leaves it as it was.
 abbrev pub memory_after : UpdateFault → MemoryView → MemoryView
 memory_after NoMemory memory = memory
 memory_after (Write begun sent kind) memory = forgotten memory

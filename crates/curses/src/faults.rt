@@ -1,4 +1,4 @@
-//! The faults of opening, updating, starting and closing a screen, and what an update that ended well has sent.
+//! The errors of opening, updating, starting and closing a screen, and what an update that ended well has sent.
 use scr_cells::NoMemory;
 use scr_term::{Ops, ProfileFault};
 use std::alloc::{AllocError, AllocFailed};
@@ -9,7 +9,7 @@ use ti_caps::Slot;
 /// Why a screen was not opened, or its opening or closing text not made.
 #[derive(Clone, Copy, Debug, PartialEq, Eq, Error)]
 pub enum OpenFault {
-    /// The terminal's entry and size make no profile, or its opening or closing text cannot be run. The fault inside is
+    /// The terminal's entry and size make no profile, or its opening or closing text cannot be run. The error inside is
     /// never `NoMemory`.
     #[error("{0}")]
     Profile(ProfileFault),
@@ -24,9 +24,9 @@ pub enum OpenFault {
 /// What an update that ended well has sent.
 #[derive(Debug, Drop)]
 pub struct Sent {
-    /// The operations of its plan. The writer took the text of each of them whole.
+    /// The operations of its plan. The writer accepted the text of each of them whole.
     pub begun: Ops,
-    /// How many bytes the writer took, including those that were owed before.
+    /// How many bytes the writer accepted, including those that were owed before.
     pub bytes: u64,
 }
 
@@ -36,24 +36,24 @@ pub enum UpdateFault {
     /// Memory ran out before anything was sent.
     #[error("out of memory")]
     NoMemory,
-    /// A write failed or took nothing. What was not taken of the text that it cut is *owed*: the next call that sends
-    /// something sends it first.
+    /// A write failed or accepted nothing. What was not accepted of the text that it cut is *owed*: the next call that
+    /// sends something sends it first.
     #[error("write failed")]
     Write {
         /// The operations whose text was tried, the last of them perhaps taken in part; none if the write of owed bytes
         /// failed.
         begun: Ops,
-        /// How many bytes the writer took, including those that were owed before.
+        /// How many bytes the writer accepted, including those that were owed before.
         sent: u64,
-        /// The kind of the error that the write gave; `WriteZero` if it took nothing.
+        /// The kind of the error that the write gave; `WriteZero` if it accepted nothing.
         kind: ErrorKind,
     },
-    /// Everything was taken, and the flush failed. Nothing is owed.
+    /// Everything was accepted, and the flush failed. Nothing is owed.
     #[error("flush failed")]
     Flush {
         /// The operations that were begun.
         begun: Ops,
-        /// How many bytes the writer took.
+        /// How many bytes the writer accepted.
         sent: u64,
         /// The kind of the error that the flush gave.
         kind: ErrorKind,
@@ -63,19 +63,19 @@ pub enum UpdateFault {
 /// Why `start` or `close` did not send everything. Windows, virtual screen and requested repaints stay as they were.
 #[derive(Clone, Copy, Debug, PartialEq, Eq, Error)]
 pub enum SendFault {
-    /// A write failed or took nothing. What was not taken of the text that it cut is owed: the next call that sends
-    /// something sends it first.
+    /// A write failed or accepted nothing. What was not accepted of the text that it cut is owed: the next call that
+    /// sends something sends it first.
     #[error("write failed")]
     Write {
-        /// How many bytes the writer took, including those that were owed before.
+        /// How many bytes the writer accepted, including those that were owed before.
         sent: u64,
-        /// The kind of the error that the write gave; `WriteZero` if it took nothing.
+        /// The kind of the error that the write gave; `WriteZero` if it accepted nothing.
         kind: ErrorKind,
     },
-    /// Everything was taken, and the flush failed. Nothing is owed.
+    /// Everything was accepted, and the flush failed. Nothing is owed.
     #[error("flush failed")]
     Flush {
-        /// How many bytes the writer took.
+        /// How many bytes the writer accepted.
         sent: u64,
         /// The kind of the error that the flush gave.
         kind: ErrorKind,

@@ -16,7 +16,7 @@ impl Screen {
     /// of the terminal wait for more.
     ///
     /// Refused: QueueFull if the keys queued and those that it decides would be more than 16 plus the number of bytes
-    /// of the longest key; nothing is taken then, not even the byte. X/Open Curses Issue 7, getch(), keypad().
+    /// of the longest key; nothing is read then, not even the byte. X/Open Curses Issue 7, getch(), keypad().
     pub fn key_byte(&mut self, byte: u8) -> Result<(), KeyFault>
         ensures { OnKeys self.old self.new result (byte_read self.old.keys byte) }
     {

@@ -19,7 +19,7 @@ pub use starting::closing_laws;
 pub use texts::{closing_text, opening_text};
 pub use writers::{Counted, Device, Output};
 
-// What a program names besides: windows, cells and keys, terminals, and the operations and faults of updates; and for a
+// What a program names besides: windows, cells and keys, terminals, and the operations and errors of updates; and for a
 // test without a terminal the emulated one.
 pub use scr_cells::{Attrs, Cell, Look, NoMemory, Picture, Size};
 pub use scr_keys::{Key, KeyFault, names as keys};

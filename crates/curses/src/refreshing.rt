@@ -22,7 +22,7 @@ impl Screen {
         self.wanted.picture()
     }
 
-    /// Takes a window onto the virtual screen: its touched lines are copied and become untouched. From then on the
+    /// Copies a window to the virtual screen: its touched lines are copied and become untouched. From then on the
     /// terminal's cursor is wanted where the window's is, or nowhere in particular if `leave_ok` is set. If `clear_ok`
     /// is set, the next update repaints the whole screen, and the setting is switched off.
     ///
@@ -36,7 +36,7 @@ impl Screen {
         self.wanted.take_window(&mut self.desk, win)
     }
 
-    /// Takes a part of a pad onto the virtual screen: the rectangle of the screen from `top` and `left` to `bottom` and
+    /// Copies a part of a pad to the virtual screen: the rectangle of the screen from `top` and `left` to `bottom` and
     /// `right`, both corners inside it, gets the pad's cells from `row` and `column` on, touched or not. The lines of
     /// the pad that it shows become untouched. The terminal's cursor is wanted where the pad's is shown, or nowhere in
     /// particular if it is not shown or `leave_ok` is set. `clear_ok` is as in `noutrefresh`.
@@ -77,7 +77,7 @@ impl Screen {
         self.wanted.set_pair(pair, foreground, background)
     }
 
-    /// Says that others wrote on the rows of the screen where a window is: the next update takes nothing there as
+    /// Says that others wrote on the rows of the screen where a window is: the next update treats nothing there as
     /// known, nor where the cursor is and what is written with. No cell, touched line, wanted cursor or requested
     /// repaint changes.
     ///

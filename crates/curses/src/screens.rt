@@ -10,7 +10,7 @@ use scr_windows::Desk;
 use std::fmt;
 use std::marker::Model;
 
-/// A curses screen: its windows, the virtual screen onto which they are taken, the terminal that updates bring to it,
+/// A curses screen: its windows, the virtual screen to which they are copied, the terminal that updates bring to it,
 /// and the keys of its keyboard (X/Open Curses Issue 7, 'Screens, Windows and Terminals'; curs_refresh(3X)).
 ///
 /// In every call rows and columns are counted from 0, from the window's first place unless the call says otherwise, and

@@ -1,4 +1,4 @@
-//! Sending: texts go to a writer one at a time, each whole, and what a failed put did not take of one waits in a
+//! Sending: texts go to a writer one at a time, each whole, and what a failed put did not accept of one waits in a
 //! buffer.
 ghost use Rattle.std.specs.Prelude.{◌≡◌, ◌≢◌, ◌≤◌, ◌<◌, ◌+◌, ◌^◌, [], ◌∷◌, All, None, true, length, take, drop, vec_capacity};
 ghost use Rattle.std.specs.Option.{is_some};
@@ -13,7 +13,7 @@ use crate::writers::Counted;
 use scr_term::{Op, Profile};
 use std::io::ErrorKind;
 
-// How many operations were begun, how many of their bytes a writer took, and why it took no more.
+// How many operations were begun, how many of their bytes a writer accepted, and why it took no more.
 #[derive(Clone, Copy)]
 pub(crate) struct Progress {
     pub begun: usize,
@@ -58,8 +58,8 @@ pub(crate) fn send_all<W: Counted>(
     }
 }
 
-// Sends the texts of operations, one at a time, from a buffer that has room for each. What a failed put did not take of
-// one waits in the buffer, and the operations after it are not begun.
+// Sends the texts of operations, one at a time, from a buffer that has room for each. What a failed put did not accept
+// of one waits in the buffer, and the operations after it are not begun.
 fn send_operations<W: Counted>(
     profile: &Profile,
     ops: &[Op],
@@ -187,14 +187,14 @@ fn wait(text: &[u8], waiting: &mut Vec<u8>)
     let _extended = waiting.extend_from_slice(text);
 }
 
-// How many bytes a writer took, and why it took no more.
+// How many bytes a writer accepted, and why it took no more.
 #[derive(Clone, Copy)]
 pub(crate) struct Taken {
     pub bytes: usize,
     pub fault: Option<ErrorKind>,
 }
 
-// Sends what waits in a buffer. What a failed put did not take stays there.
+// Sends what waits in a buffer. What a failed put did not accept stays there.
 fn send_waiting<W: Counted>(waiting: &mut Vec<u8>, out: &mut W) -> Taken
     ensures cut { IsCut waiting.old.items [] (W.told out.old).taken (W.told out.new).taken result.bytes waiting.new.items }
     ensures whole { result.fault ≡ None → waiting.new.items ≡ [] }
@@ -209,7 +209,7 @@ fn send_waiting<W: Counted>(waiting: &mut Vec<u8>, out: &mut W) -> Taken
     taken
 }
 
-// Puts a text into a writer until all of it is taken, or a put fails or takes nothing.
+// Puts a text into a writer until all of it is accepted, or a put fails or accepts nothing.
 fn put_whole<W: Counted>(text: &[u8], out: &mut W) -> Taken
     ensures inside { result.bytes ≤ length text.now }
     ensures writer { Appends (W.told out.old).taken (W.told out.new).taken (take result.bytes text.now) }
@@ -229,7 +229,7 @@ fn put_whole<W: Counted>(text: &[u8], out: &mut W) -> Taken
     Taken { bytes, fault: None }
 }
 
-// What is told of a put that failed after this many bytes were taken.
+// What is told of a put that failed after this many bytes were accepted.
 fn failed_at(bytes: usize, kind: ErrorKind) -> Taken
     ensures bytes { result.bytes ≡ bytes }
     ensures fault { is_some result.fault ≡ true }

@@ -14,13 +14,13 @@ use scr_term::{Op, Profile, bytes_act_as_their_operations, profiles_have, run_la
 
 impl Screen {
     /// Begins a program's use of the screen: sends what is owed, then the opening text of the entry that the screen was
-    /// opened on, and flushes the writer if it took something. The text is `smcup` and `smkx`, as `opening_text` gives
-    /// them, or nothing if that is refused. Gives how many bytes the writer took. Nothing is known of the terminal
-    /// then, so the next update repaints everything.
+    /// opened on, and flushes the writer if it accepted something. The text is `smcup` and `smkx`, as `opening_text`
+    /// gives them, or nothing if that is refused. Gives how many bytes the writer accepted. Nothing is known of the
+    /// terminal then, so the next update repaints everything.
     ///
-    /// Allocates no memory. Ends early with Write if a write failed or took nothing, and what was not taken of the text
-    /// that it cut is then owed; with Flush if everything was taken and the flush failed. X/Open Curses Issue 7,
-    /// initscr(); terminfo(5), 'Cursor Motions'.
+    /// Allocates no memory. Ends early with Write if a write failed or accepted nothing, and what was not accepted of
+    /// the text that it cut is then owed; with Flush if everything was accepted and the flush failed. X/Open Curses
+    /// Issue 7, initscr(); terminfo(5), 'Cursor Motions'.
     pub fn start<W: Counted>(&mut self, out: &mut W) -> Result<u64, SendFault>
         ensures ok { IfOk result (IsStarted self.old self.new (W.told out.old) (W.told out.new)) }
         ensures err { IfErr result (IsNotStarted self.old self.new (W.told out.old) (W.told out.new)) }
@@ -32,15 +32,15 @@ impl Screen {
 
     /// Ends a program's use of the screen: sends what is owed; then what turns all attributes off, makes the colours
     /// default and moves the cursor to the beginning of the last line; then the closing text of the entry that the
-    /// screen was opened on; and flushes the writer if it took something. Gives how many bytes the writer took.
+    /// screen was opened on; and flushes the writer if it accepted something. Gives how many bytes the writer accepted.
     ///
     /// What turns all off and moves the cursor is defined whatever the terminal shows and writes with. The closing text
     /// is `rmkx` and `rmcup`, as `closing_text` gives them, or nothing if that is refused. Nothing is known of the
     /// terminal then: a program may `start` again, and its next update repaints everything.
     ///
-    /// Allocates no memory. Ends early with Write if a write failed or took nothing, and what was not taken of the text
-    /// that it cut is then owed; with Flush if everything was taken and the flush failed. Call `close` again when the
-    /// terminal is back. X/Open Curses Issue 7, endwin(); terminfo(5), 'Cursor Motions'.
+    /// Allocates no memory. Ends early with Write if a write failed or accepted nothing, and what was not accepted of
+    /// the text that it cut is then owed; with Flush if everything was accepted and the flush failed. Call `close`
+    /// again when the terminal is back. X/Open Curses Issue 7, endwin(); terminfo(5), 'Cursor Motions'.
     pub fn close<W: Counted>(&mut self, out: &mut W) -> Result<u64, SendFault>
         ensures ok { IfOk result (IsClosed self.old self.new (W.told out.old) (W.told out.new)) }
         ensures err { IfErr result (IsNotClosed self.old self.new (W.told out.old) (W.told out.new)) }
@@ -76,7 +76,8 @@ fn send_closing<W: Counted>(
     }
 }
 
-// Sends what waits in a buffer, the texts of operations, and then a text, and flushes the writer if it took something.
+// Sends what waits in a buffer, the texts of operations, and then a text, and flushes the writer if it accepted
+// something.
 fn send_whole<W: Counted>(
     profile: &Profile,
     ops: &[Op],

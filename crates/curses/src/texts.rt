@@ -25,7 +25,7 @@ const MOST_BYTES: usize = 1_024;
 /// Function Keys'). Each is without padding, and run with all parameters and variables 0; an absent one gives nothing.
 /// There are at most 2,048 bytes. `Screen::start` sends them.
 ///
-/// Refused: Profile with BadString if the text of `smcup`, or else of `smkx`, is no parameter string, or its stack
+/// Refused: Profile with BadString if the text of `smcup`, or else of `smkx`, is not a parameter string, or its stack
 /// could hold more than 20 values; Profile with LongString if that of `smcup`, or else of `smkx`, could give more than
 /// 1,024 bytes; NoMemory if memory runs out.
 pub fn opening_text(alloc: Global, entry: &Entry) -> Result<Bytes, OpenFault>

@@ -34,17 +34,18 @@ impl Screen {
     /// the picture with its cursor where it is wanted, all that it shows is known, nothing is owed, and no requested
     /// repaint is pending.
     ///
-    /// Tested, not proved: the writer is flushed if it took something; rows that are not known are erased and painted,
-    /// or the whole screen instead, if that is shorter or a repaint was requested; the pen stays as the last text
-    /// needed it.
+    /// Tested, not proved: the writer is flushed if it accepted something; rows that are not known are erased and
+    /// painted, or the whole screen instead, if that is shorter or a repaint was requested; the pen stays as the last
+    /// text needed it.
     ///
     /// The operations are made before the first byte is sent, and no memory is allocated after that. Windows, virtual
     /// screen and requested repaints stay as they were if it ends early:
     ///
     /// - NoMemory: memory ran out. Nothing was sent, and nothing changes.
-    /// - Write: a write failed or took nothing. The first operations of the plan were begun, up to the one whose text
-    ///   was cut, and what was not taken of that text is owed. The next update repaints everything.
-    /// - Flush: everything was taken, and the flush failed. The next update repaints everything.
+    /// - Write: a write failed or accepted nothing. The first operations of the plan were begun, up to the one whose
+    ///   text
+    ///   was cut, and what was not accepted of that text is owed. The next update repaints everything.
+    /// - Flush: everything was accepted, and the flush failed. The next update repaints everything.
     ///
     /// curs_refresh(3X) and X/Open Curses Issue 7, doupdate().
     pub fn doupdate<W: Counted>(&mut self, alloc: Global, out: &mut W) -> Result<Sent, UpdateFault>

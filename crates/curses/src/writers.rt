@@ -10,8 +10,8 @@ use std::io::{Result, Write};
 ///
 /// `Screen::doupdate`, `start` and `close` offer it one text at a time by `put`: what is owed, the text of each
 /// operation, and the opening or closing text. If a put takes only a beginning, the next one offers the rest. At the
-/// end there is one `finish`, if no put failed and the writer took something. Both counts only grow, and stay at their
-/// greatest value.
+/// end there is one `finish`, if no put failed and the writer accepted something. Both counts only grow, and stay at
+/// their greatest value.
 pub trait Counted {
     // What it reports of itself.
     ghost told: { Self → WriterView };
@@ -25,7 +25,7 @@ pub trait Counted {
         ensures puts { (told self.new).failed_puts ≡ counted (is_failed_put piece.now result) (told self.old).failed_puts }
         ensures finishes { (told self.new).failed_finishes ≡ (told self.old).failed_finishes };
 
-    /// Makes what was taken reach the terminal, as a flush does. It counts as failed if it gives an error.
+    /// Makes what was accepted reach the terminal, as a flush does. It counts as failed if it gives an error.
     fn finish(&mut self) -> Result<()>
         ensures bytes { Keeps (told self.old).taken (told self.new).taken }
         ensures puts { (told self.new).failed_puts ≡ (told self.old).failed_puts }
@@ -43,7 +43,7 @@ pub trait Output {
 
     ghost flushes: { Self → FlushAnswer → Self → Type 0 } = { λ _ _ _. ⊤ };
 
-    /// Writes a piece, or a beginning of it, and gives how many bytes were taken.
+    /// Writes a piece, or a beginning of it, and gives how many bytes were accepted.
     fn write_piece(&mut self, piece: &[u8]) -> Result<usize>
         ensures bound { WritesAtMost result piece.now }
         ensures bytes { WriteAppends (holds self.old) (holds self.new) result piece.now }
@@ -78,7 +78,7 @@ impl<W: Write> Output for W {
 pub struct Device<W> {
     /// The writer.
     pub writer: W,
-    /// How many writes of a piece that is not empty failed or took nothing.
+    /// How many writes of a piece that is not empty failed or accepted nothing.
     pub failed_puts: u64,
     /// How many flushes failed.
     pub failed_finishes: u64,
@@ -127,7 +127,7 @@ impl<W: Output> Counted for Device<W> {
     }
 }
 
-// Whether nothing was taken.
+// Whether nothing was accepted.
 fn took_none(answer: &Result<usize>) -> bool
     ensures { result ≡ took_none answer.now }
 {

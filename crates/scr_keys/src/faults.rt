@@ -4,13 +4,13 @@ use std::alloc::{AllocError, AllocFailed};
 use thiserror::Error;
 use ti_caps::Slot;
 
-/// Why a table of keys was not made, or a byte not taken.
+/// Why a table of keys was not made, or a byte was not read.
 #[derive(Clone, Copy, Debug, PartialEq, Eq, Error)]
 pub enum KeyFault {
     /// The text of the key at this position has more than 64 bytes without its padding.
     #[error("a key's text is too long")]
     KeyTooLong(Slot),
-    /// There is no room for the keys that would be queued. Nothing was taken.
+    /// There is no room for the keys that would be queued. Nothing was read.
     #[error("too many keys wait")]
     QueueFull,
     /// Memory ran out.

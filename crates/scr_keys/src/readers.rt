@@ -52,7 +52,7 @@ impl KeyReader {
     /// Reads a byte: the keys that it decides are queued, and bytes that could still become a key wait for more.
     ///
     /// Refused: QueueFull if the keys queued and those that it decides would be more than 16 plus the number of bytes
-    /// of the longest key; nothing is taken then, not even the byte. X/Open Curses Issue 7, getch().
+    /// of the longest key; nothing is read then, not even the byte. X/Open Curses Issue 7, getch().
     pub fn byte(&mut self, byte: u8) -> Result<(), KeyFault>
         ensures { (self.new, result) ≡ byte_read self.old byte }
     {

@@ -40,7 +40,7 @@ impl Model for KeyTable {
 
 impl KeyTable {
     /// Makes the table of an entry's keys: the texts whose names begin with `k`, without padding, all other bytes as
-    /// they are. An empty text is no key; of two keys that send the same, the one at the lower position counts.
+    /// they are. An empty text is not a key; of two keys that send the same, the one at the lower position counts.
     ///
     /// Refused: KeyTooLong with the lowest position whose text has more than 64 bytes; NoMemory if memory runs out,
     /// which it cannot if no key has a text. terminfo(5), 'Function Keys'.

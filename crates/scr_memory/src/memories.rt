@@ -15,12 +15,12 @@ use scr_terminal::Terminal;
 use std::alloc::Global;
 use std::marker::Model;
 
-/// What is remembered of a terminal between updates (curs_refresh(3X), 'physical screen'): a state
-/// that the terminal may be in, and how much of it is known. Each row can be known, and so can the
-/// cursor's place and the pen, which is the attributes and colours that it writes with.
+/// What is remembered of a terminal between updates (curs_refresh(3X), 'physical screen'): a state that the terminal
+/// may be in, and how much of it is known. Each row can be known, and so can the cursor's place and the pen, which is
+/// the attributes and colours that it writes with.
 ///
-/// Only `unknown` allocates. If all is known, following an operation takes time in proportion to
-/// the cells that it changes.
+/// Only `unknown` allocates. If all is known, following an operation takes time in proportion to the cells that it
+/// changes.
 #[derive(Drop)]
 pub struct Memory {
     terminal: Terminal,
@@ -44,8 +44,7 @@ impl Model for Memory {
 }
 
 impl Memory {
-    /// Memory of a terminal of this size of which nothing is known. Fails only when memory runs
-    /// out.
+    /// Memory of a terminal of this size of which nothing is known. Fails only when memory runs out.
     pub fn unknown(alloc: Global, size: Size) -> Result<Memory, NoMemory>
         ensures { IfOk result (λ memory. memory ≡ unknown size.rows size.columns) }
     {
@@ -108,8 +107,7 @@ impl Memory {
         self.terminal.row(row)
     }
 
-    /// Whether the cursor is known to be where it is wanted, as a row and a column, or may be
-    /// anywhere.
+    /// Whether the cursor is known to be where it is wanted, as a row and a column, or may be anywhere.
     pub fn is_placed(&self, wish: Option<(u32, u32)>) -> bool
         ensures { result ≡ is_placed self.now wish }
     {
@@ -164,8 +162,8 @@ impl Memory {
         self.forget_spot_and_pen();
     }
 
-    /// Forgets `n` rows from `first` on (as many as there are), the cursor's spot and the pen,
-    /// because others wrote there. X/Open Curses Issue 7, redrawwin().
+    /// Forgets `n` rows from `first` on (as many as there are), the cursor's spot and the pen, because others wrote
+    /// there. X/Open Curses Issue 7, redrawwin().
     pub fn disturb(&mut self, first: u32, n: u32)
         ensures { self.new ≡ disturbed first n self.old }
     {
@@ -176,9 +174,9 @@ impl Memory {
         self.forget_spot_and_pen();
     }
 
-    /// Follows an operation that was sent to the terminal. If it is defined from the remembered
-    /// state, that state takes its step, and what the operation makes the same from every state
-    /// becomes known. Otherwise everything is forgotten.
+    /// Follows an operation that was sent to the terminal. If it is defined from the remembered state, that state takes
+    /// its step, and what the operation makes the same from every state becomes known. Otherwise everything is
+    /// forgotten.
     ///
     /// The profile has the terminal's size.
     pub fn follow(&mut self, profile: &Profile, op: Op)
@@ -193,8 +191,7 @@ impl Memory {
         }
     }
 
-    /// Follows operations that were sent to the terminal, one after another. The profile has the
-    /// terminal's size.
+    /// Follows operations that were sent to the terminal, one after another. The profile has the terminal's size.
     pub fn follow_all(&mut self, profile: &Profile, ops: &[Op])
         requires rows { profile.now.rows ≡ self.old.rows }
         requires columns { profile.now.columns ≡ self.old.columns }
@@ -206,8 +203,8 @@ impl Memory {
         }
     }
 
-    // Follows the leading characters of `ops` that fit in one row, or one operation, and returns
-    // how many were followed.
+    // Follows the leading characters of `ops` that fit in one row, or one operation, and returns how many were
+    // followed.
     fn follow_next(&mut self, profile: &Profile, ops: &[Op]) -> usize
         requires some { 0 < length ops.now }
         requires rows { profile.now.rows ≡ self.old.rows }
@@ -226,8 +223,8 @@ impl Memory {
         1
     }
 
-    // Follows the leading characters of `ops` that fit in the cursor's row, and returns how many.
-    // What is known stays the same.
+    // Follows the leading characters of `ops` that fit in the cursor's row, and returns how many. What is known stays
+    // the same.
     fn follow_characters(&mut self, profile: &Profile, ops: &[Op]) -> usize
         requires rows { profile.now.rows ≡ self.old.rows }
         requires columns { profile.now.columns ≡ self.old.columns }
@@ -241,8 +238,7 @@ impl Memory {
         count
     }
 
-    // Steps the remembered state by an operation; if that is undefined, returns false and changes
-    // nothing.
+    // Steps the remembered state by an operation; if that is undefined, returns false and changes nothing.
     fn step(&mut self, profile: &Profile, op: Op) -> bool
         requires rows { profile.now.rows ≡ self.old.rows }
         requires columns { profile.now.columns ≡ self.old.columns }
@@ -254,8 +250,7 @@ impl Memory {
         is_defined
     }
 
-    // Forgets the cursor's spot and the pen, which is the plain one then, since every terminal can
-    // have that.
+    // Forgets the cursor's spot and the pen, which is the plain one then, since every terminal can have that.
     fn forget_spot_and_pen(&mut self)
         ensures { self.new ≡ record self.old { state = made_plain self.old.state; known_spot = false; known_pen = false } }
     {
@@ -274,8 +269,7 @@ impl Memory {
         self.pen = self.pen || sets_pen(op) || has_one_pen(profile);
     }
 
-    // Updates which rows are known, after an operation that was defined and led to the remembered
-    // state.
+    // Updates which rows are known, after an operation that was defined and led to the remembered state.
     fn learn_rows(&mut self, op: Op)
         ensures { self.new ≡ record self.old { known_rows = rows_followed op self.old self.old.state } }
     {
@@ -295,8 +289,7 @@ impl Memory {
         (changes_cells(op) && !(self.spot && self.pen)) || (moves_rows(op) && !self.known())
     }
 
-    // Rows that were erased from the first column on become known: the cursor's, or it and all
-    // below it.
+    // Rows that were erased from the first column on become known: the cursor's, or it and all below it.
     fn learn_erased(&mut self, op: Op)
         ensures { self.new ≡ record self.old { known_rows = rows_erased op self.old.state.spot self.old.known_rows } }
     {

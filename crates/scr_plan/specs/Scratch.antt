@@ -81,7 +81,7 @@ scratch_of profile picture =
 -- ---- the laws
 
 -- From every state of a profile, painting one place is defined. That place then has its look, no other has changed, the
--- cursor is behind it, and the pen is that of the look.
+-- cursor is after it, and the pen is that of the look.
 abbrev pub PlaceIsPainted : Type 0
 PlaceIsPainted =
     (profile : ProfileView) → IsProfile profile

@@ -68,7 +68,7 @@ pub(crate) fn least_worth_erasing(profile: &Profile) -> u32
     few.min(prices.of(Op::EraseChars(100))).saturating_add(1)
 }
 
-// Whether `count` blanks cost more than their erasure, plus a motion behind them if the run goes on
+// Whether `count` blanks cost more than their erasure, plus a motion after them if the run goes on
 // there.
 #[inline(always)]
 pub(crate) fn is_worth_erasing(profile: &Profile, count: u32, goes_on: bool) -> bool {

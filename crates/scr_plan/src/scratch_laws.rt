@@ -5,7 +5,7 @@ use scr_cells::{Look, grid_laws};
 use scr_term::{bytes_act_as_their_operations, ecma48_laws, profiles_have, run_laws};
 
 /// From every state of a profile, the operations that paint one place are defined. Then the place
-/// has its look and no other has changed, the cursor is right behind it, and the pen is the look's.
+/// has its look and no other has changed, the cursor is right after it, and the pen is the look's.
 pub fn place_is_painted()
     ensures { PlaceIsPainted }
 {

@@ -5,7 +5,7 @@ use scr_term::{Op, Prices, Spot};
 
 // The least prices of motions, whatever the row and column: to a neighbouring row, to one further
 // away, to the right, to the left, to a column up to `jump` (the places before it may be written),
-// to the first place of the screen, to any place at once. From behind the last column: to the first
+// to the first place of the screen, to any place at once. From past the last column: to the first
 // row, and by how many digits a row's number has in a cursor address, to such a row or any below
 // it.
 #[derive(Clone, Copy)]
@@ -79,7 +79,7 @@ impl LeastMotions {
         }
     }
 
-    // From behind the last column to a row, or to any below it.
+    // From past the last column to a row, or to any below it.
     #[inline(always)]
     pub(crate) fn from_margin(self, row: u32) -> u32 {
         match row {
@@ -188,7 +188,7 @@ fn places(prices: &Prices) -> u32 {
     sum(row.min(first), column.min(first)).saturating_sub(first)
 }
 
-// The price of a motion from behind the last column to a row: at once, or from the first place of
+// The price of a motion from past the last column to a row: at once, or from the first place of
 // the screen down.
 fn from_margin(prices: &Prices, row: u32, down: u32) -> u32 {
     prices

@@ -61,7 +61,7 @@ pub struct Steps {
 }
 
 /// The cheapest motion to a place: to it at once, along rows and columns from the cursor's place, or
-/// along them from the first place of the screen. From behind the last column, no motion goes along.
+/// along them from the first place of the screen. From past the last column, no motion goes along.
 pub fn cheapest_motion(prices: &Prices, spot: Spot, row: u32, column: u32) -> Motion {
     if spot == Spot::At(row, column) {
         return Motion::none();

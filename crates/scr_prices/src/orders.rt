@@ -179,7 +179,7 @@ impl<'a> Task<'a> {
     }
 
     // Whether no other run can be nearer than the first that waits. This is so if the cursor is
-    // behind the last column, from where no row below that run's is reached with fewer bytes.
+    // after the last column, from where no row below that run's is reached with fewer bytes.
     #[inline(always)]
     fn is_surely_nearest(&self, walk: &Walk, links: &Links, nearest: &Nearest, first: u32) -> bool {
         let Spot::Margin(_) = walk.cursor.spot else {

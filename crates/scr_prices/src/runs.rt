@@ -20,7 +20,7 @@ pub struct Run {
     pub row: u32,
     /// The first column.
     pub start: u32,
-    /// The column behind the last one.
+    /// The column after the last one.
     pub end: u32,
     /// The pen that all of them are painted with.
     pub pen: Pen,

@@ -25,7 +25,7 @@ const FAR_LESS: i64 = 64;
 pub struct Shift {
     /// The first of these rows.
     pub top: u32,
-    /// The row behind the last one.
+    /// The row after the last one.
     pub end: u32,
     /// By how many rows they move.
     pub count: u32,
@@ -86,7 +86,7 @@ struct Line {
     saved: i64,
 }
 
-// What is compared of the rows that blocks may lie in, and behind them what all of them save.
+// What is compared of the rows that blocks may lie in, and after them what all of them save.
 #[derive(Drop)]
 struct Lines(Vec<Line>);
 

@@ -4,7 +4,7 @@ ghost use Rattle.std.specs.Prelude.{◌<◌, ◌≤◌, length};
 use crate::ways::Chooser;
 use scr_cells::{Cell, Pen};
 
-// The stretches of a row so far: the pen of the last one, the blanks behind it, and the price of
+// The stretches of a row so far: the pen of the last one, the blanks after it, and the price of
 // all. A stretch goes on over up to `jump` blanks.
 #[derive(Clone, Copy)]
 pub(crate) struct Stretches {

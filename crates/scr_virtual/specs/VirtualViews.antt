@@ -5,7 +5,7 @@ use Rattle.scr_cells.specs.PictureViews.{IsPicture, PictureView, blank_picture}
 use Rattle.scr_virtual.specs.Ranges.{AreRanges, ranges_with}
 
 -- The picture to show; whether the whole screen is to be repainted; and two ranges for each row since the ranges were
--- last emptied: columns that may have changed, and those that may look different (a line copied where it already stands
+-- last emptied: columns that may have changed, and those that may look different (a line copied where it already is
 -- alters none).
 pub record VirtualView : Type 0 where
   pub picture : PictureView

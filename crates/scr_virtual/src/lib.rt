@@ -1,4 +1,4 @@
-//! The virtual screen of curses: a picture onto which windows and pads are taken, and which columns may have changed.
+//! The virtual screen of curses: a picture to which windows and pads are copied, and which columns may have changed.
 #![tactic(auto)]
 
 mod laws;

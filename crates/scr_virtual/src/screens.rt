@@ -89,7 +89,7 @@ impl Virtual {
     /// The first and the last column of a row that may look different than at `settle`, both inside the range; `None`
     /// if the row looks as it did. The screen has this row.
     ///
-    /// A line that is copied to where it already stands has changed, and looks as it did.
+    /// A line that is copied to where it already is has changed, and looks as it did.
     pub fn altered(&self, row: u32) -> Option<(u32, u32)>
         requires { row < self.now.picture.rows }
         ensures value { result ≡ altered_at self.now row }

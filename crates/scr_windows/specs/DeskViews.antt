@@ -104,7 +104,7 @@ pub record IsChild (frame parent : Frame) : Type 0 where
   pub right : frame.area.left + frame.area.columns ≤ parent.area.left + parent.area.columns
   pub on_screen : IsInsideOnScreen frame.origin frame.area parent.origin parent.area
 
--- A window that is no subwindow has the surface that was made with it.
+-- A window that is not a subwindow has the surface that was made with it.
 abbrev pub HasOwn : Frame → Type 0
 HasOwn frame = MatchOption frame.parent (frame.surface ≡ frame.number) (λ _. Unit {0})
 

@@ -43,7 +43,7 @@ impl<'a> WindowRef<'a> {
         WindowRef { window, surface }
     }
 
-    /// The number of the window that this is a subwindow of; `None` if it is no subwindow. X/Open Curses Issue 7,
+    /// The number of the window that this is a subwindow of; `None` if it is not a subwindow. X/Open Curses Issue 7,
     /// derwin().
     pub fn parent(&self) -> Option<Win>
         ensures { result ≡ option_map (λ number. record { 0 = number }) self.now.window.frame.parent }

@@ -1,4 +1,4 @@
-//! Surfaces of cells, and what is drawn on them: what windows stand on.
+//! Surfaces of cells, which windows show, and what is drawn on them.
 //!
 //! A *surface* is a grid of cells that windows share, and an *area* is the part of it that a window has. A *drawing*
 //! changes cells of an area and no others.

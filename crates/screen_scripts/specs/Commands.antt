@@ -123,7 +123,7 @@ scroll_call = with_number (λ w text. option_map (λ lines. Make (Scroll (window
 abbrev pub key_bytes : Option (List ℕ) → Option Command
 key_bytes text = option_map (λ bytes. Key bytes) (option_and_then hexadecimal_bytes text)
 
--- words with other than numbers: each with what it makes of all that follows the blank behind it, where there is one
+-- words with other than numbers: each with what it makes of all that follows the blank after it, where there is one
 unfoldable pub with_text : Words (Option (List ℕ) → Option Command)
 with_text =
     (codes "add", addition)

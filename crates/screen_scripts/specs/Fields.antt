@@ -10,7 +10,7 @@ use Rattle.scr_cells.specs.CellViews.{CellView}
 abbrev pub fields_of : List ℕ → List (List ℕ)
 fields_of text = slice_split (λ b. b == 32) text
 
--- the first field, and the text behind the blank that follows it, where one does
+-- the first field, and the text after the blank that follows it, where one does
 abbrev pub first_and_rest : List (List ℕ) → List ℕ × Option (List ℕ)
 first_and_rest [] = ([], None)
 first_and_rest (field ∷ []) = (field, None)
@@ -36,7 +36,7 @@ unfoldable pub numbers : Option (List ℕ) → Option (List ℕ)
 numbers None = Some []
 numbers (Some text) = each number (fields_of text)
 
--- a number, and the text behind the blank that follows it
+-- a number, and the text after the blank that follows it
 unfoldable pub number_and_text : Option (List ℕ) → Option (ℕ × List ℕ)
 number_and_text text = option_and_then (λ t. option_and_then (λ n. option_map (λ rest. (n, rest)) (cut t).1) (number (cut t).0)) text
 

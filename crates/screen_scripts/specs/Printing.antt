@@ -71,7 +71,7 @@ cursor_line (Margin row) = codes "cursor " ++ decimal row ++ codes " margin" ++ 
 abbrev pub screen_lines : List (List LookView) → Spot → List ℕ
 screen_lines grid spot = flat_map row_lines grid ++ cursor_line spot
 
--- The line of a refused call, by its fault's name.
+-- The line of a refused call, by its error's name.
 abbrev pub refusal_line : List ℕ → List ℕ
 refusal_line name = codes "refused " ++ name ++ 10 ∷ []
 

@@ -134,7 +134,7 @@ update_in effects = option_map (λ bytes. bytes.items) effects.update
 abbrev pub events_of : Effects → VirtualView → List Event
 events_of effects virtual = events_in effects.notes.items ++ shown_if effects.update virtual
 
--- A call that is no update was made: its refusal, if any, is this one, and rows that it marked are forgotten.
+-- A call that is not an update was made: its refusal, if any, is this one, and rows that it marked are forgotten.
 pub record IsQuiet (old new : ScreenState) (call : Call) (fault : Option WinFault) : Type 0 where
   pub stage : (made (stage_of old) call).stage ≡ stage_of new
   pub events : (made (stage_of old) call).events ≡ mark_of (marked_by old.desk call) ++ event_if fault

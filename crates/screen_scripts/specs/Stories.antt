@@ -26,7 +26,7 @@ use Rattle.screen_scripts.specs.declared.commands.Command.TheVariants as command
 
 -- ---- events
 
--- An event: a refused call, by its fault's name; n rows from `first` on that were marked because others wrote there; an
+-- An event: a refused call, by its error's name; n rows from `first` on that were marked because others wrote there; an
 -- update that shows a virtual screen; a key that was pressed.
 pub data Event : Type 0 where
   Refused : (name : List ℕ) → Event
@@ -44,7 +44,7 @@ pub record Outcome : Type 0 where
   pub stage : Stage
   pub events : List Event
 
--- The name of each window fault.
+-- The name of each window error.
 abbrev pub fault_name : WinFault → List ℕ
 fault_name faults.NoWindow = codes "NoWindow"
 fault_name faults.IsPad = codes "IsPad"
@@ -63,7 +63,7 @@ fault_name faults.NoMemory = codes "NoMemory"
 fault_name faults.BadPair = codes "BadPair"
 fault_name faults.BadColour = codes "BadColour"
 
--- The name of each key fault.
+-- The name of each key error.
 abbrev pub key_fault_name : KeyFault → List ℕ
 key_fault_name (key_faults.KeyTooLong slot) = codes "KeyTooLong"
 key_fault_name key_faults.QueueFull = codes "QueueFull"
@@ -81,7 +81,7 @@ abbrev pub mark_of : Option (ℕ × ℕ) → List Event
 mark_of None = []
 mark_of (Some rows) = Marked rows.0 rows.1 ∷ []
 
--- The stage after a call that is no update, and the events of its marks and its refusal.
+-- The stage after a call that is not an update, and the events of its marks and its refusal.
 abbrev pub called : Stage → Option (ℕ × ℕ) → Drawn × Answer → Outcome
 called stage rows call = record { stage = record stage { drawn = call.0 }; events = mark_of rows ++ refusal_of call.1 }
 
@@ -102,7 +102,7 @@ made stage call = if is_update call then updated stage else called stage (marked
 abbrev pub followed : Outcome → (Stage → Outcome) → Outcome
 followed outcome next = record { stage = (next outcome.stage).stage; events = outcome.events ++ (next outcome.stage).events }
 
--- The next step is only taken if nothing was refused.
+-- The next step is only made if nothing was refused.
 abbrev pub unless_refused : Outcome → (Stage → Outcome) → Outcome
 unless_refused outcome next = if length outcome.events == 0 then next outcome.stage else outcome
 

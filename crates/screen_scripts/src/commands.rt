@@ -20,7 +20,7 @@ pub enum Command {
     Size(u32, u32),
     /// `add R C TEXT`: adds a text at a row and a column of window 0.
     Add(u32, u32, Bytes),
-    /// `show`: takes window 0 onto the virtual screen, and updates the terminal.
+    /// `show`: copies window 0 to the virtual screen, and updates the terminal.
     Show,
     /// A call of the screen.
     Make(Call),

@@ -1,11 +1,11 @@
-//! The names of faults.
+//! The names of errors.
 ghost use Rattle.std.specs.Prelude.{◌≡◌};
 ghost use Rattle.screen_scripts.specs.Stories.{fault_name as name_of_fault, key_fault_name as name_of_key_fault};
 
 use scr_keys::KeyFault;
 use scr_windows::WinFault;
 
-/// The name of a fault of a call.
+/// The name of an error of a call.
 pub fn fault_name(fault: WinFault) -> &'static str
     ensures { result.now ≡ name_of_fault fault }
 {
@@ -29,7 +29,7 @@ pub fn fault_name(fault: WinFault) -> &'static str
     }
 }
 
-/// The name of a fault of the reader of keys.
+/// The name of an error of the reader of keys.
 pub fn key_fault_name(fault: KeyFault) -> &'static str
     ensures { result.now ≡ name_of_key_fault fault }
 {

@@ -39,7 +39,7 @@ pub enum DemoFault {
 ///
 /// Refused at the first bad line, after writing the output of all lines before it; if a write or a
 /// flush of `out` fails, or a write accepts nothing; and if memory runs out. The output is flushed
-/// at the end of the script and before a bad line is reported; if that flush fails, its fault is
+/// at the end of the script and before a bad line is reported; if that flush fails, its error is
 /// returned instead, also at a bad line. Whatever is returned, what was written is a beginning of
 /// the script's output.
 pub fn run<W: Write>(alloc: Global, script: &[u8], raw: bool, out: &mut W) -> Result<(), DemoFault>

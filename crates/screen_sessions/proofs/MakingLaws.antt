@@ -4,7 +4,7 @@ use Rattle.scr_term.specs.declared.operations.operation.Op.{Op}
 use Rattle.scr_term.specs.Operations.Profiles.{ProfileView, IsProfile, abilities}
 use Rattle.scr_term.specs.Operations.States.{TerminalState, IsState}
 use Rattle.scr_term.specs.Operations.Steps.{runs}
-use Rattle.scr_memory.specs.Memories.{Agrees, MemoryLaws, MemoryView, disturbed, forgotten, is_known}
+use Rattle.scr_memory.specs.Memories.{Agrees, MemoryLaws, MemoryView, disturbed, forgotten}
 use Rattle.scr_memory.specs.MemoryRuns.{MemoryRuns}
 use Rattle.scr_windows.specs.Calls.Reading.{screen_rows_answer, size_answer}
 use Rattle.scr_windows.specs.declared.faults.Win.{Win}
@@ -21,10 +21,10 @@ use Rattle.curses.specs.Cuts.{IsCut}
 use Rattle.curses.specs.declared.faults.Sent.{Sent as SentView}
 use Rattle.curses.specs.declared.faults.UpdateFault.{UpdateFault}
 use Rattle.curses.specs.declared.faults.UpdateFault.TheVariants as update_faults
-use Rattle.screen_sessions.specs.Making.{IsMade, Knows, drawn_of}
-use Rattle.curses.specs.Refreshing.{OnBoth, OnTerminal, OnVirtual, all_disturbed, all_redrawn, lines_disturbed, redraw_lines_call, redraw_window_call, rows_disturbed, rows_redrawn, window_disturbed}
+use Rattle.screen_sessions.specs.Making.{IsMade, drawn_of}
+use Rattle.curses.specs.Refreshing.{OnBoth, OnTerminal, OnVirtual, all_disturbed, lines_disturbed, redraw_lines_call, redraw_window_call, rows_disturbed, window_disturbed}
 use Rattle.curses.specs.ScreenStates.{ScreenState}
-use Rattle.screen_sessions.specs.Sessions.{Drawn, RightAnswer, begun_of, both_told, count_of, is_cut, is_unfinished, is_update, knows_after, left_by, marked_by, memory_behind, memory_marked, memory_updated, ran_out, redraws, rows_told, screen_call, tells_sent, virtual_told, window_told, windows_told}
+use Rattle.screen_sessions.specs.Sessions.{Drawn, RightAnswer, begun_of, both_told, count_of, is_cut, is_unfinished, is_update, left_by, marked_by, memory_behind, memory_marked, memory_updated, ran_out, rows_told, screen_call, tells_sent, virtual_told, window_told, windows_told}
 use Rattle.curses.specs.Updates.{IsFailed, IsSent, IsShown}
 use Rattle.curses.specs.Writers.{WriterView, counted}
 use Rattle.screen_sessions.proofs.TakenLaws.{cut_none}
@@ -60,10 +60,6 @@ disturbed_agrees memories profile memory first n state agrees =
     memories.others (abilities profile) (λ r. leb first r && ltb r (first + n)) memory (disturbed first n memory) state state agrees (record { state = agrees.is_state; same = λ r kept. refl })
     (memories.marks memory first n)
 
--- what is known goes on to be known, where nothing of it was lost
-knows_on : (old new : ScreenState) → new.owed ≡ old.owed → new.memory ≡ old.memory → Knows old → Knows new
-knows_on old new owed memory knows = record { owed = owed ∙ knows.owed; memory = ap is_known memory ∙ knows.memory }
-
 -- an answer that is the call's own says nothing of memory
 own_answer : (own answer : Answer) → answer ≡ own → ran_out own answer ≡ false
 own_answer own answer same = ap (λ a. ran_out a answer) (sym same) ∙ itself answer
@@ -77,13 +73,8 @@ memory_kept : (profile : ProfileView) (desk : DeskView) (memory : MemoryView) (c
 memory_kept profile desk memory call answer update none =
     ap (λ b. if b then memory_updated profile memory answer else memory_marked memory (marked_by desk call)) update ∙ ap (memory_marked memory) none
 
-first_of : (a b : Bool) → (a && b) ≡ true → a ≡ true
-first_of true b e = refl
-first_of false b e = e
-
 -- what a session does not tell of an answer to a call that is no update
 pub record Quiet (answer : Answer) : Type 0 where
-  pub knows : (before : Bool) (call : Call) → knows_after before call answer ≡ true → before ≡ true
   pub begun : begun_of answer ≡ []
   pub count : count_of answer ≡ 0
   pub well : tells_sent answer ≡ false
@@ -93,8 +84,8 @@ pub record Quiet (answer : Answer) : Type 0 where
 -- a call that is no update was made as its definition says
 made_so : (old new : ScreenState) (call : Call) (answer : Answer) (w : WriterView) → is_update call ≡ false → Quiet answer → new.profile ≡ old.profile → new.keys ≡ old.keys → new.opening ≡ old.opening → new.closing ≡ old.closing → new.owed ≡ old.owed
     → new.memory ≡ memory_behind old.profile old.desk old.memory call answer → StillAgrees old.profile old.memory new.memory
-    → ((before : Bool) → (before ≡ true → Knows old) → knows_after before call answer ≡ true → Knows new) → drawn_of new ≡ (screen_call (drawn_of old) call).0 → answer ≡ (screen_call (drawn_of old) call).1 → IsMade old new call answer w w
-made_so old new call answer w update quiet profile keys opening closing owed memory still knows drawn own = record {
+    → drawn_of new ≡ (screen_call (drawn_of old) call).0 → answer ≡ (screen_call (drawn_of old) call).1 → IsMade old new call answer w w
+made_so old new call answer w update quiet profile keys opening closing owed memory still drawn own = record {
   profile = profile;
   keys = keys;
   opening = opening;
@@ -107,7 +98,6 @@ made_so old new call answer w update quiet profile keys opening closing owed mem
   sent = subst (λ b. IsSent old.profile old.memory old.owed w w b (count_of answer) new.owed) (sym quiet.begun)
       (subst (λ n. IsSent old.profile old.memory old.owed w w [] n new.owed) (sym quiet.count) (sends_nothing old.profile old.memory old.owed new.owed w owed));
   agrees = agrees_on old.profile old.memory new.memory (begun_of answer) quiet.begun still;
-  knows = knows;
   well = λ sent. absurd (never (sym sent ∙ quiet.well));
   puts = sym (ap (λ b. counted b w.failed_puts) quiet.cut);
   finishes = sym (ap (λ b. counted b w.failed_finishes) quiet.unfinished);
@@ -117,8 +107,8 @@ made_so old new call answer w update quiet profile keys opening closing owed mem
     never e = (cc)
 
 quiet_done : (came : Result (Unit {0}) WinFault) → Quiet (answered (λ _. Nothing) came)
-quiet_done (Ok done) = record { knows = λ before call e. first_of before (not (redraws call)) e; begun = refl; count = refl; well = refl; cut = refl; unfinished = refl }
-quiet_done (Err fault) = record { knows = λ before call e. e; begun = refl; count = refl; well = refl; cut = refl; unfinished = refl }
+quiet_done (Ok done) = record { begun = refl; count = refl; well = refl; cut = refl; unfinished = refl }
+quiet_done (Err fault) = record { begun = refl; count = refl; well = refl; cut = refl; unfinished = refl }
 
 -- a call that takes a window or a pad
 pub both_made : (old new : ScreenState) (call : Call) (came : Result (Unit {0}) WinFault) (answer : Answer) (w : WriterView) (own : (VirtualView × DeskView) × Result (Unit {0}) WinFault)
@@ -127,7 +117,6 @@ both_made old new call came answer w own update none called made told =
     subst (λ a. IsMade old new call a w w) (sym told)
     (made_so old new call (answered (λ _. Nothing) came) w update (quiet_done came) (ap (λ s. s.profile) made.0) (ap (λ s. s.keys) made.0) (ap (λ s. s.opening) made.0) (ap (λ s. s.closing) made.0) (ap (λ s. s.owed) made.0)
     (ap (λ s. s.memory) made.0 ∙ sym (memory_kept old.profile old.desk old.memory call (answered (λ _. Nothing) came) update none)) (still_same old.profile old.memory new.memory (ap (λ s. s.memory) made.0))
-    (λ before knew e. knows_on old new (ap (λ s. s.owed) made.0) (ap (λ s. s.memory) made.0) (knew ((quiet_done came).knows before call e)))
     (ap drawn_of made.0 ∙ sym (ap (λ c. c.0) called)) (ap (answered (λ _. Nothing)) made.1 ∙ sym (ap (λ c. c.1) called)))
 
 -- a call that changes the virtual screen alone
@@ -137,35 +126,22 @@ virtual_made old new call came answer w own update none called made told =
     subst (λ a. IsMade old new call a w w) (sym told)
     (made_so old new call (answered (λ _. Nothing) came) w update (quiet_done came) (ap (λ s. s.profile) made.0) (ap (λ s. s.keys) made.0) (ap (λ s. s.opening) made.0) (ap (λ s. s.closing) made.0) (ap (λ s. s.owed) made.0)
     (ap (λ s. s.memory) made.0 ∙ sym (memory_kept old.profile old.desk old.memory call (answered (λ _. Nothing) came) update none)) (still_same old.profile old.memory new.memory (ap (λ s. s.memory) made.0))
-    (λ before knew e. knows_on old new (ap (λ s. s.owed) made.0) (ap (λ s. s.memory) made.0) (knew ((quiet_done came).knows before call e)))
     (ap drawn_of made.0 ∙ sym (ap (λ c. c.0) called)) (ap (answered (λ _. Nothing)) made.1 ∙ sym (ap (λ c. c.1) called)))
 
 -- a call that says that others wrote on the screen
 pub terminal_made : (old new : ScreenState) (call : Call) (came : Result (Unit {0}) WinFault) (answer : Answer) (w : WriterView) (own : VirtualView × Result (Unit {0}) WinFault) (memory : MemoryView)
     → is_update call ≡ false → memory ≡ memory_marked old.memory (marked_by old.desk call) → screen_call (drawn_of old) call ≡ virtual_told old.desk own → OnTerminal old new came own memory → StillAgrees old.profile old.memory memory
-    → ((before : Bool) → (before ≡ true → Knows old) → knows_after before call (answered (λ _. Nothing) came) ≡ true → Knows new) → answer ≡ answered (λ _. Nothing) came → IsMade old new call answer w w
-terminal_made old new call came answer w own memory update left called made still knows told =
+    → answer ≡ answered (λ _. Nothing) came → IsMade old new call answer w w
+terminal_made old new call came answer w own memory update left called made still told =
     subst (λ a. IsMade old new call a w w) (sym told)
     (made_so old new call (answered (λ _. Nothing) came) w update (quiet_done came) (ap (λ s. s.profile) made.0) (ap (λ s. s.keys) made.0) (ap (λ s. s.opening) made.0) (ap (λ s. s.closing) made.0) (ap (λ s. s.owed) made.0)
     (ap (λ s. s.memory) made.0 ∙ left ∙ sym (ap (λ b. if b then memory_updated old.profile old.memory (answered (λ _. Nothing) came) else memory_marked old.memory (marked_by old.desk call)) update))
-    (subst (StillAgrees old.profile old.memory) (sym (ap (λ s. s.memory) made.0)) still) knows
+    (subst (StillAgrees old.profile old.memory) (sym (ap (λ s. s.memory) made.0)) still)
     (ap drawn_of made.0 ∙ sym (ap (λ c. c.0) called)) (ap (answered (λ _. Nothing)) made.1 ∙ sym (ap (λ c. c.1) called)))
 
 still_disturbed : MemoryLaws → (profile : ProfileView) (memory : MemoryView) (rows : Result (ℕ × ℕ) WinFault) → StillAgrees profile memory (rows_disturbed memory rows)
 still_disturbed laws profile memory (Err fault) state agrees = agrees
 still_disturbed laws profile memory (Ok rows) state agrees = disturbed_agrees laws profile memory rows.0 rows.1 state agrees
-
--- where rows were marked nothing is known, and else all is as before
-redrawn_knows : (old new : ScreenState) (call : Call) (came : Result (Unit {0}) WinFault) (rows : Result (ℕ × ℕ) WinFault) → redraws call ≡ true → new.owed ≡ old.owed
-    → new.memory ≡ rows_disturbed old.memory rows → came ≡ (rows_redrawn old.virtual rows).1
-    → (before : Bool) → (before ≡ true → Knows old) → knows_after before call (answered (λ _. Nothing) came) ≡ true → Knows new
-redrawn_knows old new call came (Err fault) is owed memory own before knew e = knows_on old new owed memory (knew (sym (ap (λ c. knows_after before call (answered (λ _. Nothing) c)) own) ∙ e))
-redrawn_knows old new call came (Ok rows) is owed memory own before knew e =
-    absurd (never before (sym (ap (λ b. before && not b) is) ∙ sym (ap (λ c. knows_after before call (answered (λ _. Nothing) c)) own) ∙ e))
-  where
-    never : (b : Bool) → (b && false) ≡ true → ⊥
-    never true e = (cc)
-    never false e = (cc)
 
 -- a mark leaves its rows out
 told_marked : (memory : MemoryView) (rows : Result (ℕ × ℕ) WinFault) → rows_disturbed memory rows ≡ memory_marked memory (rows_told rows)
@@ -178,15 +154,14 @@ pub lines_made : MemoryLaws → (old new : ScreenState) (win : Win) (first n : �
 lines_made laws old new win first n came answer w made told =
     let rows = screen_rows_answer old.desk win.0 first n in
     terminal_made old new (RedrawLines win first n) came answer w (redraw_lines_call old.virtual old.desk win.0 first n) (lines_disturbed old.memory old.desk win.0 first n) refl (told_marked old.memory rows) refl made
-    (still_disturbed laws old.profile old.memory rows)
-    (redrawn_knows old new (RedrawLines win first n) came rows refl (ap (λ s. s.owed) made.0) (ap (λ s. s.memory) made.0) made.1) told
+    (still_disturbed laws old.profile old.memory rows) told
 
 pub window_made : MemoryLaws → (old new : ScreenState) (win : Win) (came : Result (Unit {0}) WinFault) (answer : Answer) (w : WriterView)
     → OnTerminal old new came (redraw_window_call old.virtual old.desk win.0) (window_disturbed old.memory old.desk win.0) → answer ≡ answered (λ _. Nothing) came
     → IsMade old new (RedrawWindow win) answer w w
 window_made laws old new win came answer w made told =
     terminal_made old new (RedrawWindow win) came answer w (redraw_window_call old.virtual old.desk win.0) (window_disturbed old.memory old.desk win.0) refl (left (size_answer old.desk win.0)) refl made
-    (still (size_answer old.desk win.0)) (knows (size_answer old.desk win.0) (ap (λ s. s.memory) made.0) made.1) told
+    (still (size_answer old.desk win.0)) told
   where
     left : (size : Result (ℕ × ℕ) WinFault) → all_disturbed old.memory old.desk win.0 size ≡ memory_marked old.memory (window_told old.desk win.0 size)
     left (Err fault) = refl
@@ -195,11 +170,6 @@ window_made laws old new win came answer w made told =
     still : (size : Result (ℕ × ℕ) WinFault) → StillAgrees old.profile old.memory (all_disturbed old.memory old.desk win.0 size)
     still (Err fault) state agrees = agrees
     still (Ok size) state agrees = still_disturbed laws old.profile old.memory (screen_rows_answer old.desk win.0 0 size.0) state agrees
-
-    knows : (size : Result (ℕ × ℕ) WinFault) → new.memory ≡ all_disturbed old.memory old.desk win.0 size → came ≡ (all_redrawn old.virtual old.desk win.0 size).1
-        → (before : Bool) → (before ≡ true → Knows old) → knows_after before (RedrawWindow win) (answered (λ _. Nothing) came) ≡ true → Knows new
-    knows (Err fault) memory own before knew e = redrawn_knows old new (RedrawWindow win) came (Err fault) refl (ap (λ s. s.owed) made.0) memory own before knew e
-    knows (Ok size) memory own before knew e = redrawn_knows old new (RedrawWindow win) came (screen_rows_answer old.desk win.0 0 size.0) refl (ap (λ s. s.owed) made.0) memory own before knew e
 
 -- ---- updates
 
@@ -227,7 +197,6 @@ shown_made runs old new sent before after is shown = record {
   sent = shown.updated.sent;
   agrees = λ state next agrees run. subst (λ m. Agrees (abilities old.profile) m next) (sym (ap (λ s. s.memory) shown.screen)) (runs.follows old.profile is old.memory shown.updated.possible state next sent.begun agrees run);
   well = λ well. record { picture = ap (λ s. s.virtual.picture) shown.screen; plan = shown.updated.plan; possible = shown.updated.possible; nothing = ap (λ s. s.owed) shown.screen };
-  knows = λ b knew e. record { owed = ap (λ s. s.owed) shown.screen; memory = ap (λ s. is_known s.memory) shown.screen ∙ shown.updated.known };
   puts = shown.updated.puts;
   finishes = shown.updated.finishes;
 }
@@ -245,7 +214,6 @@ failed_made laws old new update_faults.NoMemory before after failed = record {
   sent = subst (λ w. IsSent old.profile old.memory old.owed before w [] 0 new.owed) (sym failed.fault_told.1) (sends_nothing old.profile old.memory old.owed new.owed before failed.fault_told.0);
   agrees = agrees_on old.profile old.memory new.memory [] refl (still_same old.profile old.memory new.memory (ap (λ s. s.memory) failed.screen));
   well = λ well. absurd (untrue well);
-  knows = λ b knew e. knows_on old new failed.fault_told.0 (ap (λ s. s.memory) failed.screen) (knew (first_of b true e));
   puts = ap (λ w. w.failed_puts) failed.fault_told.1;
   finishes = ap (λ w. w.failed_finishes) failed.fault_told.1;
 }
@@ -261,7 +229,6 @@ failed_made laws old new (update_faults.Write begun count kind) before after fai
   sent = failed.fault_told.sent;
   agrees = forgets_all laws old new begun (ap (λ s. s.memory) failed.screen) failed.fault_told.sent;
   well = λ well. absurd (untrue well);
-  knows = λ b knew e. absurd (untrue e);
   puts = failed.fault_told.puts;
   finishes = failed.fault_told.finishes;
 }
@@ -277,7 +244,6 @@ failed_made laws old new (update_faults.Flush begun count kind) before after fai
   sent = failed.fault_told.sent;
   agrees = forgets_all laws old new begun (ap (λ s. s.memory) failed.screen) failed.fault_told.sent;
   well = λ well. absurd (untrue well);
-  knows = λ b knew e. absurd (untrue e);
   puts = failed.fault_told.puts;
   finishes = failed.fault_told.finishes;
 }
@@ -287,12 +253,12 @@ failed_made laws old new (update_faults.Flush begun count kind) before after fai
 -- what a call that is no update answers says nothing of one
 quiet_told : (answer : Answer) → is_told answer ≡ true → Quiet answer
 quiet_told Nothing told = quiet_done (Ok tt)
-quiet_told (Made win) told = record { knows = λ before call e. first_of before (not (redraws call)) e; begun = refl; count = refl; well = refl; cut = refl; unfinished = refl }
-quiet_told (Added all) told = record { knows = λ before call e. first_of before (not (redraws call)) e; begun = refl; count = refl; well = refl; cut = refl; unfinished = refl }
-quiet_told (Seen cell) told = record { knows = λ before call e. first_of before (not (redraws call)) e; begun = refl; count = refl; well = refl; cut = refl; unfinished = refl }
-quiet_told (Pair a b) told = record { knows = λ before call e. first_of before (not (redraws call)) e; begun = refl; count = refl; well = refl; cut = refl; unfinished = refl }
-quiet_told (Touched touched) told = record { knows = λ before call e. first_of before (not (redraws call)) e; begun = refl; count = refl; well = refl; cut = refl; unfinished = refl }
-quiet_told (Refused fault) told = record { knows = λ before call e. e; begun = refl; count = refl; well = refl; cut = refl; unfinished = refl }
+quiet_told (Made win) told = record { begun = refl; count = refl; well = refl; cut = refl; unfinished = refl }
+quiet_told (Added all) told = record { begun = refl; count = refl; well = refl; cut = refl; unfinished = refl }
+quiet_told (Seen cell) told = record { begun = refl; count = refl; well = refl; cut = refl; unfinished = refl }
+quiet_told (Pair a b) told = record { begun = refl; count = refl; well = refl; cut = refl; unfinished = refl }
+quiet_told (Touched touched) told = record { begun = refl; count = refl; well = refl; cut = refl; unfinished = refl }
+quiet_told (Refused fault) told = record { begun = refl; count = refl; well = refl; cut = refl; unfinished = refl }
 quiet_told (Sent sent) told = absurd (untrue told)
 quiet_told (Failed fault) told = absurd (untrue told)
 
@@ -307,7 +273,6 @@ pub windows_made : (old new : ScreenState) (call : Call) (answer : Answer) (w : 
 windows_made old new call answer w is told (inl made) =
     made_so old new call answer w is.updates (quiet_told answer told) (ap (λ s. s.profile) made.0) (ap (λ s. s.keys) made.0) (ap (λ s. s.opening) made.0) (ap (λ s. s.closing) made.0) (ap (λ s. s.owed) made.0)
     (ap (λ s. s.memory) made.0 ∙ sym (memory_kept old.profile old.desk old.memory call answer is.updates is.marks)) (still_same old.profile old.memory new.memory (ap (λ s. s.memory) made.0))
-    (λ before knew e. knows_on old new (ap (λ s. s.owed) made.0) (ap (λ s. s.memory) made.0) (knew ((quiet_told answer told).knows before call e)))
     (ap drawn_of made.0 ∙ sym (ap (λ c. c.0) is.called)) (made.1 ∙ sym (ap (λ c. c.1) is.called))
 windows_made old new call answer w is told (inr refused) =
     let own : Answer = (screen_call (drawn_of old) call).1 in
@@ -325,7 +290,6 @@ windows_made old new call answer w is told (inr refused) =
       quiet = λ _. refl;
       sent = sends_nothing old.profile old.memory old.owed new.owed w (ap (λ s. s.owed) refused.0);
       agrees = agrees_on old.profile old.memory new.memory [] refl (still_same old.profile old.memory new.memory (ap (λ s. s.memory) refused.0));
-      knows = λ before knew e. knows_on old new (ap (λ s. s.owed) refused.0) (ap (λ s. s.memory) refused.0) (knew e);
       well = λ sent. absurd (never sent);
       puts = refl;
       finishes = refl;

@@ -23,10 +23,10 @@ use Rattle.screen_sessions.specs.declared.answers.Answer.TheVariants.{Nothing}
 use Rattle.screen_sessions.specs.declared.calls.Call.{Call}
 use Rattle.screen_sessions.specs.declared.calls.Call.TheVariants.{Doupdate}
 use Rattle.screen_sessions.specs.Code.Progress.{AreMadeAfresh, IsFresh, Reached, SoFar}
-use Rattle.screen_sessions.specs.Making.{IsMade, Knows, drawn_of}
+use Rattle.screen_sessions.specs.Making.{IsMade, drawn_of}
 use Rattle.curses.specs.ScreenStates.{ScreenState}
 use Rattle.screen_sessions.specs.declared.sessions.Report.{Report}
-use Rattle.screen_sessions.specs.Sessions.{AreMade, Beginning, Drawn, IsAnswer, IsCheap, IsSession, MayBegin, Moment, after_call, after_calls, begun_in, begun_of, beginning_of, count_in, count_of, counted_in, drawn_at, ended_well, is_cut, is_unfinished, is_update, knows_after, knows_all, knows_behind, last_ok_behind, memory_behind, remembered_at, remembered_behind, tells_sent}
+use Rattle.screen_sessions.specs.Sessions.{AreMade, Beginning, Drawn, IsAnswer, IsCheap, IsSession, MayBegin, Moment, OwesNothing, after_call, after_calls, begun_in, begun_of, beginning_of, count_in, count_of, counted_in, drawn_at, ended_well, is_cut, is_unfinished, is_update, last_ok_behind, memory_behind, remembered_at, remembered_behind, tells_sent}
 use Rattle.curses.specs.Updates.{IsOfOneText, IsSent}
 use Rattle.curses.specs.Writers.{WriterView, counted}
 use Rattle.screen_sessions.proofs.TakenLaws.{appends_more, appends_none, one_behind}
@@ -114,16 +114,11 @@ counted_more : (kind : Answer → Bool) (answers : List Answer) (answer : Answer
 counted_more kind [] answer count = refl
 counted_more kind (a ∷ answers) answer count = counted_more kind answers answer (counted (kind a) count)
 
--- ---- what is known
-
-knows_behind_more : (before : Bool) (calls : List Call) (answers : List Answer) (call : Call) (answer : Answer) → length calls ≡ length answers
-    → knows_behind before (calls ++ call ∷ []) (answers ++ answer ∷ []) ≡ knows_after (knows_behind before calls answers) call answer
-knows_behind_more before [] [] call answer same = refl
-knows_behind_more before [] (a ∷ answers) call answer same = absurd (omega (arith, same))
-knows_behind_more before (c ∷ calls) [] call answer same = absurd (omega (arith, same))
-knows_behind_more before (c ∷ calls) (a ∷ answers) call answer same = knows_behind_more (knows_after before c a) calls answers call answer (omega (arith, same))
-
 -- ---- one call more
+
+none_left : (bytes : List ℕ) → length bytes ≡ 0 → bytes ≡ []
+none_left [] none = refl
+none_left (b ∷ bytes) none = absurd (omega (arith, none))
 
 -- a state that is as was remembered is, after these operations, as is remembered then
 abbrev GoesOn : ProfileView → MemoryView → MemoryView → List Op → Type 0
@@ -195,7 +190,6 @@ one_more laws acts remembers cheap profile first begun calls answers call answer
     cheap = λ i from until. cheap_at n opened begin i from (before_or_last i (length answers) (omega (arith, until, more)));
   };
   reached = λ n opened few begin. reached_at n opened begin (before_or_last n (length answers + 1) (omega (arith, few, more)));
-  knows = λ known. made.knows (knows_behind (knows_all first) (take (length answers) calls) answers) is.knows (sym knows_more ∙ known);
 }
   where
     more : length (answers ++ answer ∷ []) ≡ length answers + 1
@@ -303,51 +297,50 @@ one_more laws acts remembers cheap profile first begun calls answers call answer
           agrees = subst (λ m. Agrees (abilities profile) m opened) (ap (remembered_at profile first calls (answers ++ answer ∷ [])) all ∙ sym memory_now) begin.agrees;
         }
 
-    knows_more : knows_behind (knows_all first) (take (length (answers ++ answer ∷ [])) calls) (answers ++ answer ∷ []) ≡ knows_after (knows_behind (knows_all first) (take (length answers) calls) answers) call answer
-    knows_more =
-        ap (λ n. knows_behind (knows_all first) (take n calls) (answers ++ answer ∷ [])) more
-        ∙ ap (λ c. knows_behind (knows_all first) c (answers ++ answer ∷ [])) one_call_more
-        ∙ knows_behind_more (knows_all first) (take (length answers) calls) answers call answer as_many
+    -- where the writer accepted all, nothing is owed
+    all_taken : OwesNothing profile first answers → old.owed ≡ []
+    all_taken nothing =
+        none_left old.owed (omega (arith, nothing, is.counted_all, length-append is.taken old.owed, ap length is.bytes, length-append first.owed (all_bytes profile (begun_in answers))))
 
     -- an update that ended well, of a screen that knows what is shown
-    cheap_now : Knows old → old.virtual.repaint ≡ false → tells_sent answer ≡ true → (opened state : TerminalState) → Reached profile old.memory opened (begun_in answers)
+    cheap_now : is_known old.memory ≡ true → old.owed ≡ [] → old.virtual.repaint ≡ false → tells_sent answer ≡ true → (opened state : TerminalState) → Reached profile old.memory opened (begun_in answers)
         → runs profile opened (begun_in answers) ≡ Some state → IsCheap profile state old.virtual.picture answer
-    cheap_now knows paint well opened state reached run =
+    cheap_now known nothing paint well opened state reached run =
         let same : reached.now ≡ state = some_same reached.now state (sym reached.run ∙ run) in
         let plan = (made.well well).plan in
         let none = (made.well well).nothing in
         let bytes : count_of answer ≡ length (all_bytes profile (begun_of answer)) =
-        sent.cut.bytes ∙ sym (ap length (append-nil sent.cut.taken)) ∙ sym (ap (λ r. length (sent.cut.taken ++ r)) none) ∙ sym (ap length sent.cut.whole) ∙ ap (λ o. length (o ++ all_bytes profile (begun_of answer))) knows.owed in
+        sent.cut.bytes ∙ sym (ap length (append-nil sent.cut.taken)) ∙ sym (ap (λ r. length (sent.cut.taken ++ r)) none) ∙ sym (ap length sent.cut.whole) ∙ ap (λ o. length (o ++ all_bytes profile (begun_of answer))) nothing in
         let few : length (all_bytes profile (begun_of answer)) ≤ length (all_bytes profile (joined_of profile old.memory old.virtual.picture)) =
-        subst (λ p. length (all_bytes p (begun_of answer)) ≤ length (all_bytes p (joined_of p old.memory old.virtual.picture))) is.same (cheap.joined old.profile old.memory old.virtual (begun_of answer) plan knows.memory paint) in
-        let known : joined_of profile old.memory old.virtual.picture ≡ joined_of profile (remembered profile.rows profile.columns state) old.virtual.picture =
-        ap (λ m. joined_of profile m old.virtual.picture) (remembers.is (abilities profile) old.memory (subst (λ p. MayBe (abilities p) old.memory) is.same (made.well well).possible).state.whole state (subst (Agrees (abilities profile) old.memory) same reached.agrees) knows.memory) in
+        subst (λ p. length (all_bytes p (begun_of answer)) ≤ length (all_bytes p (joined_of p old.memory old.virtual.picture))) is.same (cheap.joined old.profile old.memory old.virtual (begun_of answer) plan known paint) in
+        let joined : joined_of profile old.memory old.virtual.picture ≡ joined_of profile (remembered profile.rows profile.columns state) old.virtual.picture =
+        ap (λ m. joined_of profile m old.virtual.picture) (remembers.is (abilities profile) old.memory (subst (λ p. MayBe (abilities p) old.memory) is.same (made.well well).possible).state.whole state (subst (Agrees (abilities profile) old.memory) same reached.agrees) known) in
         let less : length (all_bytes profile (begun_of answer)) ≤ length (all_bytes profile (joined_of profile (remembered profile.rows profile.columns state) old.virtual.picture)) =
-        subst (λ ops. length (all_bytes profile (begun_of answer)) ≤ length (all_bytes profile ops)) known few in
+        subst (λ ops. length (all_bytes profile (begun_of answer)) ≤ length (all_bytes profile ops)) joined few in
         omega (arith, bytes, less)
 
     cheap_at : (n : ℕ) (opened : TerminalState) → MayBegin profile first calls (answers ++ answer ∷ []) n opened → (i : ℕ) → n ≤ i → (i < length answers) ⊎ (i ≡ length answers)
-        → knows_behind (knows_all first) (take i calls) (take i (answers ++ answer ∷ [])) ≡ true → (drawn_at first calls (answers ++ answer ∷ []) i).virtual.repaint ≡ false
+        → is_known (remembered_at profile first calls (answers ++ answer ∷ []) i) ≡ true → OwesNothing profile first (take i (answers ++ answer ∷ [])) → (drawn_at first calls (answers ++ answer ∷ []) i).virtual.repaint ≡ false
         → tells_sent (get_or (answers ++ answer ∷ []) i Nothing) ≡ true → (state : TerminalState) → runs profile opened (begun_in (take i (answers ++ answer ∷ []))) ≡ Some state
         → IsCheap profile state (drawn_at first calls (answers ++ answer ∷ []) i).virtual.picture (get_or (answers ++ answer ∷ []) i Nothing)
-    cheap_at n opened begin i from (inl l) known paint well state run =
+    cheap_at n opened begin i from (inl l) known nothing paint well state run =
         let few : take i (answers ++ answer ∷ []) ≡ take i answers = first_of i answers answer (omega (arith, l)) in
         let drawn : drawn_at first calls (answers ++ answer ∷ []) i ≡ drawn_at first calls answers i = part i (omega (arith, l)) in
         let told : get_or (answers ++ answer ∷ []) i Nothing ≡ get_or answers i Nothing = get_or_append_left answers (answer ∷ []) Nothing i l in
         let held = is.holds n opened (omega (arith, from, l)) (begin_before n opened (omega (arith, from, l)) begin) in
         subst (λ d. IsCheap profile state d.virtual.picture (get_or (answers ++ answer ∷ []) i Nothing)) (sym drawn)
         (subst (IsCheap profile state (drawn_at first calls answers i).virtual.picture) (sym told)
-        (held.cheap i from l (sym (ap (knows_behind (knows_all first) (take i calls)) few) ∙ known) (sym (ap (λ d. d.virtual.repaint) drawn) ∙ paint) (sym (ap tells_sent told) ∙ well) state
+        (held.cheap i from l (sym (ap is_known (part_memory i (omega (arith, l)))) ∙ known) (subst (OwesNothing profile first) few nothing) (sym (ap (λ d. d.virtual.repaint) drawn) ∙ paint) (sym (ap tells_sent told) ∙ well) state
         (sym (ap (λ a. runs profile opened (begun_in a)) few) ∙ run)))
-    cheap_at n opened begin i from (inr e) known paint well state run =
+    cheap_at n opened begin i from (inr e) known nothing paint well state run =
         let few : take i (answers ++ answer ∷ []) ≡ answers = ap (λ n. take n (answers ++ answer ∷ [])) e ∙ first_of (length answers) answers answer (omega arith) ∙ all_answers in
         let drawn : drawn_at first calls (answers ++ answer ∷ []) i ≡ drawn_of old = ap (drawn_at first calls (answers ++ answer ∷ [])) e ∙ part (length answers) (omega arith) ∙ sym is.drawn in
         let told : get_or (answers ++ answer ∷ []) i Nothing ≡ answer = ap (λ n. get_or (answers ++ answer ∷ []) n Nothing) e ∙ last_of answers answer Nothing in
-        let knows : Knows old = is.knows (sym (ap (λ n. knows_behind (knows_all first) (take n calls) answers) e) ∙ sym (ap (knows_behind (knows_all first) (take i calls)) few) ∙ known) in
+        let remembered : remembered_at profile first calls (answers ++ answer ∷ []) i ≡ old.memory = ap (remembered_at profile first calls (answers ++ answer ∷ [])) e ∙ part_memory (length answers) (omega arith) ∙ sym is.memory in
         let reached = is.reached n opened (omega (arith, from, e)) (begin_before n opened (omega (arith, from, e)) begin) in
         subst (λ d. IsCheap profile state d.virtual.picture (get_or (answers ++ answer ∷ []) i Nothing)) (sym drawn)
         (subst (IsCheap profile state old.virtual.picture) (sym told)
-        (cheap_now knows (sym (ap (λ d. d.virtual.repaint) drawn) ∙ paint) (sym (ap tells_sent told) ∙ well) opened state reached
+        (cheap_now (sym (ap is_known remembered) ∙ known) (all_taken (subst (OwesNothing profile first) few nothing)) (sym (ap (λ d. d.virtual.repaint) drawn) ∙ paint) (sym (ap tells_sent told) ∙ well) opened state reached
         (sym (ap (λ a. runs profile opened (begun_in a)) few) ∙ run)))
 
     last_moment : (opened : TerminalState) → IsState (abilities profile) opened → (reached : Reached profile old.memory opened (begun_in answers))
@@ -409,19 +402,11 @@ none_made calls screen w = record {
   quiet = λ none. refl;
   holds = λ n opened few begin. record { moments = λ i from until. absurd (omega (arith, until)); cheap = λ i from until. absurd (omega (arith, until)) };
   reached = λ n opened few begin. at_first n opened begin few;
-  knows = λ known. record { owed = is_empty screen.owed (both_hold (is_known screen.memory) (length screen.owed == 0) known).1; memory = (both_hold (is_known screen.memory) (length screen.owed == 0) known).0 };
 }
   where
     at_first : (n : ℕ) (opened : TerminalState) → MayBegin screen.profile (beginning_of screen) calls [] n opened → n ≤ 0 → Reached screen.profile screen.memory opened []
     at_first zero opened begin few = record { now = opened; run = refl; agrees = begin.agrees }
     at_first (suc n) opened begin few = absurd (omega (arith, few))
-
-    is_empty : (bytes : List ℕ) → (length bytes == 0) ≡ true → bytes ≡ []
-    is_empty [] e = refl
-    is_empty (b ∷ bytes) e = let not_none : (length (b ∷ bytes) == 0) ≡ false = grind (arith, nat_tests) in absurd (never (sym not_none ∙ e))
-      where
-        never : false ≡ true → ⊥
-        never f = (cc)
 
 -- ---- the loop
 

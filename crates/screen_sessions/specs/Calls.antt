@@ -29,7 +29,7 @@ abbrev pub answered : {A : Type 0} → (A → Answer) → Result A WinFault → 
 answered give (Ok x) = give x
 answered give (Err fault) = answers.Refused fault
 
--- The answer of a call that is no update: what it gives, or why it was refused.
+-- The answer of a call that is not an update: what it gives, or why it was refused.
 abbrev pub is_told : Answer → Bool
 is_told (answers.Sent sent) = false
 is_told (answers.Failed fault) = false

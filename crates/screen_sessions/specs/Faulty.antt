@@ -10,8 +10,8 @@ use Rattle.screen_sessions.specs.declared.faulty.WriterFailure.{WriterFailure}
 use Rattle.screen_sessions.specs.declared.faulty.WriterFailure.TheVariants as failures
 use Rattle.screen_sessions.specs.declared.faulty.WriterFault.{WriterFault}
 
--- The bytes taken so far; the fault that comes next, and how many of its failures are left; the faults behind it, each
--- of which fails once; and how often the writer was called.
+-- The bytes accepted so far; the fault that comes next, and how many of its failures are left; the faults after it,
+-- each of which fails once; and how often the writer was called.
 pub record FaultyView : Type 0 where
   pub taken : List ℕ
   pub fault : WriterFault

@@ -1,10 +1,10 @@
 -- What one call does to a screen and its writer.
-use Rattle.std.specs.Prelude.{Bool, true, false, ◌≡◌, [], Some}
+use Rattle.std.specs.Prelude.{true, false, ◌≡◌, [], Some}
 use Rattle.screen_sessions.specs.declared.answers.Answer.{Answer}
 use Rattle.screen_sessions.specs.declared.calls.Call.{Call}
 use Rattle.curses.specs.ScreenStates.{ScreenState}
-use Rattle.screen_sessions.specs.Sessions.{Drawn, IsAnswer, after_call, begun_of, count_of, is_cut, is_unfinished, is_update, knows_after, memory_behind, tells_sent}
-use Rattle.scr_memory.specs.Memories.{Agrees, MayBe, is_known}
+use Rattle.screen_sessions.specs.Sessions.{Drawn, IsAnswer, after_call, begun_of, count_of, is_cut, is_unfinished, is_update, memory_behind, tells_sent}
+use Rattle.scr_memory.specs.Memories.{Agrees, MayBe}
 use Rattle.scr_plan.specs.Plans.{IsPlan}
 use Rattle.scr_term.specs.Operations.Profiles.{abilities}
 use Rattle.scr_term.specs.Operations.States.{TerminalState}
@@ -24,11 +24,6 @@ pub record EndsWell (old new : ScreenState) (answer : Answer) : Type 0 where
   pub possible : MayBe (abilities old.profile) old.memory
   pub nothing : new.owed ≡ []
 
--- Nothing is owed, and the whole state of the terminal is known.
-pub record Knows (screen : ScreenState) : Type 0 where
-  pub owed : screen.owed ≡ []
-  pub memory : is_known screen.memory ≡ true
-
 -- The call was made on the screen `old` and gave this answer; `before` and `after` are the writer's reports.
 pub record IsMade (old new : ScreenState) (call : Call) (answer : Answer) (before after : WriterView) : Type 0 where
   pub profile : new.profile ≡ old.profile
@@ -45,6 +40,5 @@ pub record IsMade (old new : ScreenState) (call : Call) (answer : Answer) (befor
   pub agrees : (state next : TerminalState) → Agrees (abilities old.profile) old.memory state → runs old.profile state (begun_of answer) ≡ Some next
       → Agrees (abilities old.profile) new.memory next
   pub well : tells_sent answer ≡ true → EndsWell old new answer
-  pub knows : (before : Bool) → (before ≡ true → Knows old) → knows_after before call answer ≡ true → Knows new
   pub puts : after.failed_puts ≡ counted (is_cut answer) before.failed_puts
   pub finishes : after.failed_finishes ≡ counted (is_unfinished answer) before.failed_finishes

@@ -216,7 +216,7 @@ counted_in kind (answer ∷ answers) count = counted_in kind answers (counted (k
 
 -- The terminal shows a picture: nothing is owed (no text was cut short); its cells, attributes, colours and cursor are
 -- those of the picture, as far as it can show them. On the bundled ECMA-48 entry, if nothing was owed at the start, the
--- bytes taken, read as an ECMA-48 text, lead to the negative of its state (reverse in place of standout).
+-- bytes accepted, read as an ECMA-48 text, lead to the negative of its state (reverse in place of standout).
 pub record IsShowing (profile : ProfileView) (opened now : TerminalState) (before owed taken : List ℕ) (picture : PictureView) : Type 0 where
   pub nothing : owed ≡ []
   pub shows : Shows (abilities profile) now picture
@@ -235,27 +235,6 @@ pub record Moment (profile : ProfileView) (opened : TerminalState) (before : Lis
   pub showing : well ≡ true → IsShowing profile opened now before owed taken picture
 
 -- ---- economy
-
--- The program reports, by redrawwin() or wredrawln(), that others wrote on the screen.
-abbrev pub redraws : Call → Bool
-redraws (RedrawWindow win) = true
-redraws (RedrawLines win first n) = true
-redraws call = false
-
--- The whole state of the terminal is known after this call. It was known at the start or an update has succeeded, and
--- since then no write or flush failed and no redraw call was accepted.
-abbrev pub knows_after : Bool → Call → Answer → Bool
-knows_after before call (Sent sent) = true
-knows_after before call (Failed (Write begun sent kind)) = false
-knows_after before call (Failed (Flush begun sent kind)) = false
-knows_after before call (Refused fault) = before
-knows_after before call answer = before && not (redraws call)
-
--- The same after several calls.
-abbrev pub knows_behind : Bool → List Call → List Answer → Bool
-knows_behind before [] answers = before
-knows_behind before (call ∷ calls) [] = before
-knows_behind before (call ∷ calls) (answer ∷ answers) = knows_behind (knows_after before call answer) calls answers
 
 -- This update took no more bytes than the joined repaint does when the terminal's whole state, `now`, is known.
 abbrev pub IsCheap : ProfileView → TerminalState → PictureView → Answer → Type 0
@@ -281,10 +260,6 @@ fresh_beginning profile = record {
 abbrev pub beginning_of : ScreenState → Beginning
 beginning_of screen = record { drawn = record { desk = screen.desk; virtual = screen.virtual }; memory = screen.memory; owed = screen.owed }
 
--- The whole state of the terminal is known, and nothing is owed.
-abbrev pub knows_all : Beginning → Bool
-knows_all first = is_known first.memory && length first.owed == 0
-
 -- Windows and virtual screen after the first n calls.
 abbrev pub drawn_at : Beginning → List Call → List Answer → ℕ → Drawn
 drawn_at first calls answers n = after_calls first.drawn (take n calls) (take n answers)
@@ -292,6 +267,11 @@ drawn_at first calls answers n = after_calls first.drawn (take n calls) (take n 
 -- What is known of the terminal after the first n calls.
 abbrev pub remembered_at : ProfileView → Beginning → List Call → List Answer → ℕ → MemoryView
 remembered_at profile first calls answers n = remembered_behind profile first.drawn first.memory (take n calls) (take n answers)
+
+-- After these answers nothing is owed: the writer accepted what was owed at the start and the texts of all operations
+-- that were begun.
+abbrev pub OwesNothing : ProfileView → Beginning → List Answer → Type 0
+OwesNothing profile first answers = count_in answers ≡ length first.owed + length (all_bytes profile (begun_in answers))
 
 -- The terminal may be in the state `opened` after n calls, none of them an update: the state agrees with what is known
 -- then. In rows that these calls marked it may differ, and so may cursor and pen, since others may have written there.
@@ -305,14 +285,14 @@ pub record HoldsFrom (profile : ProfileView) (first : Beginning) (calls : List C
   pub moments : (i : ℕ) → n ≤ i → i < length answers
       → Moment profile opened first.owed (drawn_at first calls answers (i + 1)).virtual.picture (begun_in (take (i + 1) answers)) (take (count_in (take (i + 1) answers)) taken)
       (tells_sent (slice_index_or answers i Nothing))
-  -- Where the whole state is known and no repaint was requested, a successful update sends no more than the joined
-  -- repaint.
-  pub cheap : (i : ℕ) → n ≤ i → i < length answers → knows_behind (knows_all first) (take i calls) (take i answers) ≡ true → (drawn_at first calls answers i).virtual.repaint ≡ false
-      → tells_sent (slice_index_or answers i Nothing) ≡ true → (now : TerminalState) → runs profile opened (begun_in (take i answers)) ≡ Some now
+  -- Where the whole state is known, nothing is owed and no repaint was requested, a successful update sends no more
+  -- than the joined repaint.
+  pub cheap : (i : ℕ) → n ≤ i → i < length answers → is_known (remembered_at profile first calls answers i) ≡ true → OwesNothing profile first (take i answers)
+      → (drawn_at first calls answers i).virtual.repaint ≡ false → tells_sent (slice_index_or answers i Nothing) ≡ true → (now : TerminalState) → runs profile opened (begun_in (take i answers)) ≡ Some now
       → IsCheap profile now (drawn_at first calls answers i).virtual.picture (slice_index_or answers i Nothing)
 
 -- A session: each answer is right. Whatever state the terminal may be in at the start, or after any number of first
--- calls that are no updates, the promises hold from there on. `taken` is all that the writer took.
+-- calls that are not updates, the promises hold from there on. `taken` is all that the writer accepted.
 pub record IsSession (profile : ProfileView) (first : Beginning) (calls : List Call) (answers : List Answer) (taken : List ℕ) : Type 0 where
   pub answered_all : length answers ≡ length calls
   pub counted_all : count_in answers ≡ length taken
@@ -384,8 +364,8 @@ is_marked drawn [] answers r = false
 is_marked drawn (call ∷ calls) [] r = false
 is_marked drawn (call ∷ calls) (answer ∷ answers) r = is_row_of (marked_by drawn.desk call) r || is_marked (after_call drawn call answer) calls answers r
 
--- The first n calls are no updates, and together they mark each of these rows. At least one is an accepted redraw call,
--- which also forgets the cursor's position and the pen.
+-- The first n calls are not updates, and together they mark each of these rows. At least one is an accepted redraw
+-- call, which also forgets the cursor's position and the pen.
 pub record MarksAll (rows : ℕ → Bool) (first : Beginning) (calls : List Call) (answers : List Answer) (n : ℕ) : Type 0 where
   pub quiet : list_all (λ call. not (is_update call)) (take n calls) ≡ true
   pub some : has_mark first.drawn (take n calls) (take n answers) ≡ true

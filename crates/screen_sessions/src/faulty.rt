@@ -14,7 +14,7 @@ use std::marker::Model;
 pub enum WriterFailure {
     /// A write fails with an error.
     Error,
-    /// A write takes nothing and gives 0.
+    /// A write accepts nothing and gives 0.
     Zero,
     /// A flush fails with an error.
     Flush,
@@ -23,7 +23,7 @@ pub enum WriterFailure {
 /// Where and how a writer for tests fails.
 #[derive(Clone, Copy, Debug, PartialEq, Eq)]
 pub struct WriterFault {
-    /// How many bytes it has taken in all when it fails.
+    /// How many bytes it has accepted in all when it fails.
     pub limit: usize,
     /// How it fails.
     pub failure: WriterFailure,
@@ -35,7 +35,7 @@ pub struct WriterFault {
 /// further fault, and then takes everything.
 ///
 /// A write that begins before the limit of the fault that comes next takes bytes up to the limit and no further. If
-/// memory runs out in a write, the error is of kind `OutOfMemory` and nothing is taken. An update can write to it
+/// memory runs out in a write, the error is of kind `OutOfMemory` and nothing is accepted. An update can write to it
 /// through `Device`.
 #[derive(Debug, Drop)]
 pub struct Faulty {
@@ -43,7 +43,7 @@ pub struct Faulty {
     // The fault that comes next, and how many of its failures are left.
     fault: WriterFault,
     left: usize,
-    // The faults behind it, each of which fails once.
+    // The faults after it, each of which fails once.
     later: Vec<WriterFault>,
     calls: u64,
 }
@@ -74,7 +74,7 @@ impl Faulty {
         }
     }
 
-    /// A writer that has taken these bytes so far, and fails once at each of these faults, one after another. It
+    /// A writer that has accepted these bytes so far, and fails once at each of these faults, one after another. It
     /// allocates only where the vector has no room for the bytes that it takes.
     pub fn with_faults(taken: Vec<u8>, faults: Vec<WriterFault>) -> Faulty
         ensures { result ≡ with_faults taken.items faults.items }
@@ -94,7 +94,7 @@ impl Faulty {
         writer
     }
 
-    /// The bytes that it has taken so far.
+    /// The bytes that it has accepted so far.
     pub fn taken(&self) -> &[u8]
         ensures { result.now ≡ self.now.taken }
     {

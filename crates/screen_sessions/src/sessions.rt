@@ -47,8 +47,8 @@ pub struct Report {
 ///   failed write the first operations of one.
 /// - Right after each update that ended well, the terminal shows the virtual screen, with its cursor where it is
 ///   wanted, and nothing is owed. This holds whatever writes failed before it and whatever state of its profile the
-///   terminal was in at opening. On the bundled ECMA-48 entry the bytes that were taken lead there.
-/// - After every call, the bytes taken so far followed by those that are owed are the texts of all operations begun.
+///   terminal was in at opening. On the bundled ECMA-48 entry the bytes that were accepted lead there.
+/// - After every call, the bytes accepted so far followed by those that are owed are the texts of all operations begun.
 ///
 /// Refused exactly if `Screen::open` is, memory aside, for its reasons; nothing is written then. curs_refresh(3X).
 pub fn session<W: Counted>(
@@ -143,7 +143,7 @@ pub fn make_calls<W: Counted>(
     })
 }
 
-// Makes calls as `make_calls` does; if memory runs out, the fault is the one that an opening has for it.
+// Makes calls as `make_calls` does; if memory runs out, the error is the one that an opening gives for it.
 fn make_afresh<W: Counted>(
     alloc: Global,
     screen: &mut Screen,

@@ -51,7 +51,7 @@ fn is_update(alloc: Global, line: &[u8]) -> Result<bool, LineFault> {
     }
 }
 
-// The failure for the fault of a line.
+// The failure for the error of a line.
 fn failure_at(number: u32, fault: LineFault) -> DemoFault {
     match fault {
         LineFault::Bad => DemoFault::BadCommand(number),

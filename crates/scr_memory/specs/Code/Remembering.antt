@@ -4,7 +4,7 @@ use Rattle.std.specs.List.{list_all, range_with_len}
 use Rattle.scr_term.specs.Operations.States.{TerminalState}
 use Rattle.scr_memory.specs.Memories.{IsMemory, MemoryView}
 
--- beside it stands whether all rows are known
+-- beside it is whether all rows are known
 pub record IsKept (memory : MemoryView) (all : Bool) : Type 0 where
   pub is : IsMemory memory
   pub every : all ≡ list_all (λ known. known) memory.known_rows

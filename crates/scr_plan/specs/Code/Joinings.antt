@@ -24,7 +24,7 @@ pub record ShowsRow (memory : MemoryView) (row : ℕ) (before : Option (List Loo
 abbrev pub counted_up : ℕ → ℕ
 counted_up n = min n (2 ^ 64 - 1)
 
--- From this state these operations lead to one with this spot and this pen; counted and, where they are kept, kept behind the first ones are
+-- From this state these operations lead to one with this spot and this pen; counted and, where they are kept, kept after the first ones are
 -- those of them that change something.
 pub record IsJoining (profile : ProfileView) (stores : Bool) (first : List Op) (start : TerminalState) (all : List Op) (joining : Joining) : Type 0 where
   pub now : TerminalState
@@ -53,7 +53,7 @@ pub record IsCounted (profile : ProfileView) (old new : Joining) (begun : ℕ) (
   pub spot_is : new.spot ≡ spot
   pub pen_is : new.pen ≡ pen
 
--- behind a place that was painted the cursor is in the next one, and the pen is still on
+-- after a place that was painted the cursor is in the next one, and the pen is still on
 abbrev pub IsBehind : ℕ → Joining → ℕ → ℕ → Option PenView → Type 0
 IsBehind columns joining row column None = Unit {0}
 IsBehind columns joining row column (Some pen) = (joining.pen ≡ pen) × (column < columns → joining.spot ≡ At row column)

@@ -12,7 +12,7 @@ use Rattle.scr_plan.specs.declared.painting.Painter.{Painter}
 abbrev pub differs_in : Painter → PictureView → ℕ → Option (List LookView) → ℕ → Bool
 differs_in painter picture row before c = row_differs painter picture before (row, c)
 
--- the blanks that a part of a row ends with, right behind another place or all of the part; the first of them that differs, and how many do
+-- the blanks that a part of a row ends with, right after another place or all of the part; the first of them that differs, and how many do
 pub record IsRest (painter : Painter) (picture : PictureView) (row : ℕ) (before : Option (List LookView)) (from end : ℕ) (rest : Rest) : Type 0 where
   pub low : from ≤ rest.begin
   pub high : rest.begin ≤ end

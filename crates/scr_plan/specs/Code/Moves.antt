@@ -57,7 +57,7 @@ pub record IsBegun (memory : MemoryView) (draft : Draft) : Type 0 where
   pub spot : draft.spot ≡ memory.state.spot
   pub pen : draft.pen ≡ memory.state.pen
 
--- Operations that led from this state to another come first; behind them the draft is right while some places wait.
+-- Operations that led from this state to another come first; after them the draft is right while some places wait.
 pub record IsMoved (profile : ProfileView) (picture : PictureView) (start : TerminalState) (waits : ℕ × ℕ → Bool) (draft : Draft) : Type 0 where
   pub first : List Op
   pub mid : TerminalState

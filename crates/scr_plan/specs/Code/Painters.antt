@@ -68,7 +68,7 @@ abbrev pub painter_differs : Painter → PictureView → MemoryView → ℕ × �
 painter_differs painter picture memory place =
     not (is_known_row memory place.0 && look_eq (look_in memory place) (painter_sees painter picture.pairs (grid_at blank_cell picture.lines place.0 place.1)))
 
--- ---- places painted behind their neighbours
+-- ---- places painted after their neighbours
 
 -- what a row is known to show in a column: these looks, or blanks
 abbrev pub shown_in : Option (List LookView) → ℕ → LookView

@@ -19,6 +19,6 @@ range_by Altered = altered_at
 abbrev pub AreNoneByOutside : Looked → VirtualView → ℕ → ℕ → Type 0
 AreNoneByOutside by virtual first end = (r : ℕ) → (r < first) ⊎ (end ≤ r) → r < virtual.picture.rows → range_by by virtual r ≡ None
 
--- the joined repaint of a cleared screen, behind what clears it
+-- the joined repaint of a cleared screen, after what clears it
 abbrev pub painted_anew : ProfileView → PictureView → List Op
 painted_anew profile picture = without_idle profile (blank_state profile.rows profile.columns) (joined_places profile picture (cleared picture) ++ resets profile ++ places_cursor picture.wish)

@@ -12,7 +12,7 @@ use Rattle.scr_term.specs.Operations.Profiles.{IsPlanned, ProfileView}
 
 -- ---- the steps of an admission
 
--- a step goes on where nothing is against it; else it ends with the fault that there is, or because memory ran out
+-- a step goes on where nothing is against it; else it ends with the error that there is, or because memory ran out
 abbrev pub Judges : {A : Type 0} → Result A ProfileFault → Option ProfileFault → Type 0
 Judges result refusal = IsJudged refusal result
 
@@ -42,7 +42,7 @@ abbrev pub greatest_bound : ℕ → List (Option Tree) → ℕ
 greatest_bound least [] = least
 greatest_bound least (program ∷ programs) = greatest_bound (max least (counted_bound program)) programs
 
--- the most bytes that an operation can send: where there are colours, `op` may be behind another text
+-- the most bytes that an operation can send: where there are colours, `op` may follow another text
 abbrev pub longest : Bool → List (Option Tree) → ℕ
 longest colours programs = if colours then greatest_bound 1 programs + counted_bound (program_in programs Op) else greatest_bound 1 programs
 

@@ -1,4 +1,4 @@
--- What the code makes of an operation, and which piece it stands for.
+-- What the code makes of an operation, and which piece it is.
 use Rattle.std.specs.Prelude.{[], ◌∷◌}
 use Rattle.scr_term.specs.declared.operations.capability.Capability.TheVariants.{Sgr}
 use Rattle.scr_term.specs.declared.operations.pieces.Sent.{Sent}

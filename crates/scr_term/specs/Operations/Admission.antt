@@ -131,11 +131,11 @@ is_bad_at entry slot = is_some (sent_at entry slot) && is_unreadable (program_at
 abbrev pub is_bad_string : Description → Capability → Bool
 is_bad_string entry capability = is_bad_at entry (slot_of capability)
 
--- The fault of such a text.
+-- The error of such a text.
 abbrev pub bad_text : Description → Slot → Option ProfileFault
 bad_text entry slot = if is_bad_at entry slot then Some (BadString (kind.Text, slot)) else None
 
--- Whether the text was read, or refused for the fault that there is or because memory ran out.
+-- Whether the text was read, or refused for the error that there is or because memory ran out.
 abbrev pub IsJudged : {A : Type 0} → Option ProfileFault → Result A ProfileFault → Type 0
 IsJudged refusal (Ok x) = refusal ≡ None
 IsJudged refusal (Err fault) = (fault ≡ NoMemory) ⊎ (refusal ≡ Some fault)
@@ -149,7 +149,7 @@ is_over_bound (Some program) = nat_lt 1024 (bound program)
 abbrev pub is_long_string : Description → Capability → Bool
 is_long_string entry capability = is_over_bound (planned_program entry capability)
 
--- How faults name a capability.
+-- How errors name a capability.
 abbrev pub named_text : Capability → Kind × Slot
 named_text capability = (kind.Text, slot_of capability)
 
@@ -219,7 +219,7 @@ pub record IsAdmitted (entry : Description) (size : Option Size) (profile : Prof
 abbrev pub IsRefused : Description → Option Size → ProfileFault → Type 0
 IsRefused entry size fault = (fault ≡ NoMemory) ⊎ (refusal entry size ≡ Some fault)
 
--- Nothing is against the flags and numbers of the entry, which are looked at before its texts, and before any allocation.
+-- The entry is neither Unsuitable nor AutoMargin, which is decided before any allocation.
 pub record IsSuitable (entry : Description) : Type 0 where
   pub suitable : unsuitable_fault entry ≡ None
   pub margin : margin_fault entry ≡ None

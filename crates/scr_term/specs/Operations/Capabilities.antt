@@ -54,7 +54,7 @@ each_capability =
 abbrev pub each_spare : List Capability
 each_spare = Il1 ∷ Il ∷ Dl1 ∷ Dl ∷ Ich ∷ Dch1 ∷ Dch ∷ []
 
--- The number of a capability in these lists, one behind the other, from 0.
+-- The number of a capability in these lists, one after the other, from 0.
 abbrev pub ordinal : Capability → ℕ
 ordinal Cr = 0
 ordinal Clear = 1

@@ -15,7 +15,7 @@ pub record TerminalState : Type 0 where
   pub spot : Spot
   pub pen : PenView
 
--- A place on the screen, or the margin behind the last column of a row.
+-- A place on the screen, or the margin after the last column of a row.
 abbrev pub IsSpot : ℕ → ℕ → Spot → Type 0
 IsSpot rows columns (At r c) = (r < rows) × (c < columns)
 IsSpot rows columns (Margin r) = r < rows

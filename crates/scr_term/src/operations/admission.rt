@@ -3,10 +3,9 @@ ghost use Rattle.std.specs.Prelude.{◌≡◌, ◌≢◌, ◌≤◌, ◌++◌, �
 ghost use Rattle.ti_caps.specs.Description.{text_at};
 ghost use Rattle.ti_param.specs.Parsed.{parsed};
 ghost use Rattle.ti_param.specs.Tree.{depth};
-ghost use Rattle.scr_term.specs.Operations.Admission.{IsAdmitted, IsBundledAdmitted, IsEcma48, IsJudged, IsRefused, IsSuitable, bad_text, first_where, is_bad_string, is_over_bound, is_present, is_spoiled, named_text, planned_program, program_at, program_without_line_feed, screen_size, sent_at, sent_text, size_fault, spare_program, within_limits};
+ghost use Rattle.scr_term.specs.Operations.Admission.{IsAdmitted, IsBundledAdmitted, IsEcma48, IsJudged, IsRefused, IsSuitable, bad_text, first_where, is_bad_string, is_missing, is_over_bound, is_present, is_spoiled, margin_fault, missing_fault, named_text, planned_program, program_at, program_without_line_feed, screen_size, sent_at, sent_text, size_fault, spare_program, unsuitable_fault, within_limits};
 ghost use Rattle.scr_term.specs.Operations.Capabilities.{slot_of};
 ghost use Rattle.scr_term.specs.Code.Admission.{Judges, program_in};
-ghost use Rattle.scr_term.specs.Operations.Admission.{is_missing, margin_fault, missing_fault, unsuitable_fault};
 
 use crate::operations::capability::Capability;
 use crate::operations::making::profile;
@@ -16,8 +15,7 @@ use std::alloc::Global;
 use ti_caps::{Entry, Kind, Slot, bundled, slots};
 use ti_param::{ParamFault, Program, padding_is_removed, strip_padding, text_is_parsed};
 
-// The capabilities of printing and overstriking terminals, and of others on which cells cannot be
-// shown independently.
+// The capabilities of terminals that print or overstrike, or cannot show cells independently.
 const UNSUITABLE: [(Kind, Slot); 9] = [
     (Kind::Flag, slots::HC),
     (Kind::Flag, slots::OS),
@@ -286,7 +284,7 @@ pub fn program_at(alloc: Global, entry: &Entry, slot: Slot) -> Result<Option<Pro
     }
 }
 
-// The programs of these capabilities, behind others.
+// The programs of these capabilities, after others.
 fn with_spares(
     alloc: Global,
     entry: &Entry,
@@ -342,7 +340,7 @@ fn has_text(alloc: Global, entry: &Entry, slot: Slot) -> Result<bool, NoMemory>
     Ok(text.is_some())
 }
 
-// The program of a text; `None` if it is no parameter string, exceeds the limits or contains a line
+// The program of a text; `None` if it is not a parameter string, exceeds the limits or contains a line
 // feed.
 fn program_without_line_feed(alloc: Global, text: &[u8]) -> Result<Option<Program>, NoMemory>
     ensures { IfOk result (λ program. program ≡ program_without_line_feed text.now) }

@@ -128,7 +128,7 @@ impl Capability {
         Capability::Dch,
     ];
 
-    /// Its index in `EACH`, or behind these in `SPARE`.
+    /// Its index in `EACH`, or after these in `SPARE`.
     pub(crate) fn ordinal(self) -> usize
         ensures { result ≡ ordinal self }
     {

@@ -55,7 +55,7 @@ abbrev pub MakesWith : ℕ → ℕ → Spot → PenView → Option Change → (T
 MakesWith rows columns spot pen change f =
     (state : TerminalState) → state.spot ≡ spot → state.pen ≡ pen → option_map (changed rows columns state) change ≡ f state
 
--- the pen behind an operation that turns attributes on or off
+-- the pen after an operation that turns attributes on or off
 abbrev pub next_pen : PenView → Op → PenView
 next_pen pen Reset = plain_pen
 next_pen pen (Enter a) = with_attribute pen a.0

@@ -1,4 +1,4 @@
--- How the next byte of an ECMA-48 text is taken. ECMA-48, 5.4.
+-- How the next byte of an ECMA-48 text is read. ECMA-48, 5.4.
 use Rattle.std.specs.Prelude.{ℕ, ◌≡◌, ◌++◌, true, List, [], ◌∷◌, Option, Some, None, ◌⊎◌}
 use Rattle.scr_cells.specs.CellViews.{IsCharacter}
 use Rattle.scr_term.specs.Operations.States.{TerminalState}

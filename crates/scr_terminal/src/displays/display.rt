@@ -133,7 +133,7 @@ impl Display {
     }
 
     /// Writes the leading characters of `ops`, as many as fit in the cursor's row, and moves the
-    /// cursor behind them. Returns their number.
+    /// cursor after them. Returns their number.
     pub(crate) fn write_ahead(&mut self, ops: &[Op]) -> usize
         ensures count { result ≡ length (looks_ahead self.old.columns self.old.state ops.now) }
         ensures state { self.new ≡ record self.old { state = looks_written self.old.columns self.old.state (looks_ahead self.old.columns self.old.state ops.now) self.old.state.spot } }
@@ -189,7 +189,7 @@ fn look_of(op: Op, pen: Pen) -> Option<Look>
     }
 }
 
-// The place at a row and a column, or the margin if the column is behind the last.
+// The place at a row and a column, or the margin if the column is after the last.
 fn spot_behind(columns: u32, row: u32, column: u32) -> Spot
     ensures { result ≡ spot_behind columns row column }
 {

@@ -26,7 +26,7 @@ chain zero frames i = []
 chain (suc most) frames None = []
 chain (suc most) frames (Some i) = i ∷ chain most frames (parent_index frames i)
 
--- The indices of a window's ancestors. The list is complete: a parent always stands before its children.
+-- The indices of a window's ancestors. The list is complete: a parent always comes before its children.
 abbrev pub ancestors : DeskView → ℕ → List ℕ
 ancestors desk i = chain (length (frames_of desk)) (frames_of desk) (parent_index (frames_of desk) i)
 

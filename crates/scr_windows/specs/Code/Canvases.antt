@@ -26,7 +26,7 @@ pub record IsKept (old new : DeskView) (i : ℕ) : Type 0 where
   pub state : (window_at new i).state ≡ (window_at old i).state
   pub size : HasSameSize old new
 
--- the first line that a drawing writes in a window of so many rows, and the line behind the last
+-- the first line that a drawing writes in a window of so many rows, and the line after the last
 abbrev pub lines_drawn : Drawing → ℕ → ℕ × ℕ
 lines_drawn (Run row from end cell) rows = (row, row + 1)
 lines_drawn (Rows first end cell) rows = (first, end)

@@ -35,7 +35,7 @@ from_parent f None = false
 from_parent f (Some parent) = f parent
 
 -- among the first so many windows, the window of a number is an ancestor or descends from it: it has the ancestor's number, or
--- its parent, which stands before it, is the ancestor or descends from it
+-- its parent, which comes before it, is the ancestor or descends from it
 abbrev pub descends : List (ℕ × Option ℕ) → ℕ → ℕ → ℕ → Bool
 descends links ancestor zero number = false
 descends links ancestor (suc k) number =

@@ -15,7 +15,7 @@ pub record IsChildPlace (desk : DeskView) (i : ℕ) (area : Area) (origin : Opti
   pub on_screen : MatchOption origin (Unit {0}) (λ place. (place.0 + area.rows ≤ desk.rows) × (place.1 + area.columns ≤ desk.columns))
   pub in_parent : IsInsideOnScreen origin area (window_at desk i).frame.origin (window_at desk i).frame.area
 
--- where a window with a surface of its own stands on the screen
+-- where a window with a surface of its own is on the screen
 pub record IsRootPlace (desk : DeskView) (rows columns : ℕ) (origin : Option (ℕ × ℕ)) : Type 0 where
   pub size : IsSurfaceSize rows columns
   pub on_screen : MatchOption origin (Unit {0}) (λ place. (place.0 + rows ≤ desk.rows) × (place.1 + columns ≤ desk.columns))

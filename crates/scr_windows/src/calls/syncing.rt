@@ -55,7 +55,7 @@ impl Desk {
         }
     }
 
-    // The index of the parent of the window at an index. It stands before the window.
+    // The index of the parent of the window at an index. It comes before the window.
     fn parent_of(&self, index: usize) -> Option<usize>
         requires { index < length self.now.windows }
         ensures parent { result ≡ parent_index (frames_of self.now) index }

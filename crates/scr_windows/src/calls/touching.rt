@@ -1,4 +1,4 @@
-//! Calls that touch lines, make them untouched, or take them for an update. The definitions are in
+//! Calls that touch lines, make them untouched, or copy them for an update. The definitions are in
 //! `specs/Calls/Touching.antt`.
 ghost use Rattle.std.specs.Prelude.{◌≡◌, true, false};
 ghost use Rattle.scr_windows.specs.DeskViews.{HasSameSize};

@@ -30,7 +30,7 @@ pub struct Border {
 
 impl Surface {
     // Draws a border along the edges of an area: the sides, then the first and the last row, then the corners, so that
-    // where two of them meet the later one stands.
+    // where two of them meet the later one is kept.
     pub(crate) fn draw_border(&mut self, area: Area, border: Border)
         requires part { IsPart self.old area }
         requires surface { IsSurface self.old }

@@ -12,10 +12,10 @@ use Rattle.screen_sessions.specs.declared.calls.Call.TheVariants.{Doupdate}
 use Rattle.screen_sessions.specs.declared.answers.Answer.{Answer}
 use Rattle.screen_sessions.specs.declared.calls.Call.{Call}
 use Rattle.scr_memory.specs.Memories.{Agrees, MemoryView}
-use Rattle.screen_sessions.specs.Making.{Knows, drawn_of}
+use Rattle.screen_sessions.specs.Making.{drawn_of}
 use Rattle.curses.specs.ScreenStates.{ScreenState}
 use Rattle.screen_sessions.specs.declared.sessions.Report.{Report}
-use Rattle.screen_sessions.specs.Sessions.{Beginning, HoldsFrom, IsAnswer, IsSession, MayBegin, beginning_of, begun_in, count_in, counted_in, drawn_at, fresh_beginning, is_cut, is_unfinished, is_update, knows_all, knows_behind, last_ok_behind, remembered_at}
+use Rattle.screen_sessions.specs.Sessions.{Beginning, HoldsFrom, IsAnswer, IsSession, MayBegin, beginning_of, begun_in, count_in, counted_in, drawn_at, fresh_beginning, is_cut, is_unfinished, is_update, last_ok_behind, remembered_at}
 use Rattle.curses.specs.Updates.{IsOfOneText}
 use Rattle.curses.specs.Writers.{WriterView}
 
@@ -59,4 +59,3 @@ pub record SoFar (profile : ProfileView) (first : Beginning) (begun : ScreenStat
   pub quiet : list_all (λ call. not (is_update call)) (take (length answers) calls) ≡ true → begun_in answers ≡ []
   pub holds : (n : ℕ) (opened : TerminalState) → n ≤ length answers → MayBegin profile first calls answers n opened → HoldsFrom profile first calls answers taken n opened
   pub reached : (n : ℕ) (opened : TerminalState) → n ≤ length answers → MayBegin profile first calls answers n opened → Reached profile screen.memory opened (begun_in answers)
-  pub knows : knows_behind (knows_all first) (take (length answers) calls) answers ≡ true → Knows screen
