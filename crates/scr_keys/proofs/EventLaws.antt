@@ -5,7 +5,7 @@ use Rattle.std.proofs.lemmas.Bool.Decides.{nat_tests}
 use Rattle.std.proofs.lemmas.List.{append-nil, length-append, take-append-le, take_all}
 use Rattle.std.proofs.lemmas.Slice.Eq.{bytes_eq-Decides}
 use Rattle.ti_caps.specs.Table.{or_else}
-use Rattle.scr_keys.specs.Keys.{Keys, decided, first_key, goes_on, is_beginning, key_of, key_or_byte, keys_behind, keys_in, left_behind, longest, undecided}
+use Rattle.scr_keys.specs.Keys.{Keys, decided, first_key, goes_on, is_beginning, key_of, key_or_byte, keys_read, keys_in, bytes_left, longest, undecided}
 use Rattle.scr_keys.specs.Laws.{Came, Event, Idled, PiecesDoNotMatter, keys_added, keys_from}
 use Rattle.scr_keys.proofs.KeyLaws.{longest_inside}
 
@@ -90,8 +90,8 @@ first_few keys b bytes = by (longest keys (b ∷ bytes) (length (b ∷ bytes))) 
 -- ---- one byte more
 
 record OneMore (keys : Keys) (n : ℕ) (x : List ℕ) (c : ℕ) : Type 0 where
-  keys_are : keys_behind true keys n (x ++ c ∷ []) ≡ keys_behind true keys n x ++ keys_behind true keys 0 (left_behind true keys n x ++ c ∷ [])
-  left_is : left_behind true keys n (x ++ c ∷ []) ≡ left_behind true keys 0 (left_behind true keys n x ++ c ∷ [])
+  keys_are : keys_read true keys n (x ++ c ∷ []) ≡ keys_read true keys n x ++ keys_read true keys 0 (bytes_left true keys n x ++ c ∷ [])
+  left_is : bytes_left true keys n (x ++ c ∷ []) ≡ bytes_left true keys 0 (bytes_left true keys n x ++ c ∷ [])
 
 one_more : (keys : Keys) (n : ℕ) (x : List ℕ) (c : ℕ) → n ≤ length x → OneMore keys n x c
 one_more keys zero [] c few = record { keys_are = refl; left_is = refl }
@@ -101,32 +101,32 @@ one_more keys zero (b ∷ x) c few = by (goes_on keys (b ∷ x)) refl (one_more 
   where
     by : (w : Bool) → goes_on keys (b ∷ x) ≡ w → OneMore keys ((first_key keys b x).1 - 1) x c → OneMore keys zero (b ∷ x) c
     by true here rest = record {
-      keys_are = sym (ap (λ w. (if w then [] else (first_key keys b x).0 ∷ keys_behind true keys ((first_key keys b x).1 - 1) x) ++ keys_behind true keys 0 ((if w then b ∷ x else left_behind true keys ((first_key keys b x).1 - 1) x) ++ c ∷ [])) here);
-      left_is = sym (ap (λ w. left_behind true keys 0 ((if w then b ∷ x else left_behind true keys ((first_key keys b x).1 - 1) x) ++ c ∷ [])) here);
+      keys_are = sym (ap (λ w. (if w then [] else (first_key keys b x).0 ∷ keys_read true keys ((first_key keys b x).1 - 1) x) ++ keys_read true keys 0 ((if w then b ∷ x else bytes_left true keys ((first_key keys b x).1 - 1) x) ++ c ∷ [])) here);
+      left_is = sym (ap (λ w. bytes_left true keys 0 ((if w then b ∷ x else bytes_left true keys ((first_key keys b x).1 - 1) x) ++ c ∷ [])) here);
     }
     by false here rest =
         let longer : goes_on keys (b ∷ (x ++ c ∷ [])) ≡ false = goes_shorter keys (b ∷ x) c here in
         let same : first_key keys b (x ++ c ∷ []) ≡ first_key keys b x = first_same keys b x c here in
         record {
-          keys_are = ap (λ w. if w then [] else (first_key keys b (x ++ c ∷ [])).0 ∷ keys_behind true keys ((first_key keys b (x ++ c ∷ [])).1 - 1) (x ++ c ∷ [])) longer
-              ∙ ap (λ f. f.0 ∷ keys_behind true keys (f.1 - 1) (x ++ c ∷ [])) same
+          keys_are = ap (λ w. if w then [] else (first_key keys b (x ++ c ∷ [])).0 ∷ keys_read true keys ((first_key keys b (x ++ c ∷ [])).1 - 1) (x ++ c ∷ [])) longer
+              ∙ ap (λ f. f.0 ∷ keys_read true keys (f.1 - 1) (x ++ c ∷ [])) same
               ∙ ap (λ k. (first_key keys b x).0 ∷ k) rest.keys_are
-              ∙ sym (ap (λ w. (if w then [] else (first_key keys b x).0 ∷ keys_behind true keys ((first_key keys b x).1 - 1) x) ++ keys_behind true keys 0 ((if w then b ∷ x else left_behind true keys ((first_key keys b x).1 - 1) x) ++ c ∷ [])) here);
-          left_is = ap (λ w. if w then b ∷ (x ++ c ∷ []) else left_behind true keys ((first_key keys b (x ++ c ∷ [])).1 - 1) (x ++ c ∷ [])) longer
-              ∙ ap (λ f. left_behind true keys (f.1 - 1) (x ++ c ∷ [])) same ∙ rest.left_is
-              ∙ sym (ap (λ w. left_behind true keys 0 ((if w then b ∷ x else left_behind true keys ((first_key keys b x).1 - 1) x) ++ c ∷ [])) here);
+              ∙ sym (ap (λ w. (if w then [] else (first_key keys b x).0 ∷ keys_read true keys ((first_key keys b x).1 - 1) x) ++ keys_read true keys 0 ((if w then b ∷ x else bytes_left true keys ((first_key keys b x).1 - 1) x) ++ c ∷ [])) here);
+          left_is = ap (λ w. if w then b ∷ (x ++ c ∷ []) else bytes_left true keys ((first_key keys b (x ++ c ∷ [])).1 - 1) (x ++ c ∷ [])) longer
+              ∙ ap (λ f. bytes_left true keys (f.1 - 1) (x ++ c ∷ [])) same ∙ rest.left_is
+              ∙ sym (ap (λ w. bytes_left true keys 0 ((if w then b ∷ x else bytes_left true keys ((first_key keys b x).1 - 1) x) ++ c ∷ [])) here);
         }
 
 -- ---- no byte more
 
-none_more : (keys : Keys) (n : ℕ) (x : List ℕ) → keys_behind false keys n x ≡ keys_behind true keys n x ++ keys_behind false keys 0 (left_behind true keys n x)
+none_more : (keys : Keys) (n : ℕ) (x : List ℕ) → keys_read false keys n x ≡ keys_read true keys n x ++ keys_read false keys 0 (bytes_left true keys n x)
 none_more keys n [] = refl
 none_more keys (suc n) (b ∷ x) = none_more keys n x
 none_more keys zero (b ∷ x) = by (goes_on keys (b ∷ x)) refl (none_more keys ((first_key keys b x).1 - 1) x)
   where
-    by : (w : Bool) → goes_on keys (b ∷ x) ≡ w → keys_behind false keys ((first_key keys b x).1 - 1) x ≡ keys_behind true keys ((first_key keys b x).1 - 1) x ++ keys_behind false keys 0 (left_behind true keys ((first_key keys b x).1 - 1) x)
-        → (first_key keys b x).0 ∷ keys_behind false keys ((first_key keys b x).1 - 1) x
-        ≡ (if w then [] else (first_key keys b x).0 ∷ keys_behind true keys ((first_key keys b x).1 - 1) x) ++ keys_behind false keys 0 (if w then b ∷ x else left_behind true keys ((first_key keys b x).1 - 1) x)
+    by : (w : Bool) → goes_on keys (b ∷ x) ≡ w → keys_read false keys ((first_key keys b x).1 - 1) x ≡ keys_read true keys ((first_key keys b x).1 - 1) x ++ keys_read false keys 0 (bytes_left true keys ((first_key keys b x).1 - 1) x)
+        → (first_key keys b x).0 ∷ keys_read false keys ((first_key keys b x).1 - 1) x
+        ≡ (if w then [] else (first_key keys b x).0 ∷ keys_read true keys ((first_key keys b x).1 - 1) x) ++ keys_read false keys 0 (if w then b ∷ x else bytes_left true keys ((first_key keys b x).1 - 1) x)
     by true here rest = refl
     by false here rest = ap (λ k. (first_key keys b x).0 ∷ k) rest
 

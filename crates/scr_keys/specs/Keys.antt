@@ -1,6 +1,6 @@
 -- Keys: which bytes from a keyboard are which key. terminfo(5), 'Function Keys'; X/Open Curses Issue 7, getch(),
 -- keypad().
-use Rattle.std.specs.Prelude.{ℕ, suc, zero, ◌-◌, ◌&&◌, max, Bool, true, false, List, [], ◌∷◌, length, take, Option, Some, None, option_map, nat_lt, if◌then◌else◌}
+use Rattle.std.specs.Prelude.{ℕ, suc, zero, ◌-◌, ◌&&◌, max, ◌≡◌, Bool, true, false, List, [], ◌∷◌, drop, length, take, Option, Some, None, option_map, nat_lt, if◌then◌else◌}
 use Rattle.std.specs.List.{list_any}
 use Rattle.std.specs.Str.{bytes_eq}
 use Rattle.ti_caps.specs.Table.{or_else}
@@ -45,31 +45,41 @@ abbrev pub first_of : Keys → List ℕ → Key × ℕ
 first_of keys [] = (Byte 0, 1)
 first_of keys (byte ∷ bytes) = first_key keys byte bytes
 
--- The keys of these bytes after the first n, which belong to an earlier key. If more bytes may follow (`more`), the
--- list stops where the rest could become a key.
-abbrev pub keys_behind : Bool → Keys → ℕ → List ℕ → List Key
-keys_behind more keys n [] = []
-keys_behind more keys (suc n) (byte ∷ bytes) = keys_behind more keys n bytes
-keys_behind more keys zero (byte ∷ bytes) =
-    if more && goes_on keys (byte ∷ bytes) then [] else (first_key keys byte bytes).0 ∷ keys_behind more keys ((first_key keys byte bytes).1 - 1) bytes
+-- How bytes are read as keys, where more of them may follow (`more`) or none do: the keys in order, and the bytes that
+-- remain. Three rules say it all.
+pub data AreRead (more : Bool) (keys : Keys) : List ℕ → List Key → List ℕ → Type 0 where
+  -- No bytes give no key.
+  Nothing : AreRead more keys [] [] []
+  -- Bytes that could become a key wait, if more may follow.
+  Waiting : (bytes : List ℕ) → (more && goes_on keys bytes) ≡ true → AreRead more keys bytes [] bytes
+  -- Otherwise their first key is read, and then the bytes after it.
+  First : (byte : ℕ) (bytes : List ℕ) (read : List Key) (left : List ℕ) → (more && goes_on keys (byte ∷ bytes)) ≡ false
+      → AreRead more keys (drop (first_key keys byte bytes).1 (byte ∷ bytes)) read left → AreRead more keys (byte ∷ bytes) ((first_key keys byte bytes).0 ∷ read) left
 
--- The bytes that remain after these keys.
-abbrev pub left_behind : Bool → Keys → ℕ → List ℕ → List ℕ
-left_behind more keys n [] = []
-left_behind more keys (suc n) (byte ∷ bytes) = left_behind more keys n bytes
-left_behind more keys zero (byte ∷ bytes) = if more && goes_on keys (byte ∷ bytes) then byte ∷ bytes else left_behind more keys ((first_key keys byte bytes).1 - 1) bytes
+-- The keys that these rules read, computed: those of the bytes after the first n, which belong to an earlier key.
+abbrev pub keys_read : Bool → Keys → ℕ → List ℕ → List Key
+keys_read more keys n [] = []
+keys_read more keys (suc n) (byte ∷ bytes) = keys_read more keys n bytes
+keys_read more keys zero (byte ∷ bytes) =
+    if more && goes_on keys (byte ∷ bytes) then [] else (first_key keys byte bytes).0 ∷ keys_read more keys ((first_key keys byte bytes).1 - 1) bytes
+
+-- The bytes that remain by these rules.
+abbrev pub bytes_left : Bool → Keys → ℕ → List ℕ → List ℕ
+bytes_left more keys n [] = []
+bytes_left more keys (suc n) (byte ∷ bytes) = bytes_left more keys n bytes
+bytes_left more keys zero (byte ∷ bytes) = if more && goes_on keys (byte ∷ bytes) then byte ∷ bytes else bytes_left more keys ((first_key keys byte bytes).1 - 1) bytes
 
 -- All keys of these bytes when no more follow.
 abbrev pub keys_in : Keys → List ℕ → List Key
-keys_in keys bytes = keys_behind false keys 0 bytes
+keys_in keys bytes = keys_read false keys 0 bytes
 
 -- The keys that are certain while more bytes may still follow.
 abbrev pub decided : Keys → List ℕ → List Key
-decided keys bytes = keys_behind true keys 0 bytes
+decided keys bytes = keys_read true keys 0 bytes
 
 -- The bytes that remain after these keys.
 abbrev pub undecided : Keys → List ℕ → List ℕ
-undecided keys bytes = left_behind true keys 0 bytes
+undecided keys bytes = bytes_left true keys 0 bytes
 
 -- The length of the longest key text.
 abbrev pub longest_text : Keys → ℕ

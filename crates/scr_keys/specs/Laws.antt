@@ -1,7 +1,13 @@
--- How input is cut into pieces does not matter to keys. X/Open Curses Issue 7, getch().
-use Rattle.std.specs.Prelude.{ℕ, ◌≡◌, List, [], ◌∷◌, ◌++◌}
+-- Laws of keys: what is computed is what the rules read, and how input is cut into pieces does not matter. X/Open Curses
+-- Issue 7, getch().
+use Rattle.std.specs.Prelude.{ℕ, ◌≡◌, ◌↔◌, Bool, List, [], ◌∷◌, ◌++◌}
 use Rattle.scr_keys.specs.declared.keys.Key.{Key}
-use Rattle.scr_keys.specs.Keys.{Keys, decided, keys_in, undecided}
+use Rattle.scr_keys.specs.Keys.{AreRead, Keys, bytes_left, decided, keys_in, keys_read, undecided}
+
+-- The rules read any bytes in exactly one way, which is the one computed.
+abbrev pub KeysAreRead : Type 0
+KeysAreRead = (more : Bool) (keys : Keys) (bytes : List ℕ) (read : List Key) (left : List ℕ)
+    → AreRead more keys bytes read left ↔ ((read ≡ keys_read more keys 0 bytes) × (left ≡ bytes_left more keys 0 bytes))
 
 -- What a keyboard does: a byte arrives, or none arrives for a while.
 pub data Event : Type 0 where

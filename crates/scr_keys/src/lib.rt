@@ -12,6 +12,6 @@ mod tables;
 
 pub use faults::KeyFault;
 pub use keys::Key;
-pub use laws::pieces_do_not_matter;
+pub use laws::{keys_are_read, pieces_do_not_matter};
 pub use readers::KeyReader;
 pub use tables::KeyTable;

@@ -1,6 +1,6 @@
 //! Reading keys: bytes come in one at a time, and keys go out.
 ghost use Rattle.std.specs.Prelude.{◌≡◌, ◌+◌, ◌-◌, ◌<◌, ◌≤◌, ◌++◌, ◌&&◌, [], None, IfErr, IfOk, IfSome, length, take, drop, vec_capacity};
-ghost use Rattle.scr_keys.specs.Keys.{goes_on, keys_behind, left_behind, longest_text};
+ghost use Rattle.scr_keys.specs.Keys.{goes_on, keys_read, bytes_left, longest_text};
 ghost use Rattle.scr_keys.specs.declared.faults.KeyFault.{KeyFault};
 ghost use Rattle.scr_keys.specs.Readers.{byte_read, idle_read, key_taken};
 
@@ -115,11 +115,11 @@ fn rooms(alloc: Global, keys: usize) -> Result<(Vec<Key>, Vec<u8>), NoMemory>
 fn decide(table: &KeyTable, bytes: &[u8], more: bool, queue: &mut Vec<Key>) -> Option<usize>
     requires few { length queue.old.items ≤ 16 + longest_text table.now }
     requires room { 16 + longest_text table.now ≤ vec_capacity queue.old }
-    ensures keys { IfSome result (λ _. queue.new.items ≡ queue.old.items ++ keys_behind more table.now 0 bytes.now) }
-    ensures left { IfSome result (λ count. drop count bytes.now ≡ left_behind more table.now 0 bytes.now) }
+    ensures keys { IfSome result (λ _. queue.new.items ≡ queue.old.items ++ keys_read more table.now 0 bytes.now) }
+    ensures left { IfSome result (λ count. drop count bytes.now ≡ bytes_left more table.now 0 bytes.now) }
     ensures inside { IfSome result (λ count. count ≤ length bytes.now) }
     ensures few { IfSome result (λ _. length queue.new.items ≤ 16 + longest_text table.now) }
-    ensures full { result ≡ None → 16 + longest_text table.now < length queue.old.items + length (keys_behind more table.now 0 bytes.now) }
+    ensures full { result ≡ None → 16 + longest_text table.now < length queue.old.items + length (keys_read more table.now 0 bytes.now) }
     ensures kept { result ≡ None → take (length queue.old.items) queue.new.items ≡ queue.old.items }
     ensures capacity { vec_capacity queue.new ≡ vec_capacity queue.old }
 {

@@ -56,12 +56,12 @@ left_by_one laws drawn next memory left call answer calls answers (Some rows) is
       pen = λ known. absurd (no_bool (sym without.pen ∙ (rest.pen known).0));
     }
 
-left_behind : MemoryLaws → (profile : ProfileView) (drawn : Drawn) (memory : MemoryView) (calls : List Call) (answers : List Answer) → list_all (λ call. not (is_update call)) calls ≡ true
+bytes_left : MemoryLaws → (profile : ProfileView) (drawn : Drawn) (memory : MemoryView) (calls : List Call) (answers : List Answer) → list_all (λ call. not (is_update call)) calls ≡ true
     → Left drawn memory (remembered_behind profile drawn memory calls answers) calls answers
-left_behind laws profile drawn memory [] answers quiet = record { grid = refl; high = refl; rows = λ r few known. (known, refl); spot = λ known. (known, refl); pen = λ known. (known, refl) }
-left_behind laws profile drawn memory (call ∷ calls) [] quiet = record { grid = refl; high = refl; rows = λ r few known. (known, refl); spot = λ known. (known, refl); pen = λ known. (known, refl) }
-left_behind laws profile drawn memory (call ∷ calls) (answer ∷ answers) quiet =
-    by_first (is_update call) refl (λ later. left_behind laws profile (after_call drawn call answer) (memory_marked memory (marked_by drawn.desk call)) calls answers later)
+bytes_left laws profile drawn memory [] answers quiet = record { grid = refl; high = refl; rows = λ r few known. (known, refl); spot = λ known. (known, refl); pen = λ known. (known, refl) }
+bytes_left laws profile drawn memory (call ∷ calls) [] quiet = record { grid = refl; high = refl; rows = λ r few known. (known, refl); spot = λ known. (known, refl); pen = λ known. (known, refl) }
+bytes_left laws profile drawn memory (call ∷ calls) (answer ∷ answers) quiet =
+    by_first (is_update call) refl (λ later. bytes_left laws profile (after_call drawn call answer) (memory_marked memory (marked_by drawn.desk call)) calls answers later)
   where
     by_first : (b : Bool) → is_update call ≡ b
         → (list_all (λ call. not (is_update call)) calls ≡ true → Left (after_call drawn call answer) (memory_marked memory (marked_by drawn.desk call)) (remembered_behind profile (after_call drawn call answer) (memory_marked memory (marked_by drawn.desk call)) calls answers) calls answers)
@@ -81,7 +81,7 @@ disturbs_marked abilities rows marked before changed each disturbs = record {
 
 pub holds_again : MemoryLaws → DisturbedRowsHoldAgain
 holds_again laws profile first calls answers taken session rows changed wrote n few marks =
-    let left = left_behind laws profile first.drawn first.memory (take n calls) (take n answers) marks.quiet in
+    let left = bytes_left laws profile first.drawn first.memory (take n calls) (take n answers) marks.quiet in
     session.holds n changed few (record {
       quiet = marks.quiet;
       agrees = laws.others (abilities profile) (is_marked first.drawn (take n calls) (take n answers)) first.memory (remembered_behind profile first.drawn first.memory (take n calls) (take n answers)) wrote.before changed wrote.agrees
