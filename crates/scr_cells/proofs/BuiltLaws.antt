@@ -19,7 +19,7 @@ map_range f g a (suc n) h =
     let rest : map f (range_with_len (a + 1) n) ≡ map g (range_with_len (a + 1) n) = map_range f g (a + 1) n (λ k l m. h k (omega arith) (omega arith)) in
     cc
 
--- what is behind all elements of a list is nothing
+-- what is after all elements of a list is nothing
 drop_all : {A : Type 0} (xs ys : List A) (n : ℕ) → n ≡ length xs → drop n (xs ++ ys) ≡ ys
 drop_all [] ys zero e = refl
 drop_all [] ys (suc n) e = absurd (omega (arith, e))

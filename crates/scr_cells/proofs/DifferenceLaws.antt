@@ -85,10 +85,10 @@ more_before a b at n before more i h other = elim (less_or_not i at) [
 ]
 
 -- rows that are the same from a place on, and in the n places before it
-pub more_behind : {A : Type 0} (a b : List A) (at n : ℕ) → ((i : ℕ) → at + n ≤ i → i < length a → IsSameAt a b i) → ((i : ℕ) → at ≤ i → i < at + n → IsSameAt a b i) → (i : ℕ) → at ≤ i → i < length a → IsSameAt a b i
-more_behind a b at n behind more i from h other = elim (less_or_not i (at + n)) [
+pub more_after : {A : Type 0} (a b : List A) (at n : ℕ) → ((i : ℕ) → at + n ≤ i → i < length a → IsSameAt a b i) → ((i : ℕ) → at ≤ i → i < at + n → IsSameAt a b i) → (i : ℕ) → at ≤ i → i < length a → IsSameAt a b i
+more_after a b at n after more i from h other = elim (less_or_not i (at + n)) [
   | inl l ↦ more i from l other
-  | inr l ↦ behind i l h other
+  | inr l ↦ after i l h other
 ]
 
 -- elements whose numbers are the same, or differ

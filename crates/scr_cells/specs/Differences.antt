@@ -19,7 +19,7 @@ pub record DiffersFirst {A : Type 0} (xs ys : List A) (place : ℕ) : Type 0 whe
 pub record DiffersLast {A : Type 0} (xs ys : List A) (place : ℕ) : Type 0 where
   pub inside : place < length xs
   pub differs : DiffersAt xs ys place
-  pub behind : (i : ℕ) → place < i → i < length xs → IsSameAt xs ys i
+  pub after : (i : ℕ) → place < i → i < length xs → IsSameAt xs ys i
 
 -- The first place in which they differ; none if they are the same.
 abbrev pub IsFirstDifference : {A : Type 0} → List A → List A → Option ℕ → Type 0

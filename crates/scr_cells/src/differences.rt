@@ -75,7 +75,7 @@ fn last_place<T: Packed>(a: &[T], b: &[T]) -> Option<usize>
     requires { length a.now ≡ length b.now }
     ensures { IsLastDifference a.now b.now result }
 {
-    let mut end = same_behind(a, b);
+    let mut end = same_after(a, b);
     while end > 0 {
         end -= 1;
         if a[end].packed() != b[end].packed() {
@@ -99,7 +99,7 @@ fn same_before<T: Packed>(a: &[T], b: &[T]) -> usize
 }
 
 // A place from which on the rows are the same.
-fn same_behind<T: Packed>(a: &[T], b: &[T]) -> usize
+fn same_after<T: Packed>(a: &[T], b: &[T]) -> usize
     requires { length a.now ≡ length b.now }
     ensures inside { result ≤ length a.now }
     ensures same { (i : ℕ) → result ≤ i → i < length a.now → IsSameAt a.now b.now i }

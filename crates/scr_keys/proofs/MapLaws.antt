@@ -34,7 +34,7 @@ pub put_last : (keys new : Keys) (text : List ℕ) (slot : ℕ) (some : Bool) �
 put_last keys new text slot some is test all = all ∙ ap (λ b. if b then keys else keys ++ (text, slot) ∷ []) (sym test ∙ is)
 
 -- what holds where a call was made, and what follows from that
-pub on_made : {E A B : Type 0} → (came : Result (Unit {0}) E) → (A → B) → OnOk came A → OnOk came B
+pub on_made : {E A B : Type 0} → (got : Result (Unit {0}) E) → (A → B) → OnOk got A → OnOk got B
 on_made (Ok done) follows is = follows is
 on_made (Err fault) follows is = is
 

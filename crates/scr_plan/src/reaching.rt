@@ -77,7 +77,7 @@ impl Draft {
         ensures { OnOk result (KeepsEvery profile.now self.old self.new) }
     {
         self.go_times(profile, steps.columns, steps.times)?;
-        self.go_if(profile, steps.behind)
+        self.go_if(profile, steps.after)
     }
 
     // Turns to a pen by the cheapest turn.

@@ -23,7 +23,7 @@ struct Link {
     before_alike: u32,
     chain: u32,
     ordered: u32,
-    behind: u32,
+    after: u32,
     way: Option<Way>,
 }
 
@@ -37,7 +37,7 @@ impl Link {
             before_alike: NONE,
             chain: NONE,
             ordered: NONE,
-            behind: NONE,
+            after: NONE,
             way: None,
         }
     }
@@ -240,19 +240,15 @@ impl Links {
 
     // The way to a run, if the order that is kept has the run right after `before` (`NONE` for its
     // first run).
-    pub(crate) fn way_behind(&self, number: u32, before: u32) -> Option<Way> {
+    pub(crate) fn way_after(&self, number: u32, before: u32) -> Option<Way> {
         let link = self.at(number);
-        if link.behind == before {
-            link.way
-        } else {
-            None
-        }
+        if link.after == before { link.way } else { None }
     }
 
     // Sets the way to a run from the run before it in the order.
     pub(crate) fn set_way(&mut self, number: u32, before: u32, way: Way) {
         if let Some(link) = self.links.get_mut(number as usize) {
-            link.behind = before;
+            link.after = before;
             link.way = Some(way);
         }
     }

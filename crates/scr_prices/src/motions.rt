@@ -57,7 +57,7 @@ pub struct Steps {
     /// How many times that is sent.
     pub times: u32,
     /// What changes the column then.
-    pub behind: Option<Op>,
+    pub after: Option<Op>,
 }
 
 /// The cheapest motion to a place: to it at once, along rows and columns from the cursor's place, or
@@ -165,7 +165,7 @@ impl Motion {
                 rows,
                 columns: None,
                 times: 0,
-                behind: None,
+                after: None,
             };
         }
         let (columns, times) = match self.columns {
@@ -179,7 +179,7 @@ impl Motion {
             rows,
             columns: Some(columns),
             times,
-            behind: self.step_behind(to.1),
+            after: self.step_after(to.1),
         }
     }
 
@@ -195,7 +195,7 @@ impl Motion {
     }
 
     // The operation after that of the columns, if there is one.
-    fn step_behind(self, to: u32) -> Option<Op> {
+    fn step_after(self, to: u32) -> Option<Op> {
         match self.columns {
             Columns::FromFirst if to > 0 => Some(Op::Right(to)),
             _ => None,
@@ -211,7 +211,7 @@ impl Steps {
             rows: None,
             columns: None,
             times: 0,
-            behind: None,
+            after: None,
         }
     }
 }

@@ -94,7 +94,7 @@ impl<'a> Task<'a> {
         let mut number = 0u32;
         for run in self.runs {
             let way = self.chooser.way(&walk.cursor, run.row, run.start, run.pen);
-            walk.paint_behind(self.chooser, number, run, way.price);
+            walk.paint_after(self.chooser, number, run, way.price);
             if walk.price >= limit {
                 return false;
             }
@@ -121,7 +121,7 @@ impl<'a> Task<'a> {
         for _ in 0..self.runs.len() {
             let nearest = self.nearest(&walk, links, from, next_alike);
             let run = run_at(self.runs, nearest.number);
-            walk.paint_behind(self.chooser, nearest.number, &run, nearest.price());
+            walk.paint_after(self.chooser, nearest.number, &run, nearest.price());
             stops.push(Stop {
                 number: nearest.number,
                 way: nearest.way,
@@ -237,7 +237,7 @@ impl<'a> Task<'a> {
 
     // The way to a run, which the other order may have found from the same run already.
     fn way_to(&self, walk: &Walk, links: &Links, number: u32, run: &Run) -> Way {
-        match links.way_behind(number, walk.last) {
+        match links.way_after(number, walk.last) {
             Some(way) => way,
             None => self.chooser.way(&walk.cursor, run.row, run.start, run.pen),
         }

@@ -185,9 +185,9 @@ impl<P: RowPrices, R: KnownRows> Blocks<'_, P, R> {
                 top = place;
             }
             sum = sum.wrapping_add(lines.gain(place));
-            let behind = place + 1;
-            let end = behind.saturating_add(count);
-            let fresh = lines.saved(end).wrapping_sub(lines.saved(behind));
+            let after = place + 1;
+            let end = after.saturating_add(count);
+            let fresh = lines.saved(end).wrapping_sub(lines.saved(after));
             best = self.better(best, top, end, sum.wrapping_add(fresh));
         }
         best

@@ -133,8 +133,8 @@ fn end_of_differing(looks: &[Look], run: &Run) -> u32 {
     if !matches!(run.how, How::EraseLine) {
         return run.end;
     }
-    for behind in 0..looks.len() {
-        let column = looks.len() - 1 - behind;
+    for after in 0..looks.len() {
+        let column = looks.len() - 1 - after;
         if looks[column] != Look::blank() {
             return column.min(FAR as usize) as u32 + 1;
         }

@@ -75,13 +75,13 @@ pub(crate) fn price_on_blanks(chooser: &Chooser<'_>, cells: &[Cell]) -> u32 {
     let mut stretches = Stretches::none(chooser.jump);
     let mut column = 0;
     while column < cells.len() {
-        let end = blanks_behind(cells, column);
+        let end = blanks_after(cells, column);
         if end > column {
             stretches = stretches.with_blanks(end - column);
             column = end;
         } else {
             let cell = cells[column];
-            let end = alike_behind(cells, column);
+            let end = alike_after(cells, column);
             let pen = chooser.pen_of(cell);
             stretches = stretches.with(pen, cell.byte() == b' ' && pen.is_plain(), end - column);
             column = end;
@@ -91,14 +91,14 @@ pub(crate) fn price_on_blanks(chooser: &Chooser<'_>, cells: &[Cell]) -> u32 {
 }
 
 // Where the blanks in default colours end that begin in a column; the column itself if it has none.
-fn blanks_behind(cells: &[Cell], column: usize) -> usize
+fn blanks_after(cells: &[Cell], column: usize) -> usize
     requires { column ≤ length cells.now }
     ensures from { column ≤ result }
     ensures end { result ≤ length cells.now }
 {
-    for behind in column..cells.len() {
-        if cells[behind] != Cell::blank() {
-            return behind;
+    for after in column..cells.len() {
+        if cells[after] != Cell::blank() {
+            return after;
         }
     }
     cells.len()
@@ -106,16 +106,16 @@ fn blanks_behind(cells: &[Cell], column: usize) -> usize
 
 // Where the characters, or the blanks, end that begin in a column and have cells like the one
 // there.
-fn alike_behind(cells: &[Cell], column: usize) -> usize
+fn alike_after(cells: &[Cell], column: usize) -> usize
     requires { column < length cells.now }
     ensures from { column < result }
     ensures end { result ≤ length cells.now }
 {
     let first = cells[column];
-    for behind in column + 1..cells.len() {
-        let cell = cells[behind];
+    for after in column + 1..cells.len() {
+        let cell = cells[after];
         if !are_alike(first, cell) || (cell.byte() == b' ') != (first.byte() == b' ') {
-            return behind;
+            return after;
         }
     }
     cells.len()

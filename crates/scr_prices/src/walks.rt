@@ -39,14 +39,14 @@ impl Walk {
     }
 
     // Paints the run with a number; the price of the way to it is known.
-    pub(crate) fn paint_behind(
+    pub(crate) fn paint_after(
         &mut self,
         chooser: &Chooser<'_>,
         number: u32,
         run: &Run,
         price_of_way: u32,
     ) {
-        self.cursor = chooser.behind(run);
+        self.cursor = chooser.after(run);
         self.last = number;
         self.count = self.count.saturating_add(1);
         self.price = self
@@ -61,7 +61,7 @@ impl Walk {
         let run = run_at(task.runs, number);
         let way = task.chooser.way(&self.cursor, run.row, run.start, run.pen);
         links.set_way(number, self.last, way);
-        self.paint_behind(task.chooser, number, &run, way.price);
+        self.paint_after(task.chooser, number, &run, way.price);
     }
 
     // The price of the walk, with the way to where the cursor is wanted, and with the reset that the

@@ -236,7 +236,7 @@ impl<'a> Chooser<'a> {
     }
 
     // The cursor after a run.
-    pub(crate) fn behind(&self, run: &Run) -> Cursor {
+    pub(crate) fn after(&self, run: &Run) -> Cursor {
         let spot = match run.how {
             How::Write if run.end < self.columns => Spot::At(run.row, run.end),
             How::Write => Spot::Margin(run.row),

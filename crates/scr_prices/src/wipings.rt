@@ -66,8 +66,8 @@ fn may_spare(chooser: &Chooser<'_>, runs: &[Run], price: i64, lost: i64) -> bool
     let mut left = price;
     let mut spared = 0i64;
     let mut row = None;
-    for behind in 0..runs.len() {
-        let run = &runs[runs.len() - 1 - behind];
+    for after in 0..runs.len() {
+        let run = &runs[runs.len() - 1 - after];
         if row != Some(run.row) {
             if spared.saturating_add(left) <= lost {
                 return false;

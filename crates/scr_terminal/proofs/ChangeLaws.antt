@@ -1,4 +1,4 @@
--- What a motion changes, from what its change makes of a state; and that the pen behind an operation is shown.
+-- What a motion changes, from what its change makes of a state; and that the pen after an operation is shown.
 use Rattle.std.proofs.Common.{◌≡◌, ◌||◌, ℕ, Bool, true, false, Option, None, option_map, if◌then◌else◌, refl}
 use Rattle.scr_cells.specs.PenViews.{PenView, is_plain_pen}
 use Rattle.scr_term.specs.Operations.Abilities.{full_abilities}
@@ -25,7 +25,7 @@ motion_makes profile rows columns spot pen change result f same-rows same-column
     by true = made state at
     by false = refl
 
--- the pen behind an operation that a profile has is shown by full abilities
+-- the pen after an operation that a profile has is shown by full abilities
 pub next_is_shown : ShownPenLaws → (profile : ProfileView) (pen : PenView) (op : Op) → has profile op ≡ true → IsShownPen (full_abilities profile.rows profile.columns) pen → IsShownPen (full_abilities profile.rows profile.columns) (next_pen pen op)
 next_is_shown pens profile pen Reset had is = pens.plain (full_abilities profile.rows profile.columns)
 next_is_shown pens profile pen (Enter a) had is = pens.more (full_abilities profile.rows profile.columns) pen a.0 is (pens.entered profile a had)

@@ -13,7 +13,7 @@ use Rattle.scr_term.specs.declared.operations.operation.Op.{Op}
 use Rattle.scr_term.specs.declared.operations.operation.Op.TheVariants.{Put}
 use Rattle.scr_term.specs.declared.operations.operation.Spot.{Spot}
 use Rattle.scr_term.specs.declared.operations.operation.Spot.TheVariants.{At, Margin}
-use Rattle.scr_terminal.specs.Code.Writing.{look_of, looks_ahead, looks_written, spot_behind}
+use Rattle.scr_terminal.specs.Code.Writing.{look_of, looks_ahead, looks_written, spot_after}
 use Rattle.scr_terminal.specs.Displays.{DisplayView, IsDisplay, gone_on}
 use Rattle.scr_terminal.specs.Characters.{characters_ahead, characters_first, is_character_op, places_ahead}
 use Rattle.scr_term.specs.Operations.Laws.{LookGridLaws}
@@ -81,8 +81,8 @@ run_is_display laws old grid r c run spot is row_in fits new put inside =
       };
     })
 
-pub behind_is_spot : (rows columns r c : ℕ) → r < rows → IsSpot rows columns (spot_behind columns r c)
-behind_is_spot rows columns r c row_in = by (nat_lt c columns) refl
+pub after_is_spot : (rows columns r c : ℕ) → r < rows → IsSpot rows columns (spot_after columns r c)
+after_is_spot rows columns r c row_in = by (nat_lt c columns) refl
   where
     by : (t : Bool) → nat_lt c columns ≡ t → IsSpot rows columns (cond t (At r c) (Margin r))
     by true e = (row_in, grind (arith, nat_tests, e))
@@ -98,10 +98,10 @@ no_run lines r c =
     let same : line_with_run line c [] ≡ line = ap (λ xs. xs ++ drop (c + 0) line) (append-nil (take c line)) ∙ ap (λ n. take c line ++ drop n line) none ∙ take-append-drop c line in
     ap (set lines r) same ∙ set-get_or lines r []
 
--- a look, and then a run behind it
-run_behind : (lines : List (List LookView)) (r c : ℕ) (look : LookView) (run : List LookView) → r < length lines → c < length (grid_row lines r)
+-- a look, and then a run after it
+run_after : (lines : List (List LookView)) (r c : ℕ) (look : LookView) (run : List LookView) → r < length lines → c < length (grid_row lines r)
     → grid_with_run (grid_with lines r c look) r (c + 1) run ≡ grid_with_run lines r c (look ∷ run)
-run_behind lines r c look run row_in column_in =
+run_after lines r c look run row_in column_in =
     let line : List LookView = grid_row lines r in
     let put : List LookView = set line c look in
     let ends : c + 1 + length run ≡ c + length (look ∷ run) = omega arith in
@@ -114,14 +114,14 @@ run_behind lines r c look run row_in column_in =
     ∙ ap (set lines r) joined
 
 put_is_made : (profile : ProfileView) (state : TerminalState) (byte r c : ℕ) → is_character byte ≡ true → state.spot ≡ At r c
-    → step profile state (Put byte) ≡ Some (record state { grid = grid_with state.grid r c (record { byte = byte; pen = state.pen }); spot = spot_behind profile.columns r (c + 1) })
+    → step profile state (Put byte) ≡ Some (record state { grid = grid_with state.grid r c (record { byte = byte; pen = state.pen }); spot = spot_after profile.columns r (c + 1) })
 unfolding has
 put_is_made profile state byte r c is at = ap (λ t. cond (t && true) (written_at profile.columns state byte state.spot) None) is ∙ ap (written_at profile.columns state byte) at
 
-nothing_written : (columns : ℕ) (state : TerminalState) (r c : ℕ) → state.spot ≡ spot_behind columns r c → state ≡ looks_written columns state [] (At r c)
+nothing_written : (columns : ℕ) (state : TerminalState) (r c : ℕ) → state.spot ≡ spot_after columns r c → state ≡ looks_written columns state [] (At r c)
 nothing_written columns state r c at =
     let none : c ≡ c + 0 = omega arith in
-    λ i. record state { grid = sym (no_run state.grid r c) i; spot = (at ∙ ap (spot_behind columns r) none) i }
+    λ i. record state { grid = sym (no_run state.grid r c) i; spot = (at ∙ ap (spot_after columns r) none) i }
 
 -- an operation writes a character, or nothing is made of it
 kinds : (pen : PenView) (op : Op) → ((is_character_op op ≡ false) × (look_of pen op ≡ None)) ⊎ ((byte : ℕ) × (op ≡ Put byte) × (is_character byte ≡ true))
@@ -137,21 +137,21 @@ abbrev Leads : ProfileView → TerminalState → ℕ → ℕ → List Op → Typ
 Leads profile state r c ops = runs profile state (take (characters_first ops) ops) ≡ Some (looks_written profile.columns state (made_while (look_of state.pen) ops) (At r c))
 
 one_and_more : LookGridLaws → (profile : ProfileView) (rows : ℕ) (state : TerminalState) (r c byte : ℕ) (ops : List Op) → IsGrid rows profile.columns state.grid → r < rows → c < profile.columns
-    → state.spot ≡ spot_behind profile.columns r c → is_character byte ≡ true
-    → ((next : TerminalState) → IsGrid rows profile.columns next.grid → next.spot ≡ spot_behind profile.columns r (c + 1) → Leads profile next r (c + 1) ops)
+    → state.spot ≡ spot_after profile.columns r c → is_character byte ≡ true
+    → ((next : TerminalState) → IsGrid rows profile.columns next.grid → next.spot ≡ spot_after profile.columns r (c + 1) → Leads profile next r (c + 1) ops)
     → Leads profile state r c (Put byte ∷ ops)
 one_and_more looks profile rows state r c byte ops is row_in column_in at one more =
     let n : ℕ = characters_first ops in
     let look : LookView = record { byte = byte; pen = state.pen } in
     let run : List LookView = made_while (look_of state.pen) ops in
-    let next : TerminalState = record state { grid = grid_with state.grid r c look; spot = spot_behind profile.columns r (c + 1) } in
+    let next : TerminalState = record state { grid = grid_with state.grid r c look; spot = spot_after profile.columns r (c + 1) } in
     let there : nat_lt c profile.columns ≡ true = grind (arith, nat_tests) in
     let here : state.spot ≡ At r c = at ∙ ap (λ t. cond t (At r c) (Margin r)) there in
     let ends : c + 1 + length run ≡ c + length (look ∷ run) = omega arith in
     let wide = is.wide r row_in in
-    let behind = run_behind state.grid r c look run (omega (arith, is.high)) (omega (arith, wide)) in
+    let after = run_after state.grid r c look run (omega (arith, is.high)) (omega (arith, wide)) in
     let joined : looks_written profile.columns next run (At r (c + 1)) ≡ looks_written profile.columns state (look ∷ run) (At r c) =
-    λ i. record state { grid = behind i; spot = spot_behind profile.columns r (ends i) } in
+    λ i. record state { grid = after i; spot = spot_after profile.columns r (ends i) } in
     ap (λ t. runs profile state (take (cond t (suc n) 0) (Put byte ∷ ops))) one
     ∙ ap (option_and_then (λ state. runs profile state (take n ops))) (put_is_made profile state byte r c one here)
     ∙ more next (looks.put_size rows profile.columns state.grid r c look is) refl
@@ -159,7 +159,7 @@ one_and_more looks profile rows state r c byte ops is row_in column_in at one mo
     ∙ sym (ap (λ t. Some (looks_written profile.columns state (before (cond t (Some look) None) run) (At r c))) one)
 
 written_ahead : LookGridLaws → (profile : ProfileView) (rows : ℕ) (state : TerminalState) (r c : ℕ) (ops : List Op) → IsGrid rows profile.columns state.grid → r < rows
-    → state.spot ≡ spot_behind profile.columns r c → c + length ops ≤ profile.columns → Leads profile state r c ops
+    → state.spot ≡ spot_after profile.columns r c → c + length ops ≤ profile.columns → Leads profile state r c ops
 written_ahead looks profile rows state r c [] is row_in at fits = ap Some (nothing_written profile.columns state r c at)
 written_ahead looks profile rows state r c (op ∷ ops) is row_in at fits = elim (kinds state.pen op) [
   | inl other ↦ ap (λ t. runs profile state (take (cond t (suc (characters_first ops)) 0) (op ∷ ops))) other.0
@@ -235,7 +235,7 @@ leads_ahead looks profile rows state ops (Margin r) is inside at = refl
 leads_ahead looks profile rows state ops (At r c) is inside at =
     let n = profile.columns - c in
     let there : nat_lt c profile.columns ≡ true = grind (arith, nat_tests, inside.1) in
-    let here : state.spot ≡ spot_behind profile.columns r c = at ∙ sym (ap (λ t. cond t (At r c) (Margin r)) there) in
+    let here : state.spot ≡ spot_after profile.columns r c = at ∙ sym (ap (λ t. cond t (At r c) (Margin r)) there) in
     let short = length-take n ops in
     ap (runs profile state) (taken n ops) ∙ written_ahead looks profile rows state r c (take n ops) is inside.0 here (omega (arith, inside.1, short))
 

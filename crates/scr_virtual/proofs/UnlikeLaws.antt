@@ -60,18 +60,18 @@ none_told t a zero range h = refl
 none_told t a (suc n) range h =
     told_or_not (λ list. joined_by list range) (t a) a (told t (a + 1) n) range (λ e. absurd (nowhere (sym e ∙ h a (omega arith) (omega arith)))) (λ e. none_told t (a + 1) n range (λ c l m. h c (omega arith) (omega arith)))
 
--- the range begins before these columns, and ends behind the last of them that is told
+-- the range begins before these columns, and ends after the last of them that is told
 rest_told : (t : ℕ → Bool) (a n last x y : ℕ) → x ≤ a → a ≤ last → last < a + n → t last ≡ true → ((c : ℕ) → last < c → c < a + n → t c ≡ false) → joined_by (told t a n) (Some (x, y)) ≡ Some (x, max last y)
-rest_told t a zero last x y before from end is behind = absurd (let z : ⊥ = omega arith in z)
-rest_told t a (suc n) last x y before from end is behind = elim (same_or_not a last) [
+rest_told t a zero last x y before from end is after = absurd (let z : ⊥ = omega arith in z)
+rest_told t a (suc n) last x y before from end is after = elim (same_or_not a last) [
   | inl e ↦
       told_or_not (λ list. joined_by list (Some (x, y))) (t a) a (told t (a + 1) n) (Some (x, max last y))
-      (λ _. none_told t (a + 1) n (joined (Some (a, a)) (Some (x, y))) (λ c l m. behind c (omega arith) (omega arith)) ∙ ends a last x y before e)
+      (λ _. none_told t (a + 1) n (joined (Some (a, a)) (Some (x, y))) (λ c l m. after c (omega arith) (omega arith)) ∙ ends a last x y before e)
       (λ f. absurd (nowhere (sym (ap t e ∙ is) ∙ f)))
   | inr d ↦
       told_or_not (λ list. joined_by list (Some (x, y))) (t a) a (told t (a + 1) n) (Some (x, max last y))
-      (λ _. ap (λ low. joined_by (told t (a + 1) n) (Some (low, max a y))) (low a x before) ∙ rest_told t (a + 1) n last x (max a y) (omega arith) (omega arith) (omega arith) is (λ c l m. behind c l (omega arith)) ∙ ap (λ high. Some (x, high)) (high a last y from))
-      (λ _. rest_told t (a + 1) n last x y (omega arith) (omega arith) (omega arith) is (λ c l m. behind c l (omega arith)))
+      (λ _. ap (λ low. joined_by (told t (a + 1) n) (Some (low, max a y))) (low a x before) ∙ rest_told t (a + 1) n last x (max a y) (omega arith) (omega arith) (omega arith) is (λ c l m. after c l (omega arith)) ∙ ap (λ high. Some (x, high)) (high a last y from))
+      (λ _. rest_told t (a + 1) n last x y (omega arith) (omega arith) (omega arith) is (λ c l m. after c l (omega arith)))
 ]
   where
     low : (a x : ℕ) → x ≤ a → min a x ≡ x
@@ -92,28 +92,28 @@ rest_told t a (suc n) last x y before from end is behind = elim (same_or_not a l
 -- it holds those that are told, from the first to the last
 pub joined_told : (t : ℕ → Bool) (a n first last : ℕ) (range : Range) → a ≤ first → first ≤ last → last < a + n → t first ≡ true → t last ≡ true → ((c : ℕ) → a ≤ c → c < first → t c ≡ false) → ((c : ℕ) → last < c → c < a + n → t c ≡ false)
     → joined_by (told t a n) range ≡ joined (Some (first, last)) range
-joined_told t a zero first last range from order end begins ends before behind = absurd (let z : ⊥ = omega arith in z)
-joined_told t a (suc n) first last range from order end begins ends before behind = elim (same_or_not a first) [
+joined_told t a zero first last range from order end begins ends before after = absurd (let z : ⊥ = omega arith in z)
+joined_told t a (suc n) first last range from order end begins ends before after = elim (same_or_not a first) [
   | inl e ↦
       told_or_not (λ list. joined_by list range) (t a) a (told t (a + 1) n) (joined (Some (first, last)) range)
       (λ _. elim (same_or_not a last) [
-        | inl f ↦ none_told t (a + 1) n (joined (Some (a, a)) range) (λ c l m. behind c (omega arith) (omega arith)) ∙ (λ i. joined (Some (e i, f i)) range)
-        | inr d ↦ wider t a n last range (omega arith) (omega arith) ends (λ c l m. behind c l (omega arith)) ∙ ap (λ b. joined (Some (b, last)) range) e
+        | inl f ↦ none_told t (a + 1) n (joined (Some (a, a)) range) (λ c l m. after c (omega arith) (omega arith)) ∙ (λ i. joined (Some (e i, f i)) range)
+        | inr d ↦ wider t a n last range (omega arith) (omega arith) ends (λ c l m. after c l (omega arith)) ∙ ap (λ b. joined (Some (b, last)) range) e
       ])
       (λ f. absurd (nowhere (sym (ap t e ∙ begins) ∙ f)))
   | inr d ↦
       told_or_not (λ list. joined_by list range) (t a) a (told t (a + 1) n) (joined (Some (first, last)) range)
       (λ f. absurd (nowhere (sym f ∙ before a (omega arith) (omega arith))))
-      (λ _. joined_told t (a + 1) n first last range (omega arith) order (omega arith) begins ends (λ c l m. before c (omega arith) m) (λ c l m. behind c l (omega arith)))
+      (λ _. joined_told t (a + 1) n first last range (omega arith) order (omega arith) begins ends (λ c l m. before c (omega arith) m) (λ c l m. after c l (omega arith)))
 ]
   where
     wider : (t : ℕ → Bool) (a n last : ℕ) (range : Range) → a + 1 ≤ last → last < a + 1 + n → t last ≡ true → ((c : ℕ) → last < c → c < a + 1 + n → t c ≡ false) → joined_by (told t (a + 1) n) (joined (Some (a, a)) range) ≡ joined (Some (a, last)) range
-    wider t a n last None from end is behind =
+    wider t a n last None from end is after =
         let high : max last a ≡ last = omega arith in
-        rest_told t (a + 1) n last a a (omega arith) from end is behind ∙ ap (λ h. Some (a, h)) high
-    wider t a n last (Some range) from end is behind =
+        rest_told t (a + 1) n last a a (omega arith) from end is after ∙ ap (λ h. Some (a, h)) high
+    wider t a n last (Some range) from end is after =
         let high : max last (max a range.1) ≡ max last range.1 = omega arith in
-        rest_told t (a + 1) n last (min a range.0) (max a range.1) (omega arith) from end is behind ∙ ap (λ h. Some (min a range.0, h)) high
+        rest_told t (a + 1) n last (min a range.0) (max a range.1) (omega arith) from end is after ∙ ap (λ h. Some (min a range.0, h)) high
 
 -- ---- what a range holds
 
@@ -194,7 +194,7 @@ is_told : (row cells : List CellView) (column n c : ℕ) → n ≡ length cells 
 is_told row cells column n c n_is from end differs =
     unlike_cell (get_or row c blank_cell) (get_or cells (c - column) blank_cell) (λ e. differs blank_cell (part_at row column n (c - column) (omega (arith, n_is)) ∙ ap (λ k. get_or row k blank_cell) (back column c from) ∙ e))
 
--- the first place in which they differ is not behind the last
+-- the first place in which they differ is not after the last
 in_order : (xs ys : List CellView) (first last : ℕ) → IsFirstDifference xs ys (Some first) → IsLastDifference xs ys (Some last) → first ≤ last
 in_order xs ys first last begins ends = elim (less_or_not last first) [
   | inl below ↦ absurd (ends.differs blank_cell (begins.before last below blank_cell))
@@ -229,7 +229,7 @@ some_unlike row cells column n first last range n_is end begins ends =
     (is_told row cells column n (column + first) n_is (omega arith) (omega arith) (at_place first begins.differs))
     (is_told row cells column n (column + last) n_is (omega arith) (omega arith) (at_place last ends.differs))
     (λ c from below. not_told row cells column n c n_is from (omega arith) (begins.before (c - column) (omega arith)))
-    (λ c above to. not_told row cells column n c n_is (omega arith) to (ends.behind (c - column) (omega arith) (omega (arith, many, n_is)))))
+    (λ c above to. not_told row cells column n c n_is (omega arith) to (ends.after (c - column) (omega arith) (omega (arith, many, n_is)))))
   where
     at_place : (i : ℕ) → DiffersAt (take n (drop column row)) cells i → DiffersAt (take n (drop column row)) cells (column + i - column)
     at_place i differs =

@@ -5,7 +5,7 @@ use Rattle.std.specs.List.{slice_split, join_with_byte}
 use Rattle.std.proofs.lemmas.Bool.Decides.{nat_tests}
 use Rattle.std.proofs.lemmas.List.{take_more, take_all}
 use Rattle.std.proofs.lemmas.List.Splits.{length-slice_split, join_with_byte-slice_split}
-use Rattle.screen_scripts.specs.Lines.{parts_behind}
+use Rattle.screen_scripts.specs.Lines.{parts_after}
 use Rattle.screen_scripts.specs.Fields.{fields_of, first_and_rest, cut, each, number}
 use Rattle.screen_scripts.specs.Commands.{numbered}
 
@@ -16,13 +16,13 @@ rest_joined : (first : List ℕ) (fields : List (List ℕ)) → 0 < length field
 rest_joined first [] some = absurd (omega arith)
 rest_joined first (field ∷ fields) some = refl
 
-cut_parts : (first : List ℕ) (behind : Option (List ℕ)) → first_and_rest (first ∷ parts_behind 32 behind) ≡ (first, behind)
+cut_parts : (first : List ℕ) (behind : Option (List ℕ)) → first_and_rest (first ∷ parts_after 32 behind) ≡ (first, behind)
 cut_parts first None = refl
 cut_parts first (Some rest) =
     rest_joined first (fields_of rest) (some_field rest) ∙ ap (λ (t : List ℕ). (first, Some t)) (join_with_byte-slice_split 32 rest)
 
 -- the first field is what stands before the first blank
-pub cut_is : (text first : List ℕ) (behind : Option (List ℕ)) → slice_split (λ b. eqb b 32) text ≡ first ∷ parts_behind 32 behind → cut text ≡ (first, behind)
+pub cut_is : (text first : List ℕ) (behind : Option (List ℕ)) → slice_split (λ b. eqb b 32) text ≡ first ∷ parts_after 32 behind → cut text ≡ (first, behind)
 unfolding cut
 cut_is text first behind split = ap first_and_rest split ∙ cut_parts first behind
 

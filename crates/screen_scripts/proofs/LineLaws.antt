@@ -2,7 +2,7 @@
 use Rattle.std.proofs.Common.{◌≡◌, ◌≢◌, ℕ, ◌<◌, ◌==◌, refl, sym, ◌∙◌, ap, arith, List, [], ◌∷◌, length, Option, Some, None, unwrap_or}
 use Rattle.std.specs.List.{slice_split}
 use Rattle.std.proofs.lemmas.List.Splits.{length-slice_split}
-use Rattle.screen_scripts.specs.Lines.{lines_of, parts_behind, without_empty_end}
+use Rattle.screen_scripts.specs.Lines.{lines_of, parts_after, without_empty_end}
 
 -- ---- lines
 
@@ -17,7 +17,7 @@ last_line (b ∷ line) h = refl
 
 -- the first line, and the lines of what follows its end
 pub first_line : (rest line : List ℕ) (after : Option (List ℕ)) → 0 < length rest
-    → slice_split (λ b. b == 10) rest ≡ line ∷ parts_behind 10 after → (after ≡ None → line ≡ rest)
+    → slice_split (λ b. b == 10) rest ≡ line ∷ parts_after 10 after → (after ≡ None → line ≡ rest)
     → lines_of rest ≡ line ∷ lines_of (unwrap_or after [])
 first_line rest line None some split whole =
     let here : line ≢ [] = λ e. absurd (omega (arith, ap length (sym e ∙ whole refl))) in
@@ -25,7 +25,7 @@ first_line rest line None some split whole =
 first_line rest line (Some after) some split whole =
     ap without_empty_end split ∙ parts_more line (slice_split (λ b. b == 10) after) (omega (arith, length-slice_split (λ b. b == 10) after))
 
-pub first_of_more : (rest line after : List ℕ) → 0 < length rest → slice_split (λ b. b == 10) rest ≡ line ∷ parts_behind 10 (Some after) → lines_of rest ≡ line ∷ lines_of after
+pub first_of_more : (rest line after : List ℕ) → 0 < length rest → slice_split (λ b. b == 10) rest ≡ line ∷ parts_after 10 (Some after) → lines_of rest ≡ line ∷ lines_of after
 first_of_more rest line after some split = first_line rest line (Some after) some split (λ e. absurd (nothing e))
   where
     nothing : Some after ≡ None → ⊥

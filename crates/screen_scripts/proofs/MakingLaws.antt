@@ -136,7 +136,7 @@ followed_is first next mid new a b s e t f = λ i. record {
 is_outcome : (outcome : Outcome) (new : ScreenState) (a : List Event) → outcome.stage ≡ stage_of new → outcome.events ≡ a → outcome ≡ record { stage = stage_of new; events = a }
 is_outcome outcome new a s e = λ i. record { stage = s i; events = e i }
 
--- no update came behind these events
+-- no update came after these events
 no_more : (events : List Event) → events ≡ events ++ []
 no_more events = sym (append-nil events)
 
@@ -176,9 +176,9 @@ update_obeys old new noted effects bytes sent none same = subst (λ e. Obeys old
 })
 
 -- a call that sent and marked nothing, and then one that was obeyed
-pub obeys_behind : (old mid new : ScreenState) (effects : Effects) (outcome : Outcome) → mid.profile ≡ old.profile → mid.memory ≡ old.memory → Obeys mid new effects outcome
+pub obeys_after : (old mid new : ScreenState) (effects : Effects) (outcome : Outcome) → mid.profile ≡ old.profile → mid.memory ≡ old.memory → Obeys mid new effects outcome
     → Obeys old new effects outcome
-obeys_behind old mid new effects outcome profile memory obeys = record {
+obeys_after old mid new effects outcome profile memory obeys = record {
   rows = obeys.rows;
   virtual = obeys.virtual;
   is = obeys.is;
@@ -239,7 +239,7 @@ add_goes_on old mid new row column text (Some fault) result none quiet obeys = a
 add_goes_on old mid new row column text None (Err error) none quiet obeys = tt
 add_goes_on old mid new row column text None (Ok effects) none quiet obeys =
     subst (Obeys old new effects) (sym (added_on (stage_of old) (stage_of mid) row column text quiet.stage quiet.events))
-    (obeys_behind old mid new effects (made (stage_of mid) (AddText first_window text)) quiet.profile quiet.memory obeys)
+    (obeys_after old mid new effects (made (stage_of mid) (AddText first_window text)) quiet.profile quiet.memory obeys)
 
 -- a window is taken, and then an update shows the picture
 pub shows_taken : (old mid new : ScreenState) (fault : Option WinFault) (noted effects : Effects) (bytes : Vec ℕ Global) → IsQuiet old mid (Noutrefresh first_window) fault

@@ -17,7 +17,7 @@ use Rattle.screen_scripts.specs.declared.stages.Stage.{Stage as Playing}
 use Rattle.screen_scripts.specs.Stories.{Event, Outcome, Stage, Story, continued, line_outcome, next_number, opened, outcome_of, size_in, size_on, story_from, story_of, story_on}
 use Rattle.screen_scripts.specs.Printing.{Begins, GrewByBeginning, Writes, profile_of, refusals_of}
 use Rattle.screen_scripts.specs.Running.{BeginsLine, CommandRefuses, LineWritten, OpensOn}
-use Rattle.screen_scripts.specs.Showing.{AddsRefusals, CommandWrites, IsAhead, IsOutputBetween, IsOutputOfLines, IsReadyStage, IsSending, IsTerminalFor, LineWrites, MayBeIn, Obeys, ObeysSome, Opens, events_in, events_of, memory_in, profile_behind, shown_if, stage_of, stages_of, update_in}
+use Rattle.screen_scripts.specs.Showing.{AddsRefusals, CommandWrites, IsAhead, IsOutputBetween, IsOutputOfLines, IsReadyStage, IsSending, IsTerminalFor, LineWrites, MayBeIn, Obeys, ObeysSome, Opens, events_in, events_of, memory_in, profile_then, shown_if, stage_of, stages_of, update_in}
 use Rattle.screen_scripts.proofs.OutputLaws.{mark_refuses_none, output_at_last, output_join, output_marked, output_none, refusals_join, shown_refuses_none, still_terminal}
 use Rattle.screen_scripts.proofs.WriteLaws.{appends_kept, appends_more, appends_none}
 
@@ -197,7 +197,7 @@ story_ends n stage rest line after e bad =
 
 -- the profile is that of the script's size
 profile_after : (script rest line after : List ℕ) (old : Option Playing) → (old ≡ None → rest ≡ script) → ForSome old (λ s. s.screen.profile ≡ profile_of script)
-    → lines_of rest ≡ line ∷ lines_of after → profile_behind old line ≡ profile_of script
+    → lines_of rest ≡ line ∷ lines_of after → profile_then old line ≡ profile_of script
 profile_after script rest line after None first is e = ap (λ lines. ecma48_profile (size_on lines).0 (size_on lines).1) (sym e ∙ ap lines_of (first refl))
 profile_after script rest line after (Some stage) first is e = is stage refl
 

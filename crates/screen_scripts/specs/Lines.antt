@@ -13,6 +13,6 @@ abbrev pub lines_of : List ℕ → List (List ℕ)
 lines_of script = without_empty_end (slice_split (λ b. b == 10) script)
 
 -- the parts of a text that follow such a byte, where there is one
-abbrev pub parts_behind : ℕ → Option (List ℕ) → List (List ℕ)
-parts_behind byte None = []
-parts_behind byte (Some rest) = slice_split (λ b. b == byte) rest
+abbrev pub parts_after : ℕ → Option (List ℕ) → List (List ℕ)
+parts_after byte None = []
+parts_after byte (Some rest) = slice_split (λ b. b == byte) rest

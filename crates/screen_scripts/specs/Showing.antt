@@ -250,9 +250,9 @@ pub record CommandWrites (raw : Bool) (old : Playing) (command : Command) (text 
   pub written : IsOutputOfLines raw new.screen.profile (Some old) (Some new) outcome.events text
 
 -- The profile after a line: the one of the size that the line gives, if it opened the stage.
-abbrev pub profile_behind : Option Playing → List ℕ → ProfileView
-profile_behind None line = ecma48_profile (size_in (command_of line)).0 (size_in (command_of line)).1
-profile_behind (Some stage) line = stage.screen.profile
+abbrev pub profile_then : Option Playing → List ℕ → ProfileView
+profile_then None line = ecma48_profile (size_in (command_of line)).0 (size_in (command_of line)).1
+profile_then (Some stage) line = stage.screen.profile
 
 -- What a line did, and what is written for it.
 pub record LineWrites (raw : Bool) (old : Option Playing) (line text : List ℕ) (new : Option Playing) : Type 0 where
@@ -262,7 +262,7 @@ pub record LineWrites (raw : Bool) (old : Option Playing) (line text : List ℕ)
   pub left : new ≡ Some stage
   pub same : outcome.stage ≡ stage_of stage.screen
   pub ready : IsReadyStage (not raw) stage
-  pub profile : stage.screen.profile ≡ profile_behind old line
+  pub profile : stage.screen.profile ≡ profile_then old line
   pub written : IsOutputOfLines raw stage.screen.profile old new outcome.events text
 
 -- What a line did, and the refusals that it adds.

@@ -24,7 +24,7 @@ use Rattle.curses.specs.declared.faults.UpdateFault.TheVariants as update_faults
 use Rattle.screen_sessions.specs.Making.{IsMade, drawn_of}
 use Rattle.curses.specs.Refreshing.{OnBoth, OnTerminal, OnVirtual, all_disturbed, lines_disturbed, redraw_lines_call, redraw_window_call, rows_disturbed, window_disturbed}
 use Rattle.curses.specs.ScreenStates.{ScreenState}
-use Rattle.screen_sessions.specs.Sessions.{Drawn, RightAnswer, begun_of, both_told, count_of, is_cut, is_unfinished, is_update, left_by, marked_by, memory_behind, memory_marked, memory_updated, ran_out, rows_told, screen_call, tells_sent, virtual_told, window_told, windows_told}
+use Rattle.screen_sessions.specs.Sessions.{Drawn, RightAnswer, begun_of, both_told, count_of, is_cut, is_unfinished, is_update, left_by, marked_by, memory_then, memory_marked, memory_updated, ran_out, rows_told, screen_call, tells_sent, virtual_told, window_told, windows_told}
 use Rattle.curses.specs.Updates.{IsFailed, IsSent, IsShown}
 use Rattle.curses.specs.Writers.{WriterView, counted}
 use Rattle.screen_sessions.proofs.TakenLaws.{cut_none}
@@ -69,7 +69,7 @@ own_answer own answer same = ap (λ a. ran_out a answer) (sym same) ∙ itself a
     itself a = refl
 
 -- a call that is neither an update nor a mark
-memory_kept : (profile : ProfileView) (desk : DeskView) (memory : MemoryView) (call : Call) (answer : Answer) → is_update call ≡ false → marked_by desk call ≡ None → memory_behind profile desk memory call answer ≡ memory
+memory_kept : (profile : ProfileView) (desk : DeskView) (memory : MemoryView) (call : Call) (answer : Answer) → is_update call ≡ false → marked_by desk call ≡ None → memory_then profile desk memory call answer ≡ memory
 memory_kept profile desk memory call answer update none =
     ap (λ b. if b then memory_updated profile memory answer else memory_marked memory (marked_by desk call)) update ∙ ap (memory_marked memory) none
 
@@ -83,7 +83,7 @@ pub record Quiet (answer : Answer) : Type 0 where
 
 -- a call that is no update was made as its definition says
 made_so : (old new : ScreenState) (call : Call) (answer : Answer) (w : WriterView) → is_update call ≡ false → Quiet answer → new.profile ≡ old.profile → new.keys ≡ old.keys → new.opening ≡ old.opening → new.closing ≡ old.closing → new.owed ≡ old.owed
-    → new.memory ≡ memory_behind old.profile old.desk old.memory call answer → StillAgrees old.profile old.memory new.memory
+    → new.memory ≡ memory_then old.profile old.desk old.memory call answer → StillAgrees old.profile old.memory new.memory
     → drawn_of new ≡ (screen_call (drawn_of old) call).0 → answer ≡ (screen_call (drawn_of old) call).1 → IsMade old new call answer w w
 made_so old new call answer w update quiet profile keys opening closing owed memory still drawn own = record {
   profile = profile;
@@ -106,36 +106,36 @@ made_so old new call answer w update quiet profile keys opening closing owed mem
     never : true ≡ false → ⊥
     never e = (cc)
 
-quiet_done : (came : Result (Unit {0}) WinFault) → Quiet (answered (λ _. Nothing) came)
+quiet_done : (got : Result (Unit {0}) WinFault) → Quiet (answered (λ _. Nothing) got)
 quiet_done (Ok done) = record { begun = refl; count = refl; well = refl; cut = refl; unfinished = refl }
 quiet_done (Err fault) = record { begun = refl; count = refl; well = refl; cut = refl; unfinished = refl }
 
 -- a call that takes a window or a pad
-pub both_made : (old new : ScreenState) (call : Call) (came : Result (Unit {0}) WinFault) (answer : Answer) (w : WriterView) (own : (VirtualView × DeskView) × Result (Unit {0}) WinFault)
-    → is_update call ≡ false → marked_by old.desk call ≡ None → screen_call (drawn_of old) call ≡ both_told own → OnBoth old new came own → answer ≡ answered (λ _. Nothing) came → IsMade old new call answer w w
-both_made old new call came answer w own update none called made told =
+pub both_made : (old new : ScreenState) (call : Call) (got : Result (Unit {0}) WinFault) (answer : Answer) (w : WriterView) (own : (VirtualView × DeskView) × Result (Unit {0}) WinFault)
+    → is_update call ≡ false → marked_by old.desk call ≡ None → screen_call (drawn_of old) call ≡ both_told own → OnBoth old new got own → answer ≡ answered (λ _. Nothing) got → IsMade old new call answer w w
+both_made old new call got answer w own update none called made told =
     subst (λ a. IsMade old new call a w w) (sym told)
-    (made_so old new call (answered (λ _. Nothing) came) w update (quiet_done came) (ap (λ s. s.profile) made.0) (ap (λ s. s.keys) made.0) (ap (λ s. s.opening) made.0) (ap (λ s. s.closing) made.0) (ap (λ s. s.owed) made.0)
-    (ap (λ s. s.memory) made.0 ∙ sym (memory_kept old.profile old.desk old.memory call (answered (λ _. Nothing) came) update none)) (still_same old.profile old.memory new.memory (ap (λ s. s.memory) made.0))
+    (made_so old new call (answered (λ _. Nothing) got) w update (quiet_done got) (ap (λ s. s.profile) made.0) (ap (λ s. s.keys) made.0) (ap (λ s. s.opening) made.0) (ap (λ s. s.closing) made.0) (ap (λ s. s.owed) made.0)
+    (ap (λ s. s.memory) made.0 ∙ sym (memory_kept old.profile old.desk old.memory call (answered (λ _. Nothing) got) update none)) (still_same old.profile old.memory new.memory (ap (λ s. s.memory) made.0))
     (ap drawn_of made.0 ∙ sym (ap (λ c. c.0) called)) (ap (answered (λ _. Nothing)) made.1 ∙ sym (ap (λ c. c.1) called)))
 
 -- a call that changes the virtual screen alone
-pub virtual_made : (old new : ScreenState) (call : Call) (came : Result (Unit {0}) WinFault) (answer : Answer) (w : WriterView) (own : VirtualView × Result (Unit {0}) WinFault)
-    → is_update call ≡ false → marked_by old.desk call ≡ None → screen_call (drawn_of old) call ≡ virtual_told old.desk own → OnVirtual old new came own → answer ≡ answered (λ _. Nothing) came → IsMade old new call answer w w
-virtual_made old new call came answer w own update none called made told =
+pub virtual_made : (old new : ScreenState) (call : Call) (got : Result (Unit {0}) WinFault) (answer : Answer) (w : WriterView) (own : VirtualView × Result (Unit {0}) WinFault)
+    → is_update call ≡ false → marked_by old.desk call ≡ None → screen_call (drawn_of old) call ≡ virtual_told old.desk own → OnVirtual old new got own → answer ≡ answered (λ _. Nothing) got → IsMade old new call answer w w
+virtual_made old new call got answer w own update none called made told =
     subst (λ a. IsMade old new call a w w) (sym told)
-    (made_so old new call (answered (λ _. Nothing) came) w update (quiet_done came) (ap (λ s. s.profile) made.0) (ap (λ s. s.keys) made.0) (ap (λ s. s.opening) made.0) (ap (λ s. s.closing) made.0) (ap (λ s. s.owed) made.0)
-    (ap (λ s. s.memory) made.0 ∙ sym (memory_kept old.profile old.desk old.memory call (answered (λ _. Nothing) came) update none)) (still_same old.profile old.memory new.memory (ap (λ s. s.memory) made.0))
+    (made_so old new call (answered (λ _. Nothing) got) w update (quiet_done got) (ap (λ s. s.profile) made.0) (ap (λ s. s.keys) made.0) (ap (λ s. s.opening) made.0) (ap (λ s. s.closing) made.0) (ap (λ s. s.owed) made.0)
+    (ap (λ s. s.memory) made.0 ∙ sym (memory_kept old.profile old.desk old.memory call (answered (λ _. Nothing) got) update none)) (still_same old.profile old.memory new.memory (ap (λ s. s.memory) made.0))
     (ap drawn_of made.0 ∙ sym (ap (λ c. c.0) called)) (ap (answered (λ _. Nothing)) made.1 ∙ sym (ap (λ c. c.1) called)))
 
 -- a call that says that others wrote on the screen
-pub terminal_made : (old new : ScreenState) (call : Call) (came : Result (Unit {0}) WinFault) (answer : Answer) (w : WriterView) (own : VirtualView × Result (Unit {0}) WinFault) (memory : MemoryView)
-    → is_update call ≡ false → memory ≡ memory_marked old.memory (marked_by old.desk call) → screen_call (drawn_of old) call ≡ virtual_told old.desk own → OnTerminal old new came own memory → StillAgrees old.profile old.memory memory
-    → answer ≡ answered (λ _. Nothing) came → IsMade old new call answer w w
-terminal_made old new call came answer w own memory update left called made still told =
+pub terminal_made : (old new : ScreenState) (call : Call) (got : Result (Unit {0}) WinFault) (answer : Answer) (w : WriterView) (own : VirtualView × Result (Unit {0}) WinFault) (memory : MemoryView)
+    → is_update call ≡ false → memory ≡ memory_marked old.memory (marked_by old.desk call) → screen_call (drawn_of old) call ≡ virtual_told old.desk own → OnTerminal old new got own memory → StillAgrees old.profile old.memory memory
+    → answer ≡ answered (λ _. Nothing) got → IsMade old new call answer w w
+terminal_made old new call got answer w own memory update left called made still told =
     subst (λ a. IsMade old new call a w w) (sym told)
-    (made_so old new call (answered (λ _. Nothing) came) w update (quiet_done came) (ap (λ s. s.profile) made.0) (ap (λ s. s.keys) made.0) (ap (λ s. s.opening) made.0) (ap (λ s. s.closing) made.0) (ap (λ s. s.owed) made.0)
-    (ap (λ s. s.memory) made.0 ∙ left ∙ sym (ap (λ b. if b then memory_updated old.profile old.memory (answered (λ _. Nothing) came) else memory_marked old.memory (marked_by old.desk call)) update))
+    (made_so old new call (answered (λ _. Nothing) got) w update (quiet_done got) (ap (λ s. s.profile) made.0) (ap (λ s. s.keys) made.0) (ap (λ s. s.opening) made.0) (ap (λ s. s.closing) made.0) (ap (λ s. s.owed) made.0)
+    (ap (λ s. s.memory) made.0 ∙ left ∙ sym (ap (λ b. if b then memory_updated old.profile old.memory (answered (λ _. Nothing) got) else memory_marked old.memory (marked_by old.desk call)) update))
     (subst (StillAgrees old.profile old.memory) (sym (ap (λ s. s.memory) made.0)) still)
     (ap drawn_of made.0 ∙ sym (ap (λ c. c.0) called)) (ap (answered (λ _. Nothing)) made.1 ∙ sym (ap (λ c. c.1) called)))
 
@@ -148,19 +148,19 @@ told_marked : (memory : MemoryView) (rows : Result (ℕ × ℕ) WinFault) → ro
 told_marked memory (Err fault) = refl
 told_marked memory (Ok rows) = refl
 
-pub lines_made : MemoryLaws → (old new : ScreenState) (win : Win) (first n : ℕ) (came : Result (Unit {0}) WinFault) (answer : Answer) (w : WriterView)
-    → OnTerminal old new came (redraw_lines_call old.virtual old.desk win.0 first n) (lines_disturbed old.memory old.desk win.0 first n) → answer ≡ answered (λ _. Nothing) came
+pub lines_made : MemoryLaws → (old new : ScreenState) (win : Win) (first n : ℕ) (got : Result (Unit {0}) WinFault) (answer : Answer) (w : WriterView)
+    → OnTerminal old new got (redraw_lines_call old.virtual old.desk win.0 first n) (lines_disturbed old.memory old.desk win.0 first n) → answer ≡ answered (λ _. Nothing) got
     → IsMade old new (RedrawLines win first n) answer w w
-lines_made laws old new win first n came answer w made told =
+lines_made laws old new win first n got answer w made told =
     let rows = screen_rows_answer old.desk win.0 first n in
-    terminal_made old new (RedrawLines win first n) came answer w (redraw_lines_call old.virtual old.desk win.0 first n) (lines_disturbed old.memory old.desk win.0 first n) refl (told_marked old.memory rows) refl made
+    terminal_made old new (RedrawLines win first n) got answer w (redraw_lines_call old.virtual old.desk win.0 first n) (lines_disturbed old.memory old.desk win.0 first n) refl (told_marked old.memory rows) refl made
     (still_disturbed laws old.profile old.memory rows) told
 
-pub window_made : MemoryLaws → (old new : ScreenState) (win : Win) (came : Result (Unit {0}) WinFault) (answer : Answer) (w : WriterView)
-    → OnTerminal old new came (redraw_window_call old.virtual old.desk win.0) (window_disturbed old.memory old.desk win.0) → answer ≡ answered (λ _. Nothing) came
+pub window_made : MemoryLaws → (old new : ScreenState) (win : Win) (got : Result (Unit {0}) WinFault) (answer : Answer) (w : WriterView)
+    → OnTerminal old new got (redraw_window_call old.virtual old.desk win.0) (window_disturbed old.memory old.desk win.0) → answer ≡ answered (λ _. Nothing) got
     → IsMade old new (RedrawWindow win) answer w w
-window_made laws old new win came answer w made told =
-    terminal_made old new (RedrawWindow win) came answer w (redraw_window_call old.virtual old.desk win.0) (window_disturbed old.memory old.desk win.0) refl (left (size_answer old.desk win.0)) refl made
+window_made laws old new win got answer w made told =
+    terminal_made old new (RedrawWindow win) got answer w (redraw_window_call old.virtual old.desk win.0) (window_disturbed old.memory old.desk win.0) refl (left (size_answer old.desk win.0)) refl made
     (still (size_answer old.desk win.0)) told
   where
     left : (size : Result (ℕ × ℕ) WinFault) → all_disturbed old.memory old.desk win.0 size ≡ memory_marked old.memory (window_told old.desk win.0 size)

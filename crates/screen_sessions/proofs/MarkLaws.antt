@@ -7,7 +7,7 @@ use Rattle.scr_term.specs.Operations.States.{TerminalState}
 use Rattle.scr_memory.specs.Memories.{IsDisturbance, MemoryLaws, MemoryView, is_known_row}
 use Rattle.screen_sessions.specs.declared.answers.Answer.{Answer}
 use Rattle.screen_sessions.specs.declared.calls.Call.{Call}
-use Rattle.screen_sessions.specs.Sessions.{Drawn, DisturbedRowsHoldAgain, after_call, has_mark, is_marked, is_row_of, is_update, marked_by, memory_behind, memory_marked, memory_updated, remembered_behind}
+use Rattle.screen_sessions.specs.Sessions.{Drawn, DisturbedRowsHoldAgain, after_call, has_mark, is_marked, is_row_of, is_update, marked_by, memory_then, memory_marked, memory_updated, remembered_after}
 
 no_bool : false ≡ true → ⊥
 no_bool e = (cc)
@@ -17,7 +17,7 @@ never_true : (b : Bool) → (b ≡ true → ⊥) → b ≡ false
 never_true true not = absurd (not refl)
 never_true false not = refl
 
--- What is remembered behind calls that are no updates: less in the rows that they mark, and no more elsewhere; and
+-- What is remembered after calls that are no updates: less in the rows that they mark, and no more elsewhere; and
 -- where a mark is among them, neither the spot nor the pen is known.
 record Left (drawn : Drawn) (memory left : MemoryView) (calls : List Call) (answers : List Answer) : Type 0 where
   pub grid : left.state.grid ≡ memory.state.grid
@@ -27,8 +27,8 @@ record Left (drawn : Drawn) (memory left : MemoryView) (calls : List Call) (answ
   pub pen : left.known_pen ≡ true → (memory.known_pen ≡ true) × (has_mark drawn calls answers ≡ false)
 
 -- a call that is no update
-behind_quiet : (profile : ProfileView) (drawn : Drawn) (memory : MemoryView) (call : Call) (answer : Answer) → is_update call ≡ false → memory_behind profile drawn.desk memory call answer ≡ memory_marked memory (marked_by drawn.desk call)
-behind_quiet profile drawn memory call answer update = ap (λ b. if b then memory_updated profile memory answer else memory_marked memory (marked_by drawn.desk call)) update
+after_quiet : (profile : ProfileView) (drawn : Drawn) (memory : MemoryView) (call : Call) (answer : Answer) → is_update call ≡ false → memory_then profile drawn.desk memory call answer ≡ memory_marked memory (marked_by drawn.desk call)
+after_quiet profile drawn memory call answer update = ap (λ b. if b then memory_updated profile memory answer else memory_marked memory (marked_by drawn.desk call)) update
 
 -- one call before others
 left_by_one : MemoryLaws → (drawn next : Drawn) (memory left : MemoryView) (call : Call) (answer : Answer) (calls : List Call) (answers : List Answer) (rows : Option (ℕ × ℕ)) → marked_by drawn.desk call ≡ rows → next ≡ after_call drawn call answer
@@ -57,20 +57,20 @@ left_by_one laws drawn next memory left call answer calls answers (Some rows) is
     }
 
 bytes_left : MemoryLaws → (profile : ProfileView) (drawn : Drawn) (memory : MemoryView) (calls : List Call) (answers : List Answer) → list_all (λ call. not (is_update call)) calls ≡ true
-    → Left drawn memory (remembered_behind profile drawn memory calls answers) calls answers
+    → Left drawn memory (remembered_after profile drawn memory calls answers) calls answers
 bytes_left laws profile drawn memory [] answers quiet = record { grid = refl; high = refl; rows = λ r few known. (known, refl); spot = λ known. (known, refl); pen = λ known. (known, refl) }
 bytes_left laws profile drawn memory (call ∷ calls) [] quiet = record { grid = refl; high = refl; rows = λ r few known. (known, refl); spot = λ known. (known, refl); pen = λ known. (known, refl) }
 bytes_left laws profile drawn memory (call ∷ calls) (answer ∷ answers) quiet =
     by_first (is_update call) refl (λ later. bytes_left laws profile (after_call drawn call answer) (memory_marked memory (marked_by drawn.desk call)) calls answers later)
   where
     by_first : (b : Bool) → is_update call ≡ b
-        → (list_all (λ call. not (is_update call)) calls ≡ true → Left (after_call drawn call answer) (memory_marked memory (marked_by drawn.desk call)) (remembered_behind profile (after_call drawn call answer) (memory_marked memory (marked_by drawn.desk call)) calls answers) calls answers)
-        → Left drawn memory (remembered_behind profile drawn memory (call ∷ calls) (answer ∷ answers)) (call ∷ calls) (answer ∷ answers)
+        → (list_all (λ call. not (is_update call)) calls ≡ true → Left (after_call drawn call answer) (memory_marked memory (marked_by drawn.desk call)) (remembered_after profile (after_call drawn call answer) (memory_marked memory (marked_by drawn.desk call)) calls answers) calls answers)
+        → Left drawn memory (remembered_after profile drawn memory (call ∷ calls) (answer ∷ answers)) (call ∷ calls) (answer ∷ answers)
     by_first true update rest = absurd (no_bool (sym (ap (λ b. not b && list_all (λ call. not (is_update call)) calls) update) ∙ quiet))
     by_first false update rest =
-        left_by_one laws drawn (after_call drawn call answer) memory (remembered_behind profile drawn memory (call ∷ calls) (answer ∷ answers)) call answer calls answers (marked_by drawn.desk call) refl refl
-        (subst (λ m. Left (after_call drawn call answer) (memory_marked memory (marked_by drawn.desk call)) (remembered_behind profile (after_call drawn call answer) m calls answers) calls answers)
-        (sym (behind_quiet profile drawn memory call answer update)) (rest (sym (ap (λ b. not b && list_all (λ call. not (is_update call)) calls) update) ∙ quiet)))
+        left_by_one laws drawn (after_call drawn call answer) memory (remembered_after profile drawn memory (call ∷ calls) (answer ∷ answers)) call answer calls answers (marked_by drawn.desk call) refl refl
+        (subst (λ m. Left (after_call drawn call answer) (memory_marked memory (marked_by drawn.desk call)) (remembered_after profile (after_call drawn call answer) m calls answers) calls answers)
+        (sym (after_quiet profile drawn memory call answer update)) (rest (sym (ap (λ b. not b && list_all (λ call. not (is_update call)) calls) update) ∙ quiet)))
 
 -- others wrote in rows that were all marked
 disturbs_marked : (abilities : Abilities) (rows marked : ℕ → Bool) (before changed : TerminalState) → ((r : ℕ) → rows r ≡ true → marked r ≡ true) → IsDisturbance abilities rows before changed → IsDisturbance abilities marked before changed
@@ -84,7 +84,7 @@ holds_again laws profile first calls answers taken session rows changed wrote n 
     let left = bytes_left laws profile first.drawn first.memory (take n calls) (take n answers) marks.quiet in
     session.holds n changed few (record {
       quiet = marks.quiet;
-      agrees = laws.others (abilities profile) (is_marked first.drawn (take n calls) (take n answers)) first.memory (remembered_behind profile first.drawn first.memory (take n calls) (take n answers)) wrote.before changed wrote.agrees
+      agrees = laws.others (abilities profile) (is_marked first.drawn (take n calls) (take n answers)) first.memory (remembered_after profile first.drawn first.memory (take n calls) (take n answers)) wrote.before changed wrote.agrees
           (disturbs_marked (abilities profile) rows (is_marked first.drawn (take n calls) (take n answers)) wrote.before changed marks.each wrote.wrote)
           (record {
             grid = left.grid;

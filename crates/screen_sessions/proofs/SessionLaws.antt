@@ -26,10 +26,10 @@ use Rattle.screen_sessions.specs.Code.Progress.{AreMadeAfresh, IsFresh, Reached,
 use Rattle.screen_sessions.specs.Making.{IsMade, drawn_of}
 use Rattle.curses.specs.ScreenStates.{ScreenState}
 use Rattle.screen_sessions.specs.declared.sessions.Report.{Report}
-use Rattle.screen_sessions.specs.Sessions.{AreMade, Beginning, Drawn, IsAnswer, IsCheap, IsSession, MayBegin, Moment, OwesNothing, after_call, after_calls, begun_in, begun_of, beginning_of, count_in, count_of, counted_in, drawn_at, ended_well, is_cut, is_unfinished, is_update, last_ok_behind, memory_behind, remembered_at, remembered_behind, tells_sent}
+use Rattle.screen_sessions.specs.Sessions.{AreMade, Beginning, Drawn, IsAnswer, IsCheap, IsSession, MayBegin, Moment, OwesNothing, after_call, after_calls, begun_in, begun_of, beginning_of, count_in, count_of, counted_in, drawn_at, ended_well, is_cut, is_unfinished, is_update, last_ok_after, memory_then, remembered_at, remembered_after, tells_sent}
 use Rattle.curses.specs.Updates.{IsOfOneText, IsSent}
 use Rattle.curses.specs.Writers.{WriterView, counted}
-use Rattle.screen_sessions.proofs.TakenLaws.{appends_more, appends_none, one_behind}
+use Rattle.screen_sessions.proofs.TakenLaws.{appends_more, appends_none, one_after}
 
 -- ---- lists
 
@@ -89,12 +89,12 @@ after_calls_more drawn (c ∷ calls) (a ∷ answers) call answer same = after_ca
 
 -- what is remembered
 remembered_more : (profile : ProfileView) (drawn : Drawn) (memory : MemoryView) (calls : List Call) (answers : List Answer) (call : Call) (answer : Answer) → length calls ≡ length answers
-    → remembered_behind profile drawn memory (calls ++ call ∷ []) (answers ++ answer ∷ []) ≡ memory_behind profile (after_calls drawn calls answers).desk (remembered_behind profile drawn memory calls answers) call answer
+    → remembered_after profile drawn memory (calls ++ call ∷ []) (answers ++ answer ∷ []) ≡ memory_then profile (after_calls drawn calls answers).desk (remembered_after profile drawn memory calls answers) call answer
 remembered_more profile drawn memory [] [] call answer same = refl
 remembered_more profile drawn memory [] (a ∷ answers) call answer same = absurd (omega (arith, same))
 remembered_more profile drawn memory (c ∷ calls) [] call answer same = absurd (omega (arith, same))
 remembered_more profile drawn memory (c ∷ calls) (a ∷ answers) call answer same =
-    remembered_more profile (after_call drawn c a) (memory_behind profile drawn.desk memory c a) calls answers call answer (omega (arith, same))
+    remembered_more profile (after_call drawn c a) (memory_then profile drawn.desk memory c a) calls answers call answer (omega (arith, same))
 
 -- ---- counts
 
@@ -222,17 +222,17 @@ one_more laws acts remembers cheap profile first begun calls answers call answer
         ∙ ap (λ a. after_call (after_calls first.drawn (take (length answers) calls) a) call answer) (sym all_answers)
 
     whole_memory : remembered_at profile first calls (answers ++ answer ∷ []) (length answers + 1)
-        ≡ memory_behind profile (drawn_at first calls answers (length answers)).desk (remembered_at profile first calls answers (length answers)) call answer
+        ≡ memory_then profile (drawn_at first calls answers (length answers)).desk (remembered_at profile first calls answers (length answers)) call answer
     whole_memory =
-        ap (λ c. remembered_behind profile first.drawn first.memory c (take (length answers + 1) (answers ++ answer ∷ []))) one_call_more
-        ∙ ap (remembered_behind profile first.drawn first.memory (take (length answers) calls ++ call ∷ [])) (all_of answers answer)
+        ap (λ c. remembered_after profile first.drawn first.memory c (take (length answers + 1) (answers ++ answer ∷ []))) one_call_more
+        ∙ ap (remembered_after profile first.drawn first.memory (take (length answers) calls ++ call ∷ [])) (all_of answers answer)
         ∙ remembered_more profile first.drawn first.memory (take (length answers) calls) answers call answer as_many
-        ∙ ap (λ a. memory_behind profile (after_calls first.drawn (take (length answers) calls) a).desk (remembered_behind profile first.drawn first.memory (take (length answers) calls) a) call answer) (sym all_answers)
+        ∙ ap (λ a. memory_then profile (after_calls first.drawn (take (length answers) calls) a).desk (remembered_after profile first.drawn first.memory (take (length answers) calls) a) call answer) (sym all_answers)
 
     memory_now : new.memory ≡ remembered_at profile first calls (answers ++ answer ∷ []) (length (answers ++ answer ∷ []))
     memory_now =
-        made.memory ∙ ap (λ p. memory_behind p old.desk old.memory call answer) is.same ∙ ap (λ d. memory_behind profile d.desk old.memory call answer) is.drawn
-        ∙ ap (λ m. memory_behind profile (drawn_at first calls answers (length answers)).desk m call answer) is.memory ∙ sym whole_memory
+        made.memory ∙ ap (λ p. memory_then p old.desk old.memory call answer) is.same ∙ ap (λ d. memory_then profile d.desk old.memory call answer) is.drawn
+        ∙ ap (λ m. memory_then profile (drawn_at first calls answers (length answers)).desk m call answer) is.memory ∙ sym whole_memory
         ∙ ap (remembered_at profile first calls (answers ++ answer ∷ [])) (sym more)
 
     -- the fold after fewer
@@ -240,7 +240,7 @@ one_more laws acts remembers cheap profile first begun calls answers call answer
     part i few = ap (after_calls first.drawn (take i calls)) (first_of i answers answer few)
 
     part_memory : (i : ℕ) → i ≤ length answers → remembered_at profile first calls (answers ++ answer ∷ []) i ≡ remembered_at profile first calls answers i
-    part_memory i few = ap (remembered_behind profile first.drawn first.memory (take i calls)) (first_of i answers answer few)
+    part_memory i few = ap (remembered_after profile first.drawn first.memory (take i calls)) (first_of i answers answer few)
 
     right_at : (i : ℕ) → (i < length answers) ⊎ (i ≡ length answers)
         → IsAnswer profile (remembered_at profile first calls (answers ++ answer ∷ []) i) (drawn_at first calls (answers ++ answer ∷ []) i) (get_or calls i Doupdate) (get_or (answers ++ answer ∷ []) i Nothing)
@@ -266,7 +266,7 @@ one_more laws acts remembers cheap profile first begun calls answers call answer
     one_now : IsOfOneText profile first.owed (begun_in (answers ++ answer ∷ [])) new.owed
     one_now =
         subst (λ b. IsOfOneText profile first.owed b new.owed) (sym (begun_more answers answer))
-        (one_behind profile first.owed old.owed (begun_in answers) (begun_of answer) new.owed is.one sent.one)
+        (one_after profile first.owed old.owed (begun_in answers) (begun_of answer) new.owed is.one sent.one)
 
     -- no update so far, and none now
     quiet_calls : list_all (λ call. not (is_update call)) (take (length answers + 1) calls) ≡ true → list_all (λ call. not (is_update call)) (take (length answers) calls ++ call ∷ []) ≡ true
@@ -416,7 +416,7 @@ item_is [] i x d inside is = absurd (omega arith)
 item_is (y ∷ xs) zero x d inside is = sym is
 item_is (y ∷ xs) (suc i) x d inside is = item_is xs i x d (omega (arith, inside)) is
 
-pub last_more : (before : Bool) (answers : List Answer) (answer : Answer) → last_ok_behind before (answers ++ answer ∷ []) ≡ ended_well (last_ok_behind before answers) answer
+pub last_more : (before : Bool) (answers : List Answer) (answer : Answer) → last_ok_after before (answers ++ answer ∷ []) ≡ ended_well (last_ok_after before answers) answer
 last_more before [] answer = refl
 last_more before (a ∷ answers) answer = last_more (ended_well before a) answers answer
 
@@ -431,7 +431,7 @@ session_of profile first begun calls answers screen old new is all = record {
 }
 
 pub made_of : (old new : ScreenState) (calls : List Call) (report : Report) (before after : WriterView) → SoFar old.profile (beginning_of old) old calls report.answers new before after → length report.answers ≡ length calls
-    → report.last_ok ≡ last_ok_behind false report.answers → AreMade old new calls before after report
+    → report.last_ok ≡ last_ok_after false report.answers → AreMade old new calls before after report
 made_of old new calls report before after is all last = record {
   taken = is.taken;
   writer = is.writer;

@@ -27,9 +27,9 @@ whatever_was_owed profile a b op [] rest few = few
 whatever_was_owed profile a b op (next ∷ ops) rest few = whatever_was_owed profile a b next ops rest few
 
 -- operations were begun, and then others
-pub one_behind : (profile : ProfileView) (first owed : List ℕ) (begun more : List Op) (rest : List ℕ) → IsOfOneText profile first begun owed → IsOfOneText profile owed more rest → IsOfOneText profile first (begun ++ more) rest
-one_behind profile first owed [] [] rest before few = omega (arith, before, few)
-one_behind profile first owed [] (m ∷ more) rest before few = whatever_was_owed profile owed first m more rest few
-one_behind profile first owed (op ∷ []) [] rest before few = omega (arith, before, few)
-one_behind profile first owed (op ∷ []) (m ∷ more) rest before few = whatever_was_owed profile owed first m more rest few
-one_behind profile first owed (op ∷ next ∷ begun) more rest before few = one_behind profile first owed (next ∷ begun) more rest before few
+pub one_after : (profile : ProfileView) (first owed : List ℕ) (begun more : List Op) (rest : List ℕ) → IsOfOneText profile first begun owed → IsOfOneText profile owed more rest → IsOfOneText profile first (begun ++ more) rest
+one_after profile first owed [] [] rest before few = omega (arith, before, few)
+one_after profile first owed [] (m ∷ more) rest before few = whatever_was_owed profile owed first m more rest few
+one_after profile first owed (op ∷ []) [] rest before few = omega (arith, before, few)
+one_after profile first owed (op ∷ []) (m ∷ more) rest before few = whatever_was_owed profile owed first m more rest few
+one_after profile first owed (op ∷ next ∷ begun) more rest before few = one_after profile first owed (next ∷ begun) more rest before few

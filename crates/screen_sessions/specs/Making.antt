@@ -3,7 +3,7 @@ use Rattle.std.specs.Prelude.{true, false, ◌≡◌, [], Some}
 use Rattle.screen_sessions.specs.declared.answers.Answer.{Answer}
 use Rattle.screen_sessions.specs.declared.calls.Call.{Call}
 use Rattle.curses.specs.ScreenStates.{ScreenState}
-use Rattle.screen_sessions.specs.Sessions.{Drawn, IsAnswer, after_call, begun_of, count_of, is_cut, is_unfinished, is_update, memory_behind, tells_sent}
+use Rattle.screen_sessions.specs.Sessions.{Drawn, IsAnswer, after_call, begun_of, count_of, is_cut, is_unfinished, is_update, memory_then, tells_sent}
 use Rattle.scr_memory.specs.Memories.{Agrees, MayBe}
 use Rattle.scr_plan.specs.Plans.{IsPlan}
 use Rattle.scr_term.specs.Operations.Profiles.{abilities}
@@ -31,7 +31,7 @@ pub record IsMade (old new : ScreenState) (call : Call) (answer : Answer) (befor
   pub opening : new.opening ≡ old.opening
   pub closing : new.closing ≡ old.closing
   pub drawn : drawn_of new ≡ after_call (drawn_of old) call answer
-  pub memory : new.memory ≡ memory_behind old.profile old.desk old.memory call answer
+  pub memory : new.memory ≡ memory_then old.profile old.desk old.memory call answer
   pub right : IsAnswer old.profile old.memory (drawn_of old) call answer
   pub sent : IsSent old.profile old.memory old.owed before after (begun_of answer) (count_of answer) new.owed
   pub quiet : is_update call ≡ false → begun_of answer ≡ []

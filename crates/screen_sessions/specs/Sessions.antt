@@ -159,16 +159,16 @@ memory_marked memory None = memory
 memory_marked memory (Some rows) = disturbed rows.0 rows.1 memory
 
 -- What is known of the terminal after a call with this answer.
-abbrev pub memory_behind : ProfileView → DeskView → MemoryView → Call → Answer → MemoryView
-memory_behind profile desk memory call answer =
+abbrev pub memory_then : ProfileView → DeskView → MemoryView → Call → Answer → MemoryView
+memory_then profile desk memory call answer =
     if is_update call then memory_updated profile memory answer else memory_marked memory (marked_by desk call)
 
 -- The same after several calls.
-abbrev pub remembered_behind : ProfileView → Drawn → MemoryView → List Call → List Answer → MemoryView
-remembered_behind profile drawn memory [] answers = memory
-remembered_behind profile drawn memory (call ∷ calls) [] = memory
-remembered_behind profile drawn memory (call ∷ calls) (answer ∷ answers) =
-    remembered_behind profile (after_call drawn call answer) (memory_behind profile drawn.desk memory call answer) calls answers
+abbrev pub remembered_after : ProfileView → Drawn → MemoryView → List Call → List Answer → MemoryView
+remembered_after profile drawn memory [] answers = memory
+remembered_after profile drawn memory (call ∷ calls) [] = memory
+remembered_after profile drawn memory (call ∷ calls) (answer ∷ answers) =
+    remembered_after profile (after_call drawn call answer) (memory_then profile drawn.desk memory call answer) calls answers
 
 -- ---- what was begun and taken
 
@@ -266,7 +266,7 @@ drawn_at first calls answers n = after_calls first.drawn (take n calls) (take n 
 
 -- What is known of the terminal after the first n calls.
 abbrev pub remembered_at : ProfileView → Beginning → List Call → List Answer → ℕ → MemoryView
-remembered_at profile first calls answers n = remembered_behind profile first.drawn first.memory (take n calls) (take n answers)
+remembered_at profile first calls answers n = remembered_after profile first.drawn first.memory (take n calls) (take n answers)
 
 -- After these answers nothing is owed: the writer accepted what was owed at the start and the texts of all operations
 -- that were begun.
@@ -307,9 +307,9 @@ ended_well before (Failed fault) = false
 ended_well before answer = before
 
 -- The same after several calls.
-abbrev pub last_ok_behind : Bool → List Answer → Bool
-last_ok_behind before [] = before
-last_ok_behind before (answer ∷ answers) = last_ok_behind (ended_well before answer) answers
+abbrev pub last_ok_after : Bool → List Answer → Bool
+last_ok_after before [] = before
+last_ok_after before (answer ∷ answers) = last_ok_after (ended_well before answer) answers
 
 -- These calls were made on a screen, and the report gives their answers. The writer's failed puts and finishes are
 -- exactly the updates that ended with a failed write or flush. The screen then holds what the calls make of it, and
@@ -318,7 +318,7 @@ pub record AreMade (old new : ScreenState) (calls : List Call) (before after : W
   pub taken : List ℕ
   pub writer : Appends before.taken after.taken taken
   pub session : IsSession old.profile (beginning_of old) calls report.answers taken
-  pub last : report.last_ok ≡ last_ok_behind false report.answers
+  pub last : report.last_ok ≡ last_ok_after false report.answers
   pub puts : after.failed_puts ≡ counted_in is_cut report.answers before.failed_puts
   pub finishes : after.failed_finishes ≡ counted_in is_unfinished report.answers before.failed_finishes
   pub profile : new.profile ≡ old.profile
@@ -341,7 +341,7 @@ pub record IsReport (entry : Description) (size : Option Size) (calls : List Cal
   pub session : IsSession profile (fresh_beginning profile) calls report.answers taken
   -- The promises hold whatever state of the profile the terminal was in when the screen was opened.
   pub any : (opened : TerminalState) → IsState (abilities profile) opened → HoldsFrom profile (fresh_beginning profile) calls report.answers taken 0 opened
-  pub last : report.last_ok ≡ last_ok_behind false report.answers
+  pub last : report.last_ok ≡ last_ok_after false report.answers
   pub puts : new.failed_puts ≡ counted_in is_cut report.answers old.failed_puts
   pub finishes : new.failed_finishes ≡ counted_in is_unfinished report.answers old.failed_finishes
 

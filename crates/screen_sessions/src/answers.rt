@@ -31,66 +31,66 @@ pub enum Answer {
 }
 
 /// The answer of a call that has no result.
-pub(crate) fn done_answer(came: Result<(), WinFault>) -> Answer
-    ensures value { result ≡ answered (λ _. answers.Nothing) came }
+pub(crate) fn done_answer(got: Result<(), WinFault>) -> Answer
+    ensures value { result ≡ answered (λ _. answers.Nothing) got }
     ensures told { is_told result ≡ true }
 {
-    match came {
+    match got {
         Ok(()) => Answer::Nothing,
         Err(fault) => Answer::Refused(fault),
     }
 }
 
 /// The answer of a call that makes a window.
-pub(crate) fn made_answer(came: Result<Win, WinFault>) -> Answer
-    ensures value { result ≡ answered (λ win. answers.Made win) came }
+pub(crate) fn made_answer(got: Result<Win, WinFault>) -> Answer
+    ensures value { result ≡ answered (λ win. answers.Made win) got }
     ensures told { is_told result ≡ true }
 {
-    match came {
+    match got {
         Ok(win) => Answer::Made(win),
         Err(fault) => Answer::Refused(fault),
     }
 }
 
 /// The answer of a call that adds bytes.
-pub(crate) fn added_answer(came: Result<Added, WinFault>) -> Answer
-    ensures value { result ≡ answered (λ all. answers.Added all) came }
+pub(crate) fn added_answer(got: Result<Added, WinFault>) -> Answer
+    ensures value { result ≡ answered (λ all. answers.Added all) got }
     ensures told { is_told result ≡ true }
 {
-    match came {
+    match got {
         Ok(all) => Answer::Added(all),
         Err(fault) => Answer::Refused(fault),
     }
 }
 
 /// The answer of a call that reads a cell.
-pub(crate) fn seen_answer(came: Result<Cell, WinFault>) -> Answer
-    ensures value { result ≡ answered (λ cell. answers.Seen cell) came }
+pub(crate) fn seen_answer(got: Result<Cell, WinFault>) -> Answer
+    ensures value { result ≡ answered (λ cell. answers.Seen cell) got }
     ensures told { is_told result ≡ true }
 {
-    match came {
+    match got {
         Ok(cell) => Answer::Seen(cell),
         Err(fault) => Answer::Refused(fault),
     }
 }
 
 /// The answer of a call that gives a row and a column, or the numbers of rows and columns.
-pub(crate) fn pair_answer(came: Result<(u32, u32), WinFault>) -> Answer
-    ensures value { result ≡ answered (λ pair. answers.Pair pair.0 pair.1) came }
+pub(crate) fn pair_answer(got: Result<(u32, u32), WinFault>) -> Answer
+    ensures value { result ≡ answered (λ pair. answers.Pair pair.0 pair.1) got }
     ensures told { is_told result ≡ true }
 {
-    match came {
+    match got {
         Ok(pair) => Answer::Pair(pair.0, pair.1),
         Err(fault) => Answer::Refused(fault),
     }
 }
 
 /// The answer of a call that says whether lines are touched.
-pub(crate) fn touched_answer(came: Result<bool, WinFault>) -> Answer
-    ensures value { result ≡ answered (λ touched. answers.Touched touched) came }
+pub(crate) fn touched_answer(got: Result<bool, WinFault>) -> Answer
+    ensures value { result ≡ answered (λ touched. answers.Touched touched) got }
     ensures told { is_told result ≡ true }
 {
-    match came {
+    match got {
         Ok(touched) => Answer::Touched(touched),
         Err(fault) => Answer::Refused(fault),
     }

@@ -59,7 +59,7 @@ kept_step present none x only xs false e h =
     let all : length (x ∷ xs) - 0 ≡ length (x ∷ xs) = omega arith in
     ap (λ n. replicate n none) all ∙ sym (absent_all present none only (x ∷ xs) e)
 
--- what is kept and the absent ones behind it are all
+-- what is kept and the absent ones after it are all
 kept_padded : {A : Type 0} (present : A → Bool) (none : A) → ((x : A) → present x ≡ false → x ≡ none) → (xs : List A)
     → Padded present none xs (up_to_last present xs)
 kept_padded present none only [] = refl
@@ -113,16 +113,16 @@ before_nul_step b text back e h =
     ∙ ap (λ k. take k (b ∷ text ++ 0 ∷ back)) one
     ∙ ap (λ t. b ∷ t) h
 
--- a text without a NUL, and a NUL behind it
+-- a text without a NUL, and a NUL after it
 before_nul_is : (text back : List ℕ) → has_nul text ≡ false → before_first is_nul (text ++ 0 ∷ back) ≡ text
 before_nul_is [] back h = refl
 before_nul_is (b ∷ text) back h =
     let parts = or_parts (is_nul b) (has_nul text) h in
     before_nul_step b text back parts.0 (before_nul_is text back parts.1)
 
-has_nul_behind : (text back : List ℕ) → list_any is_nul (text ++ 0 ∷ back) ≡ true
-has_nul_behind [] back = refl
-has_nul_behind (b ∷ text) back = ap (λ t. is_nul b || t) (has_nul_behind text back) ∙ either_true (is_nul b)
+has_nul_after : (text back : List ℕ) → list_any is_nul (text ++ 0 ∷ back) ≡ true
+has_nul_after [] back = refl
+has_nul_after (b ∷ text) back = ap (λ t. is_nul b || t) (has_nul_after text back) ∙ either_true (is_nul b)
   where
     either_true : (t : Bool) → (t || true) ≡ true
     either_true true = refl
@@ -144,14 +144,14 @@ text_back : (o : Option (List ℕ)) (front back : List ℕ) (size : ℕ) → IsW
 text_back None front back size w e le = (refl, refl, refl)
 text_back (Some text) front back size w e le =
     let table : List ℕ = front ++ (ended (Some text) ++ back) in
-    let behind : drop size table ≡ text ++ 0 ∷ back = drop_at front (ended (Some text) ++ back) size e ∙ append_assoc text (0 ∷ []) back in
+    let after : drop size table ≡ text ++ 0 ∷ back = drop_at front (ended (Some text) ++ back) size e ∙ append_assoc text (0 ∷ []) back in
     let long : length (ended (Some text)) ≡ length text + 1 = length-append text (0 ∷ []) in
     let all : length table ≡ length front + (length (ended (Some text)) + length back) = length-append front (ended (Some text) ++ back) ∙ ap (λ n. length front + n) (length-append (ended (Some text)) back) in
     let there : is_negative size ≡ false = below 32767 size (omega (arith, le)) in
     let inside : nat_lt size (length table) ≡ true = above size (length table) (omega (arith, e, all, long)) in (
-      ap (λ b. cond b None (Some (before_first is_nul (drop size table)))) there ∙ ap Some (ap (before_first is_nul) behind ∙ before_nul_is text back w),
+      ap (λ b. cond b None (Some (before_first is_nul (drop size table)))) there ∙ ap Some (ap (before_first is_nul) after ∙ before_nul_is text back w),
       ap (λ b. not b && not (nat_lt size (length table))) there ∙ ap not inside,
-      ap (λ b. not b && not (list_any is_nul (drop size table))) there ∙ ap not (ap (list_any is_nul) behind ∙ has_nul_behind text back),
+      ap (λ b. not b && not (list_any is_nul (drop size table))) there ∙ ap not (ap (list_any is_nul) after ∙ has_nul_after text back),
     )
   where
     below : (most n : ℕ) → n ≤ most → nat_lt most n ≡ false
@@ -333,7 +333,7 @@ canonical_file entry d short small =
       numbers_limit = omega (arith, at6, few_numbers);
       offsets_limit = omega (arith, at8, few_texts);
       table_limit = omega (arith, table);
-      names_end = has_nul_behind entry.names [];
+      names_end = has_nul_after entry.names [];
       names_say = sym (before_nul_is entry.names [] no_nul);
       named = d.named;
       flags_say = padded_is (λ present. present) false only_false entry.flags 64 d.flags ∙ ap (padded 64 false) (sym (flags_back flags));

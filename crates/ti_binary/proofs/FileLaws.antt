@@ -126,18 +126,18 @@ step bytes front back offset size next e len n = (
 -- what is known of a file, and what follows it
 pub record WasFile (width : Width) (bytes : List ℕ) (entry : Description) (rest : List ℕ) : Type 0 where
   pub read : WereRead width bytes entry
-  pub behind : drop (end_place width bytes) bytes ≡ rest
+  pub after : drop (end_place width bytes) bytes ≡ rest
 
 pub was_file : (width : Width) (bytes rest : List ℕ) (entry : Description) → IsFile width bytes entry rest → WasFile width bytes entry rest
 was_file width bytes rest entry f =
-    let behind_offsets : List ℕ = f.table ++ rest in
-    let behind_numbers : List ℕ = f.offsets ++ behind_offsets in
-    let behind_odd : List ℕ = f.numbers ++ behind_numbers in
-    let behind_flags : List ℕ = f.odd ++ behind_odd in
-    let behind_names : List ℕ = f.flags ++ behind_flags in
-    let behind_header : List ℕ = f.names ++ behind_names in
-    let header : take 12 bytes ≡ f.header = ap (take 12) f.whole ∙ take_at f.header behind_header 12 f.header_size in
-    let s0 : drop 12 bytes ≡ behind_header = ap (drop 12) f.whole ∙ drop_at f.header behind_header 12 f.header_size in
+    let after_offsets : List ℕ = f.table ++ rest in
+    let after_numbers : List ℕ = f.offsets ++ after_offsets in
+    let after_odd : List ℕ = f.numbers ++ after_numbers in
+    let after_flags : List ℕ = f.odd ++ after_odd in
+    let after_names : List ℕ = f.flags ++ after_flags in
+    let after_header : List ℕ = f.names ++ after_names in
+    let header : take 12 bytes ≡ f.header = ap (take 12) f.whole ∙ take_at f.header after_header 12 f.header_size in
+    let s0 : drop 12 bytes ≡ after_header = ap (drop 12) f.whole ∙ drop_at f.header after_header 12 f.header_size in
     let at : (offset : ℕ) → offset + 2 ≤ 12 → word_at bytes offset ≡ word_at f.header offset = λ offset le. sym (word_in_header bytes offset le) ∙ ap (λ h. word_at h offset) header in
     let names : names_of bytes ≡ length f.names = at 2 (omega arith) ∙ f.names_size in
     let flags : flags_of bytes ≡ length f.flags = at 4 (omega arith) ∙ f.flag_count in
@@ -145,22 +145,22 @@ was_file width bytes rest entry f =
     let offsets : offsets_of bytes ≡ word_at f.header 8 = at 8 (omega arith) in
     let table : table_of bytes ≡ length f.table = at 10 (omega arith) ∙ f.table_size in
     let odd : length f.odd ≡ (names_of bytes + flags_of bytes) % 2 = f.odd_size ∙ (λ i. (sym names i + sym flags i) % 2) in
-    let s1 = step bytes f.names behind_names 12 (names_of bytes) (flags_place bytes) s0 (sym names) refl in
-    let s2 = step bytes f.flags behind_flags (flags_place bytes) (flags_of bytes) (flags_place bytes + flags_of bytes) s1.1 (sym flags) refl in
-    let s3 = step bytes f.odd behind_odd (flags_place bytes + flags_of bytes) ((names_of bytes + flags_of bytes) % 2) (numbers_place bytes) s2.1 odd refl in
-    let s4 = step bytes f.numbers behind_numbers (numbers_place bytes) (numbers_size width (numbers_of bytes)) (offsets_place width bytes) s3.1 (f.numbers_fit ∙ ap (numbers_size width) (sym numbers)) refl in
-    let s5 = step bytes f.offsets behind_offsets (offsets_place width bytes) (2 * offsets_of bytes) (table_place width bytes) s4.1 (f.offsets_size ∙ ap (λ n. 2 * n) (sym offsets)) refl in
+    let s1 = step bytes f.names after_names 12 (names_of bytes) (flags_place bytes) s0 (sym names) refl in
+    let s2 = step bytes f.flags after_flags (flags_place bytes) (flags_of bytes) (flags_place bytes + flags_of bytes) s1.1 (sym flags) refl in
+    let s3 = step bytes f.odd after_odd (flags_place bytes + flags_of bytes) ((names_of bytes + flags_of bytes) % 2) (numbers_place bytes) s2.1 odd refl in
+    let s4 = step bytes f.numbers after_numbers (numbers_place bytes) (numbers_size width (numbers_of bytes)) (offsets_place width bytes) s3.1 (f.numbers_fit ∙ ap (numbers_size width) (sym numbers)) refl in
+    let s5 = step bytes f.offsets after_offsets (offsets_place width bytes) (2 * offsets_of bytes) (table_place width bytes) s4.1 (f.offsets_size ∙ ap (λ n. 2 * n) (sym offsets)) refl in
     let s6 = step bytes f.table rest (table_place width bytes) (table_of bytes) (end_place width bytes) s5.1 (sym table) refl in
-    let size : length bytes ≡ 12 + length behind_header = ap length f.whole ∙ length-append f.header behind_header ∙ ap (λ n. n + length behind_header) f.header_size in
+    let size : length bytes ≡ 12 + length after_header = ap length f.whole ∙ length-append f.header after_header ∙ ap (λ n. n + length after_header) f.header_size in
     let room : end_place width bytes ≤ length bytes =
     omega (
       arith,
       size,
-      length-append f.names behind_names,
-      length-append f.flags behind_flags,
-      length-append f.odd behind_odd,
-      length-append f.numbers behind_numbers,
-      length-append f.offsets behind_offsets,
+      length-append f.names after_names,
+      length-append f.flags after_flags,
+      length-append f.odd after_odd,
+      length-append f.numbers after_numbers,
+      length-append f.offsets after_offsets,
       length-append f.table rest,
       names,
       flags,
@@ -195,7 +195,7 @@ was_file width bytes rest entry f =
         texts_end = (λ i. list_any (is_unended (s6.0 i)) (words_in (s5.0 i) (offsets i))) ∙ f.texts_end;
         texts_say = f.texts_say ∙ (λ i. padded 512 None (map (text_said (sym s6.0 i)) (words_in (sym s5.0 i) (sym offsets i))));
       };
-      behind = s6.1;
+      after = s6.1;
     }
 
 same_entry : (a b : Description) → a.names ≡ b.names → a.flags ≡ b.flags → a.numbers ≡ b.numbers → a.texts ≡ b.texts → a ≡ b
@@ -207,7 +207,7 @@ files_have_one_entry width bytes rest other entry another f g =
     let b : WasFile width bytes another other = was_file width bytes other another g in (
       same_entry entry another (a.read.names_say ∙ sym b.read.names_say) (a.read.flags_say ∙ sym b.read.flags_say)
           (a.read.numbers_say ∙ sym b.read.numbers_say) (a.read.texts_say ∙ sym b.read.texts_say),
-      sym a.behind ∙ b.behind,
+      sym a.after ∙ b.after,
     )
 
 header_tests : (n w m : ℕ) (fault : BinFault) → 12 ≤ n → n ≤ 32768 → w ≡ m

@@ -11,7 +11,7 @@ set_next said back old new n e =
     let here : n - n ≡ 0 = omega arith in
     set-append_right said (old ∷ back) n n new e (omega arith) ∙ rw here refl
 
--- the position behind those that were said is said now
+-- the position after those that were said is said now
 pub padded_more : {A : Type 0} (count : ℕ) (absent new : A) (said : List A) (n : ℕ) → length said ≡ n → n < count
     → set (padded count absent said) n new ≡ padded count absent (said ++ new ∷ [])
 padded_more count absent new said n e lt =

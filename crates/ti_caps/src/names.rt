@@ -2,14 +2,14 @@
 
 ghost use Rattle.std.specs.Prelude.{◌≡◌, ◌<◌, ◌∷◌, IfSome, length, option_map};
 ghost use Rattle.std.specs.List.{list_all};
-ghost use Rattle.ti_caps.specs.Cuts.{alternatives_behind};
+ghost use Rattle.ti_caps.specs.Cuts.{alternatives_after};
 ghost use Rattle.ti_caps.specs.Names.{alternatives, are_names, begins_with_hash, first_name, has_bytes, has_no_blank, is_name_byte};
 
-/// Splits names at the first `|`: the first alternative, and the rest behind the `|` if there is
+/// Splits names at the first `|`: the first alternative, and the rest after the `|` if there is
 /// one.
 pub fn cut_name(names: &[u8]) -> (&[u8], Option<&[u8]>)
     ensures first { result.0.now ≡ first_name names.now }
-    ensures cut { alternatives names.now ≡ result.0.now ∷ alternatives_behind (option_map (λ s. s.now) result.1) }
+    ensures cut { alternatives names.now ≡ result.0.now ∷ alternatives_after (option_map (λ s. s.now) result.1) }
     ensures shorter { IfSome result.1 (λ rest. length rest.now < length names.now) }
 {
     let end = names.iter().position(|b| *b == b'|').unwrap_or(names.len());
@@ -56,11 +56,11 @@ fn are_alternatives_there(names: &[u8]) -> bool
 {
     let mut rest = names;
     loop {
-        let (name, behind) = cut_name(rest);
+        let (name, after) = cut_name(rest);
         if name.is_empty() {
             return false;
         }
-        match behind {
+        match after {
             Some(more) => rest = more,
             None => return true,
         }

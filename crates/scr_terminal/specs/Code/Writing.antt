@@ -22,10 +22,10 @@ abbrev pub looks_ahead : ℕ → TerminalState → List Op → List LookView
 looks_ahead columns state ops = made_while (look_of state.pen) (take (places_ahead columns state.spot) ops)
 
 -- the place in a column of a row, and after the last column the margin
-abbrev pub spot_behind : ℕ → ℕ → ℕ → Spot
-spot_behind columns r c = if nat_lt c columns then At r c else Margin r
+abbrev pub spot_after : ℕ → ℕ → ℕ → Spot
+spot_after columns r c = if nat_lt c columns then At r c else Margin r
 
 -- the state with looks written from a spot on, and the cursor after them
 abbrev pub looks_written : ℕ → TerminalState → List LookView → Spot → TerminalState
-looks_written columns state looks (At r c) = record state { grid = grid_with_run state.grid r c looks; spot = spot_behind columns r (c + length looks) }
+looks_written columns state looks (At r c) = record state { grid = grid_with_run state.grid r c looks; spot = spot_after columns r (c + length looks) }
 looks_written columns state looks (Margin r) = state

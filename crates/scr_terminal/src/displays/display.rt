@@ -7,7 +7,7 @@ ghost use Rattle.scr_cells.specs.PictureViews.{IsPlace};
 ghost use Rattle.scr_term.specs.Operations.Abilities.{full_abilities};
 ghost use Rattle.scr_term.specs.Operations.States.{IsShownPen, IsSpot, character_written, is_from_place};
 ghost use Rattle.scr_terminal.specs.Code.Changes.{IsChange, changed};
-ghost use Rattle.scr_terminal.specs.Code.Writing.{look_of, looks_ahead, looks_written, spot_behind};
+ghost use Rattle.scr_terminal.specs.Code.Writing.{look_of, looks_ahead, looks_written, spot_after};
 ghost use Rattle.scr_terminal.specs.Displays.{IsDisplay, blank_display, gone_on};
 
 use crate::displays::changes::Change;
@@ -146,7 +146,7 @@ impl Display {
         let columns = self.grid.columns();
         let pen = self.pen;
         let count = self.grid.lay_while(row, column, ops, |op| look_of(op, pen));
-        self.spot = spot_behind(columns, row, column + count as u32);
+        self.spot = spot_after(columns, row, column + count as u32);
         count
     }
 
@@ -190,8 +190,8 @@ fn look_of(op: Op, pen: Pen) -> Option<Look>
 }
 
 // The place at a row and a column, or the margin if the column is after the last.
-fn spot_behind(columns: u32, row: u32, column: u32) -> Spot
-    ensures { result ≡ spot_behind columns row column }
+fn spot_after(columns: u32, row: u32, column: u32) -> Spot
+    ensures { result ≡ spot_after columns row column }
 {
     if column < columns {
         Spot::At(row, column)

@@ -15,7 +15,7 @@ use Rattle.scr_memory.specs.Memories.{Agrees, MemoryView}
 use Rattle.screen_sessions.specs.Making.{drawn_of}
 use Rattle.curses.specs.ScreenStates.{ScreenState}
 use Rattle.screen_sessions.specs.declared.sessions.Report.{Report}
-use Rattle.screen_sessions.specs.Sessions.{Beginning, HoldsFrom, IsAnswer, IsSession, MayBegin, beginning_of, begun_in, count_in, counted_in, drawn_at, fresh_beginning, is_cut, is_unfinished, is_update, last_ok_behind, remembered_at}
+use Rattle.screen_sessions.specs.Sessions.{Beginning, HoldsFrom, IsAnswer, IsSession, MayBegin, beginning_of, begun_in, count_in, counted_in, drawn_at, fresh_beginning, is_cut, is_unfinished, is_update, last_ok_after, remembered_at}
 use Rattle.curses.specs.Updates.{IsOfOneText}
 use Rattle.curses.specs.Writers.{WriterView}
 
@@ -29,7 +29,7 @@ pub record AreMadeAfresh (profile : ProfileView) (calls : List Call) (old new : 
   pub writer : Appends old.taken new.taken taken
   pub session : IsSession profile (fresh_beginning profile) calls report.answers taken
   pub any : (opened : TerminalState) → IsState (abilities profile) opened → HoldsFrom profile (fresh_beginning profile) calls report.answers taken 0 opened
-  pub last : report.last_ok ≡ last_ok_behind false report.answers
+  pub last : report.last_ok ≡ last_ok_after false report.answers
   pub puts : new.failed_puts ≡ counted_in is_cut report.answers old.failed_puts
   pub finishes : new.failed_finishes ≡ counted_in is_unfinished report.answers old.failed_finishes
 

@@ -2,7 +2,7 @@ use Rattle.std.proofs.Common.{ℕ, ◌<◌, ◌≤◌, length}
 use Rattle.scr_cells.specs.Differences.{IsSameAt}
 use Rattle.scr_cells.proofs.differences.last_place.Given as goal
 
--- the rows are the same behind where the loop has come
+-- the rows are the same after where the loop has come
 abbrev pub invariant-loop-end : goal.invariant-loop-end
 invariant-loop-end g l = record { inside : l.end ≤ length l.a; same : (i : ℕ) → l.end ≤ i → i < length l.a → IsSameAt l.a l.b i }
 

@@ -2,7 +2,7 @@ use Rattle.std.proofs.Common.{◌≡◌, ◌≤◌, take, is_some}
 use Rattle.ti_binary.specs.Canonical.{up_to_last}
 use Rattle.ti_binary.proofs.counts.text_count.Given as goal
 
--- behind these nothing is present
+-- after these nothing is present
 abbrev pub invariant-loop-count : goal.invariant-loop-count
 invariant-loop-count l = record {
   few : l.count ≤ 512;

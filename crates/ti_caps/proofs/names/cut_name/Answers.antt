@@ -5,7 +5,7 @@ use Rattle.std.proofs.lemmas.Iterator.Search.{position_from_yields_List}
 use Rattle.std.proofs.lemmas.Iterator.{YieldsList-from_slice}
 use Rattle.std.proofs.lemmas.List.Splits.{slice_split_first}
 use Rattle.std.proofs.lemmas.Bool.Decides.{nat_tests}
-use Rattle.ti_caps.specs.Cuts.{alternatives_behind}
+use Rattle.ti_caps.specs.Cuts.{alternatives_after}
 use Rattle.ti_caps.specs.Names.{alternatives, is_bar}
 use Rattle.ti_caps.proofs.names.cut_name.Goals as goal
 
@@ -30,7 +30,7 @@ rest-of xs a = take_all (length xs - a) (drop a xs) (omega (arith, length-drop a
 
 parted : (xs : List ℕ) (n : ℕ) (o : Option (Bor (List ℕ))) → n ≡ position_or_len is_bar xs
     → MatchOption o ((length xs < n + 1) ⊎ (length xs < length xs)) (λ x. (n + 1 ≤ length xs) × (length xs ≤ length xs) × (x.now ≡ slice_range xs (n + 1) (length xs)) × (length x.now + (n + 1) ≡ length xs))
-    → alternatives xs ≡ take n xs ∷ alternatives_behind (option_map (λ s. s.now) o)
+    → alternatives xs ≡ take n xs ∷ alternatives_after (option_map (λ s. s.now) o)
 parted xs n None at (inl h) =
     let long : length xs ≤ n = omega (arith, h) in
     let whole : take n xs ≡ xs = take_all n xs long in
