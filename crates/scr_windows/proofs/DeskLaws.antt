@@ -18,7 +18,7 @@ use Rattle.scr_windows.proofs.SheetLaws.{all_put, has_sheet, sheets_put, sizes_p
 use Rattle.scr_windows.specs.declared.surfaces.drawings.Drawing.{Drawing}
 use Rattle.scr_windows.specs.Surfaces.Drawings.{drawn}
 use Rattle.scr_windows.specs.Surfaces.SurfaceLaws.{SurfaceLaws}
-use Rattle.scr_windows.specs.Code.Canvases.{IsKept, lines_drawn}
+use Rattle.scr_windows.specs.Code.Canvases.{IsKept, IsSheetOf, lines_drawn}
 use Rattle.scr_windows.specs.Changes.{fill, with_window, marked, marked_lines, write}
 use Rattle.scr_windows.specs.Calls.Reading.{at, row_at, contents}
 use Rattle.scr_windows.specs.Lending.{lines_in}
@@ -196,6 +196,15 @@ pub draws_whole : (d old : DeskView) (i k : ℕ) (w : WindowView) (frame : Frame
 draws_whole d old i k w frame sheet h f =
     let P : SurfaceView → Type 0 = λ v. IsSurface v in
     subst P (sym (surface_path d old i k w frame sheet h f)) (placed d i h.desk (here_too d old i h.is h.here)).whole
+
+-- a surface that was found before the window was read
+pub found_before : (d old : DeskView) (i k : ℕ) (w : WindowView) (frame : Frame) (sheet : Sheet) → Draws d old i w frame → IsSheetOf old i k → Reads d.surfaces k sheet → Finds d frame.surface k sheet
+found_before d old i k w frame sheet h there reads =
+    record {
+      within = omega (arith, there.within, ap (λ v. length v.surfaces) h.is);
+      number_is = ap (λ v. (get_or v.surfaces k no_sheet).number) h.is ∙ there.number ∙ sym (ap (λ v. (window_at v i).frame.surface) h.is) ∙ sym (ap (λ (g : Frame). g.surface) (frame_path d old i w frame h));
+      sheet_is = reads;
+    }
 
 -- the desk after lines were marked and the surface was filled
 pub written_path : (d old : DeskView) (i k : ℕ) (w m : WindowView) (frame : Frame) (sheet new : Sheet) (t : SurfaceView) (first end : ℕ) (f : (ℕ → ℕ → CellView) → ℕ → ℕ → CellView)

@@ -106,17 +106,20 @@ put_number number surface sheet = one (sheet.number == number)
     one true = refl
     one false = refl
 
+pub length_put : (sheets : List Sheet) (number : ℕ) (surface : SurfaceView) → length (with_surface number surface sheets) ≡ length sheets
+length_put [] number surface = refl
+length_put (s ∷ sheets) number surface = ap suc (length_put sheets number surface)
+
+pub numbers_put : (sheets : List Sheet) (number : ℕ) (surface : SurfaceView) (k : ℕ) → k < length sheets → (get_or (with_surface number surface sheets) k no_sheet).number ≡ (get_or sheets k no_sheet).number
+numbers_put sheets number surface k inside = ap sheet_number (get_or-map (put_on number surface) sheets k no_sheet no_sheet inside) ∙ put_number number surface _
+
 pub sheets_put : (sheets : List Sheet) (number : ℕ) (surface : SurfaceView) → AreSheets sheets → AreSheets (with_surface number surface sheets)
 sheets_put sheets number surface up i j d less l =
-    let many : length (with_surface number surface sheets) ≡ length sheets = length-map sheets in
+    let many : length (with_surface number surface sheets) ≡ length sheets = length_put sheets number surface in
     let a : (get_or (with_surface number surface sheets) i d).number ≡ (get_or sheets i d).number = ap sheet_number (get_or-map (put_on number surface) sheets i d d (omega arith)) ∙ put_number number surface _ in
     let b : (get_or (with_surface number surface sheets) j d).number ≡ (get_or sheets j d).number = ap sheet_number (get_or-map (put_on number surface) sheets j d d (omega arith)) ∙ put_number number surface _ in
     let rise = up i j d less (omega arith) in
     omega (arith, a, b, rise)
-  where
-    length-map : (ss : List Sheet) → length (with_surface number surface ss) ≡ length ss
-    length-map [] = refl
-    length-map (s ∷ ss) = ap suc (length-map ss)
 
 -- what holds of a sheet holds after another surface was put in it
 pub all_put : (P : Sheet → Type 0) (sheets : List Sheet) (number : ℕ) (surface : SurfaceView) → ((sheet : Sheet) → P sheet → P (record sheet { surface = surface })) → All P sheets → All P (with_surface number surface sheets)

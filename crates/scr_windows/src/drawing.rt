@@ -5,7 +5,7 @@ ghost use Rattle.std.specs.Prelude.{◌≡◌, ◌+◌, ◌<◌, ◌≤◌, leng
 ghost use Rattle.scr_windows.specs.Surfaces.Drawings.{IsFitting, drawn};
 ghost use Rattle.scr_windows.specs.Surfaces.Formulas.{run_put};
 ghost use Rattle.scr_windows.specs.DeskViews.{window_at};
-ghost use Rattle.scr_windows.specs.Code.Canvases.{IsKept, lines_drawn};
+ghost use Rattle.scr_windows.specs.Code.Canvases.{IsKept, IsSheetOf, lines_drawn};
 ghost use Rattle.scr_windows.specs.Changes.{write};
 
 use crate::desks::Desk;
@@ -31,10 +31,21 @@ impl Desk {
         self.surfaces[sheet].surface.draw(frame.area, drawing);
     }
 
-    // Puts a cell in one place of the window at an index, and touches the line.
+    // The index of the surface that the window at an index is on. A text is added on it without looking for it again.
     #[inline(always)]
-    pub(crate) fn put(&mut self, index: usize, row: u32, column: u32, cell: Cell)
+    pub(crate) fn sheet_of(&self, index: usize) -> usize
+        requires { index < length self.now.windows }
+        ensures { IsSheetOf self.now index result }
+    {
+        let frame = self.window_at(index).frame();
+        index_of_sheet(&self.surfaces, frame.surface)
+    }
+
+    // Puts a cell in one place of the window at an index, which is on this surface, and touches the line.
+    #[inline(always)]
+    pub(crate) fn put(&mut self, index: usize, sheet: usize, row: u32, column: u32, cell: Cell)
         requires here { index < length self.old.windows }
+        requires sheet { IsSheetOf self.old index sheet }
         requires row { row < (window_at self.old index).frame.area.rows }
         requires column { column < (window_at self.old index).frame.area.columns }
         ensures put { self.new ≡ write self.old index row (row + 1) (run_put row column (column + 1) cell) }
@@ -43,7 +54,6 @@ impl Desk {
         let window = &mut self.windows[index];
         let frame = window.frame();
         window.touch_line(row);
-        let sheet = index_of_sheet(&self.surfaces, frame.surface);
         surface_laws();
         self.surfaces[sheet]
             .surface

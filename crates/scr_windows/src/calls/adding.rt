@@ -6,6 +6,7 @@ ghost use Rattle.std.specs.Prelude.{◌≡◌, ◌+◌, ◌<◌, ◌≤◌, ◌�
 ghost use Rattle.std.specs.List.{list_any};
 ghost use Rattle.scr_cells.specs.CellViews.{IsPair};
 ghost use Rattle.scr_windows.specs.DeskViews.{HasSameSize, window_at};
+ghost use Rattle.scr_windows.specs.Code.Canvases.{IsSheetOf};
 ghost use Rattle.scr_windows.specs.Calls.Adding.{written_form, gone_to, line_begun, character_added, newline_added, tab_added, either_stayed, shown_added, byte_added, text_added, add_byte_call, add_text_call, insert_byte_call, line_across_call, line_down_call};
 
 use crate::desks::Desk;
@@ -26,7 +27,8 @@ impl Desk {
         if byte >= 128 {
             return Err(WinFault::NotAscii);
         }
-        Ok(self.add_at(index, byte, attrs))
+        let sheet = self.sheet_of(index);
+        Ok(self.add_at(index, sheet, byte, attrs))
     }
 
     /// Adds the bytes of a text one after another, as `add_byte` does without attributes.
@@ -125,19 +127,21 @@ impl Desk {
         requires ascii { list_any (λ byte. leb 128 byte) text.now ≡ false }
         ensures { (self.new, result) ≡ text_added self.old index text.now }
     {
+        let sheet = self.sheet_of(index);
         let mut all = Added::Done;
         for byte in text {
-            let one = self.add_at(index, *byte, Attrs(0));
+            let one = self.add_at(index, sheet, *byte, Attrs(0));
             all = either(all, one);
         }
         all
     }
 
-    // Adds a byte below 128 to the window at an index.
+    // Adds a byte below 128 to the window at an index, which is on this surface.
     #[inline(always)]
     #[tactic(auto, unfolding(crate::specs::Calls::Adding::byte_added))]
-    fn add_at(&mut self, index: usize, byte: u8, attrs: Attrs) -> Added
+    fn add_at(&mut self, index: usize, sheet: usize, byte: u8, attrs: Attrs) -> Added
         requires here { index < length self.old.windows }
+        requires sheet { IsSheetOf self.old index sheet }
         requires ascii { byte < 128 }
         ensures added { (self.new, result) ≡ byte_added self.old index byte attrs }
         ensures there { index < length self.new.windows }
@@ -149,29 +153,31 @@ impl Desk {
             9 => self.add_tab(index),
             8 => self.go_to(index, row, column.saturating_sub(1)),
             13 => self.go_to(index, row, 0),
-            0..32 | 127 => self.add_shown(index, byte, attrs),
-            _ => self.add_character(index, byte, attrs),
+            0..32 | 127 => self.add_shown(index, sheet, byte, attrs),
+            _ => self.add_character(index, sheet, byte, attrs),
         }
     }
 
     // Shows a control character as `^` and a character.
     #[inline(never)]
-    fn add_shown(&mut self, index: usize, byte: u8, attrs: Attrs) -> Added
+    fn add_shown(&mut self, index: usize, sheet: usize, byte: u8, attrs: Attrs) -> Added
         requires here { index < length self.old.windows }
+        requires sheet { IsSheetOf self.old index sheet }
         requires control { (byte < 32) ⊎ (byte ≡ 127) }
         ensures added { (self.new, result) ≡ shown_added self.old index byte attrs }
         ensures there { index < length self.new.windows }
     {
-        let first = self.add_character(index, b'^', attrs);
-        let second = self.add_character(index, byte ^ 64, attrs);
+        let first = self.add_character(index, sheet, b'^', attrs);
+        let second = self.add_character(index, sheet, byte ^ 64, attrs);
         either(first, second)
     }
 
     // Writes a byte 32 to 126 at the cursor.
     #[inline(always)]
     #[tactic(auto, unfolding(crate::specs::Calls::Adding::character_added))]
-    fn add_character(&mut self, index: usize, byte: u8, attrs: Attrs) -> Added
+    fn add_character(&mut self, index: usize, sheet: usize, byte: u8, attrs: Attrs) -> Added
         requires here { index < length self.old.windows }
+        requires sheet { IsSheetOf self.old index sheet }
         requires from { 32 ≤ byte }
         requires to { byte ≤ 126 }
         ensures added { (self.new, result) ≡ character_added self.old index byte attrs }
@@ -180,7 +186,7 @@ impl Desk {
         let canvas = self.canvas_at(index);
         let (row, column) = canvas.state.cursor;
         let cell = written_form(byte, attrs, canvas.state);
-        self.put(index, row, column, cell);
+        self.put(index, sheet, row, column, cell);
         let end = column + 1;
         if end < canvas.area.columns {
             self.go_to(index, row, end)

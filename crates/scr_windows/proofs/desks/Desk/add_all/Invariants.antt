@@ -1,4 +1,5 @@
 use Rattle.std.proofs.Common.{◌≡◌, ◌<◌, length, drop}
+use Rattle.scr_windows.specs.Code.Canvases.{IsSheetOf}
 use Rattle.scr_windows.specs.Calls.Adding.{text_added, either_stayed}
 use Rattle.scr_windows.proofs.desks.Desk.add_all.Given as goal
 
@@ -6,6 +7,7 @@ use Rattle.scr_windows.proofs.desks.Desk.add_all.Given as goal
 abbrev pub invariant-loop-byte : goal.invariant-loop-byte
 invariant-loop-byte l = record {
   here : l.index < length l.self.windows;
+  sheet : IsSheetOf l.self l.index l.sheet;
   desk : (text_added l.self l.index (drop l.byte-index l.text)).0 ≡ (text_added l.fn.self l.index l.text).0;
   answer : either_stayed l.all (text_added l.self l.index (drop l.byte-index l.text)).1 ≡ (text_added l.fn.self l.index l.text).1;
 }
