@@ -1,10 +1,9 @@
 -- The calls that one function of the library makes, by a number: the first is 0, and a greater number than the last is
 -- the last.
-use Rattle.std.specs.Prelude.{ℕ, ◌≡◌, ◌⊎◌, ◌==◌, Bool, true, false, List, length, not, Result, Err, IsOk, if◌then◌else◌}
+use Rattle.std.specs.Prelude.{ℕ, ◌==◌, true, false, length, not, Result, if◌then◌else◌}
 use Rattle.scr_term.specs.Operations.Profiles.{has_colours, shown_set}
 use Rattle.scr_virtual.specs.Pairs.{set_pair_call}
 use Rattle.scr_virtual.specs.Taking.{take_window_call}
-use Rattle.scr_windows.specs.Calls.Copying.{copy_call, overlay_call}
 use Rattle.scr_windows.specs.Calls.Erasing.{clear_call, clear_to_bottom_call, clear_to_eol_call, erase_call}
 use Rattle.scr_windows.specs.Calls.Making.{new_pad_call, new_window_call}
 use Rattle.scr_windows.specs.Calls.Moving.{move_derived_call, move_window_call}
@@ -18,12 +17,11 @@ use Rattle.scr_windows.specs.Calls.Touching.{touch_all_call, touch_lines_call}
 use Rattle.scr_windows.specs.DeskViews.{DeskView}
 use Rattle.scr_windows.specs.declared.faults.Win.{Win}
 use Rattle.scr_windows.specs.declared.faults.WinFault.{WinFault}
-use Rattle.scr_windows.specs.declared.faults.WinFault.TheVariants as windows
 use Rattle.curses.specs.Refreshing.{lines_disturbed, redraw_lines_call, redraw_window_call, window_disturbed}
 use Rattle.curses.specs.ScreenStates.{ScreenState}
 use Rattle.huttavel_c.specs.Asking.{on_both, on_terminal, on_virtual, on_windows}
 use Rattle.huttavel_c.specs.Lending.{property_reply}
-use Rattle.huttavel_c.specs.Replies.{as_number, done_number, pair_reply, seen_reply, touched_reply, with_one, with_two}
+use Rattle.huttavel_c.specs.Replies.{as_number, pair_reply, seen_reply, touched_reply, with_one, with_two}
 use Rattle.huttavel_c.specs.Showing.{colours_of, cursor_reply, nth_reply, wanted_reply}
 use Rattle.huttavel_c.specs.declared.answers.Reply.{Reply}
 
@@ -100,16 +98,3 @@ screen_reply kind first second screen =
     if kind == 5 then colours_of screen.virtual.picture.pairs first else
     if kind == 6 then wanted_reply screen.virtual.picture first second else
     cursor_reply screen.virtual.picture.wish
-
--- The call was made: this is the screen after it, and its answer.
-abbrev pub IsMade : {A : Type 0} → ScreenState → A → ScreenState × A → Type 0
-IsMade new answer call = (new ≡ call.0) × (answer ≡ call.1)
-
--- The same, with the answer as a number.
-abbrev pub IsAnswered : ScreenState → ℕ → Called → Type 0
-IsAnswered new answer call = (new ≡ call.0) × (answer ≡ done_number call.1)
-
--- The call was made; or memory ran out in a call that nothing else refuses, and all stays as it was.
-abbrev pub IsMadeForMemory : {A : Type 0} → ScreenState → ScreenState → Result A WinFault → ScreenState × Result A WinFault → Type 0
-IsMadeForMemory old new answer call =
-    IsMade new answer call ⊎ ((new ≡ old) × (answer ≡ Err windows.NoMemory) × IsOk call.1)

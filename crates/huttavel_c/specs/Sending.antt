@@ -1,5 +1,5 @@
 -- Bytes that a screen made, and that wait until the terminal has taken them.
-use Rattle.std.specs.Prelude.{ℕ, ◌≡◌, ◌++◌, List, Option, Some, None, Result, Ok, Err, MatchOption, MatchResult, drop, length, min, nat_le, take, if◌then◌else◌}
+use Rattle.std.specs.Prelude.{ℕ, ◌≡◌, ◌++◌, List, Some, Result, Ok, Err, MatchResult, drop, length, min, nat_le, take, if◌then◌else◌}
 use Rattle.scr_memory.specs.Memories.{forgotten}
 use Rattle.curses.specs.ScreenStates.{ScreenState}
 use Rattle.curses.specs.Starting.{IsClosed, IsNotClosed, IsNotStarted, IsStarted}
@@ -70,8 +70,3 @@ pub record Takes (count : ℕ) (old new : Session) (answer : ℕ) : Type 0 where
 -- Nothing is known of the terminal any more.
 abbrev pub forgetting : ScreenState → ScreenState × ℕ
 forgetting screen = (record screen { memory = forgotten screen.memory }, 0)
-
--- What an open handle holds changes so, and this is the answer. Of a closed handle this is given, and it stays closed.
-abbrev pub Makes : (Session → Session → ℕ → Type 0) → ℕ → Option Session → Option Session → ℕ → Type 0
-Makes change closed None new answer = (new ≡ None) × (answer ≡ closed)
-Makes change closed (Some old) new answer = MatchOption new ⊥ (λ after. change old after answer)

@@ -5,14 +5,13 @@ ghost use Rattle.huttavel_c.specs.Asking.{Asked, reading};
 ghost use Rattle.huttavel_c.specs.Families.{screen_reply, window_reply};
 ghost use Rattle.huttavel_c.specs.Giving.{unchanged};
 ghost use Rattle.huttavel_c.specs.Lending.{property_of_lent, property_reply};
-ghost use Rattle.huttavel_c.specs.Replies.{refused};
+ghost use Rattle.huttavel_c.specs.Replies.{refused, with_two};
 ghost use Rattle.huttavel_c.specs.Showing.{colours_of, cursor_reply, nth_reply, wanted_reply};
 
 use crate::answers::{Reply, one, pair, refused, seen, three, touched, two};
 use crate::faults::{BAD_PAIR, CLOSED, NO_CURSOR, NO_PARENT, NO_WINDOW, OFF_SCREEN, window_number};
 use crate::handles::Handle;
 use curses::{Picture, Screen, Win, WindowRef};
-use std::alloc::Global;
 
 // What calls have set in a window that is lent.
 #[tactic(auto, unfolding(crate::specs::Lending::property_of_lent))]
@@ -40,22 +39,6 @@ fn property(screen: &Screen, kind: u32, window: Win) -> Reply
     match screen.window(window) {
         Ok(lent) => property_of_lent(&lent, kind),
         Err(fault) => refused(window_number(fault)),
-    }
-}
-
-// What is asked of a window.
-#[tactic(auto, unfolding(crate::specs::Families::window_reply))]
-fn ask_window(screen: &Screen, kind: u32, window: Win, row: u32, column: u32) -> Reply
-    ensures { result ≡ window_reply kind window.0 row column screen.now.desk }
-{
-    match kind {
-        0 => pair(screen.size(window)),
-        1 => pair(screen.cursor(window)),
-        2 => pair(screen.origin(window)),
-        3 => seen(screen.cell_at(window, row, column)),
-        4 => touched(screen.line_touched(window, row)),
-        5 => touched(screen.window_touched(window)),
-        _ => property(screen, kind, window),
     }
 }
 
@@ -102,35 +85,18 @@ fn cursor(picture: &Picture) -> Reply
 }
 
 // The rows and the columns of the screen.
-fn size(screen: &Screen) -> (u32, u32)
-    ensures { result ≡ (screen.now.desk.rows, screen.now.desk.columns) }
+fn size(screen: &Screen) -> Reply
+    ensures { result ≡ with_two (screen.now.desk.rows, screen.now.desk.columns) }
 {
     let size = screen.screen();
-    (size.rows, size.columns)
-}
-
-// What is asked of the screen.
-#[tactic(auto, unfolding(crate::specs::Families::screen_reply))]
-fn ask_screen(screen: &Screen, kind: u32, first: u32, second: u32) -> Reply
-    ensures { result ≡ screen_reply kind first second screen.now }
-{
-    match kind {
-        0 => two(size(screen)),
-        1 => one(screen.count() as u32),
-        2 => nth(screen.nth(first as usize)),
-        3 => one(u32::from(screen.shows().0)),
-        4 => one(u32::from(screen.colours())),
-        5 => colours(screen.picture(), first),
-        6 => cell(screen.picture(), first, second),
-        _ => cursor(screen.picture()),
-    }
+    two((size.rows, size.columns))
 }
 
 /// What is asked of a window, by its number in `enum window_question` of `held.h`; some questions are about a row, or a
-/// place. Refused: CLOSED; as the call; NO_PARENT of a window that is no subwindow.
+/// place. Refused: CLOSED; as the call; NO_PARENT of a window that is not a subwindow.
 #[unsafe(no_mangle)]
+#[tactic(auto, unfolding(crate::specs::Families::window_reply))]
 pub extern "C" fn huttavel_held_ask_window(
-    alloc: Global,
     handle: &mut Handle,
     window: u32,
     row: u32,
@@ -139,20 +105,23 @@ pub extern "C" fn huttavel_held_ask_window(
 ) -> Reply
     ensures { Asked (λ screen. reading screen (window_reply kind window row column screen.desk)) unchanged (refused 1) handle.old.held.value handle.new.held.value result }
 {
-    let Some(session) = handle.take(alloc) else {
-        return refused(CLOSED);
-    };
-    let answer = ask_window(&session.screen, kind, Win(window), row, column);
-    handle.put(session);
-    answer
+    handle.lend(refused(CLOSED), |session| match kind {
+        0 => pair(session.screen.size(Win(window))),
+        1 => pair(session.screen.cursor(Win(window))),
+        2 => pair(session.screen.origin(Win(window))),
+        3 => seen(session.screen.cell_at(Win(window), row, column)),
+        4 => touched(session.screen.line_touched(Win(window), row)),
+        5 => touched(session.screen.window_touched(Win(window))),
+        _ => property(&session.screen, kind, Win(window)),
+    })
 }
 
 /// What is asked of the screen, by its number in `enum screen_question`; some questions are about an index, a colour
 /// pair or a place. Refused: CLOSED; NO_WINDOW past the last index; BAD_PAIR; OFF_SCREEN; NO_CURSOR if the cursor is
 /// wanted nowhere.
 #[unsafe(no_mangle)]
+#[tactic(auto, unfolding(crate::specs::Families::screen_reply))]
 pub extern "C" fn huttavel_held_ask_screen(
-    alloc: Global,
     handle: &mut Handle,
     first: u32,
     second: u32,
@@ -160,10 +129,14 @@ pub extern "C" fn huttavel_held_ask_screen(
 ) -> Reply
     ensures { Asked (λ screen. reading screen (screen_reply kind first second screen)) unchanged (refused 1) handle.old.held.value handle.new.held.value result }
 {
-    let Some(session) = handle.take(alloc) else {
-        return refused(CLOSED);
-    };
-    let answer = ask_screen(&session.screen, kind, first, second);
-    handle.put(session);
-    answer
+    handle.lend(refused(CLOSED), |session| match kind {
+        0 => size(&session.screen),
+        1 => one(session.screen.count() as u32),
+        2 => nth(session.screen.nth(first as usize)),
+        3 => one(u32::from(session.screen.shows().0)),
+        4 => one(u32::from(session.screen.colours())),
+        5 => colours(session.screen.picture(), first),
+        6 => cell(session.screen.picture(), first, second),
+        _ => cursor(session.screen.picture()),
+    })
 }
