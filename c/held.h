@@ -1,7 +1,7 @@
 /* What the C functions share: the functions of the proved library, and what becomes of their replies.
  *
- * Behind the functions of huttavel.h stand these, which want a handle and bytes that are there and give their results
- * by value. Some make several calls, and are told by a number which. huttavel_held_key_byte takes one byte.
+ * The functions of huttavel.h call these, which want a handle and bytes that exist, and give their results by value.
+ * Some make several calls: a number says which. huttavel_held_key_byte reads one byte.
  */
 #ifndef HUTTAVEL_HELD_H
 #define HUTTAVEL_HELD_H
@@ -77,8 +77,6 @@ enum window_question {
     SIZE,
     CURSOR,
     ORIGIN,
-    CELL_AT,
-    LINE_TOUCHED,
     WINDOW_TOUCHED,
     PARENT,
     WRITTEN_ATTRS,
@@ -121,7 +119,9 @@ uint32_t huttavel_held_copy(huttavel *handle, uint32_t source, uint32_t target, 
 uint32_t huttavel_held_copy_common(huttavel *handle, uint32_t source, uint32_t target, bool overlays);
 uint32_t huttavel_held_pad_noutrefresh(huttavel *handle, uint32_t window, uint32_t row, uint32_t column,
                                        uint32_t top, uint32_t left, uint32_t bottom, uint32_t right);
-reply huttavel_held_ask_window(huttavel *handle, uint32_t window, uint32_t row, uint32_t column, uint32_t question);
+reply huttavel_held_ask_window(huttavel *handle, uint32_t window, uint32_t question);
+reply huttavel_held_cell_at(huttavel *handle, uint32_t window, uint32_t row, uint32_t column);
+reply huttavel_held_line_touched(huttavel *handle, uint32_t window, uint32_t row);
 reply huttavel_held_ask_screen(huttavel *handle, uint32_t first, uint32_t second, uint32_t question);
 
 /* Whether a handle is NULL or closed. */

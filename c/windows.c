@@ -57,9 +57,9 @@ static inline reply make(huttavel *handle, uint32_t window, uint32_t rows, uint3
     return handle == NULL ? closed : huttavel_held_make(handle, window, rows, columns, row, column, call);
 }
 
-static inline reply ask_window(huttavel *handle, uint32_t window, uint32_t row, uint32_t column, uint32_t question)
+static inline reply ask_window(huttavel *handle, uint32_t window, uint32_t question)
 {
-    return handle == NULL ? closed : huttavel_held_ask_window(handle, window, row, column, question);
+    return handle == NULL ? closed : huttavel_held_ask_window(handle, window, question);
 }
 
 static inline reply ask_screen(huttavel *handle, uint32_t first, uint32_t second, uint32_t question)
@@ -341,67 +341,67 @@ uint32_t huttavel_pair_colours(huttavel *handle, uint32_t pair, uint32_t *foregr
 
 uint32_t huttavel_size(huttavel *handle, uint32_t window, uint32_t *rows, uint32_t *columns)
 {
-    return give(ask_window(handle, window, 0, 0, SIZE), rows, columns);
+    return give(ask_window(handle, window, SIZE), rows, columns);
 }
 
 uint32_t huttavel_cursor(huttavel *handle, uint32_t window, uint32_t *row, uint32_t *column)
 {
-    return give(ask_window(handle, window, 0, 0, CURSOR), row, column);
+    return give(ask_window(handle, window, CURSOR), row, column);
 }
 
 uint32_t huttavel_origin(huttavel *handle, uint32_t window, uint32_t *row, uint32_t *column)
 {
-    return give(ask_window(handle, window, 0, 0, ORIGIN), row, column);
+    return give(ask_window(handle, window, ORIGIN), row, column);
 }
 
 uint32_t huttavel_parent(huttavel *handle, uint32_t window, uint32_t *parent)
 {
-    return give(ask_window(handle, window, 0, 0, PARENT), parent, NULL);
+    return give(ask_window(handle, window, PARENT), parent, NULL);
 }
 
 uint32_t huttavel_cell_at(huttavel *handle, uint32_t window, uint32_t row, uint32_t column, huttavel_cell *cell)
 {
-    return give_cell(ask_window(handle, window, row, column, CELL_AT), cell);
+    return handle == NULL ? HUTTAVEL_CLOSED : give_cell(huttavel_held_cell_at(handle, window, row, column), cell);
 }
 
 uint32_t huttavel_written_attrs(huttavel *handle, uint32_t window, uint8_t *attrs, uint32_t *pair)
 {
-    return give_byte(ask_window(handle, window, 0, 0, WRITTEN_ATTRS), attrs, pair);
+    return give_byte(ask_window(handle, window, WRITTEN_ATTRS), attrs, pair);
 }
 
 uint32_t huttavel_background(huttavel *handle, uint32_t window, huttavel_cell *cell)
 {
-    return give_cell(ask_window(handle, window, 0, 0, BACKGROUND), cell);
+    return give_cell(ask_window(handle, window, BACKGROUND), cell);
 }
 
 uint32_t huttavel_region(huttavel *handle, uint32_t window, uint32_t *top, uint32_t *bottom)
 {
-    return give(ask_window(handle, window, 0, 0, REGION), top, bottom);
+    return give(ask_window(handle, window, REGION), top, bottom);
 }
 
 uint32_t huttavel_is_scroll_ok(huttavel *handle, uint32_t window, bool *on)
 {
-    return give_bool(ask_window(handle, window, 0, 0, IS_SCROLL_OK), on);
+    return give_bool(ask_window(handle, window, IS_SCROLL_OK), on);
 }
 
 uint32_t huttavel_is_clear_ok(huttavel *handle, uint32_t window, bool *on)
 {
-    return give_bool(ask_window(handle, window, 0, 0, IS_CLEAR_OK), on);
+    return give_bool(ask_window(handle, window, IS_CLEAR_OK), on);
 }
 
 uint32_t huttavel_is_leave_ok(huttavel *handle, uint32_t window, bool *on)
 {
-    return give_bool(ask_window(handle, window, 0, 0, IS_LEAVE_OK), on);
+    return give_bool(ask_window(handle, window, IS_LEAVE_OK), on);
 }
 
 uint32_t huttavel_line_touched(huttavel *handle, uint32_t window, uint32_t row, bool *touched)
 {
-    return give_bool(ask_window(handle, window, row, 0, LINE_TOUCHED), touched);
+    return handle == NULL ? HUTTAVEL_CLOSED : give_bool(huttavel_held_line_touched(handle, window, row), touched);
 }
 
 uint32_t huttavel_window_touched(huttavel *handle, uint32_t window, bool *touched)
 {
-    return give_bool(ask_window(handle, window, 0, 0, WINDOW_TOUCHED), touched);
+    return give_bool(ask_window(handle, window, WINDOW_TOUCHED), touched);
 }
 
 uint32_t huttavel_wanted_cell(huttavel *handle, uint32_t row, uint32_t column, huttavel_cell *cell)

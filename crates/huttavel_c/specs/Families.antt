@@ -7,7 +7,7 @@ use Rattle.scr_virtual.specs.Taking.{take_window_call}
 use Rattle.scr_windows.specs.Calls.Erasing.{clear_call, clear_to_bottom_call, clear_to_eol_call, erase_call}
 use Rattle.scr_windows.specs.Calls.Making.{new_pad_call, new_window_call}
 use Rattle.scr_windows.specs.Calls.Moving.{move_derived_call, move_window_call}
-use Rattle.scr_windows.specs.Calls.Reading.{cell_at_answer, cursor_answer, line_touched_answer, nth_answer, origin_answer, size_answer, window_answer, window_touched_answer}
+use Rattle.scr_windows.specs.Calls.Reading.{cursor_answer, nth_answer, origin_answer, size_answer, window_answer, window_touched_answer}
 use Rattle.scr_windows.specs.Calls.Removing.{delete_call}
 use Rattle.scr_windows.specs.Calls.Scrolling.{delete_byte_call}
 use Rattle.scr_windows.specs.Calls.Settings.{attr_off_call, attr_on_call, attr_set_call, clear_ok_call, color_set_call, leave_ok_call, scroll_ok_call, set_region_call}
@@ -21,7 +21,7 @@ use Rattle.curses.specs.Refreshing.{lines_disturbed, redraw_lines_call, redraw_w
 use Rattle.curses.specs.ScreenStates.{ScreenState}
 use Rattle.huttavel_c.specs.Asking.{on_both, on_terminal, on_virtual, on_windows}
 use Rattle.huttavel_c.specs.Lending.{property_reply}
-use Rattle.huttavel_c.specs.Replies.{as_number, pair_reply, seen_reply, touched_reply, with_one, with_two}
+use Rattle.huttavel_c.specs.Replies.{as_number, pair_reply, touched_reply, with_one, with_two}
 use Rattle.huttavel_c.specs.Showing.{colours_of, cursor_reply, nth_reply, wanted_reply}
 use Rattle.huttavel_c.specs.declared.answers.Reply.{Reply}
 
@@ -77,14 +77,12 @@ making_call kind window rows columns row column screen =
     on_windows screen (sub_pad_call screen.desk window rows columns row column)
 
 -- What is asked of a window.
-unfoldable pub window_reply : ℕ → ℕ → ℕ → ℕ → DeskView → Reply
-window_reply kind window row column desk =
+unfoldable pub window_reply : ℕ → ℕ → DeskView → Reply
+window_reply kind window desk =
     if kind == 0 then pair_reply (size_answer desk window) else
     if kind == 1 then pair_reply (cursor_answer desk window) else
     if kind == 2 then pair_reply (origin_answer desk window) else
-    if kind == 3 then seen_reply (cell_at_answer desk window row column) else
-    if kind == 4 then touched_reply (line_touched_answer desk window row) else
-    if kind == 5 then touched_reply (window_touched_answer desk window) else
+    if kind == 3 then touched_reply (window_touched_answer desk window) else
     property_reply kind (window_answer desk window)
 
 -- What is asked of the screen.

@@ -1,4 +1,4 @@
--- Bytes that a screen made, and that wait until the terminal has taken them.
+-- Bytes that a screen made, and that wait until the terminal has accepted them.
 use Rattle.std.specs.Prelude.{ℕ, ◌≡◌, ◌++◌, List, Some, Result, Ok, Err, MatchResult, drop, length, min, nat_le, take, if◌then◌else◌}
 use Rattle.scr_memory.specs.Memories.{forgotten}
 use Rattle.curses.specs.ScreenStates.{ScreenState}
@@ -15,7 +15,7 @@ use Rattle.huttavel_c.specs.declared.sessions.Session.{Session}
 abbrev pub waiting : Session → List ℕ
 waiting session = session.out.writer.items
 
--- To the screen, the bytes that wait are those that its writer took.
+-- To the screen, the bytes that wait are those that its writer accepted.
 abbrev pub writer : Session → WriterView
 writer session = record { taken = Some (waiting session); failed_puts = session.out.failed_puts; failed_finishes = session.out.failed_finishes }
 
@@ -59,7 +59,7 @@ Copies before after old new answer =
 abbrev pub taken_off : ℕ → List ℕ → List ℕ × ℕ
 taken_off count bytes = if nat_le count (length bytes) then (drop count bytes, 0) else (bytes, 33)
 
--- The terminal took bytes. The screen does not change, nor how many puts and finishes failed.
+-- The terminal accepted bytes. The screen does not change, nor how many puts and finishes failed.
 pub record Takes (count : ℕ) (old new : Session) (answer : ℕ) : Type 0 where
   pub screen : new.screen ≡ old.screen
   pub waits : waiting new ≡ (taken_off count (waiting old)).0

@@ -1,16 +1,16 @@
-//! What a function of the C library gives: a fault's number, or it and up to three numbers.
+//! What a function of the C library gives: an error's number, or it and up to three numbers.
 ghost use Rattle.std.specs.Prelude.{◌≡◌, ℕ};
 ghost use Rattle.huttavel_c.specs.Replies.{added_reply, done_number, made_reply, pair_reply, refused, seen_reply, touched_reply, with_cell, with_one, with_two};
 
 use crate::faults::window_number;
 use curses::{Added, Cell, Win, WinFault};
 
-/// A fault's number, 0 if there is none, and what the call gives. A number that the call does not give is 0, and all
+/// An error's number, 0 if there is none, and what the call gives. A number that the call does not give is 0, and all
 /// three are 0 if it was refused.
 #[repr(C)]
 #[derive(Clone, Copy)]
 pub struct Reply {
-    /// The fault's number.
+    /// The error's number.
     pub fault: u32,
     /// The first number.
     pub first: u32,

@@ -70,7 +70,7 @@ impl Handle {
         call(self.held.lend())
     }
 
-    /// Takes what the handle holds, and leaves it closed.
+    /// Moves out what the handle holds, and leaves it closed.
     pub(crate) fn take(&mut self, alloc: Global) -> Option<Box<Session>>
         ensures held { self.old.held.value ≡ option_map (λ held. held.value) result }
         ensures closed { self.new.held.value ≡ None }

@@ -31,7 +31,7 @@ fn pressed(key: Option<Key>) -> Reply
     }
 }
 
-/// Reads a byte of the keyboard, by `Screen::key_byte`. Refused: CLOSED; QUEUE_FULL, and the byte is not taken.
+/// Reads a byte of the keyboard, by `Screen::key_byte`. Refused: CLOSED; QUEUE_FULL, and the byte is not read.
 #[unsafe(no_mangle)]
 pub extern "C" fn huttavel_held_key_byte(handle: &mut Handle, byte: u8) -> u32
     ensures { Asked (λ screen. on_keys screen (byte_read screen.keys byte)) read_number 1 handle.old.held.value handle.new.held.value result }

@@ -1,4 +1,4 @@
-//! Starts, updates and finishes: the bytes that they make wait until the terminal has taken them.
+//! Starts, updates and finishes: the bytes that they make wait until the terminal has accepted them.
 ghost use Rattle.std.specs.Prelude.{◌≡◌, ◌++◌, ◌≤◌, None, drop, length, min, take};
 ghost use Rattle.huttavel_c.specs.Asking.{Asked, Makes};
 ghost use Rattle.huttavel_c.specs.Giving.{unchanged};
@@ -35,7 +35,7 @@ impl Session {
         }
     }
 
-    // The terminal took bytes.
+    // The terminal accepted bytes.
     fn took(&mut self, count: usize) -> u32
         ensures { Takes count self.old self.new result }
     {
@@ -127,7 +127,7 @@ pub extern "C" fn huttavel_held_bytes(alloc: Global, handle: &mut Handle, bytes:
     count
 }
 
-/// The terminal took this many of the bytes that wait. Refused: CLOSED; NOT_WAITING if fewer wait.
+/// The terminal accepted this many of the bytes that wait. Refused: CLOSED; NOT_WAITING if fewer wait.
 #[unsafe(no_mangle)]
 pub extern "C" fn huttavel_held_took(handle: &mut Handle, count: usize) -> u32
     ensures { Makes (Takes count) 1 handle.old.held.value handle.new.held.value result }

@@ -1,11 +1,11 @@
 //! What is asked of windows and of the screen: by a number, each one call of `curses::Screen`.
 ghost use Rattle.std.specs.Prelude.{◌≡◌, ◌≤◌};
-ghost use Rattle.scr_windows.specs.Calls.Reading.{window_answer};
+ghost use Rattle.scr_windows.specs.Calls.Reading.{cell_at_answer, line_touched_answer, window_answer};
 ghost use Rattle.huttavel_c.specs.Asking.{Asked, reading};
 ghost use Rattle.huttavel_c.specs.Families.{screen_reply, window_reply};
 ghost use Rattle.huttavel_c.specs.Giving.{unchanged};
 ghost use Rattle.huttavel_c.specs.Lending.{property_of_lent, property_reply};
-ghost use Rattle.huttavel_c.specs.Replies.{refused, with_two};
+ghost use Rattle.huttavel_c.specs.Replies.{refused, seen_reply, touched_reply, with_two};
 ghost use Rattle.huttavel_c.specs.Showing.{colours_of, cursor_reply, nth_reply, wanted_reply};
 
 use crate::answers::{Reply, one, pair, refused, seen, three, touched, two};
@@ -19,15 +19,15 @@ fn property_of_lent(lent: &WindowRef<'_>, kind: u32) -> Reply
     ensures { result ≡ property_of_lent kind lent.now }
 {
     match kind {
-        6 => match lent.parent() {
+        4 => match lent.parent() {
             Some(window) => one(window.0),
             None => refused(NO_PARENT),
         },
-        7 => two((u32::from(lent.attrs().0), lent.pair())),
-        8 => three(lent.background()),
-        9 => two(lent.region()),
-        10 => one(u32::from(lent.scroll_ok())),
-        11 => one(u32::from(lent.clear_ok())),
+        5 => two((u32::from(lent.attrs().0), lent.pair())),
+        6 => three(lent.background()),
+        7 => two(lent.region()),
+        8 => one(u32::from(lent.scroll_ok())),
+        9 => one(u32::from(lent.clear_ok())),
         _ => one(u32::from(lent.leave_ok())),
     }
 }
@@ -92,27 +92,44 @@ fn size(screen: &Screen) -> Reply
     two((size.rows, size.columns))
 }
 
-/// What is asked of a window, by its number in `enum window_question` of `held.h`; some questions are about a row, or a
-/// place. Refused: CLOSED; as the call; NO_PARENT of a window that is not a subwindow.
+/// What is asked of a window, by its number in `enum window_question` of `held.h`. Refused: CLOSED; as the call;
+/// NO_PARENT of a window that is not a subwindow.
 #[unsafe(no_mangle)]
 #[tactic(auto, unfolding(crate::specs::Families::window_reply))]
-pub extern "C" fn huttavel_held_ask_window(
-    handle: &mut Handle,
-    window: u32,
-    row: u32,
-    column: u32,
-    kind: u32,
-) -> Reply
-    ensures { Asked (λ screen. reading screen (window_reply kind window row column screen.desk)) unchanged (refused 1) handle.old.held.value handle.new.held.value result }
+pub extern "C" fn huttavel_held_ask_window(handle: &mut Handle, window: u32, kind: u32) -> Reply
+    ensures { Asked (λ screen. reading screen (window_reply kind window screen.desk)) unchanged (refused 1) handle.old.held.value handle.new.held.value result }
 {
     handle.lend(refused(CLOSED), |session| match kind {
         0 => pair(session.screen.size(Win(window))),
         1 => pair(session.screen.cursor(Win(window))),
         2 => pair(session.screen.origin(Win(window))),
-        3 => seen(session.screen.cell_at(Win(window), row, column)),
-        4 => touched(session.screen.line_touched(Win(window), row)),
-        5 => touched(session.screen.window_touched(Win(window))),
+        3 => touched(session.screen.window_touched(Win(window))),
         _ => property(&session.screen, kind, Win(window)),
+    })
+}
+
+/// The cell at a row and a column of a window, by `Screen::cell_at`. Refused: CLOSED; NO_WINDOW; OUT_OF_WINDOW.
+#[unsafe(no_mangle)]
+pub extern "C" fn huttavel_held_cell_at(
+    handle: &mut Handle,
+    window: u32,
+    row: u32,
+    column: u32,
+) -> Reply
+    ensures { Asked (λ screen. reading screen (cell_at_answer screen.desk window row column)) seen_reply (refused 1) handle.old.held.value handle.new.held.value result }
+{
+    handle.lend(refused(CLOSED), |session| {
+        seen(session.screen.cell_at(Win(window), row, column))
+    })
+}
+
+/// Whether a line is touched, by `Screen::line_touched`. Refused: CLOSED; NO_WINDOW; OUT_OF_WINDOW.
+#[unsafe(no_mangle)]
+pub extern "C" fn huttavel_held_line_touched(handle: &mut Handle, window: u32, row: u32) -> Reply
+    ensures { Asked (λ screen. reading screen (line_touched_answer screen.desk window row)) touched_reply (refused 1) handle.old.held.value handle.new.held.value result }
+{
+    handle.lend(refused(CLOSED), |session| {
+        touched(session.screen.line_touched(Win(window), row))
     })
 }
 
