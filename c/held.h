@@ -32,13 +32,9 @@ reply huttavel_held_next_key(huttavel *handle);
 /* The calls of a function that makes several, in the order of their definitions in the proved library. */
 enum window_call {
     DELETE,
-    CLEAR_TO_EOL,
     CLEAR_TO_BOTTOM,
     ERASE,
     CLEAR,
-    DELETE_BYTE,
-    TOUCH_WINDOW,
-    UNTOUCH,
     SYNC_UP,
     SYNC_DOWN,
     NOUTREFRESH,
@@ -46,14 +42,11 @@ enum window_call {
 };
 
 enum number_call {
-    SET_REGION,
     MOVE_WINDOW,
     MOVE_DERIVED,
-    COLOR_SET,
     TOUCH_LINES,
     UNTOUCH_LINES,
-    REDRAW_LINES,
-    SET_PAIR
+    REDRAW_LINES
 };
 
 enum setting_call {
@@ -76,8 +69,10 @@ enum making_call {
 enum window_question {
     SIZE,
     CURSOR,
-    ORIGIN,
-    WINDOW_TOUCHED,
+    ORIGIN
+};
+
+enum property {
     PARENT,
     WRITTEN_ATTRS,
     BACKGROUND,
@@ -88,19 +83,19 @@ enum window_question {
 };
 
 enum screen_question {
-    SCREEN_SIZE,
     WINDOW_COUNT,
-    NTH_WINDOW,
     SHOWN_ATTRS,
-    HAS_COLOURS,
-    PAIR_COLOURS,
-    WANTED_CELL,
-    WANTED_CURSOR
+    HAS_COLOURS
 };
 
 uint32_t huttavel_held_on_window(huttavel *handle, uint32_t window, uint32_t call);
+uint32_t huttavel_held_touch(huttavel *handle, uint32_t window, bool touched);
+uint32_t huttavel_held_cut_line(huttavel *handle, uint32_t window, bool deletes);
 uint32_t huttavel_held_move_cursor(huttavel *handle, uint32_t window, uint32_t row, uint32_t column);
 uint32_t huttavel_held_with_numbers(huttavel *handle, uint32_t window, uint32_t first, uint32_t second, uint32_t call);
+uint32_t huttavel_held_set_region(huttavel *handle, uint32_t window, uint32_t top, uint32_t bottom);
+uint32_t huttavel_held_color_set(huttavel *handle, uint32_t window, uint32_t pair);
+uint32_t huttavel_held_set_pair(huttavel *handle, uint32_t pair, uint32_t foreground, uint32_t background);
 uint32_t huttavel_held_set(huttavel *handle, uint32_t window, uint8_t bits, uint32_t call);
 uint32_t huttavel_held_move_lines(huttavel *handle, uint32_t window, int32_t n, bool scrolls);
 reply huttavel_held_add_byte(huttavel *handle, uint32_t window, uint8_t byte, uint8_t attrs);
@@ -120,9 +115,16 @@ uint32_t huttavel_held_copy_common(huttavel *handle, uint32_t source, uint32_t t
 uint32_t huttavel_held_pad_noutrefresh(huttavel *handle, uint32_t window, uint32_t row, uint32_t column,
                                        uint32_t top, uint32_t left, uint32_t bottom, uint32_t right);
 reply huttavel_held_ask_window(huttavel *handle, uint32_t window, uint32_t question);
+reply huttavel_held_property(huttavel *handle, uint32_t window, uint32_t property);
 reply huttavel_held_cell_at(huttavel *handle, uint32_t window, uint32_t row, uint32_t column);
 reply huttavel_held_line_touched(huttavel *handle, uint32_t window, uint32_t row);
-reply huttavel_held_ask_screen(huttavel *handle, uint32_t first, uint32_t second, uint32_t question);
+reply huttavel_held_window_touched(huttavel *handle, uint32_t window);
+reply huttavel_held_ask_screen(huttavel *handle, uint32_t question);
+reply huttavel_held_screen_size(huttavel *handle);
+reply huttavel_held_nth_window(huttavel *handle, uint32_t index);
+reply huttavel_held_pair_colours(huttavel *handle, uint32_t pair);
+reply huttavel_held_wanted_cell(huttavel *handle, uint32_t row, uint32_t column);
+reply huttavel_held_wanted_cursor(huttavel *handle);
 
 /* Whether a handle is NULL or closed. */
 static inline bool is_closed(const huttavel *handle)

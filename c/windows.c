@@ -62,9 +62,14 @@ static inline reply ask_window(huttavel *handle, uint32_t window, uint32_t quest
     return handle == NULL ? closed : huttavel_held_ask_window(handle, window, question);
 }
 
-static inline reply ask_screen(huttavel *handle, uint32_t first, uint32_t second, uint32_t question)
+static inline reply property_of(huttavel *handle, uint32_t window, uint32_t property)
 {
-    return handle == NULL ? closed : huttavel_held_ask_screen(handle, first, second, question);
+    return handle == NULL ? closed : huttavel_held_property(handle, window, property);
+}
+
+static inline reply ask_screen(huttavel *handle, uint32_t question)
+{
+    return handle == NULL ? closed : huttavel_held_ask_screen(handle, question);
 }
 
 uint32_t huttavel_new_window(huttavel *handle, uint32_t rows, uint32_t columns, uint32_t row, uint32_t column,
@@ -152,7 +157,7 @@ uint32_t huttavel_border(huttavel *handle, uint32_t window, const uint8_t bytes[
 
 uint32_t huttavel_clear_to_eol(huttavel *handle, uint32_t window)
 {
-    return on_window(handle, window, CLEAR_TO_EOL);
+    return handle == NULL ? HUTTAVEL_CLOSED : huttavel_held_cut_line(handle, window, false);
 }
 
 uint32_t huttavel_clear_to_bottom(huttavel *handle, uint32_t window)
@@ -172,7 +177,7 @@ uint32_t huttavel_clear(huttavel *handle, uint32_t window)
 
 uint32_t huttavel_delete_byte(huttavel *handle, uint32_t window)
 {
-    return on_window(handle, window, DELETE_BYTE);
+    return handle == NULL ? HUTTAVEL_CLOSED : huttavel_held_cut_line(handle, window, true);
 }
 
 uint32_t huttavel_insert_delete_lines(huttavel *handle, uint32_t window, int32_t n)
@@ -202,7 +207,7 @@ uint32_t huttavel_move_cursor(huttavel *handle, uint32_t window, uint32_t row, u
 
 uint32_t huttavel_set_region(huttavel *handle, uint32_t window, uint32_t top, uint32_t bottom)
 {
-    return with_numbers(handle, window, top, bottom, SET_REGION);
+    return handle == NULL ? HUTTAVEL_CLOSED : huttavel_held_set_region(handle, window, top, bottom);
 }
 
 uint32_t huttavel_scroll_ok(huttavel *handle, uint32_t window, bool on)
@@ -237,17 +242,17 @@ uint32_t huttavel_attr_set(huttavel *handle, uint32_t window, uint8_t attrs)
 
 uint32_t huttavel_color_set(huttavel *handle, uint32_t window, uint32_t pair)
 {
-    return with_numbers(handle, window, pair, 0, COLOR_SET);
+    return handle == NULL ? HUTTAVEL_CLOSED : huttavel_held_color_set(handle, window, pair);
 }
 
 uint32_t huttavel_touch_window(huttavel *handle, uint32_t window)
 {
-    return on_window(handle, window, TOUCH_WINDOW);
+    return handle == NULL ? HUTTAVEL_CLOSED : huttavel_held_touch(handle, window, true);
 }
 
 uint32_t huttavel_untouch(huttavel *handle, uint32_t window)
 {
-    return on_window(handle, window, UNTOUCH);
+    return handle == NULL ? HUTTAVEL_CLOSED : huttavel_held_touch(handle, window, false);
 }
 
 uint32_t huttavel_touch_lines(huttavel *handle, uint32_t window, uint32_t first, uint32_t n, bool changed)
@@ -296,7 +301,7 @@ uint32_t huttavel_pad_noutrefresh(huttavel *handle, uint32_t window, uint32_t ro
 
 uint32_t huttavel_set_pair(huttavel *handle, uint32_t pair, uint32_t foreground, uint32_t background)
 {
-    return with_numbers(handle, pair, foreground, background, SET_PAIR);
+    return handle == NULL ? HUTTAVEL_CLOSED : huttavel_held_set_pair(handle, pair, foreground, background);
 }
 
 uint32_t huttavel_redraw_window(huttavel *handle, uint32_t window)
@@ -311,32 +316,32 @@ uint32_t huttavel_redraw_lines(huttavel *handle, uint32_t window, uint32_t first
 
 uint32_t huttavel_screen_size(huttavel *handle, uint32_t *rows, uint32_t *columns)
 {
-    return give(ask_screen(handle, 0, 0, SCREEN_SIZE), rows, columns);
+    return handle == NULL ? HUTTAVEL_CLOSED : give(huttavel_held_screen_size(handle), rows, columns);
 }
 
 uint32_t huttavel_window_count(huttavel *handle, uint32_t *count)
 {
-    return give(ask_screen(handle, 0, 0, WINDOW_COUNT), count, NULL);
+    return give(ask_screen(handle, WINDOW_COUNT), count, NULL);
 }
 
 uint32_t huttavel_nth_window(huttavel *handle, uint32_t index, uint32_t *window)
 {
-    return give(ask_screen(handle, index, 0, NTH_WINDOW), window, NULL);
+    return handle == NULL ? HUTTAVEL_CLOSED : give(huttavel_held_nth_window(handle, index), window, NULL);
 }
 
 uint32_t huttavel_shown_attrs(huttavel *handle, uint8_t *attrs)
 {
-    return give_byte(ask_screen(handle, 0, 0, SHOWN_ATTRS), attrs, NULL);
+    return give_byte(ask_screen(handle, SHOWN_ATTRS), attrs, NULL);
 }
 
 uint32_t huttavel_has_colours(huttavel *handle, bool *colours)
 {
-    return give_bool(ask_screen(handle, 0, 0, HAS_COLOURS), colours);
+    return give_bool(ask_screen(handle, HAS_COLOURS), colours);
 }
 
 uint32_t huttavel_pair_colours(huttavel *handle, uint32_t pair, uint32_t *foreground, uint32_t *background)
 {
-    return give(ask_screen(handle, pair, 0, PAIR_COLOURS), foreground, background);
+    return handle == NULL ? HUTTAVEL_CLOSED : give(huttavel_held_pair_colours(handle, pair), foreground, background);
 }
 
 uint32_t huttavel_size(huttavel *handle, uint32_t window, uint32_t *rows, uint32_t *columns)
@@ -356,7 +361,7 @@ uint32_t huttavel_origin(huttavel *handle, uint32_t window, uint32_t *row, uint3
 
 uint32_t huttavel_parent(huttavel *handle, uint32_t window, uint32_t *parent)
 {
-    return give(ask_window(handle, window, PARENT), parent, NULL);
+    return give(property_of(handle, window, PARENT), parent, NULL);
 }
 
 uint32_t huttavel_cell_at(huttavel *handle, uint32_t window, uint32_t row, uint32_t column, huttavel_cell *cell)
@@ -366,32 +371,32 @@ uint32_t huttavel_cell_at(huttavel *handle, uint32_t window, uint32_t row, uint3
 
 uint32_t huttavel_written_attrs(huttavel *handle, uint32_t window, uint8_t *attrs, uint32_t *pair)
 {
-    return give_byte(ask_window(handle, window, WRITTEN_ATTRS), attrs, pair);
+    return give_byte(property_of(handle, window, WRITTEN_ATTRS), attrs, pair);
 }
 
 uint32_t huttavel_background(huttavel *handle, uint32_t window, huttavel_cell *cell)
 {
-    return give_cell(ask_window(handle, window, BACKGROUND), cell);
+    return give_cell(property_of(handle, window, BACKGROUND), cell);
 }
 
 uint32_t huttavel_region(huttavel *handle, uint32_t window, uint32_t *top, uint32_t *bottom)
 {
-    return give(ask_window(handle, window, REGION), top, bottom);
+    return give(property_of(handle, window, REGION), top, bottom);
 }
 
 uint32_t huttavel_is_scroll_ok(huttavel *handle, uint32_t window, bool *on)
 {
-    return give_bool(ask_window(handle, window, IS_SCROLL_OK), on);
+    return give_bool(property_of(handle, window, IS_SCROLL_OK), on);
 }
 
 uint32_t huttavel_is_clear_ok(huttavel *handle, uint32_t window, bool *on)
 {
-    return give_bool(ask_window(handle, window, IS_CLEAR_OK), on);
+    return give_bool(property_of(handle, window, IS_CLEAR_OK), on);
 }
 
 uint32_t huttavel_is_leave_ok(huttavel *handle, uint32_t window, bool *on)
 {
-    return give_bool(ask_window(handle, window, IS_LEAVE_OK), on);
+    return give_bool(property_of(handle, window, IS_LEAVE_OK), on);
 }
 
 uint32_t huttavel_line_touched(huttavel *handle, uint32_t window, uint32_t row, bool *touched)
@@ -401,15 +406,15 @@ uint32_t huttavel_line_touched(huttavel *handle, uint32_t window, uint32_t row, 
 
 uint32_t huttavel_window_touched(huttavel *handle, uint32_t window, bool *touched)
 {
-    return give_bool(ask_window(handle, window, WINDOW_TOUCHED), touched);
+    return handle == NULL ? HUTTAVEL_CLOSED : give_bool(huttavel_held_window_touched(handle, window), touched);
 }
 
 uint32_t huttavel_wanted_cell(huttavel *handle, uint32_t row, uint32_t column, huttavel_cell *cell)
 {
-    return give_cell(ask_screen(handle, row, column, WANTED_CELL), cell);
+    return handle == NULL ? HUTTAVEL_CLOSED : give_cell(huttavel_held_wanted_cell(handle, row, column), cell);
 }
 
 uint32_t huttavel_wanted_cursor(huttavel *handle, uint32_t *row, uint32_t *column)
 {
-    return give(ask_screen(handle, 0, 0, WANTED_CURSOR), row, column);
+    return handle == NULL ? HUTTAVEL_CLOSED : give(huttavel_held_wanted_cursor(handle), row, column);
 }

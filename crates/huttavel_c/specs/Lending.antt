@@ -14,12 +14,12 @@ parent_reply None = refused 25
 -- What is asked by a number, of a window that is lent.
 unfoldable pub property_of_lent : ℕ → LentView → Reply
 property_of_lent kind lent =
-    if kind == 4 then parent_reply lent.window.frame.parent else
-    if kind == 5 then with_two (lent.window.state.attrs.0, lent.window.state.pair) else
-    if kind == 6 then with_cell lent.window.state.background else
-    if kind == 7 then with_two lent.window.state.region else
-    if kind == 8 then with_one (as_number lent.window.state.scroll_ok) else
-    if kind == 9 then with_one (as_number lent.window.state.clear_ok) else
+    if kind == 0 then parent_reply lent.window.frame.parent else
+    if kind == 1 then with_two (lent.window.state.attrs.0, lent.window.state.pair) else
+    if kind == 2 then with_cell lent.window.state.background else
+    if kind == 3 then with_two lent.window.state.region else
+    if kind == 4 then with_one (as_number lent.window.state.scroll_ok) else
+    if kind == 5 then with_one (as_number lent.window.state.clear_ok) else
     with_one (as_number lent.window.state.leave_ok)
 
 -- The same, if there is such a window.

@@ -1,8 +1,11 @@
 //! Calls on windows that give nothing: by a number, each one call of `curses::Screen`.
 ghost use Rattle.std.specs.Prelude.{if◌then◌else◌};
-ghost use Rattle.scr_windows.specs.Calls.Scrolling.{insert_delete_lines_call, scroll_call};
-ghost use Rattle.scr_windows.specs.Calls.Settings.{move_cursor_call};
-ghost use Rattle.huttavel_c.specs.Asking.{Asked, on_windows};
+ghost use Rattle.scr_virtual.specs.Pairs.{set_pair_call};
+ghost use Rattle.scr_windows.specs.Calls.Erasing.{clear_to_eol_call};
+ghost use Rattle.scr_windows.specs.Calls.Scrolling.{delete_byte_call, insert_delete_lines_call, scroll_call};
+ghost use Rattle.scr_windows.specs.Calls.Settings.{color_set_call, move_cursor_call, set_region_call};
+ghost use Rattle.scr_windows.specs.Calls.Touching.{touch_all_call};
+ghost use Rattle.huttavel_c.specs.Asking.{Asked, on_virtual, on_windows};
 ghost use Rattle.huttavel_c.specs.Families.{number_call, setting_call, window_call};
 ghost use Rattle.huttavel_c.specs.Replies.{done_number};
 
@@ -19,17 +22,37 @@ pub extern "C" fn huttavel_held_on_window(handle: &mut Handle, window: u32, kind
 {
     handle.lend(CLOSED, |session| match kind {
         0 => done(session.screen.delete(Win(window))),
-        1 => done(session.screen.clear_to_eol(Win(window))),
-        2 => done(session.screen.clear_to_bottom(Win(window))),
-        3 => done(session.screen.erase(Win(window))),
-        4 => done(session.screen.clear(Win(window))),
-        5 => done(session.screen.delete_byte(Win(window))),
-        6 => done(session.screen.touch_window(Win(window))),
-        7 => done(session.screen.untouch(Win(window))),
-        8 => done(session.screen.sync_up(Win(window))),
-        9 => done(session.screen.sync_down(Win(window))),
-        10 => done(session.screen.noutrefresh(Win(window))),
+        1 => done(session.screen.clear_to_bottom(Win(window))),
+        2 => done(session.screen.erase(Win(window))),
+        3 => done(session.screen.clear(Win(window))),
+        4 => done(session.screen.sync_up(Win(window))),
+        5 => done(session.screen.sync_down(Win(window))),
+        6 => done(session.screen.noutrefresh(Win(window))),
         _ => done(session.screen.redraw_window(Win(window))),
+    })
+}
+
+/// Touches all lines of a window, by `Screen::touch_window`, or untouches them, by `Screen::untouch`. Refused: CLOSED;
+/// NO_WINDOW.
+#[unsafe(no_mangle)]
+pub extern "C" fn huttavel_held_touch(handle: &mut Handle, window: u32, touched: bool) -> u32
+    ensures { Asked (λ screen. on_windows screen (touch_all_call screen.desk window touched)) done_number 1 handle.old.held.value handle.new.held.value result }
+{
+    handle.lend(CLOSED, |session| match touched {
+        true => done(session.screen.touch_window(Win(window))),
+        false => done(session.screen.untouch(Win(window))),
+    })
+}
+
+/// Deletes the byte at the cursor, by `Screen::delete_byte`, or erases to the end of the line, by
+/// `Screen::clear_to_eol`. Refused: CLOSED; NO_WINDOW.
+#[unsafe(no_mangle)]
+pub extern "C" fn huttavel_held_cut_line(handle: &mut Handle, window: u32, deletes: bool) -> u32
+    ensures { Asked (λ screen. on_windows screen (if deletes then delete_byte_call screen.desk window else clear_to_eol_call screen.desk window)) done_number 1 handle.old.held.value handle.new.held.value result }
+{
+    handle.lend(CLOSED, |session| match deletes {
+        true => done(session.screen.delete_byte(Win(window))),
+        false => done(session.screen.clear_to_eol(Win(window))),
     })
 }
 
@@ -49,8 +72,7 @@ pub extern "C" fn huttavel_held_move_cursor(
     })
 }
 
-/// A call on a window with one or two numbers, or on a colour pair, by its number in `enum number_call`. Refused:
-/// CLOSED; as the call.
+/// A call on a window with two numbers, by its number in `enum number_call`. Refused: CLOSED; as the call.
 #[unsafe(no_mangle)]
 #[tactic(auto, unfolding(crate::specs::Families::number_call))]
 pub extern "C" fn huttavel_held_with_numbers(
@@ -63,18 +85,56 @@ pub extern "C" fn huttavel_held_with_numbers(
     ensures { Asked (number_call kind window first second) done_number 1 handle.old.held.value handle.new.held.value result }
 {
     handle.lend(CLOSED, |session| match kind {
-        0 => done(session.screen.set_region(Win(window), first, second)),
-        1 => done(session.screen.move_window(Win(window), first, second)),
-        2 => done(session.screen.move_derived(Win(window), first, second)),
-        3 => done(session.screen.color_set(Win(window), first)),
-        4 => done(session.screen.touch_lines(Win(window), first, second, true)),
-        5 => done(
+        0 => done(session.screen.move_window(Win(window), first, second)),
+        1 => done(session.screen.move_derived(Win(window), first, second)),
+        2 => done(session.screen.touch_lines(Win(window), first, second, true)),
+        3 => done(
             session
                 .screen
                 .touch_lines(Win(window), first, second, false),
         ),
-        6 => done(session.screen.redraw_lines(Win(window), first, second)),
-        _ => done(session.screen.set_pair(window, first, second)),
+        _ => done(session.screen.redraw_lines(Win(window), first, second)),
+    })
+}
+
+/// Sets the first and the last row of the scrolling region, by `Screen::set_region`. Refused: CLOSED; NO_WINDOW;
+/// BAD_REGION.
+#[unsafe(no_mangle)]
+pub extern "C" fn huttavel_held_set_region(
+    handle: &mut Handle,
+    window: u32,
+    top: u32,
+    bottom: u32,
+) -> u32
+    ensures { Asked (λ screen. on_windows screen (set_region_call screen.desk window top bottom)) done_number 1 handle.old.held.value handle.new.held.value result }
+{
+    handle.lend(CLOSED, |session| {
+        done(session.screen.set_region(Win(window), top, bottom))
+    })
+}
+
+/// Sets the colour pair that bytes are written with, by `Screen::color_set`. Refused: CLOSED; NO_WINDOW; BAD_PAIR.
+#[unsafe(no_mangle)]
+pub extern "C" fn huttavel_held_color_set(handle: &mut Handle, window: u32, pair: u32) -> u32
+    ensures { Asked (λ screen. on_windows screen (color_set_call screen.desk window pair)) done_number 1 handle.old.held.value handle.new.held.value result }
+{
+    handle.lend(CLOSED, |session| {
+        done(session.screen.color_set(Win(window), pair))
+    })
+}
+
+/// Sets the colours of a pair, by `Screen::set_pair`. Refused: CLOSED; BAD_PAIR; BAD_COLOUR.
+#[unsafe(no_mangle)]
+pub extern "C" fn huttavel_held_set_pair(
+    handle: &mut Handle,
+    pair: u32,
+    foreground: u32,
+    background: u32,
+) -> u32
+    ensures { Asked (λ screen. on_virtual screen (set_pair_call screen.virtual pair foreground background)) done_number 1 handle.old.held.value handle.new.held.value result }
+{
+    handle.lend(CLOSED, |session| {
+        done(session.screen.set_pair(pair, foreground, background))
     })
 }
 

@@ -1,6 +1,6 @@
-//! What is asked of windows and of the screen: by a number, each one call of `curses::Screen`.
-ghost use Rattle.std.specs.Prelude.{◌≡◌, ◌≤◌};
-ghost use Rattle.scr_windows.specs.Calls.Reading.{cell_at_answer, line_touched_answer, window_answer};
+//! What is asked of windows and of the screen: each one call of `curses::Screen`, some by a number.
+ghost use Rattle.std.specs.Prelude.{◌≡◌, ◌≤◌, length};
+ghost use Rattle.scr_windows.specs.Calls.Reading.{cell_at_answer, line_touched_answer, nth_answer, window_answer, window_touched_answer};
 ghost use Rattle.huttavel_c.specs.Asking.{Asked, reading};
 ghost use Rattle.huttavel_c.specs.Families.{screen_reply, window_reply};
 ghost use Rattle.huttavel_c.specs.Giving.{unchanged};
@@ -11,7 +11,7 @@ ghost use Rattle.huttavel_c.specs.Showing.{colours_of, cursor_reply, nth_reply, 
 use crate::answers::{Reply, one, pair, refused, seen, three, touched, two};
 use crate::faults::{BAD_PAIR, CLOSED, NO_CURSOR, NO_PARENT, NO_WINDOW, OFF_SCREEN, window_number};
 use crate::handles::Handle;
-use curses::{Picture, Screen, Win, WindowRef};
+use curses::{Picture, Win, WindowRef};
 
 // What calls have set in a window that is lent.
 #[tactic(auto, unfolding(crate::specs::Lending::property_of_lent))]
@@ -19,50 +19,20 @@ fn property_of_lent(lent: &WindowRef<'_>, kind: u32) -> Reply
     ensures { result ≡ property_of_lent kind lent.now }
 {
     match kind {
-        4 => match lent.parent() {
+        0 => match lent.parent() {
             Some(window) => one(window.0),
             None => refused(NO_PARENT),
         },
-        5 => two((u32::from(lent.attrs().0), lent.pair())),
-        6 => three(lent.background()),
-        7 => two(lent.region()),
-        8 => one(u32::from(lent.scroll_ok())),
-        9 => one(u32::from(lent.clear_ok())),
+        1 => two((u32::from(lent.attrs().0), lent.pair())),
+        2 => three(lent.background()),
+        3 => two(lent.region()),
+        4 => one(u32::from(lent.scroll_ok())),
+        5 => one(u32::from(lent.clear_ok())),
         _ => one(u32::from(lent.leave_ok())),
     }
 }
 
-// The same of a window.
-fn property(screen: &Screen, kind: u32, window: Win) -> Reply
-    ensures { result ≡ property_reply kind (window_answer screen.now.desk window.0) }
-{
-    match screen.window(window) {
-        Ok(lent) => property_of_lent(&lent, kind),
-        Err(fault) => refused(window_number(fault)),
-    }
-}
-
-// A window at an index, if there is one.
-fn nth(found: Option<Win>) -> Reply
-    ensures { result ≡ nth_reply found }
-{
-    match found {
-        Some(window) => one(window.0),
-        None => refused(NO_WINDOW),
-    }
-}
-
-// The colours of a pair.
-fn colours(picture: &Picture, pair: u32) -> Reply
-    ensures { result ≡ colours_of picture.now.pairs pair }
-{
-    match picture.pair(pair) {
-        Some((foreground, background)) => two((u32::from(foreground), u32::from(background))),
-        None => refused(BAD_PAIR),
-    }
-}
-
-// The cell at a place.
+// The cell at a place of what is wanted.
 fn cell(picture: &Picture, row: u32, column: u32) -> Reply
     ensures { result ≡ wanted_reply picture.now row column }
 {
@@ -74,26 +44,8 @@ fn cell(picture: &Picture, row: u32, column: u32) -> Reply
     }
 }
 
-// Where the cursor is wanted.
-fn cursor(picture: &Picture) -> Reply
-    ensures { result ≡ cursor_reply picture.now.wish }
-{
-    match picture.wish() {
-        Some(place) => two(place),
-        None => refused(NO_CURSOR),
-    }
-}
-
-// The rows and the columns of the screen.
-fn size(screen: &Screen) -> Reply
-    ensures { result ≡ with_two (screen.now.desk.rows, screen.now.desk.columns) }
-{
-    let size = screen.screen();
-    two((size.rows, size.columns))
-}
-
-/// What is asked of a window, by its number in `enum window_question` of `held.h`. Refused: CLOSED; as the call;
-/// NO_PARENT of a window that is not a subwindow.
+/// The size, the cursor or the first place of a window, by its number in `enum window_question` of `held.h`. Refused:
+/// CLOSED; NO_WINDOW; IS_PAD of the place.
 #[unsafe(no_mangle)]
 #[tactic(auto, unfolding(crate::specs::Families::window_reply))]
 pub extern "C" fn huttavel_held_ask_window(handle: &mut Handle, window: u32, kind: u32) -> Reply
@@ -102,9 +54,21 @@ pub extern "C" fn huttavel_held_ask_window(handle: &mut Handle, window: u32, kin
     handle.lend(refused(CLOSED), |session| match kind {
         0 => pair(session.screen.size(Win(window))),
         1 => pair(session.screen.cursor(Win(window))),
-        2 => pair(session.screen.origin(Win(window))),
-        3 => touched(session.screen.window_touched(Win(window))),
-        _ => property(&session.screen, kind, Win(window)),
+        _ => pair(session.screen.origin(Win(window))),
+    })
+}
+
+/// What calls have set in a window, by its number in `enum property`. Refused: CLOSED; NO_WINDOW; NO_PARENT of a window
+/// that is not a subwindow.
+#[unsafe(no_mangle)]
+pub extern "C" fn huttavel_held_property(handle: &mut Handle, window: u32, kind: u32) -> Reply
+    ensures { Asked (λ screen. reading screen (property_reply kind (window_answer screen.desk window))) unchanged (refused 1) handle.old.held.value handle.new.held.value result }
+{
+    handle.lend(refused(CLOSED), |session| {
+        match session.screen.window(Win(window)) {
+            Ok(lent) => property_of_lent(&lent, kind),
+            Err(fault) => refused(window_number(fault)),
+        }
     })
 }
 
@@ -133,27 +97,88 @@ pub extern "C" fn huttavel_held_line_touched(handle: &mut Handle, window: u32, r
     })
 }
 
-/// What is asked of the screen, by its number in `enum screen_question`; some questions are about an index, a colour
-/// pair or a place. Refused: CLOSED; NO_WINDOW past the last index; BAD_PAIR; OFF_SCREEN; NO_CURSOR if the cursor is
-/// wanted nowhere.
+/// Whether any line is touched, by `Screen::window_touched`. Refused: CLOSED; NO_WINDOW.
+#[unsafe(no_mangle)]
+pub extern "C" fn huttavel_held_window_touched(handle: &mut Handle, window: u32) -> Reply
+    ensures { Asked (λ screen. reading screen (window_touched_answer screen.desk window)) touched_reply (refused 1) handle.old.held.value handle.new.held.value result }
+{
+    handle.lend(refused(CLOSED), |session| {
+        touched(session.screen.window_touched(Win(window)))
+    })
+}
+
+/// How many windows there are, the attributes that the terminal shows, or whether it shows colours, by its number in
+/// `enum screen_question`. Refused: CLOSED.
 #[unsafe(no_mangle)]
 #[tactic(auto, unfolding(crate::specs::Families::screen_reply))]
-pub extern "C" fn huttavel_held_ask_screen(
-    handle: &mut Handle,
-    first: u32,
-    second: u32,
-    kind: u32,
-) -> Reply
-    ensures { Asked (λ screen. reading screen (screen_reply kind first second screen)) unchanged (refused 1) handle.old.held.value handle.new.held.value result }
+pub extern "C" fn huttavel_held_ask_screen(handle: &mut Handle, kind: u32) -> Reply
+    ensures { Asked (λ screen. reading screen (screen_reply kind screen)) unchanged (refused 1) handle.old.held.value handle.new.held.value result }
 {
     handle.lend(refused(CLOSED), |session| match kind {
-        0 => size(&session.screen),
-        1 => one(session.screen.count() as u32),
-        2 => nth(session.screen.nth(first as usize)),
-        3 => one(u32::from(session.screen.shows().0)),
-        4 => one(u32::from(session.screen.colours())),
-        5 => colours(session.screen.picture(), first),
-        6 => cell(session.screen.picture(), first, second),
-        _ => cursor(session.screen.picture()),
+        0 => one(session.screen.count() as u32),
+        1 => one(u32::from(session.screen.shows().0)),
+        _ => one(u32::from(session.screen.colours())),
+    })
+}
+
+/// The rows and the columns of the screen. Refused: CLOSED.
+#[unsafe(no_mangle)]
+pub extern "C" fn huttavel_held_screen_size(handle: &mut Handle) -> Reply
+    ensures { Asked (λ screen. reading screen ((screen.desk.rows, screen.desk.columns))) with_two (refused 1) handle.old.held.value handle.new.held.value result }
+{
+    handle.lend(refused(CLOSED), |session| {
+        let size = session.screen.screen();
+        two((size.rows, size.columns))
+    })
+}
+
+/// The window at an index, by `Screen::nth`. Refused: CLOSED; NO_WINDOW past the last index.
+#[unsafe(no_mangle)]
+pub extern "C" fn huttavel_held_nth_window(handle: &mut Handle, index: u32) -> Reply
+    ensures { Asked (λ screen. reading screen (nth_answer screen.desk index)) nth_reply (refused 1) handle.old.held.value handle.new.held.value result }
+{
+    handle.lend(refused(CLOSED), |session| {
+        match session.screen.nth(index as usize) {
+            Some(window) => one(window.0),
+            None => refused(NO_WINDOW),
+        }
+    })
+}
+
+/// The colours of a pair. Refused: CLOSED; BAD_PAIR.
+#[unsafe(no_mangle)]
+pub extern "C" fn huttavel_held_pair_colours(handle: &mut Handle, pair: u32) -> Reply
+    ensures { Asked (λ screen. reading screen (colours_of screen.virtual.picture.pairs pair)) unchanged (refused 1) handle.old.held.value handle.new.held.value result }
+{
+    handle.lend(refused(CLOSED), |session| {
+        match session.screen.picture().pair(pair) {
+            Some((foreground, background)) => {
+                two((u32::from(foreground), u32::from(background)))
+            }
+            None => refused(BAD_PAIR),
+        }
+    })
+}
+
+/// The cell that the next update brings the terminal to at a place of the screen. Refused: CLOSED; OFF_SCREEN.
+#[unsafe(no_mangle)]
+pub extern "C" fn huttavel_held_wanted_cell(handle: &mut Handle, row: u32, column: u32) -> Reply
+    ensures { Asked (λ screen. reading screen (wanted_reply screen.virtual.picture row column)) unchanged (refused 1) handle.old.held.value handle.new.held.value result }
+{
+    handle.lend(refused(CLOSED), |session| {
+        cell(session.screen.picture(), row, column)
+    })
+}
+
+/// Where the next update wants the cursor. Refused: CLOSED; NO_CURSOR if it is wanted nowhere.
+#[unsafe(no_mangle)]
+pub extern "C" fn huttavel_held_wanted_cursor(handle: &mut Handle) -> Reply
+    ensures { Asked (λ screen. reading screen (screen.virtual.picture.wish)) cursor_reply (refused 1) handle.old.held.value handle.new.held.value result }
+{
+    handle.lend(refused(CLOSED), |session| {
+        match session.screen.picture().wish() {
+            Some(place) => two(place),
+            None => refused(NO_CURSOR),
+        }
     })
 }
