@@ -73,19 +73,15 @@ enum window_question {
 };
 
 enum property {
-    PARENT,
     WRITTEN_ATTRS,
-    BACKGROUND,
-    REGION,
+    PARENT,
+    REGION
+};
+
+enum on_or_off {
     IS_SCROLL_OK,
     IS_CLEAR_OK,
     IS_LEAVE_OK
-};
-
-enum screen_question {
-    WINDOW_COUNT,
-    SHOWN_ATTRS,
-    HAS_COLOURS
 };
 
 uint32_t huttavel_held_on_window(huttavel *handle, uint32_t window, uint32_t call);
@@ -116,10 +112,13 @@ uint32_t huttavel_held_pad_noutrefresh(huttavel *handle, uint32_t window, uint32
                                        uint32_t top, uint32_t left, uint32_t bottom, uint32_t right);
 reply huttavel_held_ask_window(huttavel *handle, uint32_t window, uint32_t question);
 reply huttavel_held_property(huttavel *handle, uint32_t window, uint32_t property);
+reply huttavel_held_is_on(huttavel *handle, uint32_t window, uint32_t setting);
+reply huttavel_held_background_of(huttavel *handle, uint32_t window);
 reply huttavel_held_cell_at(huttavel *handle, uint32_t window, uint32_t row, uint32_t column);
 reply huttavel_held_line_touched(huttavel *handle, uint32_t window, uint32_t row);
 reply huttavel_held_window_touched(huttavel *handle, uint32_t window);
-reply huttavel_held_ask_screen(huttavel *handle, uint32_t question);
+reply huttavel_held_window_count(huttavel *handle);
+reply huttavel_held_shows(huttavel *handle, bool colours);
 reply huttavel_held_screen_size(huttavel *handle);
 reply huttavel_held_nth_window(huttavel *handle, uint32_t index);
 reply huttavel_held_pair_colours(huttavel *handle, uint32_t pair);

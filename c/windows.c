@@ -67,9 +67,9 @@ static inline reply property_of(huttavel *handle, uint32_t window, uint32_t prop
     return handle == NULL ? closed : huttavel_held_property(handle, window, property);
 }
 
-static inline reply ask_screen(huttavel *handle, uint32_t question)
+static inline reply is_on(huttavel *handle, uint32_t window, uint32_t setting)
 {
-    return handle == NULL ? closed : huttavel_held_ask_screen(handle, question);
+    return handle == NULL ? closed : huttavel_held_is_on(handle, window, setting);
 }
 
 uint32_t huttavel_new_window(huttavel *handle, uint32_t rows, uint32_t columns, uint32_t row, uint32_t column,
@@ -321,7 +321,7 @@ uint32_t huttavel_screen_size(huttavel *handle, uint32_t *rows, uint32_t *column
 
 uint32_t huttavel_window_count(huttavel *handle, uint32_t *count)
 {
-    return give(ask_screen(handle, WINDOW_COUNT), count, NULL);
+    return handle == NULL ? HUTTAVEL_CLOSED : give(huttavel_held_window_count(handle), count, NULL);
 }
 
 uint32_t huttavel_nth_window(huttavel *handle, uint32_t index, uint32_t *window)
@@ -331,12 +331,12 @@ uint32_t huttavel_nth_window(huttavel *handle, uint32_t index, uint32_t *window)
 
 uint32_t huttavel_shown_attrs(huttavel *handle, uint8_t *attrs)
 {
-    return give_byte(ask_screen(handle, SHOWN_ATTRS), attrs, NULL);
+    return handle == NULL ? HUTTAVEL_CLOSED : give_byte(huttavel_held_shows(handle, false), attrs, NULL);
 }
 
 uint32_t huttavel_has_colours(huttavel *handle, bool *colours)
 {
-    return give_bool(ask_screen(handle, HAS_COLOURS), colours);
+    return handle == NULL ? HUTTAVEL_CLOSED : give_bool(huttavel_held_shows(handle, true), colours);
 }
 
 uint32_t huttavel_pair_colours(huttavel *handle, uint32_t pair, uint32_t *foreground, uint32_t *background)
@@ -376,7 +376,7 @@ uint32_t huttavel_written_attrs(huttavel *handle, uint32_t window, uint8_t *attr
 
 uint32_t huttavel_background(huttavel *handle, uint32_t window, huttavel_cell *cell)
 {
-    return give_cell(property_of(handle, window, BACKGROUND), cell);
+    return handle == NULL ? HUTTAVEL_CLOSED : give_cell(huttavel_held_background_of(handle, window), cell);
 }
 
 uint32_t huttavel_region(huttavel *handle, uint32_t window, uint32_t *top, uint32_t *bottom)
@@ -386,17 +386,17 @@ uint32_t huttavel_region(huttavel *handle, uint32_t window, uint32_t *top, uint3
 
 uint32_t huttavel_is_scroll_ok(huttavel *handle, uint32_t window, bool *on)
 {
-    return give_bool(property_of(handle, window, IS_SCROLL_OK), on);
+    return give_bool(is_on(handle, window, IS_SCROLL_OK), on);
 }
 
 uint32_t huttavel_is_clear_ok(huttavel *handle, uint32_t window, bool *on)
 {
-    return give_bool(property_of(handle, window, IS_CLEAR_OK), on);
+    return give_bool(is_on(handle, window, IS_CLEAR_OK), on);
 }
 
 uint32_t huttavel_is_leave_ok(huttavel *handle, uint32_t window, bool *on)
 {
-    return give_bool(property_of(handle, window, IS_LEAVE_OK), on);
+    return give_bool(is_on(handle, window, IS_LEAVE_OK), on);
 }
 
 uint32_t huttavel_line_touched(huttavel *handle, uint32_t window, uint32_t row, bool *touched)

@@ -1,7 +1,6 @@
 -- The calls that one function of the library makes, by a number: the first is 0, and a greater number than the last is
 -- the last.
-use Rattle.std.specs.Prelude.{ℕ, ◌==◌, true, false, length, not, Result, if◌then◌else◌}
-use Rattle.scr_term.specs.Operations.Profiles.{has_colours, shown_set}
+use Rattle.std.specs.Prelude.{ℕ, ◌==◌, true, false, not, Result, if◌then◌else◌}
 use Rattle.scr_virtual.specs.Taking.{take_window_call}
 use Rattle.scr_windows.specs.Calls.Erasing.{clear_call, clear_to_bottom_call, erase_call}
 use Rattle.scr_windows.specs.Calls.Making.{new_pad_call, new_window_call}
@@ -18,7 +17,7 @@ use Rattle.scr_windows.specs.declared.faults.WinFault.{WinFault}
 use Rattle.curses.specs.Refreshing.{lines_disturbed, redraw_lines_call, redraw_window_call, window_disturbed}
 use Rattle.curses.specs.ScreenStates.{ScreenState}
 use Rattle.huttavel_c.specs.Asking.{on_both, on_terminal, on_windows}
-use Rattle.huttavel_c.specs.Replies.{as_number, pair_reply, with_one}
+use Rattle.huttavel_c.specs.Replies.{pair_reply}
 use Rattle.huttavel_c.specs.declared.answers.Reply.{Reply}
 
 -- What a call leaves of a screen, and its answer.
@@ -71,10 +70,3 @@ window_reply kind window desk =
     if kind == 0 then pair_reply (size_answer desk window) else
     if kind == 1 then pair_reply (cursor_answer desk window) else
     pair_reply (origin_answer desk window)
-
--- What is asked of the screen.
-unfoldable pub screen_reply : ℕ → ScreenState → Reply
-screen_reply kind screen =
-    if kind == 0 then with_one (length screen.desk.windows) else
-    if kind == 1 then with_one (shown_set screen.profile) else
-    with_one (as_number (has_colours screen.profile))

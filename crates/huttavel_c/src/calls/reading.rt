@@ -1,11 +1,12 @@
 //! What is asked of windows and of the screen: each one call of `curses::Screen`, some by a number.
-ghost use Rattle.std.specs.Prelude.{◌≡◌, ◌≤◌, length};
+ghost use Rattle.std.specs.Prelude.{◌≡◌, ◌≤◌, length, if◌then◌else◌};
+ghost use Rattle.scr_term.specs.Operations.Profiles.{has_colours, shown_set};
 ghost use Rattle.scr_windows.specs.Calls.Reading.{cell_at_answer, line_touched_answer, nth_answer, window_answer, window_touched_answer};
 ghost use Rattle.huttavel_c.specs.Asking.{Asked, reading};
-ghost use Rattle.huttavel_c.specs.Families.{screen_reply, window_reply};
+ghost use Rattle.huttavel_c.specs.Families.{window_reply};
 ghost use Rattle.huttavel_c.specs.Giving.{unchanged};
-ghost use Rattle.huttavel_c.specs.Lending.{property_of_lent, property_reply};
-ghost use Rattle.huttavel_c.specs.Replies.{refused, seen_reply, touched_reply, with_two};
+ghost use Rattle.huttavel_c.specs.Lending.{lent_reply, property_of_lent, setting_of_lent};
+ghost use Rattle.huttavel_c.specs.Replies.{as_number, refused, seen_reply, touched_reply, with_cell, with_one, with_two};
 ghost use Rattle.huttavel_c.specs.Showing.{colours_of, cursor_reply, nth_reply, wanted_reply};
 
 use crate::answers::{Reply, one, pair, refused, seen, three, touched, two};
@@ -19,15 +20,23 @@ fn property_of_lent(lent: &WindowRef<'_>, kind: u32) -> Reply
     ensures { result ≡ property_of_lent kind lent.now }
 {
     match kind {
-        0 => match lent.parent() {
+        0 => two((u32::from(lent.attrs().0), lent.pair())),
+        1 => match lent.parent() {
             Some(window) => one(window.0),
             None => refused(NO_PARENT),
         },
-        1 => two((u32::from(lent.attrs().0), lent.pair())),
-        2 => three(lent.background()),
-        3 => two(lent.region()),
-        4 => one(u32::from(lent.scroll_ok())),
-        5 => one(u32::from(lent.clear_ok())),
+        _ => two(lent.region()),
+    }
+}
+
+// The settings of a window that is lent which are on or off.
+#[tactic(auto, unfolding(crate::specs::Lending::setting_of_lent))]
+fn setting_of_lent(lent: &WindowRef<'_>, kind: u32) -> Reply
+    ensures { result ≡ setting_of_lent kind lent.now }
+{
+    match kind {
+        0 => one(u32::from(lent.scroll_ok())),
+        1 => one(u32::from(lent.clear_ok())),
         _ => one(u32::from(lent.leave_ok())),
     }
 }
@@ -58,15 +67,41 @@ pub extern "C" fn huttavel_held_ask_window(handle: &mut Handle, window: u32, kin
     })
 }
 
-/// What calls have set in a window, by its number in `enum property`. Refused: CLOSED; NO_WINDOW; NO_PARENT of a window
-/// that is not a subwindow.
+/// The attributes and the pair that bytes are written with in a window, its parent, or its scrolling region, by its
+/// number in `enum property`. Refused: CLOSED; NO_WINDOW; NO_PARENT of a window that is not a subwindow.
 #[unsafe(no_mangle)]
 pub extern "C" fn huttavel_held_property(handle: &mut Handle, window: u32, kind: u32) -> Reply
-    ensures { Asked (λ screen. reading screen (property_reply kind (window_answer screen.desk window))) unchanged (refused 1) handle.old.held.value handle.new.held.value result }
+    ensures { Asked (λ screen. reading screen (lent_reply (property_of_lent kind) (window_answer screen.desk window))) unchanged (refused 1) handle.old.held.value handle.new.held.value result }
 {
     handle.lend(refused(CLOSED), |session| {
         match session.screen.window(Win(window)) {
             Ok(lent) => property_of_lent(&lent, kind),
+            Err(fault) => refused(window_number(fault)),
+        }
+    })
+}
+
+/// Whether a setting of a window is on, by its number in `enum on_or_off`. Refused: CLOSED; NO_WINDOW.
+#[unsafe(no_mangle)]
+pub extern "C" fn huttavel_held_is_on(handle: &mut Handle, window: u32, kind: u32) -> Reply
+    ensures { Asked (λ screen. reading screen (lent_reply (setting_of_lent kind) (window_answer screen.desk window))) unchanged (refused 1) handle.old.held.value handle.new.held.value result }
+{
+    handle.lend(refused(CLOSED), |session| {
+        match session.screen.window(Win(window)) {
+            Ok(lent) => setting_of_lent(&lent, kind),
+            Err(fault) => refused(window_number(fault)),
+        }
+    })
+}
+
+/// The background of a window. Refused: CLOSED; NO_WINDOW.
+#[unsafe(no_mangle)]
+pub extern "C" fn huttavel_held_background_of(handle: &mut Handle, window: u32) -> Reply
+    ensures { Asked (λ screen. reading screen (lent_reply (λ lent. with_cell lent.window.state.background) (window_answer screen.desk window))) unchanged (refused 1) handle.old.held.value handle.new.held.value result }
+{
+    handle.lend(refused(CLOSED), |session| {
+        match session.screen.window(Win(window)) {
+            Ok(lent) => three(lent.background()),
             Err(fault) => refused(window_number(fault)),
         }
     })
@@ -107,17 +142,24 @@ pub extern "C" fn huttavel_held_window_touched(handle: &mut Handle, window: u32)
     })
 }
 
-/// How many windows there are, the attributes that the terminal shows, or whether it shows colours, by its number in
-/// `enum screen_question`. Refused: CLOSED.
+/// How many windows there are. Refused: CLOSED.
 #[unsafe(no_mangle)]
-#[tactic(auto, unfolding(crate::specs::Families::screen_reply))]
-pub extern "C" fn huttavel_held_ask_screen(handle: &mut Handle, kind: u32) -> Reply
-    ensures { Asked (λ screen. reading screen (screen_reply kind screen)) unchanged (refused 1) handle.old.held.value handle.new.held.value result }
+pub extern "C" fn huttavel_held_window_count(handle: &mut Handle) -> Reply
+    ensures { Asked (λ screen. reading screen (length screen.desk.windows)) with_one (refused 1) handle.old.held.value handle.new.held.value result }
 {
-    handle.lend(refused(CLOSED), |session| match kind {
-        0 => one(session.screen.count() as u32),
-        1 => one(u32::from(session.screen.shows().0)),
-        _ => one(u32::from(session.screen.colours())),
+    handle.lend(refused(CLOSED), |session| {
+        one(session.screen.count() as u32)
+    })
+}
+
+/// Whether the terminal shows colours, or which attributes it shows. Refused: CLOSED.
+#[unsafe(no_mangle)]
+pub extern "C" fn huttavel_held_shows(handle: &mut Handle, colours: bool) -> Reply
+    ensures { Asked (λ screen. reading screen (if colours then as_number (has_colours screen.profile) else shown_set screen.profile)) with_one (refused 1) handle.old.held.value handle.new.held.value result }
+{
+    handle.lend(refused(CLOSED), |session| match colours {
+        true => one(u32::from(session.screen.colours())),
+        false => one(u32::from(session.screen.shows().0)),
     })
 }
 

@@ -2,8 +2,8 @@
 use Rattle.std.proofs.Common.{◌≡◌, ℕ, List, [], ◌∷◌, refl, sym, subst}
 use mir.Syntax.{named}
 use mir.Val.{Val, vptr}
-use base.Logic.{SProp, ent, sep}
-use base.Fml.{Lft, GName, Share, Fml, ftrue, flft, fsep}
+use base.Logic.{ent, sep}
+use base.Fml.{GName, Fml, ftrue, flft, fsep}
 use base.Fraction.{full_share}
 use seplogic.Ra.Ura.{Ura}
 use types.Logic.{Logic, sem}
