@@ -138,13 +138,13 @@ static inline bool is_piece(const uint8_t *bytes, size_t length)
 }
 
 /* Writes numbers of a reply through the pointers that are there, unless the call was refused. */
-static inline uint32_t give(reply came, uint32_t *first, uint32_t *second)
+static inline uint32_t give(reply answer, uint32_t *first, uint32_t *second)
 {
-    if (came.fault == HUTTAVEL_OK && first != NULL)
-        *first = came.first;
-    if (came.fault == HUTTAVEL_OK && second != NULL)
-        *second = came.second;
-    return came.fault;
+    if (answer.fault == HUTTAVEL_OK && first != NULL)
+        *first = answer.first;
+    if (answer.fault == HUTTAVEL_OK && second != NULL)
+        *second = answer.second;
+    return answer.fault;
 }
 
 #endif

@@ -7,30 +7,30 @@
 static const uint8_t no_bytes[1] = {0};
 
 /* A truth value, unless the call was refused. */
-static uint32_t give_bool(reply came, bool *on)
+static uint32_t give_bool(reply answer, bool *on)
 {
-    if (came.fault == HUTTAVEL_OK && on != NULL)
-        *on = came.first != 0;
-    return came.fault;
+    if (answer.fault == HUTTAVEL_OK && on != NULL)
+        *on = answer.first != 0;
+    return answer.fault;
 }
 
 /* A set of attributes, and a number. */
-static uint32_t give_byte(reply came, uint8_t *attrs, uint32_t *pair)
+static uint32_t give_byte(reply answer, uint8_t *attrs, uint32_t *pair)
 {
-    if (came.fault == HUTTAVEL_OK && attrs != NULL)
-        *attrs = (uint8_t)came.first;
-    return give(came, NULL, pair);
+    if (answer.fault == HUTTAVEL_OK && attrs != NULL)
+        *attrs = (uint8_t)answer.first;
+    return give(answer, NULL, pair);
 }
 
 /* A cell. */
-static uint32_t give_cell(reply came, huttavel_cell *cell)
+static uint32_t give_cell(reply answer, huttavel_cell *cell)
 {
-    if (came.fault == HUTTAVEL_OK && cell != NULL) {
-        cell->byte = (uint8_t)came.first;
-        cell->attrs = (uint8_t)came.second;
-        cell->pair = (uint8_t)came.third;
+    if (answer.fault == HUTTAVEL_OK && cell != NULL) {
+        cell->byte = (uint8_t)answer.first;
+        cell->attrs = (uint8_t)answer.second;
+        cell->pair = (uint8_t)answer.third;
     }
-    return came.fault;
+    return answer.fault;
 }
 
 /* The functions that make several calls, of a handle that may be NULL. */

@@ -69,30 +69,30 @@ pub(crate) fn three(cell: Cell) -> Reply
 }
 
 /// The answer of a call that has no result.
-pub(crate) fn done(came: Result<(), WinFault>) -> u32
-    ensures { result ≡ done_number came }
+pub(crate) fn done(answer: Result<(), WinFault>) -> u32
+    ensures { result ≡ done_number answer }
 {
-    match came {
+    match answer {
         Ok(()) => 0,
         Err(fault) => window_number(fault),
     }
 }
 
 /// The answer of a call that makes a window: its number.
-pub(crate) fn made(came: Result<Win, WinFault>) -> Reply
-    ensures { result ≡ made_reply came }
+pub(crate) fn made(answer: Result<Win, WinFault>) -> Reply
+    ensures { result ≡ made_reply answer }
 {
-    match came {
+    match answer {
         Ok(win) => one(win.0),
         Err(fault) => refused(window_number(fault)),
     }
 }
 
 /// The answer of a call that adds bytes: 1 if the cursor stayed.
-pub(crate) fn added(came: Result<Added, WinFault>) -> Reply
-    ensures { result ≡ added_reply came }
+pub(crate) fn added(answer: Result<Added, WinFault>) -> Reply
+    ensures { result ≡ added_reply answer }
 {
-    match came {
+    match answer {
         Ok(Added::Done) => one(0),
         Ok(Added::Stayed) => one(1),
         Err(fault) => refused(window_number(fault)),
@@ -100,30 +100,30 @@ pub(crate) fn added(came: Result<Added, WinFault>) -> Reply
 }
 
 /// The answer of a call that gives two numbers.
-pub(crate) fn pair(came: Result<(u32, u32), WinFault>) -> Reply
-    ensures { result ≡ pair_reply came }
+pub(crate) fn pair(answer: Result<(u32, u32), WinFault>) -> Reply
+    ensures { result ≡ pair_reply answer }
 {
-    match came {
+    match answer {
         Ok(numbers) => two(numbers),
         Err(fault) => refused(window_number(fault)),
     }
 }
 
 /// The answer of a call that reads a cell.
-pub(crate) fn seen(came: Result<Cell, WinFault>) -> Reply
-    ensures { result ≡ seen_reply came }
+pub(crate) fn seen(answer: Result<Cell, WinFault>) -> Reply
+    ensures { result ≡ seen_reply answer }
 {
-    match came {
+    match answer {
         Ok(cell) => three(cell),
         Err(fault) => refused(window_number(fault)),
     }
 }
 
 /// The answer of a call that says whether lines are touched: 1 if they are.
-pub(crate) fn touched(came: Result<bool, WinFault>) -> Reply
-    ensures { result ≡ touched_reply came }
+pub(crate) fn touched(answer: Result<bool, WinFault>) -> Reply
+    ensures { result ≡ touched_reply answer }
 {
-    match came {
+    match answer {
         Ok(touched) => one(u32::from(touched)),
         Err(fault) => refused(window_number(fault)),
     }

@@ -11,10 +11,10 @@ use crate::handles::Handle;
 use curses::{Key, KeyFault};
 
 // The answer of a call that reads bytes.
-fn read(came: Result<(), KeyFault>) -> u32
-    ensures { result ≡ read_number came }
+fn read(answer: Result<(), KeyFault>) -> u32
+    ensures { result ≡ read_number answer }
 {
-    match came {
+    match answer {
         Ok(()) => 0,
         Err(fault) => key_number(fault),
     }

@@ -49,10 +49,10 @@ impl Session {
 }
 
 // The answer of a start or a finish.
-fn sent(came: Result<u64, SendFault>) -> u32
-    ensures { result ≡ sent_number came }
+fn sent(answer: Result<u64, SendFault>) -> u32
+    ensures { result ≡ sent_number answer }
 {
-    match came {
+    match answer {
         Ok(_) => 0,
         Err(fault) => send_number(fault),
     }

@@ -1,4 +1,4 @@
-//! Calls on windows that give nothing: by a number, each one call of `curses::Screen`.
+//! Calls on windows that give nothing: each is one call of `curses::Screen`, which a number or a truth value may choose.
 ghost use Rattle.std.specs.Prelude.{if◌then◌else◌};
 ghost use Rattle.scr_virtual.specs.Pairs.{set_pair_call};
 ghost use Rattle.scr_windows.specs.Calls.Erasing.{clear_to_eol_call};
@@ -84,16 +84,15 @@ pub extern "C" fn huttavel_held_with_numbers(
 ) -> u32
     ensures { Asked (number_call kind window first second) done_number 1 handle.old.held.value handle.new.held.value result }
 {
-    handle.lend(CLOSED, |session| match kind {
-        0 => done(session.screen.move_window(Win(window), first, second)),
-        1 => done(session.screen.move_derived(Win(window), first, second)),
-        2 => done(session.screen.touch_lines(Win(window), first, second, true)),
-        3 => done(
-            session
-                .screen
-                .touch_lines(Win(window), first, second, false),
-        ),
-        _ => done(session.screen.redraw_lines(Win(window), first, second)),
+    handle.lend(CLOSED, |session| {
+        let (screen, win) = (&mut session.screen, Win(window));
+        match kind {
+            0 => done(screen.move_window(win, first, second)),
+            1 => done(screen.move_derived(win, first, second)),
+            2 => done(screen.touch_lines(win, first, second, true)),
+            3 => done(screen.touch_lines(win, first, second, false)),
+            _ => done(screen.redraw_lines(win, first, second)),
+        }
     })
 }
 
