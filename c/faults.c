@@ -1,4 +1,4 @@
-/* The texts of faults: those of the library's own errors, and of what only C can do wrong. */
+/* The texts of errors: the library's own, and those that only a C program can make. */
 #include "huttavel.h"
 
 /* What is said of one number. */

@@ -1,7 +1,7 @@
 /* What the C functions share: the functions of the proved library, and what becomes of their replies.
  *
- * Behind the functions of huttavel.h stand these, which want a handle and bytes that are there and give their results
- * by value. Some make several calls, and are told by a number which. huttavel_held_key_byte takes one byte.
+ * The functions of huttavel.h call these, which want a handle and bytes that exist, and give their results by value.
+ * Some make several calls: a number says which. huttavel_held_key_byte reads one byte.
  */
 #ifndef HUTTAVEL_HELD_H
 #define HUTTAVEL_HELD_H
@@ -32,13 +32,9 @@ reply huttavel_held_next_key(huttavel *handle);
 /* The calls of a function that makes several, in the order of their definitions in the proved library. */
 enum window_call {
     DELETE,
-    CLEAR_TO_EOL,
     CLEAR_TO_BOTTOM,
     ERASE,
     CLEAR,
-    DELETE_BYTE,
-    TOUCH_WINDOW,
-    UNTOUCH,
     SYNC_UP,
     SYNC_DOWN,
     NOUTREFRESH,
@@ -46,14 +42,11 @@ enum window_call {
 };
 
 enum number_call {
-    SET_REGION,
     MOVE_WINDOW,
     MOVE_DERIVED,
-    COLOR_SET,
     TOUCH_LINES,
     UNTOUCH_LINES,
-    REDRAW_LINES,
-    SET_PAIR
+    REDRAW_LINES
 };
 
 enum setting_call {
@@ -76,33 +69,29 @@ enum making_call {
 enum window_question {
     SIZE,
     CURSOR,
-    ORIGIN,
-    CELL_AT,
-    LINE_TOUCHED,
-    WINDOW_TOUCHED,
-    PARENT,
+    ORIGIN
+};
+
+enum property {
     WRITTEN_ATTRS,
-    BACKGROUND,
-    REGION,
+    PARENT,
+    REGION
+};
+
+enum on_or_off {
     IS_SCROLL_OK,
     IS_CLEAR_OK,
     IS_LEAVE_OK
 };
 
-enum screen_question {
-    SCREEN_SIZE,
-    WINDOW_COUNT,
-    NTH_WINDOW,
-    SHOWN_ATTRS,
-    HAS_COLOURS,
-    PAIR_COLOURS,
-    WANTED_CELL,
-    WANTED_CURSOR
-};
-
 uint32_t huttavel_held_on_window(huttavel *handle, uint32_t window, uint32_t call);
+uint32_t huttavel_held_touch(huttavel *handle, uint32_t window, bool touched);
+uint32_t huttavel_held_cut_line(huttavel *handle, uint32_t window, bool deletes);
 uint32_t huttavel_held_move_cursor(huttavel *handle, uint32_t window, uint32_t row, uint32_t column);
 uint32_t huttavel_held_with_numbers(huttavel *handle, uint32_t window, uint32_t first, uint32_t second, uint32_t call);
+uint32_t huttavel_held_set_region(huttavel *handle, uint32_t window, uint32_t top, uint32_t bottom);
+uint32_t huttavel_held_color_set(huttavel *handle, uint32_t window, uint32_t pair);
+uint32_t huttavel_held_set_pair(huttavel *handle, uint32_t pair, uint32_t foreground, uint32_t background);
 uint32_t huttavel_held_set(huttavel *handle, uint32_t window, uint8_t bits, uint32_t call);
 uint32_t huttavel_held_move_lines(huttavel *handle, uint32_t window, int32_t n, bool scrolls);
 reply huttavel_held_add_byte(huttavel *handle, uint32_t window, uint8_t byte, uint8_t attrs);
@@ -121,8 +110,20 @@ uint32_t huttavel_held_copy(huttavel *handle, uint32_t source, uint32_t target, 
 uint32_t huttavel_held_copy_common(huttavel *handle, uint32_t source, uint32_t target, bool overlays);
 uint32_t huttavel_held_pad_noutrefresh(huttavel *handle, uint32_t window, uint32_t row, uint32_t column,
                                        uint32_t top, uint32_t left, uint32_t bottom, uint32_t right);
-reply huttavel_held_ask_window(huttavel *handle, uint32_t window, uint32_t row, uint32_t column, uint32_t question);
-reply huttavel_held_ask_screen(huttavel *handle, uint32_t first, uint32_t second, uint32_t question);
+reply huttavel_held_ask_window(huttavel *handle, uint32_t window, uint32_t question);
+reply huttavel_held_property(huttavel *handle, uint32_t window, uint32_t property);
+reply huttavel_held_is_on(huttavel *handle, uint32_t window, uint32_t setting);
+reply huttavel_held_background_of(huttavel *handle, uint32_t window);
+reply huttavel_held_cell_at(huttavel *handle, uint32_t window, uint32_t row, uint32_t column);
+reply huttavel_held_line_touched(huttavel *handle, uint32_t window, uint32_t row);
+reply huttavel_held_window_touched(huttavel *handle, uint32_t window);
+reply huttavel_held_window_count(huttavel *handle);
+reply huttavel_held_shows(huttavel *handle, bool colours);
+reply huttavel_held_screen_size(huttavel *handle);
+reply huttavel_held_nth_window(huttavel *handle, uint32_t index);
+reply huttavel_held_pair_colours(huttavel *handle, uint32_t pair);
+reply huttavel_held_wanted_cell(huttavel *handle, uint32_t row, uint32_t column);
+reply huttavel_held_wanted_cursor(huttavel *handle);
 
 /* Whether a handle is NULL or closed. */
 static inline bool is_closed(const huttavel *handle)
@@ -137,13 +138,13 @@ static inline bool is_piece(const uint8_t *bytes, size_t length)
 }
 
 /* Writes numbers of a reply through the pointers that are there, unless the call was refused. */
-static inline uint32_t give(reply came, uint32_t *first, uint32_t *second)
+static inline uint32_t give(reply answer, uint32_t *first, uint32_t *second)
 {
-    if (came.fault == HUTTAVEL_OK && first != NULL)
-        *first = came.first;
-    if (came.fault == HUTTAVEL_OK && second != NULL)
-        *second = came.second;
-    return came.fault;
+    if (answer.fault == HUTTAVEL_OK && first != NULL)
+        *first = answer.first;
+    if (answer.fault == HUTTAVEL_OK && second != NULL)
+        *second = answer.second;
+    return answer.fault;
 }
 
 #endif

@@ -9,18 +9,18 @@ static const uint8_t no_bytes[1] = {0};
 uint32_t huttavel_open(huttavel *handle, const uint8_t *entry, size_t length, uint32_t rows, uint32_t columns,
                        huttavel_capability *which)
 {
-    reply came;
+    reply answer;
 
     if (handle == NULL)
         return HUTTAVEL_CLOSED;
     if (!is_piece(entry, length))
         return HUTTAVEL_BAD_LENGTH;
-    came = huttavel_held_open(handle, length == 0 ? no_bytes : entry, length, rows, columns);
-    if (came.fault >= HUTTAVEL_UNSUITABLE && which != NULL) {
-        which->kind = came.first;
-        which->position = came.second;
+    answer = huttavel_held_open(handle, length == 0 ? no_bytes : entry, length, rows, columns);
+    if (answer.fault >= HUTTAVEL_UNSUITABLE && which != NULL) {
+        which->kind = answer.first;
+        which->position = answer.second;
     }
-    return came.fault;
+    return answer.fault;
 }
 
 uint32_t huttavel_open_bundled(huttavel *handle, uint32_t rows, uint32_t columns)
@@ -101,14 +101,14 @@ uint32_t huttavel_key_bytes(huttavel *handle, const uint8_t *bytes, size_t lengt
 
 uint32_t huttavel_next_key(huttavel *handle, huttavel_key *key)
 {
-    reply came;
+    reply answer;
 
     if (is_closed(handle))
         return HUTTAVEL_CLOSED;
-    came = huttavel_held_next_key(handle);
-    if (came.fault == HUTTAVEL_OK && key != NULL) {
-        key->kind = came.first;
-        key->code = came.second;
+    answer = huttavel_held_next_key(handle);
+    if (answer.fault == HUTTAVEL_OK && key != NULL) {
+        key->kind = answer.first;
+        key->code = answer.second;
     }
-    return came.fault;
+    return answer.fault;
 }

@@ -7,30 +7,30 @@
 static const uint8_t no_bytes[1] = {0};
 
 /* A truth value, unless the call was refused. */
-static uint32_t give_bool(reply came, bool *on)
+static uint32_t give_bool(reply answer, bool *on)
 {
-    if (came.fault == HUTTAVEL_OK && on != NULL)
-        *on = came.first != 0;
-    return came.fault;
+    if (answer.fault == HUTTAVEL_OK && on != NULL)
+        *on = answer.first != 0;
+    return answer.fault;
 }
 
 /* A set of attributes, and a number. */
-static uint32_t give_byte(reply came, uint8_t *attrs, uint32_t *pair)
+static uint32_t give_byte(reply answer, uint8_t *attrs, uint32_t *pair)
 {
-    if (came.fault == HUTTAVEL_OK && attrs != NULL)
-        *attrs = (uint8_t)came.first;
-    return give(came, NULL, pair);
+    if (answer.fault == HUTTAVEL_OK && attrs != NULL)
+        *attrs = (uint8_t)answer.first;
+    return give(answer, NULL, pair);
 }
 
 /* A cell. */
-static uint32_t give_cell(reply came, huttavel_cell *cell)
+static uint32_t give_cell(reply answer, huttavel_cell *cell)
 {
-    if (came.fault == HUTTAVEL_OK && cell != NULL) {
-        cell->byte = (uint8_t)came.first;
-        cell->attrs = (uint8_t)came.second;
-        cell->pair = (uint8_t)came.third;
+    if (answer.fault == HUTTAVEL_OK && cell != NULL) {
+        cell->byte = (uint8_t)answer.first;
+        cell->attrs = (uint8_t)answer.second;
+        cell->pair = (uint8_t)answer.third;
     }
-    return came.fault;
+    return answer.fault;
 }
 
 /* The functions that make several calls, of a handle that may be NULL. */
@@ -57,14 +57,19 @@ static inline reply make(huttavel *handle, uint32_t window, uint32_t rows, uint3
     return handle == NULL ? closed : huttavel_held_make(handle, window, rows, columns, row, column, call);
 }
 
-static inline reply ask_window(huttavel *handle, uint32_t window, uint32_t row, uint32_t column, uint32_t question)
+static inline reply ask_window(huttavel *handle, uint32_t window, uint32_t question)
 {
-    return handle == NULL ? closed : huttavel_held_ask_window(handle, window, row, column, question);
+    return handle == NULL ? closed : huttavel_held_ask_window(handle, window, question);
 }
 
-static inline reply ask_screen(huttavel *handle, uint32_t first, uint32_t second, uint32_t question)
+static inline reply property_of(huttavel *handle, uint32_t window, uint32_t property)
 {
-    return handle == NULL ? closed : huttavel_held_ask_screen(handle, first, second, question);
+    return handle == NULL ? closed : huttavel_held_property(handle, window, property);
+}
+
+static inline reply is_on(huttavel *handle, uint32_t window, uint32_t setting)
+{
+    return handle == NULL ? closed : huttavel_held_is_on(handle, window, setting);
 }
 
 uint32_t huttavel_new_window(huttavel *handle, uint32_t rows, uint32_t columns, uint32_t row, uint32_t column,
@@ -152,7 +157,7 @@ uint32_t huttavel_border(huttavel *handle, uint32_t window, const uint8_t bytes[
 
 uint32_t huttavel_clear_to_eol(huttavel *handle, uint32_t window)
 {
-    return on_window(handle, window, CLEAR_TO_EOL);
+    return handle == NULL ? HUTTAVEL_CLOSED : huttavel_held_cut_line(handle, window, false);
 }
 
 uint32_t huttavel_clear_to_bottom(huttavel *handle, uint32_t window)
@@ -172,7 +177,7 @@ uint32_t huttavel_clear(huttavel *handle, uint32_t window)
 
 uint32_t huttavel_delete_byte(huttavel *handle, uint32_t window)
 {
-    return on_window(handle, window, DELETE_BYTE);
+    return handle == NULL ? HUTTAVEL_CLOSED : huttavel_held_cut_line(handle, window, true);
 }
 
 uint32_t huttavel_insert_delete_lines(huttavel *handle, uint32_t window, int32_t n)
@@ -202,7 +207,7 @@ uint32_t huttavel_move_cursor(huttavel *handle, uint32_t window, uint32_t row, u
 
 uint32_t huttavel_set_region(huttavel *handle, uint32_t window, uint32_t top, uint32_t bottom)
 {
-    return with_numbers(handle, window, top, bottom, SET_REGION);
+    return handle == NULL ? HUTTAVEL_CLOSED : huttavel_held_set_region(handle, window, top, bottom);
 }
 
 uint32_t huttavel_scroll_ok(huttavel *handle, uint32_t window, bool on)
@@ -237,17 +242,17 @@ uint32_t huttavel_attr_set(huttavel *handle, uint32_t window, uint8_t attrs)
 
 uint32_t huttavel_color_set(huttavel *handle, uint32_t window, uint32_t pair)
 {
-    return with_numbers(handle, window, pair, 0, COLOR_SET);
+    return handle == NULL ? HUTTAVEL_CLOSED : huttavel_held_color_set(handle, window, pair);
 }
 
 uint32_t huttavel_touch_window(huttavel *handle, uint32_t window)
 {
-    return on_window(handle, window, TOUCH_WINDOW);
+    return handle == NULL ? HUTTAVEL_CLOSED : huttavel_held_touch(handle, window, true);
 }
 
 uint32_t huttavel_untouch(huttavel *handle, uint32_t window)
 {
-    return on_window(handle, window, UNTOUCH);
+    return handle == NULL ? HUTTAVEL_CLOSED : huttavel_held_touch(handle, window, false);
 }
 
 uint32_t huttavel_touch_lines(huttavel *handle, uint32_t window, uint32_t first, uint32_t n, bool changed)
@@ -296,7 +301,7 @@ uint32_t huttavel_pad_noutrefresh(huttavel *handle, uint32_t window, uint32_t ro
 
 uint32_t huttavel_set_pair(huttavel *handle, uint32_t pair, uint32_t foreground, uint32_t background)
 {
-    return with_numbers(handle, pair, foreground, background, SET_PAIR);
+    return handle == NULL ? HUTTAVEL_CLOSED : huttavel_held_set_pair(handle, pair, foreground, background);
 }
 
 uint32_t huttavel_redraw_window(huttavel *handle, uint32_t window)
@@ -311,105 +316,105 @@ uint32_t huttavel_redraw_lines(huttavel *handle, uint32_t window, uint32_t first
 
 uint32_t huttavel_screen_size(huttavel *handle, uint32_t *rows, uint32_t *columns)
 {
-    return give(ask_screen(handle, 0, 0, SCREEN_SIZE), rows, columns);
+    return handle == NULL ? HUTTAVEL_CLOSED : give(huttavel_held_screen_size(handle), rows, columns);
 }
 
 uint32_t huttavel_window_count(huttavel *handle, uint32_t *count)
 {
-    return give(ask_screen(handle, 0, 0, WINDOW_COUNT), count, NULL);
+    return handle == NULL ? HUTTAVEL_CLOSED : give(huttavel_held_window_count(handle), count, NULL);
 }
 
 uint32_t huttavel_nth_window(huttavel *handle, uint32_t index, uint32_t *window)
 {
-    return give(ask_screen(handle, index, 0, NTH_WINDOW), window, NULL);
+    return handle == NULL ? HUTTAVEL_CLOSED : give(huttavel_held_nth_window(handle, index), window, NULL);
 }
 
 uint32_t huttavel_shown_attrs(huttavel *handle, uint8_t *attrs)
 {
-    return give_byte(ask_screen(handle, 0, 0, SHOWN_ATTRS), attrs, NULL);
+    return handle == NULL ? HUTTAVEL_CLOSED : give_byte(huttavel_held_shows(handle, false), attrs, NULL);
 }
 
 uint32_t huttavel_has_colours(huttavel *handle, bool *colours)
 {
-    return give_bool(ask_screen(handle, 0, 0, HAS_COLOURS), colours);
+    return handle == NULL ? HUTTAVEL_CLOSED : give_bool(huttavel_held_shows(handle, true), colours);
 }
 
 uint32_t huttavel_pair_colours(huttavel *handle, uint32_t pair, uint32_t *foreground, uint32_t *background)
 {
-    return give(ask_screen(handle, pair, 0, PAIR_COLOURS), foreground, background);
+    return handle == NULL ? HUTTAVEL_CLOSED : give(huttavel_held_pair_colours(handle, pair), foreground, background);
 }
 
 uint32_t huttavel_size(huttavel *handle, uint32_t window, uint32_t *rows, uint32_t *columns)
 {
-    return give(ask_window(handle, window, 0, 0, SIZE), rows, columns);
+    return give(ask_window(handle, window, SIZE), rows, columns);
 }
 
 uint32_t huttavel_cursor(huttavel *handle, uint32_t window, uint32_t *row, uint32_t *column)
 {
-    return give(ask_window(handle, window, 0, 0, CURSOR), row, column);
+    return give(ask_window(handle, window, CURSOR), row, column);
 }
 
 uint32_t huttavel_origin(huttavel *handle, uint32_t window, uint32_t *row, uint32_t *column)
 {
-    return give(ask_window(handle, window, 0, 0, ORIGIN), row, column);
+    return give(ask_window(handle, window, ORIGIN), row, column);
 }
 
 uint32_t huttavel_parent(huttavel *handle, uint32_t window, uint32_t *parent)
 {
-    return give(ask_window(handle, window, 0, 0, PARENT), parent, NULL);
+    return give(property_of(handle, window, PARENT), parent, NULL);
 }
 
 uint32_t huttavel_cell_at(huttavel *handle, uint32_t window, uint32_t row, uint32_t column, huttavel_cell *cell)
 {
-    return give_cell(ask_window(handle, window, row, column, CELL_AT), cell);
+    return handle == NULL ? HUTTAVEL_CLOSED : give_cell(huttavel_held_cell_at(handle, window, row, column), cell);
 }
 
 uint32_t huttavel_written_attrs(huttavel *handle, uint32_t window, uint8_t *attrs, uint32_t *pair)
 {
-    return give_byte(ask_window(handle, window, 0, 0, WRITTEN_ATTRS), attrs, pair);
+    return give_byte(property_of(handle, window, WRITTEN_ATTRS), attrs, pair);
 }
 
 uint32_t huttavel_background(huttavel *handle, uint32_t window, huttavel_cell *cell)
 {
-    return give_cell(ask_window(handle, window, 0, 0, BACKGROUND), cell);
+    return handle == NULL ? HUTTAVEL_CLOSED : give_cell(huttavel_held_background_of(handle, window), cell);
 }
 
 uint32_t huttavel_region(huttavel *handle, uint32_t window, uint32_t *top, uint32_t *bottom)
 {
-    return give(ask_window(handle, window, 0, 0, REGION), top, bottom);
+    return give(property_of(handle, window, REGION), top, bottom);
 }
 
 uint32_t huttavel_is_scroll_ok(huttavel *handle, uint32_t window, bool *on)
 {
-    return give_bool(ask_window(handle, window, 0, 0, IS_SCROLL_OK), on);
+    return give_bool(is_on(handle, window, IS_SCROLL_OK), on);
 }
 
 uint32_t huttavel_is_clear_ok(huttavel *handle, uint32_t window, bool *on)
 {
-    return give_bool(ask_window(handle, window, 0, 0, IS_CLEAR_OK), on);
+    return give_bool(is_on(handle, window, IS_CLEAR_OK), on);
 }
 
 uint32_t huttavel_is_leave_ok(huttavel *handle, uint32_t window, bool *on)
 {
-    return give_bool(ask_window(handle, window, 0, 0, IS_LEAVE_OK), on);
+    return give_bool(is_on(handle, window, IS_LEAVE_OK), on);
 }
 
 uint32_t huttavel_line_touched(huttavel *handle, uint32_t window, uint32_t row, bool *touched)
 {
-    return give_bool(ask_window(handle, window, row, 0, LINE_TOUCHED), touched);
+    return handle == NULL ? HUTTAVEL_CLOSED : give_bool(huttavel_held_line_touched(handle, window, row), touched);
 }
 
 uint32_t huttavel_window_touched(huttavel *handle, uint32_t window, bool *touched)
 {
-    return give_bool(ask_window(handle, window, 0, 0, WINDOW_TOUCHED), touched);
+    return handle == NULL ? HUTTAVEL_CLOSED : give_bool(huttavel_held_window_touched(handle, window), touched);
 }
 
 uint32_t huttavel_wanted_cell(huttavel *handle, uint32_t row, uint32_t column, huttavel_cell *cell)
 {
-    return give_cell(ask_screen(handle, row, column, WANTED_CELL), cell);
+    return handle == NULL ? HUTTAVEL_CLOSED : give_cell(huttavel_held_wanted_cell(handle, row, column), cell);
 }
 
 uint32_t huttavel_wanted_cursor(huttavel *handle, uint32_t *row, uint32_t *column)
 {
-    return give(ask_screen(handle, 0, 0, WANTED_CURSOR), row, column);
+    return handle == NULL ? HUTTAVEL_CLOSED : give(huttavel_held_wanted_cursor(handle), row, column);
 }

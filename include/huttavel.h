@@ -79,7 +79,7 @@ enum huttavel_fault {
     /* Of the handle and of what was given with it. */
     HUTTAVEL_CLOSED = 1,     /* the handle is NULL or closed */
     HUTTAVEL_IS_OPEN = 2,    /* the handle holds a screen already */
-    HUTTAVEL_BAD_LENGTH = 3, /* bytes are NULL and their number is not 0, or there can be no so many bytes */
+    HUTTAVEL_BAD_LENGTH = 3, /* bytes are NULL and their number is not 0, or there cannot be so many bytes */
     HUTTAVEL_NO_MEMORY = 4,  /* memory ran out */
     /* Of windows. */
     HUTTAVEL_NO_WINDOW = 10,     /* there is no window of this number */
@@ -97,28 +97,28 @@ enum huttavel_fault {
     HUTTAVEL_TOO_MANY = 22,      /* there are 1,000 windows, or 4,294,967,295 were made after the first */
     HUTTAVEL_BAD_PAIR = 23,      /* a number that no colour pair has */
     HUTTAVEL_BAD_COLOUR = 24,    /* a number that no colour has */
-    HUTTAVEL_NO_PARENT = 25,     /* the window is no subwindow */
+    HUTTAVEL_NO_PARENT = 25,     /* the window is not a subwindow */
     HUTTAVEL_NO_CURSOR = 26,     /* the terminal's cursor is not wanted anywhere in particular */
     /* Of keys and of bytes that wait. */
-    HUTTAVEL_QUEUE_FULL = 30,   /* too many keys wait to be taken */
+    HUTTAVEL_QUEUE_FULL = 30,   /* too many keys are queued */
     HUTTAVEL_NO_KEY = 31,       /* no key is queued */
     HUTTAVEL_WRITE_FAILED = 32, /* memory ran out for the bytes of an update, a start or a finish */
-    HUTTAVEL_NOT_WAITING = 33,  /* fewer bytes wait than were said to be taken */
-    /* Of a compiled entry: it is not read. */
+    HUTTAVEL_NOT_WAITING = 33,  /* fewer bytes wait than were said to be accepted */
+    /* Of a compiled entry that cannot be read. */
     HUTTAVEL_TOO_LARGE = 40,       /* there are more than 32,768 bytes */
     HUTTAVEL_TRUNCATED = 41,       /* the bytes end before the file does */
-    HUTTAVEL_BAD_MAGIC = 42,       /* the bytes are no compiled entry */
+    HUTTAVEL_BAD_MAGIC = 42,       /* the bytes are not a compiled entry */
     HUTTAVEL_BAD_COUNT = 43,       /* the header has a count that no file can have */
     HUTTAVEL_BAD_NAMES = 44,       /* the names have no end, or break the rule for names */
     HUTTAVEL_BAD_OFFSET = 45,      /* a string begins outside the string table */
     HUTTAVEL_UNENDED_STRING = 46,  /* a string has no end in the string table */
-    /* Of an entry: it makes no screen. UNSUITABLE, MISSING, both about strings and the last name a capability. */
+    /* Of an entry that no screen can be opened on. UNSUITABLE, MISSING, and the last three are about a capability. */
     HUTTAVEL_UNSUITABLE = 50,   /* the terminal prints, overstrikes, or cannot show cells independently */
     HUTTAVEL_AUTO_MARGIN = 51,  /* `am` without `xenl`: a character in the last place would scroll the screen */
     HUTTAVEL_MISSING = 52,      /* `cup` or `clear` is absent, or only padding */
     HUTTAVEL_NO_SIZE = 53,      /* no size is given, and `lines` or `cols` is absent */
     HUTTAVEL_BAD_SIZE = 54,     /* the rows or the columns are not 1 to 500 */
-    HUTTAVEL_BAD_STRING = 55,   /* a text is no parameter string, or needs a stack of more than 20 values */
+    HUTTAVEL_BAD_STRING = 55,   /* a text is not a parameter string, or needs a stack of more than 20 values */
     HUTTAVEL_LONG_STRING = 56,  /* a text may give more than 1,024 bytes */
     HUTTAVEL_KEY_TOO_LONG = 57  /* a key's text has more than 64 bytes */
 };
@@ -139,8 +139,8 @@ typedef struct huttavel_key {
     uint32_t code;
 } huttavel_key;
 
-/* The text of a fault, without a line's end. It is valid for as long as the program runs; of a number that is no fault
- * it is "unknown fault". */
+/* The text of an error, without an end of line. It is valid for as long as the program runs. For a number that is not
+ * in `enum huttavel_fault` it is "unknown fault". */
 const char *huttavel_fault_text(uint32_t fault);
 
 /* ---- Opening and closing */
@@ -149,7 +149,7 @@ const char *huttavel_fault_text(uint32_t fault);
  * it has the entry's own size, `lines` and `cols`. Nothing is sent. It has one blank window over the whole screen, and
  * nothing is known of what the terminal shows.
  * Refused: HUTTAVEL_CLOSED only if the handle is NULL; HUTTAVEL_BAD_LENGTH; HUTTAVEL_IS_OPEN; HUTTAVEL_BAD_SIZE if
- * only one of both is 0, or one is above 500; the faults of a compiled entry; those of an entry, and `which`, if it is
+ * only one of both is 0, or one is above 500; the errors of a compiled entry; those of an entry, and `which`, if it is
  * not NULL, gets the capability that they are about; HUTTAVEL_NO_MEMORY. X/Open Curses Issue 7, newterm(). */
 uint32_t huttavel_open(huttavel *handle, const uint8_t *entry, size_t length, uint32_t rows, uint32_t columns,
                        huttavel_capability *which);
@@ -166,11 +166,11 @@ bool huttavel_is_open(const huttavel *handle);
 /* ---- Bytes for the terminal
  *
  * Starts, updates and finishes make bytes, and these wait inside, in order, until the program has written them. A
- * program asks for them with huttavel_bytes, writes as many as the descriptor takes, and says how many with
- * huttavel_took. If the descriptor would block, it goes on later: nothing is lost, and more updates may come before. */
+ * program asks for them with huttavel_bytes, writes as many as the descriptor accepts, and says how many with
+ * huttavel_took. If the descriptor would block, it goes on later: nothing is lost, and there may be updates before. */
 
-/* The opening text of the entry, `smcup` and `smkx`. Nothing is known of the terminal then, so the next update repaints
- * everything. Refused: HUTTAVEL_WRITE_FAILED as by huttavel_doupdate. X/Open Curses Issue 7, initscr(). */
+/* The opening text of the entry, `smcup` and `smkx`. After it nothing is known of the terminal, so the next update
+ * repaints everything. Refused: HUTTAVEL_WRITE_FAILED as by huttavel_doupdate. X/Open Curses Issue 7, initscr(). */
 uint32_t huttavel_start(huttavel *handle);
 
 /* What turns all attributes off and moves the cursor to the last line, then the closing text of the entry, `rmkx` and
@@ -191,11 +191,11 @@ size_t huttavel_waiting(huttavel *handle);
  * 0 of a closed handle, or if `bytes` is NULL. */
 size_t huttavel_bytes(huttavel *handle, uint8_t *bytes, size_t room);
 
-/* The terminal took this many of the bytes that wait; the rest goes on waiting. Refused: HUTTAVEL_NOT_WAITING. */
+/* The terminal accepted this many of the bytes that wait; the rest goes on waiting. Refused: HUTTAVEL_NOT_WAITING. */
 uint32_t huttavel_took(huttavel *handle, size_t count);
 
 /* A write failed, or others wrote to the terminal: nothing is known of what it shows, so the next update repaints
- * everything. Bytes that wait go on waiting, since the terminal may have taken the beginning of one of their texts. */
+ * everything. Bytes that wait go on waiting, since the terminal may have accepted the beginning of a text. */
 uint32_t huttavel_failed(huttavel *handle);
 
 /* ---- Keys */

@@ -139,10 +139,10 @@ uint32_t huttavel_overwrite(huttavel *handle, uint32_t source, uint32_t target);
 
 /* ---- The virtual screen */
 
-/* Takes a window onto the virtual screen. Refused: IS_PAD. wnoutrefresh(). */
+/* Copies a window to the virtual screen. Refused: IS_PAD. wnoutrefresh(). */
 uint32_t huttavel_noutrefresh(huttavel *handle, uint32_t window);
 
-/* Takes a part of a pad, from `row` and `column` on, onto a rectangle of the screen. Refused: NOT_PAD, OFF_SCREEN if
+/* Copies a part of a pad, from `row` and `column` on, to a rectangle of the screen. Refused: NOT_PAD, OFF_SCREEN if
  * the corners are the wrong way round, OUT_OF_WINDOW, OFF_SCREEN. pnoutrefresh(). */
 uint32_t huttavel_pad_noutrefresh(huttavel *handle, uint32_t window, uint32_t row, uint32_t column, uint32_t top,
                                   uint32_t left, uint32_t bottom, uint32_t right);

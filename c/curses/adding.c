@@ -43,7 +43,7 @@ int waddch(WINDOW *window, const chtype character)
         return ERR;
     if (byte_of(character) != '\t')
         return add_character(window, character, 1);
-    /* A tab is blanks with the window's attributes as long as it ends in its line; the library's has none. */
+    /* A tab that ends in its line is blanks with the window's attributes; those of the library's tab have none. */
     count = 8 - getcurx(window) % 8;
     if (getcurx(window) + count >= window->columns)
         return add_character(window, character, 1);

@@ -1,4 +1,4 @@
-/* The compiled entry of a terminal's name: where it lies, and what the shim itself reads of it (terminfo(5), 'Fetching
+/* The compiled entry of a terminal's name: where it is, and what the shim itself reads of it (terminfo(5), 'Fetching
    Compiled Descriptions'; term(5)). */
 
 /* The positions of the strings that are sent here and by no update, and of those that has_ic() and has_il() ask for. */
@@ -40,7 +40,7 @@ static struct text read_file(const char *path)
     return text;
 }
 
-/* Reads the entry of a name in a folder, where it lies below its first letter or the letter's code. */
+/* Reads the entry of a name from a folder: it is in the subfolder of its first letter, or of the letter's code. */
 static struct text read_in(const char *folder, size_t length, const char *name)
 {
     struct text text = {NULL, 0};

@@ -1,6 +1,6 @@
 /* The modes of the terminal's line (POSIX, 'General Terminal Interface'). */
 
-/* Sets the line to modes, and keeps them as those of the program if they were taken. */
+/* Sets the line to modes, and keeps them as those of the program if they were accepted. */
 static int set_program(SCREEN *screen, const struct termios *modes)
 {
     if (!screen || (screen->is_terminal && tcsetattr(screen->input, TCSADRAIN, modes) < 0))
@@ -93,7 +93,7 @@ int meta(WINDOW *window, bool on)
     return on ? change_modes(0, 0, 0, ISTRIP) : change_modes(0, 0, ISTRIP, 0);
 }
 
-/* Accepted: no update waits for what is typed. */
+/* Has no effect: no update is delayed by what is typed. */
 int typeahead(int descriptor)
 {
     (void)descriptor;

@@ -153,7 +153,7 @@ SCREEN *set_term(SCREEN *screen)
     return before;
 }
 
-/* Opens a screen, takes the terminal, and chooses the screen. */
+/* Opens a screen, takes over the terminal, and chooses the screen. */
 static SCREEN *opened_screen(const char *type, FILE *output, FILE *input, const char **reason)
 {
     const char *delay = getenv("ESCDELAY");

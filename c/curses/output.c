@@ -18,7 +18,7 @@ int delay_output(int milliseconds)
     return napms(milliseconds);
 }
 
-/* Waits until a descriptor takes bytes. */
+/* Waits until a descriptor accepts bytes. */
 static void wait_for_room(int descriptor)
 {
     struct pollfd asked;
@@ -29,7 +29,7 @@ static void wait_for_room(int descriptor)
     poll(&asked, 1, -1);
 }
 
-/* Writes at most so many bytes: how many were taken, 0 if none could be now, -1 if none can be. */
+/* Writes at most so many bytes: how many were accepted, 0 if none are accepted now, -1 if none ever will be. */
 static ssize_t write_some(int descriptor, const uint8_t *bytes, size_t count)
 {
     ssize_t taken = write(descriptor, bytes, count);
@@ -71,7 +71,7 @@ static void make_room(struct text *text, size_t count)
     }
 }
 
-/* Writes the bytes that wait, in one call if the terminal takes them all. ERR if a write failed: they go on waiting. */
+/* Writes the bytes that wait, in one call if the terminal accepts them all. ERR if a write failed: they still wait. */
 static int write_waiting(SCREEN *screen)
 {
     struct text *text = &screen->waiting;
@@ -90,7 +90,7 @@ static int write_waiting(SCREEN *screen)
     return huttavel_waiting(&screen->handle) ? ERR : OK;
 }
 
-/* Writes a string of the entry behind all that waits. Its padding, `$<5>`, is time that passes: terminfo(5), 'Delays
+/* Writes a string of the entry after all that waits. Its padding, `$<5>`, is time that passes: terminfo(5), 'Delays
    and Padding'. ERR without a string. */
 static int write_string(SCREEN *screen, const char *text)
 {

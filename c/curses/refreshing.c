@@ -1,4 +1,4 @@
-/* Updates, and which lines they take. */
+/* Updates, and which lines they copy. */
 
 /* A window over the whole screen that nothing is written on: it moves the terminal's cursor, and names all rows. */
 static WINDOW *whole_window(SCREEN *screen)
@@ -19,7 +19,7 @@ static WINDOW *whole_window(SCREEN *screen)
     return window;
 }
 
-/* Takes the terminal for updates again, after endwin(). */
+/* Takes over the terminal for updates again, after endwin(). */
 static void resume(SCREEN *screen)
 {
     if (!screen->has_ended)
@@ -58,7 +58,7 @@ int doupdate(void)
     return current ? update(current) : ERR;
 }
 
-/* Takes a window. Of curscr all rows are repainted. */
+/* Copies a window to the virtual screen. For curscr, all rows are repainted. */
 int wnoutrefresh(WINDOW *window)
 {
     if (!window)
@@ -78,7 +78,7 @@ int wrefresh(WINDOW *window)
     return update(window->screen);
 }
 
-/* Takes a part of a pad. What does not lie in the pad is left out, and places before its first count as the first. */
+/* Copies a part of a pad. What is outside the pad is left out, and places before its first count as the first. */
 int pnoutrefresh(WINDOW *pad, int row, int column, int top, int left, int bottom, int right)
 {
     if (!pad || !pad->is_pad)
@@ -105,7 +105,7 @@ int prefresh(WINDOW *pad, int row, int column, int top, int left, int bottom, in
 }
 
 /* Moves the terminal's cursor now. The place where it was is known, so the first two numbers are not looked at; what
-   was taken and not sent yet goes first. */
+   was copied and is not sent yet goes first. */
 int mvcur(int old_row, int old_column, int row, int column)
 {
     WINDOW *window = current ? whole_window(current) : NULL;

@@ -85,7 +85,7 @@ static void copy_settings(WINDOW *window, huttavel *to, uint32_t number, const s
     huttavel_touch_window(to, number);
 }
 
-/* Makes a window in the other handle: a fault, or its number there. */
+/* Makes a window in the other handle: an error, or its number there. */
 static uint32_t make_again(const WINDOW *window, huttavel *to, uint32_t parent, const struct plan *plan, uint32_t *made)
 {
     uint32_t rows = (uint32_t)plan->rows.length, columns = (uint32_t)plan->columns.length;

@@ -25,7 +25,7 @@ struct huttavel_curses_window {
     uint8_t attrs;             /* what bytes are written with */
     uint32_t pair;
     bool is_pad;
-    bool has_moved;            /* the cursor was moved since the window was taken last */
+    bool has_moved;            /* the cursor was moved since the window was copied last */
     bool is_keypad;
     bool is_untimed;           /* notimeout() */
     int delay;                 /* how long getch() waits: milliseconds, or -1 */

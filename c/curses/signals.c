@@ -9,7 +9,7 @@ static const int ending[] = {SIGHUP, SIGINT, SIGQUIT, SIGTERM};
 /* Whether stop_program() is under way, so that SIGCONT is no news. */
 static volatile sig_atomic_t is_stopping;
 
-/* Writes bytes from a handler. What a terminal does not take is lost. */
+/* Writes bytes from a handler. What a terminal does not accept is lost. */
 static void write_marked(int descriptor, const uint8_t *bytes, size_t count)
 {
     while (count > 0) {
@@ -43,7 +43,7 @@ static void leave_terminal(const SCREEN *screen)
         tcsetattr(screen->input, TCSADRAIN, &screen->shell);
 }
 
-/* Takes the terminal again. What it shows is repainted by the next update, or by a call that waits for a key. */
+/* Takes over the terminal again. What it shows is repainted by the next update, or by a call that waits for a key. */
 static void enter_terminal(SCREEN *screen)
 {
     if (screen->is_terminal)

@@ -26,7 +26,7 @@ int vwprintw(WINDOW *window, const char *format, va_list values)
     return vw_printw(window, format, values);
 }
 
-/* A call of the two that take a va_list with the values behind `last`. */
+/* A call of the two that take a va_list with the values after `last`. */
 #define WITH_VALUES(call, window, format)                                                                    \
     va_list values;                                                                                          \
     int done;                                                                                                \

@@ -25,7 +25,7 @@ static WINDOW *spare_window(SCREEN *screen)
     return window;
 }
 
-/* A window behind the others of its screen, if one was made of that number; otherwise its memory is freed. */
+/* A window after the others of its screen, if one was made of that number; otherwise its memory is freed. */
 static WINDOW *kept_window(WINDOW *window, uint32_t fault)
 {
     WINDOW **end = &window->screen->windows;

@@ -239,7 +239,7 @@ static void call(void)
         break;
     case 6:
     case 7:
-        /* From a place of its own: behind a written last place others wait with the wrap. */
+        /* From a place of its own: others wait with the wrap after the last place was written. */
         move_in(window);
         take_from(window);
         break;
@@ -260,7 +260,7 @@ static void call(void)
     }
 }
 
-/* Windows are taken whole: where they overlap, it depends on the library which cells of a changed line are taken. */
+/* Windows are copied whole: where they overlap, it depends on the library which cells of a changed line are. */
 static void update(void)
 {
     int n;

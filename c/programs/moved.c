@@ -107,7 +107,7 @@ static void move_places(void)
     }
 }
 
-/* Other attributes for what stands somewhere. */
+/* Other attributes for what is somewhere. */
 static void restyle(void)
 {
     int row = below(ROWS), column = below(COLUMNS), end = column + below(COLUMNS - column);
@@ -151,7 +151,7 @@ static void draw(void)
     refresh();
 }
 
-/* The letter of a place's attributes: A, and behind it 1 for bold, 2 for underlined, 4 for reverse. */
+/* The letter of a place's attributes: A, and 1 letter on for bold, 2 for underlined, 4 for reverse. */
 static int letter_of(chtype cell)
 {
     return 'A' + ((cell & A_BOLD) ? 1 : 0) + ((cell & A_UNDERLINE) ? 2 : 0) + ((cell & A_REVERSE) ? 4 : 0);

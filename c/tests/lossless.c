@@ -1,5 +1,5 @@
-/* Nothing is lost: not by an allocation that fails, whichever it is, nor by a descriptor that takes a few bytes at a time
- * or fails. At the end a terminal that was sent all of it shows what the screen wants.
+/* Nothing is lost: not by an allocation that fails, whichever it is, nor by a descriptor that accepts a few bytes at a
+ * time or fails. At the end a terminal that was sent all of it shows what the screen wants.
  *
  * Linked with --wrap=malloc and --wrap=realloc.
  */
@@ -112,7 +112,7 @@ static bool with_refused(unsigned long number)
     return huttavel_close(&handle) == HUTTAVEL_OK && drawn;
 }
 
-/* Updates of random texts, of which the terminal takes what it will; now and then it fails, and shows anything then. */
+/* Updates of random texts, of which the terminal accepts some; now and then it fails, and then it shows anything. */
 static bool in_pieces(void)
 {
     huttavel handle = HUTTAVEL_CLOSED_HANDLE;

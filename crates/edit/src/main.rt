@@ -6,7 +6,7 @@
 //! next byte as it is, `^L` paints anew, `^Z` suspends.
 //!
 //! With `--script` the keys come from a script on standard input, and what an emulated terminal shows is printed. The
-//! status is 0, 1 for a fault and 2 for a usage error.
+//! status is 0, 1 for an error and 2 for a usage error.
 #![tactic(auto)]
 
 mod words;

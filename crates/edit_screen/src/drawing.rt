@@ -30,7 +30,7 @@ pub(crate) fn prepare(screen: &mut Screen) {
     }
 }
 
-/// Draws the editor, and takes the screen's window onto the virtual screen. A screen of one row shows the last row's
+/// Draws the editor, and copies the screen's window to the virtual screen. A screen of one row shows the last row's
 /// messages in place of a line.
 pub(crate) fn draw(screen: &mut Screen, editor: &mut Editor) {
     let size = screen.screen();
@@ -113,7 +113,7 @@ fn draw_bytes(screen: &mut Screen, bytes: &[u8], room: &mut Room) {
     }
 }
 
-// Draws the form of a byte that is not printable in bold, so that it is not taken for the same characters in the text.
+// Draws the form of a byte that is not printable in bold, to tell it from the same characters in the text.
 fn draw_form(screen: &mut Screen, byte: u8, room: &mut Room) {
     let form = form_of(byte);
     let _ = screen.attr_on(Win(0), Attrs::BOLD);
@@ -131,7 +131,7 @@ fn draw_piece(screen: &mut Screen, text: &[u8], room: &mut Room) {
     room.left -= count;
 }
 
-// Draws the last row, and gives the column behind what it says.
+// Draws the last row, and gives the column after what it says.
 fn draw_status(screen: &mut Screen, editor: &Editor, row: u32, columns: usize) -> u32 {
     let _ = screen.move_cursor(Win(0), row, 0);
     let _ = screen.attr_set(Win(0), Attrs::REVERSE);
@@ -160,7 +160,7 @@ fn draw_status(screen: &mut Screen, editor: &Editor, row: u32, columns: usize) -
     low(end)
 }
 
-// Draws what is said of the last key and the file's name, or else the name and where the cursor is. A star behind the
+// Draws what is said of the last key and the file's name, or else the name and where the cursor is. A star after the
 // name says that the text was changed.
 fn draw_state(screen: &mut Screen, editor: &Editor, room: &mut Room) {
     if !editor.message.is_empty() {

@@ -8,7 +8,7 @@ use curses::{Key, keys};
 use edit_text::{EditFault, Place, Text};
 use std::alloc::Global;
 
-/// How the next key is taken.
+/// How the next key is read.
 #[derive(Clone, Copy, PartialEq, Eq)]
 pub(crate) enum Mode {
     /// As a command, or as a byte of the text.
@@ -94,7 +94,7 @@ impl Editor {
         column_of(self.line(), self.cursor.column)
     }
 
-    /// Takes a key; `page` is how many lines are shown.
+    /// Does what a key asks for; `page` is how many lines are shown.
     pub(crate) fn press(&mut self, key: Key, page: usize) -> Request {
         let before = self.sequence;
         self.sequence = before.after(key);
@@ -108,12 +108,12 @@ impl Editor {
         self.press_command(command_of(key), page)
     }
 
-    /// No key came for a while: what comes then is not behind an escape.
+    /// No key came for a while: what comes next does not follow an escape.
     pub(crate) fn pause(&mut self) {
         self.sequence = Sequence::Outside;
     }
 
-    /// Inserts a byte as it is, in place of taking a key; a line feed splits the line.
+    /// Inserts a byte as it is, in place of reading it as a key; a line feed splits the line.
     pub(crate) fn insert_literally(&mut self, byte: u8) {
         self.message = Message::Nothing;
         self.mode = Mode::Text;
@@ -124,7 +124,7 @@ impl Editor {
         }
     }
 
-    // Takes a key of what is looked for; enter begins the search. Answers whether it was one: any other key ends the
+    // Reads a key of what is looked for; enter begins the search. Answers whether it was one: any other key ends the
     // question, and does what it does else.
     fn press_in_find(&mut self, key: Key) -> bool {
         match key {
@@ -201,7 +201,7 @@ impl Editor {
         self.arrive(done, behind);
     }
 
-    // Takes the cursor to the place behind an edit, or says why there was none.
+    // Moves the cursor to the place after an edit, or says why there was none.
     fn arrive(&mut self, done: Result<(), EditFault>, place: Place) {
         match done {
             Ok(()) => self.go_to(place),
@@ -209,7 +209,7 @@ impl Editor {
         }
     }
 
-    // Deletes what is at a place, and takes the cursor there.
+    // Deletes what is at a place, and moves the cursor there.
     fn delete(&mut self, place: Place) {
         match self.text.delete(place) {
             Ok(_) => self.go_to(place),
@@ -237,7 +237,7 @@ impl Editor {
         self.needle.clear();
     }
 
-    // Takes the cursor to the next place behind it where what is looked for stands.
+    // Moves the cursor to the next place after it where what is looked for occurs.
     fn find(&mut self) {
         let behind = Place {
             line: self.cursor.line,
@@ -249,13 +249,13 @@ impl Editor {
         }
     }
 
-    // Takes the cursor to a place, whose column it keeps to from then on.
+    // Moves the cursor to a place, whose column it keeps to from then on.
     fn go_to(&mut self, place: Place) {
         self.cursor = place;
         self.goal = self.column();
     }
 
-    // Takes the cursor to a line, or the last, in the column that it keeps to.
+    // Moves the cursor to a line, or the last, in the column that it keeps to.
     fn go_to_line(&mut self, line: usize) {
         let last = self.text.line_count().saturating_sub(1);
         self.cursor.line = line.min(last);
@@ -286,7 +286,7 @@ impl Editor {
         }
     }
 
-    // Shows the lines from one on, and takes the cursor to a line.
+    // Shows the lines from one on, and moves the cursor to a line.
     fn turn_to(&mut self, top: usize, line: usize) {
         self.top = top;
         self.go_to_line(line);
@@ -312,7 +312,7 @@ impl Editor {
         Some(Place { line, column })
     }
 
-    // The place behind the cursor: `None` at the end of the text.
+    // The place after the cursor: `None` at the end of the text.
     fn place_behind(&self) -> Option<Place> {
         let Place { line, column } = self.cursor;
         if column < self.line().len() {

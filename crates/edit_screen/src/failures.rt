@@ -18,9 +18,9 @@ pub enum EditFailure {
     NoTerm,
     /// The terminal's entry cannot be read.
     Entry(DatabaseFault),
-    /// There is no screen for the entry.
+    /// No screen can be opened on the entry.
     Screen(#[from] OpenFault),
-    /// The terminal takes no output.
+    /// The terminal accepts no output.
     Output,
     /// The terminal cannot be read.
     Input,
@@ -28,7 +28,7 @@ pub enum EditFailure {
     Ended,
     /// The words of the command line, or the script, are not UTF-8 text.
     NotText,
-    /// This line of a script, counted from 1, is no command.
+    /// This line of a script, counted from 1, is not a command.
     BadLine(u32),
 }
 

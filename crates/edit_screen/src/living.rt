@@ -200,7 +200,7 @@ fn answer<W: Counted>(
     true
 }
 
-// Gives the terminal back, and takes it again when the user continues the program. The next update paints all of it.
+// Gives the terminal back, and takes it over when the user continues the program. The next update paints all of it.
 fn suspend<W: Counted>(
     around: &Around<'_>,
     screen: &mut Screen,

@@ -24,7 +24,7 @@ impl Message {
         matches!(self, Message::Nothing)
     }
 
-    /// What stands before the words.
+    /// What comes before the words.
     pub(crate) fn beginning(&self) -> &'static str {
         match self {
             Message::CannotSave(_) => "NOT SAVED: ",

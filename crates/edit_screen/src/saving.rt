@@ -53,7 +53,7 @@ pub enum SaveFault {
     CannotCreate,
     /// The new file cannot be written.
     WriteFailed,
-    /// The new file cannot take the name of the old one.
+    /// The new file cannot be renamed to the old one.
     RenameFailed,
 }
 
@@ -92,7 +92,7 @@ pub(crate) fn bytes_of(rt: &HostRuntime, path: &str) -> Result<Option<Vec<u8>>, 
     }
 }
 
-/// Saves a text: writes a new file, named as the old one with `.new` behind it, which then takes the name of the old
+/// Saves a text: writes a new file, named as the old one with `.new` after it, which is then renamed to the old
 /// one. A name that is a link stays one. The new file has the old one's permissions.
 pub(crate) fn save(rt: &HostRuntime, path: &str, text: &Text) -> Result<(), SaveFault> {
     match text.bytes(rt.alloc()) {
@@ -110,7 +110,7 @@ fn save_bytes(rt: &HostRuntime, path: &str, bytes: &[u8]) -> Result<(), SaveFaul
     }
 }
 
-/// Saves the text of an editor that has ended, which would be lost: beside the file, with `.recovered` behind its name,
+/// Saves the text of an editor that has ended, which would be lost: beside the file, with `.recovered` after its name,
 /// or `.recovered.1` and so on if that is there. Gives the name.
 ///
 /// Refused if memory runs out, if all of a hundred names are there, or if no file can be made or written beside the
@@ -164,7 +164,7 @@ fn save_new(rt: &HostRuntime, path: &str, bytes: &[u8]) -> Result<(), SaveFault>
     }
 }
 
-// Writes bytes into a new file, which then takes the name of a file that may be there.
+// Writes bytes into a new file, which is then renamed to a file that may exist.
 fn replace(rt: &HostRuntime, path: &str, bytes: &[u8]) -> Result<(), SaveFault> {
     if is_read_only(rt, path) {
         return Err(SaveFault::ReadOnly);

@@ -1,6 +1,6 @@
 //! Scripts of keys: the editor on the emulated terminal, to test it or to show it without a terminal.
 //!
-//! A script has one command a line. `size R C` stands first, and again where the terminal is resized; `type TEXT` types
+//! A script has one command a line. `size R C` comes first, and again where the terminal is resized; `type TEXT` types
 //! the characters of TEXT, `key HH ..` bytes of the keyboard in hexadecimal; `idle` says that none came for a while;
 //! `show` prints what the terminal shows.
 
@@ -63,7 +63,7 @@ impl<'a> Script<'a> {
     }
 }
 
-// What a line says; `None` if it is no command.
+// What a line says; `None` if it is not a command.
 fn line_of(line: &str) -> Option<Line<'_>> {
     match line {
         "idle" => return Some(Line::Idle),
@@ -87,8 +87,8 @@ fn size_of(words: &str) -> Option<Size> {
 /// Runs the editor of a file by a script from standard input, and prints what the terminal shows. What keys ask for is
 /// done as on a terminal, but the editor is not suspended and goes on where it would be left.
 ///
-/// Refused with the number of the first line that is no command, if the script cannot be read or is not UTF-8 text, if
-/// nothing can be printed, or if memory runs out.
+/// Refused with the number of the first line that is not a command, if the script cannot be read or is not UTF-8 text,
+/// if nothing can be printed, or if memory runs out.
 pub fn edit_by_script(
     rt: &HostRuntime,
     path: &str,

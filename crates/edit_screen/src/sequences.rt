@@ -1,22 +1,22 @@
-//! Sequences that an unknown key sends, which are no text: an escape, and `[` or `O` with what follows.
+//! Sequences that an unknown key sends, which are not text: an escape, and `[` or `O` with what follows.
 
 use curses::Key;
 
 /// How far such a sequence is read.
 #[derive(Clone, Copy, PartialEq, Eq)]
 pub(crate) enum Sequence {
-    /// It is not begun.
+    /// It has not begun.
     Outside,
     /// An escape came.
     Escape,
-    /// Behind an escape and `[`: a control sequence (ECMA-48, 5.4), up to a byte from 64 to 126.
+    /// After an escape and `[`: a control sequence (ECMA-48, 5.4), up to a byte from 64 to 126.
     Control,
-    /// Behind an escape and `O`: one more byte.
+    /// After an escape and `O`: one more byte.
     Single,
 }
 
 impl Sequence {
-    /// Whether a key belongs to a sequence that is begun, behind its escape.
+    /// Whether a key belongs to a sequence that has begun, after its escape.
     pub(crate) fn has(self, key: Key) -> bool {
         let Key::Byte(byte) = key else {
             return false;

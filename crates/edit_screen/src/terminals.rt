@@ -11,8 +11,8 @@ use ti_database::find;
 /// Runs the editor of a file on the terminal that standard input and output are, to its end: with the bundled entry, or
 /// with the one that `TERM` names in the machine's database.
 ///
-/// Refused if there is no such entry or it cannot be served, if the input ends, if the terminal cannot be read or takes
-/// no output, or if memory runs out. The screen is closed however it ends.
+/// Refused if there is no such entry or it cannot be served, if the input ends, if the terminal cannot be read or
+/// accepts no output, or if memory runs out. The screen is closed however it ends.
 pub fn edit_on_terminal(
     rt: &HostRuntime,
     path: &str,

@@ -5,7 +5,7 @@ use crate::editor::{Editor, Mode, Request};
 use curses::{Counted, Screen, Sent, UpdateFault, Win};
 use std::alloc::Global;
 
-/// Takes a byte of the keyboard: as a part of a key, or into the text as it is if that was asked for.
+/// Gives a byte of the keyboard to the editor: as a part of a key, or into the text as it is if that was asked for.
 pub(crate) fn take_byte(screen: &mut Screen, editor: &mut Editor, byte: u8) {
     if editor.mode == Mode::Literal {
         editor.insert_literally(byte);

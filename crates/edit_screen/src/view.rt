@@ -1,11 +1,11 @@
-//! What is seen of a line: how each byte is shown, and the columns that it takes.
+//! What is seen of a line: how each byte is shown, and the columns that it needs.
 
 /// Whether a byte is shown as itself: it is a printable character.
 pub(crate) fn is_printable(byte: u8) -> bool {
     matches!(byte, 32..=126)
 }
 
-/// How many columns a byte takes.
+/// How many columns a byte needs.
 pub(crate) fn width_of(byte: u8) -> usize {
     match byte {
         32..=126 => 1,
@@ -36,7 +36,7 @@ pub(crate) fn printable_length(text: &[u8]) -> usize {
     }
 }
 
-/// The column, from the line's first, in which the byte behind the first `count` bytes is shown.
+/// The column, from the line's first, in which the byte after the first `count` bytes is shown.
 pub(crate) fn column_of(line: &[u8], count: usize) -> usize {
     let mut column = 0usize;
     for &byte in line.get(..count).unwrap_or(line) {

@@ -157,7 +157,7 @@ join_is ls n l = rw add-one (made ls n l)
     made (x ∷ y ∷ ls) zero l = refl
     made (x ∷ y ∷ ls) (suc n) l = ap (λ r. x ∷ r) (made (y ∷ ls) n (omega arith))
 
--- behind the last byte of a line the next one is joined
+-- after the last byte of a line the next one is joined
 pub joined_is : (ls : List (List ℕ)) (p : Place) → length (line_at ls p.line) ≤ p.column → joined ls p.line ≡ deleted ls p
 joined_is ls p past = ap (λ t. cond t (removed ls p) (joined ls p.line)) (sym (not_less p.column (length (line_at ls p.line)) past))
   where
@@ -190,7 +190,7 @@ get_None [] c e = omega arith
 get_None (x ∷ xs) zero e = (cc)
 get_None (x ∷ xs) (suc c) e = let l = get_None xs c e in omega arith
 
--- behind the last byte of a line, and not at the end of the text: there is a next line
+-- after the last byte of a line, and not at the end of the text: there is a next line
 pub not_last : (ls : List (List ℕ)) (p : Place) → p.line < length ls → p.column ≤ length (line_at ls p.line) → length (line_at ls p.line) ≤ p.column → is_end ls p ≡ false → suc p.line < length ls
 not_last ls p l k past e = numbers p.line (length ls) p.column (length (line_at ls p.line)) l k past e
   where

@@ -1,4 +1,4 @@
--- Where bytes stand in a text, and which such place is found.
+-- Where bytes occur in a text, and which such place is found.
 use Rattle.std.specs.Prelude.{◌≡◌, ℕ, ◌<◌, Bool, false, List, length, take, drop, Option, MatchOption, ◌&&◌, ◌||◌, if◌then◌else◌}
 use Rattle.edit_text.specs.declared.places.Place.{Place}
 use Rattle.edit_text.specs.Lines.{line_at}
@@ -14,7 +14,7 @@ abbrev pub comes_first : Place → Place → Place → Bool
 comes_first from p q =
     if is_before p from then is_before q from && is_before p q else is_before q from || is_before p q
 
--- the first place, in this order, at which these bytes stand; none if they stand nowhere
+-- the first place, in this order, at which these bytes occur; none if they occur nowhere
 abbrev pub IsFound : List (List ℕ) → Place → List ℕ → Option Place → Type 0
 IsFound lines from bytes found =
     MatchOption found

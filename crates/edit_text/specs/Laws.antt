@@ -8,8 +8,8 @@ use Rattle.edit_text.specs.Lines.{AreLines, bytes_of, is_inside, is_end, inserte
 abbrev pub BytesTellLines : Type 0
 BytesTellLines = (a b : List (List ℕ)) → AreLines a → AreLines b → bytes_of a ≡ bytes_of b → a ≡ b
 
--- what edits do to the bytes of a file: an insertion inserts its byte, a split a line feed, and a deletion takes one
--- byte out, each at the place's offset
+-- what edits do to the bytes of a file: an insertion inserts its byte, a split a line feed, and a deletion
+-- removes one byte, each at the place's offset
 pub record EditsChangeOneByte : Type 0 where
   pub insertion : (lines : List (List ℕ)) (place : Place) (byte : ℕ) → is_inside lines place ≡ true → bytes_of (inserted lines place byte) ≡ insert (bytes_of lines) (offset lines place) byte
   pub split : (lines : List (List ℕ)) (place : Place) → is_inside lines place ≡ true → bytes_of (split_at lines place) ≡ insert (bytes_of lines) (offset lines place) 10

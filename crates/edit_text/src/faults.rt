@@ -8,7 +8,7 @@ pub enum EditFault {
     /// The text has no such line, or the line no such column.
     #[error("outside the text")]
     OutsideText,
-    /// A line feed is no byte of a line; `split` begins a new line.
+    /// A line feed is not a byte of a line; `split` begins a new line.
     #[error("a line feed inside a line")]
     LineFeed,
     /// Memory ran out.

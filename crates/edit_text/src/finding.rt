@@ -7,7 +7,7 @@ use crate::lines::Lines;
 use crate::places::Place;
 use memchr::memmem;
 
-// The first place from `from` on at which bytes stand, and otherwise the first of all.
+// The first place from `from` on at which bytes occur, and otherwise the first of all.
 pub(crate) fn find(lines: &Lines, from: Place, bytes: &[u8]) -> Option<Place>
     ensures { IsFound lines.now from bytes.now result }
 {
@@ -20,7 +20,7 @@ pub(crate) fn find(lines: &Lines, from: Place, bytes: &[u8]) -> Option<Place>
     }
 }
 
-// The first place from `from` on at which bytes stand.
+// The first place from `from` on at which bytes occur.
 fn first_from(lines: &Lines, from: Place, bytes: &[u8]) -> Option<Place>
     requires { 0 < length bytes.now }
     ensures { IsFirstFrom lines.now from bytes.now result }
@@ -40,7 +40,7 @@ fn start_in(line: usize, from: Place) -> usize
     if line == from.line { from.column } else { 0 }
 }
 
-// The first column of a line from `start` on at which bytes stand.
+// The first column of a line from `start` on at which bytes occur.
 fn first_column(line: &[u8], start: usize, bytes: &[u8]) -> Option<usize>
     requires { 0 < length bytes.now }
     ensures { IsFirstColumn line.now start bytes.now result }

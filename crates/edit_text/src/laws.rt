@@ -8,8 +8,8 @@ pub fn texts_read_back()
     ensures { BytesTellLines }
 {}
 
-/// Every edit changes one byte of the file: an insertion inserts its byte, a split a line feed, and a deletion takes
-/// out one byte, a line feed if it joins two lines.
+/// Every edit changes one byte of the file: an insertion inserts its byte, a split a line feed, and a deletion
+/// removes one byte, a line feed if it joins two lines.
 pub fn edits_change_one_byte()
     ensures { EditsChangeOneByte }
 {}

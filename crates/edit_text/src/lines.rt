@@ -127,7 +127,7 @@ impl Lines {
         Ok(bytes)
     }
 
-    // The byte at a place; `None` at the end of a line and behind it.
+    // The byte at a place; `None` at the end of a line and past it.
     fn byte_at(&self, place: Place) -> Option<u8>
         ensures { result ≡ slice_get (line_at self.now place.line) place.column }
     {
@@ -241,7 +241,7 @@ fn append_next(lines: &mut [Line], line: usize) -> Result<(), NoMemory>
     Ok(())
 }
 
-// Appends lines, each behind a line feed. Fails only when memory runs out.
+// Appends lines, each after a line feed. Fails only when memory runs out.
 fn append_lines(bytes: &mut Vec<u8>, lines: &[Line]) -> Result<(), NoMemory>
     ensures { OnOk result (bytes.new.items ≡ bytes.old.items ++ flat_map (λ line. 10 ∷ line) lines.now) }
 {

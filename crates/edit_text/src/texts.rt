@@ -101,7 +101,7 @@ impl Text {
         self.version
     }
 
-    /// Inserts a byte at a place. The place behind it is in the next column.
+    /// Inserts a byte at a place. The place after it is in the next column.
     ///
     /// Refused with `OutsideText` if the place is outside the text, then with `LineFeed` if the byte is a line feed,
     /// then with `NoMemory`.
@@ -173,8 +173,8 @@ impl Text {
         Ok(Some(edit.place()))
     }
 
-    /// The first place at which these bytes stand within a line: the places from `from` on are tried first, line by
-    /// line, and then those before it. `None` if they stand nowhere, and for no bytes.
+    /// The first place at which these bytes occur within a line: the places from `from` on are tried first, line by
+    /// line, and then those before it. `None` if they occur nowhere, and for no bytes.
     pub fn find(&self, from: Place, bytes: &[u8]) -> Option<Place>
         ensures { IsFound self.now.lines from bytes.now result }
     {

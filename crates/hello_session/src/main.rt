@@ -35,7 +35,7 @@ fn dialog(alloc: Global) -> Result<Vec<Call>> {
     Ok(calls)
 }
 
-// Makes calls on a screen by one session, whose bytes the device takes.
+// Makes calls on a screen by one session, whose bytes go to the device.
 fn send(alloc: Global, size: Size, calls: &[Call], device: &mut Device<Vec<u8>>) -> Result<()> {
     let entry = bundled(alloc)?;
     match session(alloc, &entry, Some(size), calls, device) {
@@ -53,7 +53,7 @@ fn sent(alloc: Global, size: Size) -> Result<Vec<u8>> {
     Ok(device.writer)
 }
 
-// What a terminal shows that was sent that.
+// What a terminal shows after it was sent those bytes.
 fn shown(alloc: Global, size: Size) -> Result<EcmaScreen> {
     let bytes = sent(alloc, size)?;
     let mut terminal = EcmaScreen::new(alloc, size)?;
@@ -94,7 +94,7 @@ fn is_plain_behind(alloc: Global, size: Size, bytes: &[u8]) -> Result<bool> {
     Ok(terminal.spot() == Spot::At(last, 0) && terminal.rendition() == Attrs(0))
 }
 
-// Whether it is so behind all that such a program writes.
+// Whether that holds after all that such a program writes.
 fn is_left_plain(alloc: Global, size: Size) -> Result<bool> {
     let entry = bundled(alloc)?;
     let mut out = Device::new(Vec::new(alloc));

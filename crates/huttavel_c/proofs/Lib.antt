@@ -1,1 +1,2 @@
+mod LentSessions
 mod Shapes

@@ -1,5 +1,5 @@
 -- The functions of the C library: each is one call on the screen that the handle holds.
-use Rattle.std.specs.Prelude.{◌≡◌, ◌⊎◌, Option, Some, None, Result, IsOk}
+use Rattle.std.specs.Prelude.{◌≡◌, ◌⊎◌, Option, Some, None, Result, IsOk, MatchOption}
 use Rattle.scr_keys.specs.Readers.{ReaderView}
 use Rattle.scr_memory.specs.Memories.{MemoryView}
 use Rattle.scr_virtual.specs.VirtualViews.{VirtualView}
@@ -43,3 +43,8 @@ abbrev pub AskedForMemory : {A E B : Type 0} → (ScreenState → ScreenState ×
 AskedForMemory call shown none closed None new answer = (new ≡ None) × (answer ≡ closed)
 AskedForMemory call shown none closed (Some session) new answer =
     Asked call shown closed (Some session) new answer ⊎ ((new ≡ Some session) × (answer ≡ none) × IsOk (call session.screen).1)
+
+-- What an open handle holds changes so, and this is the answer. Of a closed handle this is given, and it stays closed.
+abbrev pub Makes : {B : Type 0} → (Session → Session → B → Type 0) → B → Option Session → Option Session → B → Type 0
+Makes change closed None new answer = (new ≡ None) × (answer ≡ closed)
+Makes change closed (Some old) new answer = MatchOption new ⊥ (λ after. change old after answer)

@@ -1,5 +1,6 @@
 pub mod Asking
 pub mod Families
+pub mod Following
 pub mod Giving
 pub mod Holding
 pub mod Lending

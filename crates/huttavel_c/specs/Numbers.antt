@@ -1,4 +1,4 @@
--- The numbers of faults, as `enum huttavel_fault` of the C header has them.
+-- The numbers of errors, as `enum huttavel_fault` of the C header has them.
 use Rattle.std.specs.Prelude.{ℕ}
 use Rattle.scr_windows.specs.declared.faults.WinFault.{WinFault}
 use Rattle.scr_windows.specs.declared.faults.WinFault.TheVariants as windows
@@ -61,7 +61,7 @@ binary_number files.BadOffset = 45
 binary_number files.Unended = 46
 binary_number files.NoMemory = 4
 
--- Of an entry that makes no screen.
+-- Of an entry that no screen can be opened on.
 abbrev pub profile_number : ProfileFault → ℕ
 profile_number (profiles.Unsuitable capability) = 50
 profile_number profiles.AutoMargin = 51

@@ -27,11 +27,11 @@ kind_number Flag = 0
 kind_number Number = 1
 kind_number Text = 2
 
--- A fault about a capability: its kind and position.
+-- An error about a capability: its kind and position.
 abbrev pub about : ℕ → Kind × Slot → Reply
 about fault capability = record { fault = fault; first = kind_number capability.0; second = capability.1.0; third = 0 }
 
--- A fault of an entry.
+-- An error in an entry.
 abbrev pub profile_reply : ProfileFault → Reply
 profile_reply (profiles.Unsuitable capability) = about 50 capability
 profile_reply profiles.AutoMargin = refused 51
@@ -42,7 +42,7 @@ profile_reply (profiles.BadString capability) = about 55 capability
 profile_reply (profiles.LongString capability) = about 56 capability
 profile_reply profiles.NoMemory = refused 4
 
--- A fault of opening a screen.
+-- Why a screen cannot be opened.
 abbrev pub open_reply : OpenFault → Reply
 open_reply (Profile fault) = profile_reply fault
 open_reply (KeyTooLong slot) = about 57 (Text, slot)
@@ -61,7 +61,7 @@ IsNoSize rows columns reply = (reply ≡ refused 54) × ((size : Option Size) �
 abbrev pub HasSize : ℕ → ℕ → Type 0
 HasSize rows columns = (size : Option Size) × IsSizeGiven rows columns size
 
--- The bytes are no compiled entry; or they are one, and memory ran out.
+-- The bytes are not a compiled entry; or they are one, and memory ran out.
 abbrev pub IsNoEntry : List ℕ → Reply → Type 0
 IsNoEntry bytes reply =
     (fault : BinFault) × ((entry_refusal bytes ≡ Some fault) ⊎ ((entry_refusal bytes ≡ None) × (fault ≡ files.NoMemory))) × (reply ≡ refused (binary_number fault))
@@ -86,7 +86,7 @@ pub record IsOpenedFrom (IsKnown : Description → Type 0) (rows columns : ℕ) 
   pub given : IsSizeGiven rows columns size
   pub opened : IsOpenedOn entry size session
 
--- The entry makes no screen of that size.
+-- No screen of that size can be opened on the entry.
 pub record IsUnopenedFrom (IsKnown : Description → Type 0) (rows columns : ℕ) (reply : Reply) : Type 0 where
   pub entry : Description
   pub size : Option Size
@@ -94,7 +94,7 @@ pub record IsUnopenedFrom (IsKnown : Description → Type 0) (rows columns : ℕ
   pub given : IsSizeGiven rows columns size
   pub unopened : IsUnopenedOn entry size reply
 
--- Why none was opened: no size is given; or one is, and there is no entry, or it makes no screen.
+-- Why none was opened: no size is given; or one is, and there is no entry, or no screen can be opened on it.
 abbrev pub IsClosedFrom : (Description → Type 0) → (Reply → Type 0) → ℕ → ℕ → Reply → Type 0
 IsClosedFrom IsKnown IsNone rows columns reply =
     IsNoSize rows columns reply ⊎ (HasSize rows columns × (IsNone reply ⊎ IsUnopenedFrom IsKnown rows columns reply))
@@ -103,7 +103,7 @@ IsClosedFrom IsKnown IsNone rows columns reply =
 abbrev pub IsNoMemory : Reply → Type 0
 IsNoMemory reply = reply ≡ refused 4
 
--- A handle that is open stays as it is. Into a closed one a session goes, or it stays closed.
+-- A handle that is open stays as it is. A closed one gets a session, or stays closed.
 abbrev pub Opens : (Session → Type 0) → (Reply → Type 0) → Option Session → Option Session → Reply → Type 0
 Opens IsMade IsNotMade (Some old) new reply = (new ≡ Some old) × (reply ≡ refused 2)
 Opens IsMade IsNotMade None new reply = MatchOption new (IsNotMade reply) (λ session. IsMade session × (reply ≡ refused 0))

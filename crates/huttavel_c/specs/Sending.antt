@@ -1,5 +1,5 @@
--- Bytes that a screen made, and that wait until the terminal has taken them.
-use Rattle.std.specs.Prelude.{ℕ, ◌≡◌, ◌++◌, List, Option, Some, None, Result, Ok, Err, MatchOption, MatchResult, drop, length, min, nat_le, take, if◌then◌else◌}
+-- Bytes that a screen made, and that wait until the terminal has accepted them.
+use Rattle.std.specs.Prelude.{ℕ, ◌≡◌, ◌++◌, List, Some, Result, Ok, Err, MatchResult, drop, length, min, nat_le, take, if◌then◌else◌}
 use Rattle.scr_memory.specs.Memories.{forgotten}
 use Rattle.curses.specs.ScreenStates.{ScreenState}
 use Rattle.curses.specs.Starting.{IsClosed, IsNotClosed, IsNotStarted, IsStarted}
@@ -15,7 +15,7 @@ use Rattle.huttavel_c.specs.declared.sessions.Session.{Session}
 abbrev pub waiting : Session → List ℕ
 waiting session = session.out.writer.items
 
--- To the screen, the bytes that wait are those that its writer took.
+-- To the screen, the bytes that wait are those that its writer accepted.
 abbrev pub writer : Session → WriterView
 writer session = record { taken = Some (waiting session); failed_puts = session.out.failed_puts; failed_finishes = session.out.failed_finishes }
 
@@ -59,7 +59,7 @@ Copies before after old new answer =
 abbrev pub taken_off : ℕ → List ℕ → List ℕ × ℕ
 taken_off count bytes = if nat_le count (length bytes) then (drop count bytes, 0) else (bytes, 33)
 
--- The terminal took bytes. The screen does not change, nor how many puts and finishes failed.
+-- The terminal accepted bytes. The screen does not change, nor how many puts and finishes failed.
 pub record Takes (count : ℕ) (old new : Session) (answer : ℕ) : Type 0 where
   pub screen : new.screen ≡ old.screen
   pub waits : waiting new ≡ (taken_off count (waiting old)).0
@@ -70,8 +70,3 @@ pub record Takes (count : ℕ) (old new : Session) (answer : ℕ) : Type 0 where
 -- Nothing is known of the terminal any more.
 abbrev pub forgetting : ScreenState → ScreenState × ℕ
 forgetting screen = (record screen { memory = forgotten screen.memory }, 0)
-
--- What an open handle holds changes so, and this is the answer. Of a closed handle this is given, and it stays closed.
-abbrev pub Makes : (Session → Session → ℕ → Type 0) → ℕ → Option Session → Option Session → ℕ → Type 0
-Makes change closed None new answer = (new ≡ None) × (answer ≡ closed)
-Makes change closed (Some old) new answer = MatchOption new ⊥ (λ after. change old after answer)

@@ -1,16 +1,16 @@
-//! What a function of the C library gives: a fault's number, or it and up to three numbers.
+//! What a function of the C library gives: an error's number, or it and up to three numbers.
 ghost use Rattle.std.specs.Prelude.{◌≡◌, ℕ};
 ghost use Rattle.huttavel_c.specs.Replies.{added_reply, done_number, made_reply, pair_reply, refused, seen_reply, touched_reply, with_cell, with_one, with_two};
 
 use crate::faults::window_number;
 use curses::{Added, Cell, Win, WinFault};
 
-/// A fault's number, 0 if there is none, and what the call gives. A number that the call does not give is 0, and all
+/// An error's number, 0 if there is none, and what the call gives. A number that the call does not give is 0, and all
 /// three are 0 if it was refused.
 #[repr(C)]
 #[derive(Clone, Copy)]
 pub struct Reply {
-    /// The fault's number.
+    /// The error's number.
     pub fault: u32,
     /// The first number.
     pub first: u32,
@@ -69,30 +69,30 @@ pub(crate) fn three(cell: Cell) -> Reply
 }
 
 /// The answer of a call that has no result.
-pub(crate) fn done(came: Result<(), WinFault>) -> u32
-    ensures { result ≡ done_number came }
+pub(crate) fn done(answer: Result<(), WinFault>) -> u32
+    ensures { result ≡ done_number answer }
 {
-    match came {
+    match answer {
         Ok(()) => 0,
         Err(fault) => window_number(fault),
     }
 }
 
 /// The answer of a call that makes a window: its number.
-pub(crate) fn made(came: Result<Win, WinFault>) -> Reply
-    ensures { result ≡ made_reply came }
+pub(crate) fn made(answer: Result<Win, WinFault>) -> Reply
+    ensures { result ≡ made_reply answer }
 {
-    match came {
+    match answer {
         Ok(win) => one(win.0),
         Err(fault) => refused(window_number(fault)),
     }
 }
 
 /// The answer of a call that adds bytes: 1 if the cursor stayed.
-pub(crate) fn added(came: Result<Added, WinFault>) -> Reply
-    ensures { result ≡ added_reply came }
+pub(crate) fn added(answer: Result<Added, WinFault>) -> Reply
+    ensures { result ≡ added_reply answer }
 {
-    match came {
+    match answer {
         Ok(Added::Done) => one(0),
         Ok(Added::Stayed) => one(1),
         Err(fault) => refused(window_number(fault)),
@@ -100,30 +100,30 @@ pub(crate) fn added(came: Result<Added, WinFault>) -> Reply
 }
 
 /// The answer of a call that gives two numbers.
-pub(crate) fn pair(came: Result<(u32, u32), WinFault>) -> Reply
-    ensures { result ≡ pair_reply came }
+pub(crate) fn pair(answer: Result<(u32, u32), WinFault>) -> Reply
+    ensures { result ≡ pair_reply answer }
 {
-    match came {
+    match answer {
         Ok(numbers) => two(numbers),
         Err(fault) => refused(window_number(fault)),
     }
 }
 
 /// The answer of a call that reads a cell.
-pub(crate) fn seen(came: Result<Cell, WinFault>) -> Reply
-    ensures { result ≡ seen_reply came }
+pub(crate) fn seen(answer: Result<Cell, WinFault>) -> Reply
+    ensures { result ≡ seen_reply answer }
 {
-    match came {
+    match answer {
         Ok(cell) => three(cell),
         Err(fault) => refused(window_number(fault)),
     }
 }
 
 /// The answer of a call that says whether lines are touched: 1 if they are.
-pub(crate) fn touched(came: Result<bool, WinFault>) -> Reply
-    ensures { result ≡ touched_reply came }
+pub(crate) fn touched(answer: Result<bool, WinFault>) -> Reply
+    ensures { result ≡ touched_reply answer }
 {
-    match came {
+    match answer {
         Ok(touched) => one(u32::from(touched)),
         Err(fault) => refused(window_number(fault)),
     }

@@ -1,4 +1,4 @@
-//! The numbers of faults, as `enum huttavel_fault` has them.
+//! The numbers of errors, as `enum huttavel_fault` has them.
 ghost use Rattle.std.specs.Prelude.{◌≡◌};
 ghost use Rattle.huttavel_c.specs.Numbers.{binary_number, key_number, profile_number, send_number, update_number, window_number};
 
@@ -19,7 +19,7 @@ pub(crate) const NOT_ASCII: u32 = 15;
 pub(crate) const OFF_SCREEN: u32 = 17;
 /// A number that no colour pair has.
 pub(crate) const BAD_PAIR: u32 = 23;
-/// The window is no subwindow.
+/// The window is not a subwindow.
 pub(crate) const NO_PARENT: u32 = 25;
 /// The cursor is wanted nowhere in particular.
 pub(crate) const NO_CURSOR: u32 = 26;
@@ -67,7 +67,7 @@ pub(crate) fn key_number(fault: KeyFault) -> u32
     }
 }
 
-/// The number of a fault of an update.
+/// The number of an error of an update.
 pub(crate) fn update_number(fault: &UpdateFault) -> u32
     ensures { result ≡ update_number fault.now }
 {
@@ -77,7 +77,7 @@ pub(crate) fn update_number(fault: &UpdateFault) -> u32
     }
 }
 
-/// The number of a fault of a start or a finish.
+/// The number of an error of a start or a finish.
 pub(crate) fn send_number(fault: SendFault) -> u32
     ensures { result ≡ send_number fault }
 {
@@ -86,7 +86,7 @@ pub(crate) fn send_number(fault: SendFault) -> u32
     }
 }
 
-/// The number of a fault of a compiled entry.
+/// The number of an error in a compiled entry.
 pub(crate) fn binary_number(fault: BinFault) -> u32
     ensures { result ≡ binary_number fault }
 {
@@ -102,7 +102,7 @@ pub(crate) fn binary_number(fault: BinFault) -> u32
     }
 }
 
-/// The number of a fault of an entry.
+/// The number of an error in an entry.
 pub(crate) fn profile_number(fault: ProfileFault) -> u32
     ensures { result ≡ profile_number fault }
 {

@@ -1,6 +1,8 @@
 //! Handles: what a C program has of a screen.
 ghost use Rattle.std.specs.Prelude.{◌≡◌, None, Some};
+ghost use Rattle.std.specs.Fn.{FnOnceReturnsAtMut};
 ghost use Rattle.std.specs.Option.{is_some, option_map};
+ghost use Rattle.huttavel_c.specs.Asking.{Makes};
 
 use crate::held::Held;
 use crate::sessions::Session;
@@ -56,7 +58,19 @@ impl Handle {
         self.is_open
     }
 
-    /// Takes what the handle holds, and leaves it closed.
+    /// Makes a call on what the handle holds, in its place, and gives the call's answer; of a closed handle, this one.
+    #[inline(always)]
+    pub(crate) fn lend<R: Copy, F: FnOnce(&mut Session) -> R>(&mut self, closed: R, call: F) -> R
+        requires { F.IsAlwaysCallable call }
+        ensures { Makes (λ old new answer. FnOnceReturnsAtMut F.FnOnce call old answer new) closed self.old.held.value self.new.held.value result }
+    {
+        if !self.is_open {
+            return closed;
+        }
+        call(self.held.lend())
+    }
+
+    /// Moves out what the handle holds, and leaves it closed.
     pub(crate) fn take(&mut self, alloc: Global) -> Option<Box<Session>>
         ensures held { self.old.held.value ≡ option_map (λ held. held.value) result }
         ensures closed { self.new.held.value ≡ None }

@@ -14,7 +14,7 @@ use std::ptr::null_mut;
 #[repr(C)]
 #[derive(Drop)]
 pub struct Held {
-    at: *mut u8,
+    pub(crate) at: *mut u8,
     ghost value: { Option Session } by { coded_option the_session.the_row.coded },
 }
 

@@ -9,13 +9,12 @@ use crate::answers::{Reply, refused, two};
 use crate::faults::{CLOSED, NO_KEY, key_number};
 use crate::handles::Handle;
 use curses::{Key, KeyFault};
-use std::alloc::Global;
 
 // The answer of a call that reads bytes.
-fn read(came: Result<(), KeyFault>) -> u32
-    ensures { result ≡ read_number came }
+fn read(answer: Result<(), KeyFault>) -> u32
+    ensures { result ≡ read_number answer }
 {
-    match came {
+    match answer {
         Ok(()) => 0,
         Err(fault) => key_number(fault),
     }
@@ -32,43 +31,28 @@ fn pressed(key: Option<Key>) -> Reply
     }
 }
 
-/// Reads a byte of the keyboard, by `Screen::key_byte`. Refused: CLOSED; QUEUE_FULL, and the byte is not taken.
+/// Reads a byte of the keyboard, by `Screen::key_byte`. Refused: CLOSED; QUEUE_FULL, and the byte is not read.
 #[unsafe(no_mangle)]
-pub extern "C" fn huttavel_held_key_byte(alloc: Global, handle: &mut Handle, byte: u8) -> u32
+pub extern "C" fn huttavel_held_key_byte(handle: &mut Handle, byte: u8) -> u32
     ensures { Asked (λ screen. on_keys screen (byte_read screen.keys byte)) read_number 1 handle.old.held.value handle.new.held.value result }
 {
-    let Some(mut session) = handle.take(alloc) else {
-        return CLOSED;
-    };
-    let came = session.screen.key_byte(byte);
-    handle.put(session);
-    read(came)
+    handle.lend(CLOSED, |session| read(session.screen.key_byte(byte)))
 }
 
 /// Says that no byte came for a while: those that wait become the keys that they are, by `Screen::key_idle`. Refused:
 /// CLOSED; QUEUE_FULL.
 #[unsafe(no_mangle)]
-pub extern "C" fn huttavel_held_key_idle(alloc: Global, handle: &mut Handle) -> u32
+pub extern "C" fn huttavel_held_key_idle(handle: &mut Handle) -> u32
     ensures { Asked (λ screen. on_keys screen (idle_read screen.keys)) read_number 1 handle.old.held.value handle.new.held.value result }
 {
-    let Some(mut session) = handle.take(alloc) else {
-        return CLOSED;
-    };
-    let came = session.screen.key_idle();
-    handle.put(session);
-    read(came)
+    handle.lend(CLOSED, |session| read(session.screen.key_idle()))
 }
 
 /// Takes the first key of the queue, by `Screen::key`: its kind, 0 for a byte and 1 for a key of the entry, and the
 /// byte or the position of the key's text. Refused: CLOSED; NO_KEY.
 #[unsafe(no_mangle)]
-pub extern "C" fn huttavel_held_next_key(alloc: Global, handle: &mut Handle) -> Reply
+pub extern "C" fn huttavel_held_next_key(handle: &mut Handle) -> Reply
     ensures { Asked (λ screen. on_keys screen (key_taken screen.keys)) key_reply (refused 1) handle.old.held.value handle.new.held.value result }
 {
-    let Some(mut session) = handle.take(alloc) else {
-        return refused(CLOSED);
-    };
-    let key = session.screen.key();
-    handle.put(session);
-    pressed(key)
+    handle.lend(refused(CLOSED), |session| pressed(session.screen.key()))
 }

@@ -8,6 +8,7 @@ mod faults;
 mod handles;
 mod held;
 mod keys;
+mod lending;
 mod opening;
 mod parts;
 mod sending;

@@ -63,7 +63,7 @@ fn kind_number(kind: Kind) -> u32
     }
 }
 
-// A fault about a capability.
+// An error about a capability.
 fn about(fault: u32, capability: (Kind, Slot)) -> Reply
     ensures { result ≡ about fault capability }
 {
@@ -75,7 +75,7 @@ fn about(fault: u32, capability: (Kind, Slot)) -> Reply
     }
 }
 
-// A fault of an entry.
+// An error in an entry.
 fn profile_reply(fault: ProfileFault) -> Reply
     ensures { result ≡ profile_reply fault }
 {
@@ -89,7 +89,7 @@ fn profile_reply(fault: ProfileFault) -> Reply
     }
 }
 
-// A fault of opening a screen.
+// Why a screen cannot be opened.
 fn open_reply(fault: OpenFault) -> Reply
     ensures { result ≡ open_reply fault }
 {
@@ -163,10 +163,10 @@ fn keep(handle: &mut Handle, opened: Result<Box<Session>, Reply>) -> Reply
 }
 
 /// Opens a screen on the terminal of a compiled entry, with 16-bit or 32-bit numbers; 0 rows and 0 columns stand for
-/// the entry's own size. Gives the fault's number and, if it is about a capability, its kind, 0 for a flag, 1 for a
+/// the entry's own size. Gives the error's number and, if it is about a capability, its kind, 0 for a flag, 1 for a
 /// number and 2 for a text, and its position in the table.
 ///
-/// Refused: IS_OPEN; BAD_SIZE; the faults of a compiled entry; those of `Screen::open`; NO_MEMORY.
+/// Refused: IS_OPEN; BAD_SIZE; the errors in a compiled entry; those of `Screen::open`; NO_MEMORY.
 #[unsafe(no_mangle)]
 pub extern "C" fn huttavel_held_open(
     alloc: Global,

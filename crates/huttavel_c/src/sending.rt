@@ -1,8 +1,8 @@
-//! Starts, updates and finishes: the bytes that they make wait until the terminal has taken them.
+//! Starts, updates and finishes: the bytes that they make wait until the terminal has accepted them.
 ghost use Rattle.std.specs.Prelude.{◌≡◌, ◌++◌, ◌≤◌, None, drop, length, min, take};
-ghost use Rattle.huttavel_c.specs.Asking.{Asked};
+ghost use Rattle.huttavel_c.specs.Asking.{Asked, Makes};
 ghost use Rattle.huttavel_c.specs.Giving.{unchanged};
-ghost use Rattle.huttavel_c.specs.Sending.{Copies, Finishes, Makes, Starts, Takes, Updates, Waits, forgetting, sent_number};
+ghost use Rattle.huttavel_c.specs.Sending.{Copies, Finishes, Starts, Takes, Updates, Waits, forgetting, sent_number};
 
 use crate::faults::{CLOSED, NOT_WAITING, send_number, update_number};
 use crate::handles::Handle;
@@ -35,7 +35,7 @@ impl Session {
         }
     }
 
-    // The terminal took bytes.
+    // The terminal accepted bytes.
     fn took(&mut self, count: usize) -> u32
         ensures { Takes count self.old self.new result }
     {
@@ -49,10 +49,10 @@ impl Session {
 }
 
 // The answer of a start or a finish.
-fn sent(came: Result<u64, SendFault>) -> u32
-    ensures { result ≡ sent_number came }
+fn sent(answer: Result<u64, SendFault>) -> u32
+    ensures { result ≡ sent_number answer }
 {
-    match came {
+    match answer {
         Ok(_) => 0,
         Err(fault) => send_number(fault),
     }
@@ -81,28 +81,18 @@ fn copy_front(waiting: &[u8], bytes: &mut [u8]) -> usize
 /// Makes the bytes of `Screen::start`, which wait. Refused: CLOSED; WRITE_FAILED if memory ran out for them: those that
 /// were made wait, and the next call that makes bytes begins with the rest of the text that was cut.
 #[unsafe(no_mangle)]
-pub extern "C" fn huttavel_held_start(alloc: Global, handle: &mut Handle) -> u32
+pub extern "C" fn huttavel_held_start(handle: &mut Handle) -> u32
     ensures { Makes Starts 1 handle.old.held.value handle.new.held.value result }
 {
-    let Some(mut session) = handle.take(alloc) else {
-        return CLOSED;
-    };
-    let answer = session.start();
-    handle.put(session);
-    answer
+    handle.lend(CLOSED, |session| session.start())
 }
 
 /// Makes the bytes of `Screen::close`, which wait. Refused as `huttavel_held_start` is.
 #[unsafe(no_mangle)]
-pub extern "C" fn huttavel_held_finish(alloc: Global, handle: &mut Handle) -> u32
+pub extern "C" fn huttavel_held_finish(handle: &mut Handle) -> u32
     ensures { Makes Finishes 1 handle.old.held.value handle.new.held.value result }
 {
-    let Some(mut session) = handle.take(alloc) else {
-        return CLOSED;
-    };
-    let answer = session.finish();
-    handle.put(session);
-    answer
+    handle.lend(CLOSED, |session| session.finish())
 }
 
 /// Makes the bytes of `Screen::doupdate`, which wait. Refused: CLOSED; NO_MEMORY if memory ran out before the first
@@ -111,25 +101,15 @@ pub extern "C" fn huttavel_held_finish(alloc: Global, handle: &mut Handle) -> u3
 pub extern "C" fn huttavel_held_doupdate(alloc: Global, handle: &mut Handle) -> u32
     ensures { Makes Updates 1 handle.old.held.value handle.new.held.value result }
 {
-    let Some(mut session) = handle.take(alloc) else {
-        return CLOSED;
-    };
-    let answer = session.update(alloc);
-    handle.put(session);
-    answer
+    handle.lend(CLOSED, |session| session.update(alloc))
 }
 
 /// How many bytes wait; 0 of a closed handle.
 #[unsafe(no_mangle)]
-pub extern "C" fn huttavel_held_waiting(alloc: Global, handle: &mut Handle) -> usize
+pub extern "C" fn huttavel_held_waiting(handle: &mut Handle) -> usize
     ensures { Makes Waits 0 handle.old.held.value handle.new.held.value result }
 {
-    let Some(session) = handle.take(alloc) else {
-        return 0;
-    };
-    let count = session.out.writer.len();
-    handle.put(session);
-    count
+    handle.lend(0, |session| session.out.writer.len())
 }
 
 /// Copies bytes that wait, from the first on, as many as there is room for, and gives how many. They go on waiting.
@@ -147,29 +127,22 @@ pub extern "C" fn huttavel_held_bytes(alloc: Global, handle: &mut Handle, bytes:
     count
 }
 
-/// The terminal took this many of the bytes that wait. Refused: CLOSED; NOT_WAITING if fewer wait.
+/// The terminal accepted this many of the bytes that wait. Refused: CLOSED; NOT_WAITING if fewer wait.
 #[unsafe(no_mangle)]
-pub extern "C" fn huttavel_held_took(alloc: Global, handle: &mut Handle, count: usize) -> u32
+pub extern "C" fn huttavel_held_took(handle: &mut Handle, count: usize) -> u32
     ensures { Makes (Takes count) 1 handle.old.held.value handle.new.held.value result }
 {
-    let Some(mut session) = handle.take(alloc) else {
-        return CLOSED;
-    };
-    let answer = session.took(count);
-    handle.put(session);
-    answer
+    handle.lend(CLOSED, |session| session.took(count))
 }
 
 /// A write failed, or others wrote to the terminal: nothing is known of what it shows. Bytes that wait go on waiting.
 /// Refused: CLOSED.
 #[unsafe(no_mangle)]
-pub extern "C" fn huttavel_held_failed(alloc: Global, handle: &mut Handle) -> u32
+pub extern "C" fn huttavel_held_failed(handle: &mut Handle) -> u32
     ensures { Asked forgetting unchanged 1 handle.old.held.value handle.new.held.value result }
 {
-    let Some(mut session) = handle.take(alloc) else {
-        return CLOSED;
-    };
-    session.screen.forget();
-    handle.put(session);
-    0
+    handle.lend(CLOSED, |session| {
+        session.screen.forget();
+        0
+    })
 }

@@ -1,7 +1,7 @@
 //! What an open handle holds.
 use curses::{Device, Screen};
 
-/// A screen, and the bytes that it made and that the terminal has not taken yet.
+/// A screen, and the bytes that it made and that the terminal has not accepted yet.
 #[derive(Drop)]
 pub(crate) struct Session {
     pub(crate) screen: Screen,

@@ -17,7 +17,7 @@ use denote.Ref.{Bor}
 is_plus : (c : ℕ) → (c == 43) ≡ true → c ≡ 43
 is_plus c is = grind (arith, nat_tests)
 
--- No blank stands in a number,
+-- No blank is in a number,
 no_blank_by : (b : Bool) (c : ℕ) (cs : List ℕ) → (c == 43) ≡ b → AllDigits 10 (drop (cond b 1 0) (c ∷ cs)) → (i : ℕ) → i < length (c ∷ cs) → get_or (c ∷ cs) i 0 ≢ 32
 no_blank_by true c cs is digits zero inside = λ e. let plus = is_plus c is in omega (arith, plus, e)
 no_blank_by true c cs is digits (suc i) inside = λ e. let digit = digit_at cs i digits (omega arith) in omega (arith, digit, e)

@@ -10,7 +10,7 @@ abbrev pub Finds : {A : Type 0} → (A → Type 0) → Option A → Type 0
 Finds IsIt (Some x) = IsIt x
 Finds {A} IsIt None = (x : A) → IsIt x → ⊥
 
--- A number below 2 ^ 32 in decimal digits, behind a plus sign or none.
+-- A number below 2 ^ 32 in decimal digits, after a plus sign or none.
 pub record IsNumber (text : List ℕ) (n : ℕ) : Type 0 where
   pub digits : IsNumeral 10 (without_leading_plus text)
   pub value : n ≡ digits_value 10 (without_leading_plus text)
@@ -30,7 +30,7 @@ pub record SaySize (rows columns : List ℕ) (size : Size) : Type 0 where
   pub in_columns : IsNumber columns column_count
   pub capped : IsCapped row_count column_count (Some size)
 
--- A text is these two fields: the first has no blank, a blank stands between them, and a line feed at the end.
+-- A text is these two fields: the first has no blank, a blank is between them, and a line feed at the end.
 pub record AreFields (text rows columns : List ℕ) : Type 0 where
   pub line : text ≡ rows ++ 32 ∷ columns ++ 10 ∷ []
   pub first : (i : ℕ) → i < length rows → get_or rows i 0 ≢ 32

@@ -13,7 +13,7 @@ pub enum TerminalFault {
     /// The terminal's entry cannot be read.
     #[error("{0}")]
     Entry(#[from] DatabaseFault),
-    /// There is no screen for the entry.
+    /// No screen can be opened on the entry.
     #[error("{0}")]
     Open(#[from] OpenFault),
     /// An update ended early.

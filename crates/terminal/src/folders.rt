@@ -65,7 +65,7 @@ fn read_piece<R: Files>(rt: &R, path: &str, piece: &mut [u8]) -> io::Result<usiz
     file.read(piece)
 }
 
-// Writes a line into a FIFO that is there.
+// Writes a line into a FIFO that exists.
 fn ask<R: Files>(rt: &R, path: &str) -> io::Result<()> {
     let mut file = File::options().write(true).open(rt, path)?;
     file.write_all(b"suspend\n")

@@ -20,7 +20,7 @@ pub enum Input {
     Failed,
 }
 
-/// An empty read that takes fewer milliseconds is sudden. A silent line lets one wait for a tenth of a second.
+/// An empty read is sudden if it ends within fewer milliseconds. On a silent line it waits for a tenth of a second.
 const SUDDEN: u64 = 20;
 
 /// After so many sudden empty reads in a row the input has ended.

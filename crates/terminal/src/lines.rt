@@ -82,7 +82,7 @@ impl TerminalLine {
     }
 
     /// Suspends the program until its user continues it, as with `fg`. Call it when the screen is closed; start the
-    /// screen again behind it, or another one if the size is another now. Answers whether there is anyone who suspends
+    /// screen again after it, or another one if the size has changed. Answers whether there is anyone who suspends
     /// programs: if not, it does nothing.
     pub fn suspend<R: Files>(&mut self, rt: &R) -> bool
         ensures looks { IsLook self.old self.new }
@@ -107,7 +107,7 @@ impl TerminalLine {
         self.take(told);
     }
 
-    // Takes over what the folder said.
+    // Adopts what the folder said.
     fn take(&mut self, told: Told)
         ensures { self.new ≡ after_told self.old told }
     {

@@ -68,7 +68,7 @@ impl TerminalScreen {
         }
     }
 
-    /// Waits for a key, a resize, or the end. `^Z` is no key: it suspends the program until its user continues it.
+    /// Waits for a key, a resize, or the end. `^Z` is not a key: it suspends the program until its user continues it.
     pub fn event(&mut self, rt: &HostRuntime) -> Result<Event, TerminalFault> {
         for _ in 0..u64::MAX {
             if let Some(key) = self.screen.key() {
@@ -92,7 +92,7 @@ impl TerminalScreen {
         }
     }
 
-    /// Takes the terminal again after a close. The next update paints all of it.
+    /// Takes over the terminal again after a close. The next update paints all of it.
     pub fn start(&mut self) -> Result<(), TerminalFault> {
         let started = self.screen.start(&mut self.out);
         self.is_whole = started.is_ok();
@@ -111,7 +111,7 @@ impl TerminalScreen {
         }
     }
 
-    // Gives the terminal back, and takes it again when the user continues the program, at the size that it has then.
+    // Gives the terminal back, and takes it over when the user continues the program, at the size that it has then.
     fn suspend(&mut self, rt: &HostRuntime) -> Result<Event, TerminalFault> {
         let _ = self.close();
         let _ = self.line.suspend(rt);
@@ -158,7 +158,7 @@ impl TerminalScreen {
         self.follow_size(rt.alloc())
     }
 
-    // Opens a screen of the terminal's size, if that is another now. What a failed write left of a text is owed by the
+    // Opens a screen of the terminal's size, if it has changed. What a failed write left of a text is owed by the
     // old screen alone, which then stays.
     fn follow_size(&mut self, alloc: Global) -> Result<Option<Event>, TerminalFault> {
         let Some(size) = self.line.size() else {

@@ -67,7 +67,7 @@ fn fields(line: &str) -> Option<(&str, &str)>
     line.strip_suffix('\n')?.split_once(' ')
 }
 
-/// The size of a terminal of as many rows and columns as two texts say. `None` if either is no number, or 0.
+/// The size of a terminal of as many rows and columns as two texts say. `None` if either is not a number, or 0.
 pub(crate) fn size_said(rows: &str, columns: &str) -> Option<Size>
     ensures { Finds (SaySize rows.now columns.now) result }
 {

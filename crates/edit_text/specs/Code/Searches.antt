@@ -19,13 +19,13 @@ IsFirstColumn line start bytes found =
     ((c : ℕ) → start ≤ c → ¬ IsAt line bytes c)
     (λ column. (start ≤ column) × IsAt line bytes column × ((c : ℕ) → start ≤ c → c < column → ¬ IsAt line bytes c))
 
--- the first place from `from` on at which these bytes stand; none if they stand only before it
+-- the first place from `from` on at which these bytes occur; none if they occur only before it
 abbrev pub IsFirstFrom : List (List ℕ) → Place → List ℕ → Option Place → Type 0
 IsFirstFrom lines from bytes found =
     MatchOption found
     ((p : Place) → StandsAt lines bytes p → is_before p from ≡ true)
     (λ place. StandsAt lines bytes place × (is_before place from ≡ false) × ((p : Place) → StandsAt lines bytes p → is_before p from ≡ false → is_before p place ≡ false))
 
--- where these bytes stand from a place on is in no line before this one
+-- where these bytes occur from a place on is in no line before this one
 abbrev pub AreNoneBefore : List (List ℕ) → Place → List ℕ → ℕ → Type 0
 AreNoneBefore lines from bytes line = (p : Place) → StandsAt lines bytes p → is_before p from ≡ false → line ≤ p.line

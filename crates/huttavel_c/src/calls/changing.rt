@@ -1,94 +1,65 @@
-//! Calls on windows that give nothing: by a number, each one call of `curses::Screen`.
+//! Calls on windows that give nothing: each is one call of `curses::Screen`, which a number or a truth value may choose.
 ghost use Rattle.std.specs.Prelude.{if◌then◌else◌};
-ghost use Rattle.scr_windows.specs.Calls.Scrolling.{insert_delete_lines_call, scroll_call};
-ghost use Rattle.scr_windows.specs.Calls.Settings.{move_cursor_call};
-ghost use Rattle.huttavel_c.specs.Asking.{Asked, on_windows};
-ghost use Rattle.huttavel_c.specs.Families.{IsAnswered, IsMade, number_call, setting_call, window_call};
+ghost use Rattle.scr_virtual.specs.Pairs.{set_pair_call};
+ghost use Rattle.scr_windows.specs.Calls.Erasing.{clear_to_eol_call};
+ghost use Rattle.scr_windows.specs.Calls.Scrolling.{delete_byte_call, insert_delete_lines_call, scroll_call};
+ghost use Rattle.scr_windows.specs.Calls.Settings.{color_set_call, move_cursor_call, set_region_call};
+ghost use Rattle.scr_windows.specs.Calls.Touching.{touch_all_call};
+ghost use Rattle.huttavel_c.specs.Asking.{Asked, on_virtual, on_windows};
+ghost use Rattle.huttavel_c.specs.Families.{number_call, setting_call, window_call};
 ghost use Rattle.huttavel_c.specs.Replies.{done_number};
 
 use crate::answers::done;
 use crate::faults::CLOSED;
 use crate::handles::Handle;
-use curses::{Attrs, Screen, Win, WinFault};
-use std::alloc::Global;
-
-// A call on a window.
-#[tactic(auto, unfolding(crate::specs::Families::window_call))]
-fn call_window(screen: &mut Screen, kind: u32, window: Win) -> u32
-    ensures { IsAnswered screen.new result (window_call kind window.0 screen.old) }
-{
-    match kind {
-        0 => done(screen.delete(window)),
-        1 => done(screen.clear_to_eol(window)),
-        2 => done(screen.clear_to_bottom(window)),
-        3 => done(screen.erase(window)),
-        4 => done(screen.clear(window)),
-        5 => done(screen.delete_byte(window)),
-        6 => done(screen.touch_window(window)),
-        7 => done(screen.untouch(window)),
-        8 => done(screen.sync_up(window)),
-        9 => done(screen.sync_down(window)),
-        10 => done(screen.noutrefresh(window)),
-        _ => done(screen.redraw_window(window)),
-    }
-}
-
-// A call on a window, or on a colour pair, with two numbers.
-#[tactic(auto, unfolding(crate::specs::Families::number_call))]
-fn call_numbers(screen: &mut Screen, kind: u32, window: u32, first: u32, second: u32) -> u32
-    ensures { IsAnswered screen.new result (number_call kind window first second screen.old) }
-{
-    let win = Win(window);
-    match kind {
-        0 => done(screen.set_region(win, first, second)),
-        1 => done(screen.move_window(win, first, second)),
-        2 => done(screen.move_derived(win, first, second)),
-        3 => done(screen.color_set(win, first)),
-        4 => done(screen.touch_lines(win, first, second, true)),
-        5 => done(screen.touch_lines(win, first, second, false)),
-        6 => done(screen.redraw_lines(win, first, second)),
-        _ => done(screen.set_pair(window, first, second)),
-    }
-}
-
-// A setting of a window.
-#[tactic(auto, unfolding(crate::specs::Families::setting_call))]
-fn call_setting(screen: &mut Screen, kind: u32, window: Win, bits: u8) -> u32
-    ensures { IsAnswered screen.new result (setting_call kind window.0 bits screen.old) }
-{
-    match kind {
-        0 => done(screen.scroll_ok(window, bits != 0)),
-        1 => done(screen.clear_ok(window, bits != 0)),
-        2 => done(screen.leave_ok(window, bits != 0)),
-        3 => done(screen.attr_on(window, Attrs(bits))),
-        4 => done(screen.attr_off(window, Attrs(bits))),
-        _ => done(screen.attr_set(window, Attrs(bits))),
-    }
-}
+use curses::{Attrs, Win};
 
 /// A call on a window with nothing more, by its number in `enum window_call` of `held.h`. Refused: CLOSED; as the call.
 #[unsafe(no_mangle)]
-pub extern "C" fn huttavel_held_on_window(
-    alloc: Global,
-    handle: &mut Handle,
-    window: u32,
-    kind: u32,
-) -> u32
+#[tactic(auto, unfolding(crate::specs::Families::window_call))]
+pub extern "C" fn huttavel_held_on_window(handle: &mut Handle, window: u32, kind: u32) -> u32
     ensures { Asked (window_call kind window) done_number 1 handle.old.held.value handle.new.held.value result }
 {
-    let Some(mut session) = handle.take(alloc) else {
-        return CLOSED;
-    };
-    let answer = call_window(&mut session.screen, kind, Win(window));
-    handle.put(session);
-    answer
+    handle.lend(CLOSED, |session| match kind {
+        0 => done(session.screen.delete(Win(window))),
+        1 => done(session.screen.clear_to_bottom(Win(window))),
+        2 => done(session.screen.erase(Win(window))),
+        3 => done(session.screen.clear(Win(window))),
+        4 => done(session.screen.sync_up(Win(window))),
+        5 => done(session.screen.sync_down(Win(window))),
+        6 => done(session.screen.noutrefresh(Win(window))),
+        _ => done(session.screen.redraw_window(Win(window))),
+    })
 }
 
-/// Moves the cursor of a window to a row and a column of it, by `Screen::move_cursor`: so often made that it has a
+/// Touches all lines of a window, by `Screen::touch_window`, or untouches them, by `Screen::untouch`. Refused: CLOSED;
+/// NO_WINDOW.
+#[unsafe(no_mangle)]
+pub extern "C" fn huttavel_held_touch(handle: &mut Handle, window: u32, touched: bool) -> u32
+    ensures { Asked (λ screen. on_windows screen (touch_all_call screen.desk window touched)) done_number 1 handle.old.held.value handle.new.held.value result }
+{
+    handle.lend(CLOSED, |session| match touched {
+        true => done(session.screen.touch_window(Win(window))),
+        false => done(session.screen.untouch(Win(window))),
+    })
+}
+
+/// Deletes the byte at the cursor, by `Screen::delete_byte`, or erases to the end of the line, by
+/// `Screen::clear_to_eol`. Refused: CLOSED; NO_WINDOW.
+#[unsafe(no_mangle)]
+pub extern "C" fn huttavel_held_cut_line(handle: &mut Handle, window: u32, deletes: bool) -> u32
+    ensures { Asked (λ screen. on_windows screen (if deletes then delete_byte_call screen.desk window else clear_to_eol_call screen.desk window)) done_number 1 handle.old.held.value handle.new.held.value result }
+{
+    handle.lend(CLOSED, |session| match deletes {
+        true => done(session.screen.delete_byte(Win(window))),
+        false => done(session.screen.clear_to_eol(Win(window))),
+    })
+}
+
+/// Moves the cursor of a window to a row and a column of it, by `Screen::move_cursor`: called so often that it has a
 /// function of its own. Refused: CLOSED; NO_WINDOW; OUT_OF_WINDOW.
 #[unsafe(no_mangle)]
 pub extern "C" fn huttavel_held_move_cursor(
-    alloc: Global,
     handle: &mut Handle,
     window: u32,
     row: u32,
@@ -96,19 +67,15 @@ pub extern "C" fn huttavel_held_move_cursor(
 ) -> u32
     ensures { Asked (λ screen. on_windows screen (move_cursor_call screen.desk window row column)) done_number 1 handle.old.held.value handle.new.held.value result }
 {
-    let Some(mut session) = handle.take(alloc) else {
-        return CLOSED;
-    };
-    let came = session.screen.move_cursor(Win(window), row, column);
-    handle.put(session);
-    done(came)
+    handle.lend(CLOSED, |session| {
+        done(session.screen.move_cursor(Win(window), row, column))
+    })
 }
 
-/// A call on a window with one or two numbers, or on a colour pair, by its number in `enum number_call`. Refused:
-/// CLOSED; as the call.
+/// A call on a window with two numbers, by its number in `enum number_call`. Refused: CLOSED; as the call.
 #[unsafe(no_mangle)]
+#[tactic(auto, unfolding(crate::specs::Families::number_call))]
 pub extern "C" fn huttavel_held_with_numbers(
-    alloc: Global,
     handle: &mut Handle,
     window: u32,
     first: u32,
@@ -117,39 +84,80 @@ pub extern "C" fn huttavel_held_with_numbers(
 ) -> u32
     ensures { Asked (number_call kind window first second) done_number 1 handle.old.held.value handle.new.held.value result }
 {
-    let Some(mut session) = handle.take(alloc) else {
-        return CLOSED;
-    };
-    let answer = call_numbers(&mut session.screen, kind, window, first, second);
-    handle.put(session);
-    answer
+    handle.lend(CLOSED, |session| {
+        let (screen, win) = (&mut session.screen, Win(window));
+        match kind {
+            0 => done(screen.move_window(win, first, second)),
+            1 => done(screen.move_derived(win, first, second)),
+            2 => done(screen.touch_lines(win, first, second, true)),
+            3 => done(screen.touch_lines(win, first, second, false)),
+            _ => done(screen.redraw_lines(win, first, second)),
+        }
+    })
+}
+
+/// Sets the first and the last row of the scrolling region, by `Screen::set_region`. Refused: CLOSED; NO_WINDOW;
+/// BAD_REGION.
+#[unsafe(no_mangle)]
+pub extern "C" fn huttavel_held_set_region(
+    handle: &mut Handle,
+    window: u32,
+    top: u32,
+    bottom: u32,
+) -> u32
+    ensures { Asked (λ screen. on_windows screen (set_region_call screen.desk window top bottom)) done_number 1 handle.old.held.value handle.new.held.value result }
+{
+    handle.lend(CLOSED, |session| {
+        done(session.screen.set_region(Win(window), top, bottom))
+    })
+}
+
+/// Sets the colour pair that bytes are written with, by `Screen::color_set`. Refused: CLOSED; NO_WINDOW; BAD_PAIR.
+#[unsafe(no_mangle)]
+pub extern "C" fn huttavel_held_color_set(handle: &mut Handle, window: u32, pair: u32) -> u32
+    ensures { Asked (λ screen. on_windows screen (color_set_call screen.desk window pair)) done_number 1 handle.old.held.value handle.new.held.value result }
+{
+    handle.lend(CLOSED, |session| {
+        done(session.screen.color_set(Win(window), pair))
+    })
+}
+
+/// Sets the colours of a pair, by `Screen::set_pair`. Refused: CLOSED; BAD_PAIR; BAD_COLOUR.
+#[unsafe(no_mangle)]
+pub extern "C" fn huttavel_held_set_pair(
+    handle: &mut Handle,
+    pair: u32,
+    foreground: u32,
+    background: u32,
+) -> u32
+    ensures { Asked (λ screen. on_virtual screen (set_pair_call screen.virtual pair foreground background)) done_number 1 handle.old.held.value handle.new.held.value result }
+{
+    handle.lend(CLOSED, |session| {
+        done(session.screen.set_pair(pair, foreground, background))
+    })
 }
 
 /// A setting of a window, by its number in `enum setting_call`: attributes as bits, or 0 for off and another number for
 /// on. Refused: CLOSED; NO_WINDOW.
 #[unsafe(no_mangle)]
-pub extern "C" fn huttavel_held_set(
-    alloc: Global,
-    handle: &mut Handle,
-    window: u32,
-    bits: u8,
-    kind: u32,
-) -> u32
+#[tactic(auto, unfolding(crate::specs::Families::setting_call))]
+pub extern "C" fn huttavel_held_set(handle: &mut Handle, window: u32, bits: u8, kind: u32) -> u32
     ensures { Asked (setting_call kind window bits) done_number 1 handle.old.held.value handle.new.held.value result }
 {
-    let Some(mut session) = handle.take(alloc) else {
-        return CLOSED;
-    };
-    let answer = call_setting(&mut session.screen, kind, Win(window), bits);
-    handle.put(session);
-    answer
+    handle.lend(CLOSED, |session| match kind {
+        0 => done(session.screen.scroll_ok(Win(window), bits != 0)),
+        1 => done(session.screen.clear_ok(Win(window), bits != 0)),
+        2 => done(session.screen.leave_ok(Win(window), bits != 0)),
+        3 => done(session.screen.attr_on(Win(window), Attrs(bits))),
+        4 => done(session.screen.attr_off(Win(window), Attrs(bits))),
+        _ => done(session.screen.attr_set(Win(window), Attrs(bits))),
+    })
 }
 
 /// Inserts `n` lines at the cursor's row or deletes `-n`, by `Screen::insert_delete_lines`; or moves the lines of the
 /// scrolling region up by `n` or down by `-n`, by `Screen::scroll`. Refused: CLOSED; NO_WINDOW; NO_SCROLL.
 #[unsafe(no_mangle)]
 pub extern "C" fn huttavel_held_move_lines(
-    alloc: Global,
     handle: &mut Handle,
     window: u32,
     n: i32,
@@ -157,21 +165,8 @@ pub extern "C" fn huttavel_held_move_lines(
 ) -> u32
     ensures { Asked (λ screen. on_windows screen (if scrolls then scroll_call screen.desk window n else insert_delete_lines_call screen.desk window n)) done_number 1 handle.old.held.value handle.new.held.value result }
 {
-    let Some(mut session) = handle.take(alloc) else {
-        return CLOSED;
-    };
-    let came = move_lines(&mut session.screen, scrolls, Win(window), n);
-    handle.put(session);
-    done(came)
-}
-
-// Lines of a window move.
-fn move_lines(screen: &mut Screen, scrolls: bool, window: Win, n: i32) -> Result<(), WinFault>
-    ensures { IsMade screen.new result (on_windows screen.old (if scrolls then scroll_call screen.old.desk window.0 n else insert_delete_lines_call screen.old.desk window.0 n)) }
-{
-    if scrolls {
-        screen.scroll(window, n)
-    } else {
-        screen.insert_delete_lines(window, n)
-    }
+    handle.lend(CLOSED, |session| match scrolls {
+        true => done(session.screen.scroll(Win(window), n)),
+        false => done(session.screen.insert_delete_lines(Win(window), n)),
+    })
 }

@@ -2,58 +2,19 @@
 ghost use Rattle.scr_windows.specs.Calls.Copying.{copy_call, overlay_call};
 ghost use Rattle.scr_virtual.specs.Taking.{take_pad_call};
 ghost use Rattle.huttavel_c.specs.Asking.{Asked, AskedForMemory, on_both, on_windows};
-ghost use Rattle.huttavel_c.specs.Families.{IsMadeForMemory, making_call};
+ghost use Rattle.huttavel_c.specs.Families.{making_call};
 ghost use Rattle.huttavel_c.specs.Replies.{done_number, made_reply, refused};
 
 use crate::answers::{Reply, done, made, refused};
 use crate::faults::CLOSED;
 use crate::handles::Handle;
-use curses::{Screen, Win, WinFault};
+use curses::Win;
 use std::alloc::Global;
-
-// Makes a window.
-#[tactic(auto, unfolding(crate::specs::Families::making_call))]
-fn make(
-    alloc: Global,
-    screen: &mut Screen,
-    kind: u32,
-    window: Win,
-    rows: u32,
-    columns: u32,
-    row: u32,
-    column: u32,
-) -> Result<Win, WinFault>
-    ensures { IsMadeForMemory screen.old screen.new result (making_call kind window.0 rows columns row column screen.old) }
-{
-    match kind {
-        0 => screen.new_window(alloc, rows, columns, row, column),
-        1 => screen.new_pad(alloc, rows, columns),
-        2 => screen.derive(alloc, window, rows, columns, row, column),
-        3 => screen.sub(alloc, window, rows, columns, row, column),
-        _ => screen.sub_pad(alloc, window, rows, columns, row, column),
-    }
-}
-
-// Copies where two windows cover the same part of the screen: all but blanks, or all cells.
-fn copy_common(
-    alloc: Global,
-    screen: &mut Screen,
-    source: Win,
-    target: Win,
-    overlays: bool,
-) -> Result<(), WinFault>
-    ensures { IsMadeForMemory screen.old screen.new result (on_windows screen.old (overlay_call screen.old.desk source.0 target.0 overlays)) }
-{
-    if overlays {
-        screen.overlay(alloc, source, target)
-    } else {
-        screen.overwrite(alloc, source, target)
-    }
-}
 
 /// Makes a window by the call of this number in `enum making_call` of `held.h`, and gives the window's number. The
 /// first two make one of the screen's own and take no window. Refused: CLOSED; as the call.
 #[unsafe(no_mangle)]
+#[tactic(auto, unfolding(crate::specs::Families::making_call))]
 pub extern "C" fn huttavel_held_make(
     alloc: Global,
     handle: &mut Handle,
@@ -66,13 +27,16 @@ pub extern "C" fn huttavel_held_make(
 ) -> Reply
     ensures { AskedForMemory (making_call kind window rows columns row column) made_reply (refused 4) (refused 1) handle.old.held.value handle.new.held.value result }
 {
-    let Some(mut session) = handle.take(alloc) else {
-        return refused(CLOSED);
-    };
-    let screen = &mut session.screen;
-    let came = make(alloc, screen, kind, Win(window), rows, columns, row, column);
-    handle.put(session);
-    made(came)
+    handle.lend(refused(CLOSED), |session| {
+        let screen = &mut session.screen;
+        match kind {
+            0 => made(screen.new_window(alloc, rows, columns, row, column)),
+            1 => made(screen.new_pad(alloc, rows, columns)),
+            2 => made(screen.derive(alloc, Win(window), rows, columns, row, column)),
+            3 => made(screen.sub(alloc, Win(window), rows, columns, row, column)),
+            _ => made(screen.sub_pad(alloc, Win(window), rows, columns, row, column)),
+        }
+    })
 }
 
 /// Copies cells of the source, from a row and a column on, to a rectangle of the target; with `overlay` all but blanks,
@@ -93,16 +57,13 @@ pub extern "C" fn huttavel_held_copy(
 ) -> u32
     ensures { AskedForMemory (λ screen. on_windows screen (copy_call screen.desk source target row column top left bottom right overlay)) done_number 4 1 handle.old.held.value handle.new.held.value result }
 {
-    let Some(mut session) = handle.take(alloc) else {
-        return CLOSED;
-    };
-    let (from, to) = (Win(source), Win(target));
-    let screen = &mut session.screen;
-    let came = screen.copy(
-        alloc, from, to, row, column, top, left, bottom, right, overlay,
-    );
-    handle.put(session);
-    done(came)
+    handle.lend(CLOSED, |session| {
+        let (from, to) = (Win(source), Win(target));
+        let copied = session.screen.copy(
+            alloc, from, to, row, column, top, left, bottom, right, overlay,
+        );
+        done(copied)
+    })
 }
 
 /// Copies where two windows cover the same part of the screen: all but blanks by `Screen::overlay`, or all cells by
@@ -117,20 +78,16 @@ pub extern "C" fn huttavel_held_copy_common(
 ) -> u32
     ensures { AskedForMemory (λ screen. on_windows screen (overlay_call screen.desk source target overlays)) done_number 4 1 handle.old.held.value handle.new.held.value result }
 {
-    let Some(mut session) = handle.take(alloc) else {
-        return CLOSED;
-    };
-    let screen = &mut session.screen;
-    let came = copy_common(alloc, screen, Win(source), Win(target), overlays);
-    handle.put(session);
-    done(came)
+    handle.lend(CLOSED, |session| match overlays {
+        true => done(session.screen.overlay(alloc, Win(source), Win(target))),
+        false => done(session.screen.overwrite(alloc, Win(source), Win(target))),
+    })
 }
 
 /// Copies a part of a pad, from a row and a column on, onto a rectangle of the virtual screen, by
 /// `Screen::pad_noutrefresh`. Refused: CLOSED; NO_WINDOW; NOT_PAD; OFF_SCREEN; OUT_OF_WINDOW.
 #[unsafe(no_mangle)]
 pub extern "C" fn huttavel_held_pad_noutrefresh(
-    alloc: Global,
     handle: &mut Handle,
     window: u32,
     row: u32,
@@ -142,12 +99,8 @@ pub extern "C" fn huttavel_held_pad_noutrefresh(
 ) -> u32
     ensures { Asked (λ screen. on_both screen (take_pad_call screen.virtual screen.desk window row column top left bottom right)) done_number 1 handle.old.held.value handle.new.held.value result }
 {
-    let Some(mut session) = handle.take(alloc) else {
-        return CLOSED;
-    };
-    let pad = Win(window);
-    let screen = &mut session.screen;
-    let came = screen.pad_noutrefresh(pad, row, column, top, left, bottom, right);
-    handle.put(session);
-    done(came)
+    handle.lend(CLOSED, |session| {
+        let (screen, pad) = (&mut session.screen, Win(window));
+        done(screen.pad_noutrefresh(pad, row, column, top, left, bottom, right))
+    })
 }
