@@ -1,23 +1,25 @@
 -- Faults over chains of uses: over longer ones, over none, and those of all entries that are left later.
-use Rattle.std.proofs.Common.{◌≡◌, ◌≢◌, ◌∙◌, ℕ, ◌+◌, ◌≤◌, Bool, true, false, ◌||◌, eqb, List, [], ◌∷◌, ◌++◌, Option, Some, option_map, slice_get, map, set, length, reverse, refl, ap, sym, subst, append_assoc, append-nil, arith, ◌⊎◌, inl, inr}
+use Rattle.std.proofs.Common.{◌≡◌, ◌≢◌, ◌∙◌, ℕ, ◌+◌, ◌≤◌, ◌<◌, Bool, true, false, ◌||◌, eqb, List, [], ◌∷◌, ◌++◌, Option, Some, is_some, option_map, slice_get, map, set, get_or, length, reverse, refl, ap, sym, subst, append_assoc, append-nil, arith, ◌⊎◌, inl, inr}
 use Rattle.std.specs.List.{list_any}
 use Rattle.std.proofs.lemmas.Bool.{eqb-true}
 use Rattle.std.proofs.lemmas.Bool.Decides.{nat_tests}
 use Rattle.std.proofs.lemmas.List.{length-set}
+use Rattle.std.proofs.lemmas.Option.{slice_get-get_or}
 use Rattle.ti_caps.specs.Description.{Description}
 use Rattle.ti_source.specs.declared.faults.SourceFault.{SourceFault}
 use Rattle.ti_source.specs.declared.faults.SourceFault.TheVariants.{UseCycle}
 use Rattle.ti_source.specs.declared.reading.statement.Statement.{Statement}
-use Rattle.ti_source.specs.declared.resolving.walk.Mark.{Mark}
-use Rattle.ti_source.specs.declared.resolving.walk.Mark.TheVariants.{New, Open, Done, Faulty}
+use Rattle.ti_source.specs.declared.resolving.marks.Mark.{Mark}
+use Rattle.ti_source.specs.declared.resolving.marks.Mark.TheVariants.{New, Open, Faulty}
 use Rattle.ti_source.specs.declared.resolving.walk.Task.{Task}
 use Rattle.ti_source.specs.declared.resolving.walk.Task.TheVariants.{Visit, Leave}
 use Rattle.ti_source.specs.Described.{Described}
 use Rattle.ti_source.specs.Resolving.Named.{found_from, index_of}
 use Rattle.ti_source.specs.Resolving.Uses.{Resolve, nothing, more, Fault, unknown, cycle, below, later}
-use Rattle.ti_source.specs.Code.Walk.{visits, leaves, FaultAt, ResolvedAt, Awaits, Awaited, IsTakenBack, IsWalk, with_fault}
+use Rattle.ti_source.specs.Code.Walk.{visits, leaves, FaultAt, ResolvedAt, Awaits, Awaited, IsTakenBack, IsWalk, steps_of, with_fault}
 use Rattle.ti_source.proofs.OnceLaws.{fault-is-once}
-use Rattle.ti_source.proofs.IndexLaws.{get-cases, get-lt, get-within, reverse-push}
+use Rattle.ti_source.proofs.IndexLaws.{get-cases, get-lt, get-other, get-within, reverse-push}
+use Rattle.ti_source.proofs.LoweringLaws.{Lowers, lowers-same, mark-lower}
 use Rattle.ti_source.proofs.TaskLaws.{fault-more, found-at, no-fault, index-there}
 
 -- ---- chains
@@ -227,6 +229,28 @@ with-cases fault (k ∷ is) ms i m e =
     first : i ≡ k → (eqb k i || list_any (λ j. eqb j i) is) ≡ true
     first same = let is_on : eqb k i ≡ true = grind (arith, nat_tests) in rw is_on refl
 
+-- the marks of the others stay
+with-off : (fault : SourceFault) (is : List ℕ) (ms : List Mark) (i : ℕ) → list_any (λ j. eqb j i) is ≡ false → slice_get (with_fault fault is ms) i ≡ slice_get ms i
+with-off fault [] ms i off = refl
+with-off fault (k ∷ is) ms i off =
+    with-off fault is (set ms k (Faulty fault)) i (second (eqb k i) (list_any (λ j. eqb j i) is) off)
+    ∙ get-other ms k i (Faulty fault) (differs k i (first (eqb k i) (list_any (λ j. eqb j i) is) off))
+  where
+    first : (a b : Bool) → (a || b) ≡ false → a ≡ false
+    first true b e = e
+    first false b e = refl
+
+    second : (a b : Bool) → (a || b) ≡ false → b ≡ false
+    second true b e = cc
+    second false b e = e
+
+    differs : (a b : ℕ) → eqb a b ≡ false → b ≢ a
+    differs a b e same = grind (arith, nat_tests)
+
+-- an open mark is not known
+pub open-unknown : (m : Mark) → m ≡ Open → is_some (steps_of (Some m)) ≡ true → ⊥
+open-unknown m is h = let bad : is_some (steps_of (Some Open)) ≡ true = ap (λ x. is_some (steps_of (Some x))) (sym is) ∙ h in cc
+
 -- a walk that came to a fault, once the entries on the chain are marked with it
 pub ready-again : (entries : List Described) (marks after : List Mark) (kept : List (List Statement)) (p : Option ℕ) (tasks : List Task) (fault : SourceFault) → IsWalk entries marks kept (Visit p ∷ tasks) → FaultAt entries (leaves tasks) p fault → after ≡ with_fault fault (leaves tasks) marks → IsWalk entries after kept []
 ready-again entries marks after kept p tasks fault w h is =
@@ -238,9 +262,10 @@ ready-again entries marks after kept p tasks fault w h is =
         | inr g ↦ let on = w.opened i g.0 in absurd (cc (on, g.1))
       ];
       fresh = λ i e. refl;
-      keeps = λ i k e. elim (with-cases fault (leaves tasks) marks i (Done k) e) [
-        | inl g ↦ absurd (cc (g.0))
-        | inr g ↦ w.keeps i k g.0
+      chain = λ i on. cc;
+      keeps = λ i m e. elim (with-cases fault (leaves tasks) marks i m e) [
+        | inl g ↦ rw (g.0) tt
+        | inr g ↦ mark-lower entries marks (with_fault fault (leaves tasks) marks) kept kept i m (lowers-same marks (with_fault fault (leaves tasks) marks) stays) (λ k fields there. there) (w.keeps i m g.0)
       ];
       held = tt;
       awaited = tt;
@@ -249,6 +274,15 @@ ready-again entries marks after kept p tasks fault w h is =
         | inr g ↦ w.faulty i other g.0
       ];
     })
+  where
+    stays : (i : ℕ) (m : Mark) → slice_get marks i ≡ Some m → is_some (steps_of (Some m)) ≡ true → slice_get (with_fault fault (leaves tasks) marks) i ≡ Some m
+    stays i m at some = by (list_any (λ j. eqb j i) (leaves tasks)) refl
+      where
+        by : (t : Bool) → list_any (λ j. eqb j i) (leaves tasks) ≡ t → slice_get (with_fault fault (leaves tasks) marks) i ≡ Some m
+        by true on =
+            let is : m ≡ Open = cc (at, w.chain i on) in
+            absurd (open-unknown m is some)
+        by false off = with-off fault (leaves tasks) marks i off ∙ at
 
 pub faults-leave : (fault : SourceFault) (marks after whole : List Mark) (all rest : List Task) (i : ℕ) → all ≡ rest ++ Leave i ∷ [] → after ≡ set marks i (Faulty fault) → with_fault fault (leaves (reverse all)) marks ≡ whole → with_fault fault (leaves (reverse rest)) after ≡ whole
 faults-leave fault marks after whole all rest i popped put h =
@@ -264,33 +298,43 @@ faults-visit fault marks whole all rest p popped h =
 abbrev pub AreTakenBack : ℕ → List Mark → List Mark → Type 0
 AreTakenBack i before now =
     (length now ≡ length before) × ((j : ℕ) (m : Mark) → slice_get now j ≡ Some m → (m ≡ New) ⊎ ((slice_get before j ≡ Some m) × ((m ≢ Open) ⊎ (i ≤ j))))
+    × ((j : ℕ) (m : Mark) → slice_get before j ≡ Some m → m ≢ Open → slice_get now j ≡ Some m)
 
 pub back-init : (marks : List Mark) → AreTakenBack 0 marks marks
-back-init marks = (refl, λ j m e. inr (e, inr (omega arith)))
+back-init marks = (refl, (λ j m e. inr (e, inr (omega arith))), λ j m e ne. e)
 
 past : (i j : ℕ) → j ≢ i → i ≤ j → i + 1 ≤ j
 past i j ne le = grind (arith, nat_tests)
 
-pub back-open : (before now after : List Mark) (i : ℕ) → AreTakenBack i before now → after ≡ set now i New → AreTakenBack (i + 1) before after
-back-open before now after i h is =
+pub back-open : (before now after : List Mark) (i : ℕ) → AreTakenBack i before now → slice_get now i ≡ Some Open → after ≡ set now i New → AreTakenBack (i + 1) before after
+back-open before now after i h at is =
     rw is (
       length-set now i New ∙ h.0,
-      λ j m e. elim (get-cases now i New j m e) [
+      (λ j m e. elim (get-cases now i New j m e) [
         | inl g ↦ inl g.1
         | inr g ↦ elim (h.1 j m g.1) [
           | inl x ↦ inl x
           | inr y ↦ inr (y.0, elim y.1 [ inl z ↦ inl z | inr le ↦ inr (past i j g.0 le) ])
         ]
-      ],
+      ]),
+      λ j m e ne. by j m (h.2 j m e ne) ne (eqb j i) refl,
     )
+  where
+    by : (j : ℕ) (m : Mark) → slice_get now j ≡ Some m → m ≢ Open → (t : Bool) → eqb j i ≡ t → slice_get (set now i New) j ≡ Some m
+    by j m there ne true same =
+        let here : slice_get now i ≡ Some m = ap (slice_get now) (sym (eqb-true j i same)) ∙ there in
+        let open_is : m ≡ Open = cc (here, at) in
+        absurd (ne open_is)
+    by j m there ne false other = get-other now i j New (grind (arith, nat_tests)) ∙ there
 
 pub back-other : (before now : List Mark) (i : ℕ) (x : Mark) → AreTakenBack i before now → slice_get now i ≡ Some x → x ≢ Open → AreTakenBack (i + 1) before now
 back-other before now i x h at ne = (
   h.0,
-  λ j m e. elim (h.1 j m e) [
+  (λ j m e. elim (h.1 j m e) [
     | inl y ↦ inl y
     | inr y ↦ inr (y.0, elim y.1 [ inl z ↦ inl z | inr le ↦ by j m e (eqb j i) refl le ])
-  ],
+  ]),
+  h.2,
 )
   where
     by : (j : ℕ) (m : Mark) → slice_get now j ≡ Some m → (t : Bool) → eqb j i ≡ t → i ≤ j → (m ≢ Open) ⊎ (i + 1 ≤ j)
@@ -301,9 +345,17 @@ back-other before now i x h at ne = (
         inl (λ open_is. ne (mark ∙ open_is))
     by j m e false is le = inr (grind (arith, nat_tests))
 
+-- the same of marks that are read by index
+pub back-read : (before now after : List Mark) (i : ℕ) → AreTakenBack i before now → i < length now → get_or now i New ≡ Open → after ≡ set now i New → AreTakenBack (i + 1) before after
+back-read before now after i h lt at is = back-open before now after i h (slice_get-get_or now i New lt ∙ ap Some at) is
+
+pub back-pass : (before now after : List Mark) (i : ℕ) → AreTakenBack i before now → i < length now → get_or now i New ≢ Open → after ≡ now → AreTakenBack (i + 1) before after
+back-pass before now after i h lt ne is = rw is (back-other before now i (get_or now i New) h (slice_get-get_or now i New lt) ne)
+
 pub back-end : (before now : List Mark) (i : ℕ) → AreTakenBack i before now → length before ≤ i → IsTakenBack before now
 back-end before now i h all = record {
   sized = h.0;
+  others = h.2;
   stay = λ j m e. elim (h.1 j m e) [
     | inl y ↦ inl y
     | inr y ↦ inr (y.0, elim y.1 [ inl z ↦ z | inr le ↦ let lt = get-lt before j m y.0 in absurd (omega arith) ])
@@ -316,8 +368,12 @@ ready-back entries marks after kept tasks w t = record {
   sized = t.sized ∙ w.sized;
   opened = λ i e. elim (t.stay i Open e) [ inl h ↦ absurd (cc (h)) | inr h ↦ absurd (h.1 refl) ];
   fresh = λ i e. refl;
-  keeps = λ i k e. elim (t.stay i (Done k) e) [ inl h ↦ absurd (cc (h)) | inr h ↦ w.keeps i k h.0 ];
+  chain = λ i on. cc;
+  keeps = λ i m e. elim (t.stay i m e) [ inl h ↦ rw h tt | inr h ↦ mark-lower entries marks after kept kept i m lowers (λ k fields there. there) (w.keeps i m h.0) ];
   held = tt;
   awaited = tt;
   faulty = λ i fault e. elim (t.stay i (Faulty fault) e) [ inl h ↦ absurd (cc (h)) | inr h ↦ w.faulty i fault h.0 ];
 }
+  where
+    lowers : Lowers marks after
+    lowers = lowers-same marks after (λ i m at some. t.others i m at (λ is. open-unknown m is some))

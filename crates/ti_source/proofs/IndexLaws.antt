@@ -1,6 +1,6 @@
 -- Lists by place.
-use Rattle.std.proofs.Common.{◌≡◌, ◌≢◌, ◌∙◌, ℕ, zero, suc, ◌+◌, ◌≤◌, ◌<◌, List, [], ◌∷◌, ◌++◌, Some, None, slice_get, set, get_or, take, drop, length, reverse, refl, ap, arith, add-one, ◌⊎◌, inl, inr}
-use Rattle.std.proofs.lemmas.List.{reverse-append}
+use Rattle.std.proofs.Common.{◌≡◌, ◌≢◌, ◌∙◌, ℕ, zero, suc, ◌+◌, ◌≤◌, ◌<◌, List, [], ◌∷◌, ◌++◌, Some, None, slice_get, set, get_or, take, drop, length, reverse, refl, ap, arith, append-nil, add-one, ◌⊎◌, inl, inr}
+use Rattle.std.proofs.lemmas.List.{drop_all, reverse-append, take_all}
 
 pub reverse-push : {A : Type 0} → (xs : List A) (x : A) → reverse (xs ++ x ∷ []) ≡ x ∷ reverse xs
 reverse-push xs x = reverse-append xs (x ∷ [])
@@ -20,6 +20,13 @@ pub get-set : {A : Type 0} → (xs : List A) (i : ℕ) (x y : A) → slice_get x
 get-set [] i x y e = cc
 get-set (z ∷ zs) zero x y e = refl
 get-set (z ∷ zs) (suc i) x y e = get-set zs i x y e
+
+pub get-other : {A : Type 0} → (xs : List A) (i j : ℕ) (x : A) → j ≢ i → slice_get (set xs i x) j ≡ slice_get xs j
+get-other [] i j x ne = refl
+get-other (z ∷ zs) zero zero x ne = absurd (ne refl)
+get-other (z ∷ zs) zero (suc j) x ne = refl
+get-other (z ∷ zs) (suc i) zero x ne = refl
+get-other (z ∷ zs) (suc i) (suc j) x ne = get-other zs i j x (λ e. ne (ap suc e))
 
 pub get-within : {A : Type 0} → (xs : List A) (i : ℕ) → i < length xs → (x : A) × (slice_get xs i ≡ Some x)
 get-within [] i lt = absurd (omega arith)
@@ -59,3 +66,8 @@ pub take-at : {A : Type 0} → (xs : List A) (i : ℕ) (x : A) → slice_get xs 
 take-at [] i x e = cc
 take-at (y ∷ ys) zero x e = let same : y ≡ x = cc in rw same refl
 take-at (y ∷ ys) (suc i) x e = rw add-one (ap (λ zs. y ∷ zs) (rw add-one at (take-at ys i x e)))
+
+-- what was lent whole and is put back
+pub written-back : {A : Type 0} → (n : ℕ) (xs ys : List A) → n ≡ length ys → length xs ≡ length ys → take n (xs ++ drop (length xs) ys) ≡ xs
+written-back n xs ys all same =
+    ap (λ zs. take n (xs ++ zs)) (drop_all (length xs) ys (omega arith)) ∙ ap (take n) (append-nil xs) ∙ take_all n xs (omega arith)

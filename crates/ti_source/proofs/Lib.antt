@@ -12,6 +12,8 @@ pub mod GatherLaws
 pub mod StandsForLaws
 pub mod GoodLaws
 pub mod LinesBackLaws
+pub mod ListingLaws
+pub mod LoweringLaws
 pub mod MeaningLaws
 pub mod MergedBackLaws
 pub mod NamedLaws

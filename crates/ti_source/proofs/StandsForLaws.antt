@@ -83,11 +83,36 @@ map-range f g a zero e = refl
 map-range f g a (suc n) e =
     ap (λ x. x ∷ map f (range_with_len (a + 1) n)) (e a (omega arith)) ∙ ap (λ xs. g a ∷ xs) (map-range f g (a + 1) n (λ j lt. e j (omega arith)))
 
+flag-present : (d : Described) (used : List Description) (slot : ℕ) → if_present Flag (or_else (value_of_capability Flag slot d.statements) (first_value used Flag slot)) ≡ flag_value (flag_in d.statements used slot)
+flag-present d used slot =
+    ap (λ o. if_present Flag (or_else (value_of_capability Flag slot d.statements) o)) (first-flag used slot)
+    ∙ flag-kept (value_of_capability Flag slot d.statements) (list_any (λ u. flag_at u slot) used)
+
+number-present : (d : Described) (used : List Description) (slot : ℕ) → if_present Number (or_else (value_of_capability Number slot d.statements) (first_value used Number slot)) ≡ number_value (number_in d.statements used slot)
+number-present d used slot =
+    ap (λ o. if_present Number (or_else (value_of_capability Number slot d.statements) o)) (first-number used slot)
+    ∙ number-kept (value_of_capability Number slot d.statements) (first_number slot used)
+
+text-present : (d : Described) (used : List Description) (slot : ℕ) → if_present Text (or_else (value_of_capability Text slot d.statements) (first_value used Text slot)) ≡ text_value (text_in d.statements used slot)
+text-present d used slot =
+    ap (λ o. if_present Text (or_else (value_of_capability Text slot d.statements) o)) (first-text used slot)
+    ∙ text-kept (value_of_capability Text slot d.statements) (first_text slot used)
+
+-- what a resolved entry has
+pub merged-says : (d : Described) (used : List Description) (kind : Kind) (slot : ℕ) → slot < positions_of kind → if_present kind (or_else (value_of_capability kind slot d.statements) (first_value used kind slot)) ≡ value_in (merged d used) kind slot
+unfolding merged
+merged-says d used Flag slot small =
+    flag-present d used slot ∙ ap flag_value (sym (get_or-map-range_with_len (flag_in d.statements used) 0 64 slot slot false small (omega arith)))
+merged-says d used Number slot small =
+    number-present d used slot ∙ ap number_value (sym (get_or-map-range_with_len (number_in d.statements used) 0 64 slot slot None small (omega arith)))
+merged-says d used Text slot small =
+    text-present d used slot ∙ ap text_value (sym (get_or-map-range_with_len (text_in d.statements used) 0 512 slot slot None small (omega arith)))
+
 -- the fields that take effect stand for the resolved entry
 pub stands-for : (entries : List Described) (d : Described) (all some : List Statement) → (g : Gathers entries d all) → AreEffective all some → StandsFor d.names some (merged d g.used)
 unfolding merged
 stands-for entries d all some g counts = record {
-  says = says;
+  says = λ kind slot small. counts kind slot small ∙ g.says kind slot small ∙ merged-says d g.used kind slot small;
   whole = λ i. record {
     names = d.names;
     flags = map-range (flag_in some []) (flag_in d.statements g.used) 0 64 (λ j lt. ap (λ o. flag_by o false) (flag j lt) ∙ flag-back (flag_in d.statements g.used j)) i;
@@ -97,21 +122,10 @@ stands-for entries d all some g counts = record {
 }
   where
     flag : (slot : ℕ) → slot < 64 → value_of_capability Flag slot some ≡ flag_value (flag_in d.statements g.used slot)
-    flag slot small =
-        counts Flag slot small ∙ ap (if_present Flag) (g.says Flag slot small ∙ ap (or_else (value_of_capability Flag slot d.statements)) (first-flag g.used slot))
-        ∙ flag-kept (value_of_capability Flag slot d.statements) (list_any (λ u. flag_at u slot) g.used)
+    flag slot small = counts Flag slot small ∙ g.says Flag slot small ∙ flag-present d g.used slot
 
     number : (slot : ℕ) → slot < 64 → value_of_capability Number slot some ≡ number_value (number_in d.statements g.used slot)
-    number slot small =
-        counts Number slot small ∙ ap (if_present Number) (g.says Number slot small ∙ ap (or_else (value_of_capability Number slot d.statements)) (first-number g.used slot))
-        ∙ number-kept (value_of_capability Number slot d.statements) (first_number slot g.used)
+    number slot small = counts Number slot small ∙ g.says Number slot small ∙ number-present d g.used slot
 
     text : (slot : ℕ) → slot < 512 → value_of_capability Text slot some ≡ text_value (text_in d.statements g.used slot)
-    text slot small =
-        counts Text slot small ∙ ap (if_present Text) (g.says Text slot small ∙ ap (or_else (value_of_capability Text slot d.statements)) (first-text g.used slot))
-        ∙ text-kept (value_of_capability Text slot d.statements) (first_text slot g.used)
-
-    says : (kind : Kind) (slot : ℕ) → slot < positions_of kind → value_of_capability kind slot some ≡ value_in (merged d g.used) kind slot
-    says Flag slot small = flag slot small ∙ ap flag_value (sym (get_or-map-range_with_len (flag_in d.statements g.used) 0 64 slot slot false small (omega arith)))
-    says Number slot small = number slot small ∙ ap number_value (sym (get_or-map-range_with_len (number_in d.statements g.used) 0 64 slot slot None small (omega arith)))
-    says Text slot small = text slot small ∙ ap text_value (sym (get_or-map-range_with_len (text_in d.statements g.used) 0 512 slot slot None small (omega arith)))
+    text slot small = counts Text slot small ∙ g.says Text slot small ∙ text-present d g.used slot

@@ -4,35 +4,37 @@ use Rattle.std.specs.List.{list_any}
 use Rattle.std.proofs.lemmas.List.{drop_more}
 use Rattle.ti_caps.specs.Description.{Description}
 use Rattle.ti_source.specs.declared.faults.SourceFault.{SourceFault}
-use Rattle.ti_source.specs.declared.resolving.walk.Mark.{Mark}
-use Rattle.ti_source.specs.declared.resolving.walk.Mark.TheVariants.{New, Open, Done, Faulty}
+use Rattle.ti_source.specs.declared.resolving.marks.Mark.{Mark}
+use Rattle.ti_source.specs.declared.resolving.marks.Mark.TheVariants.{New, Open, Done, Over, Kept, Faulty}
 use Rattle.ti_source.specs.declared.resolving.walk.Task.{Task}
 use Rattle.ti_source.specs.declared.resolving.walk.Task.TheVariants.{Visit, Leave}
 use Rattle.ti_source.specs.Described.{Described}
 use Rattle.ti_source.specs.Resolving.Named.{found_from, index_of}
 use Rattle.ti_source.specs.Resolving.Uses.{merged, Resolve, nothing, more, Fault, unknown, cycle, below, later, Resolved}
-use Rattle.ti_source.specs.Code.Walk.{visits, leaves, indices, ResolvedAt, FaultIn, position, done_at, known, AreKnown, IsAmong, Within, AllWithin, Held, count_new}
+use Rattle.ti_source.specs.Code.Walk.{visits, leaves, indices, ResolvedAt, FaultIn, steps_of, steps_at, known, AreKnown, IsAmong, Within, AllWithin, Held, count_new, one_if_new}
 use Rattle.ti_source.proofs.NamedLaws.{found-there, found-some}
 use Rattle.ti_source.proofs.IndexLaws.{get-lt}
 
 -- ---- marks
 
-position-set : (ms : List Mark) (i j : ℕ) (m : Mark) → (is_some (position (slice_get ms i)) ≡ true → is_some (position (Some m)) ≡ true) → is_some (position (slice_get ms j)) ≡ true → is_some (position (slice_get (set ms i m) j)) ≡ true
-position-set [] i j m h e = e
-position-set (x ∷ xs) zero zero m h e = h e
-position-set (x ∷ xs) zero (suc j) m h e = e
-position-set (x ∷ xs) (suc i) zero m h e = e
-position-set (x ∷ xs) (suc i) (suc j) m h e = position-set xs i j m h e
+steps-set : (ms : List Mark) (i j : ℕ) (m : Mark) → (is_some (steps_of (slice_get ms i)) ≡ true → is_some (steps_of (Some m)) ≡ true) → is_some (steps_of (slice_get ms j)) ≡ true → is_some (steps_of (slice_get (set ms i m) j)) ≡ true
+steps-set [] i j m h e = e
+steps-set (x ∷ xs) zero zero m h e = h e
+steps-set (x ∷ xs) zero (suc j) m h e = e
+steps-set (x ∷ xs) (suc i) zero m h e = e
+steps-set (x ∷ xs) (suc i) (suc j) m h e = steps-set xs i j m h e
 
-pub known-set : (ms : List Mark) (i : ℕ) (m : Mark) (p : Option ℕ) → (is_some (position (slice_get ms i)) ≡ true → is_some (position (Some m)) ≡ true) → known ms p ≡ true → known (set ms i m) p ≡ true
+pub known-set : (ms : List Mark) (i : ℕ) (m : Mark) (p : Option ℕ) → (is_some (steps_of (slice_get ms i)) ≡ true → is_some (steps_of (Some m)) ≡ true) → known ms p ≡ true → known (set ms i m) p ≡ true
 known-set ms i m None h e = e
-known-set ms i m (Some j) h e = position-set ms i j m h e
+known-set ms i m (Some j) h e = steps-set ms i j m h e
 
-pub not-new : (o : Option Mark) → o ≡ Some New → is_some (position o) ≡ true → ⊥
+pub not-new : (o : Option Mark) → o ≡ Some New → is_some (steps_of o) ≡ true → ⊥
 not-new None e h = cc
 not-new (Some New) e h = cc
 not-new (Some Open) e h = cc
-not-new (Some (Done k)) e h = cc
+not-new (Some (Done n)) e h = cc
+not-new (Some (Over k n)) e h = cc
+not-new (Some (Kept k)) e h = cc
 not-new (Some (Faulty f)) e h = cc
 
 pub count-open : (ms : List Mark) (i : ℕ) → slice_get ms i ≡ Some New → suc (count_new (set ms i Open)) ≡ count_new ms
@@ -40,13 +42,13 @@ count-open [] i e = cc
 count-open (m ∷ ms) zero e = let is : m ≡ New = cc in rw is (omega arith)
 count-open (m ∷ ms) (suc i) e = let h = count-open ms i e in omega arith
 
-pub count-done : (ms : List Mark) (i k : ℕ) → count_new (set ms i (Done k)) ≤ count_new ms
-count-done [] i k = omega arith
-count-done (m ∷ ms) zero k = omega arith
-count-done (m ∷ ms) (suc i) k = let h = count-done ms i k in omega arith
+pub count-known : (ms : List Mark) (i : ℕ) (m : Mark) → one_if_new m ≡ 0 → count_new (set ms i m) ≤ count_new ms
+count-known [] i m none = omega arith
+count-known (x ∷ ms) zero m none = omega arith
+count-known (x ∷ ms) (suc i) m none = let h = count-known ms i m none in omega arith
 
-pub known-some : (marks : List Mark) (p : Option ℕ) → known marks p ≡ true → IsSome (done_at marks p)
-known-some marks p h = by (done_at marks p) h
+pub known-some : (marks : List Mark) (p : Option ℕ) → known marks p ≡ true → IsSome (steps_at marks p)
+known-some marks p h = by (steps_at marks p) h
   where
     by : (o : Option ℕ) → is_some o ≡ true → IsSome o
     by None e = cc

@@ -1,26 +1,28 @@
 -- The way through uses, task by task.
-use Rattle.std.proofs.Common.{◌≡◌, ◌≢◌, ◌∙◌, ℕ, zero, suc, ◌+◌, ◌*◌, ◌≤◌, ◌<◌, Bool, true, false, ◌||◌, eqb, List, [], ◌∷◌, ◌++◌, Option, Some, None, slice_get, map, set, length, replicate, reverse, refl, subst, ap, sym, arith, inl, inr}
+use Rattle.std.proofs.Common.{◌≡◌, ◌≢◌, ◌∙◌, ℕ, zero, suc, ◌+◌, ◌*◌, ◌≤◌, ◌<◌, Bool, true, false, ◌||◌, eqb, List, [], ◌∷◌, ◌++◌, Option, Some, None, is_some, slice_get, map, set, length, replicate, reverse, refl, subst, ap, sym, arith, inl, inr}
 use Rattle.std.specs.List.{list_any}
 use Rattle.std.proofs.lemmas.List.{length-set, length-append, length-map, length-replicate}
+use Rattle.std.proofs.lemmas.Bool.{eq-eqb, eqb-true}
 use Rattle.std.proofs.lemmas.Bool.Decides.{nat_tests}
 use Rattle.ti_source.specs.declared.faults.SourceFault.{SourceFault}
 use Rattle.ti_source.specs.declared.faults.SourceFault.TheVariants.{UnknownName, UseCycle}
 use Rattle.ti_source.specs.declared.reading.statement.Statement.{Statement}
-use Rattle.ti_source.specs.declared.resolving.walk.Mark.{Mark}
-use Rattle.ti_source.specs.declared.resolving.walk.Mark.TheVariants.{New, Open, Done, Faulty}
+use Rattle.ti_source.specs.declared.resolving.marks.Mark.{Mark}
+use Rattle.ti_source.specs.declared.resolving.marks.Mark.TheVariants.{New, Open, Done, Over, Kept, Faulty}
 use Rattle.ti_source.specs.declared.resolving.walk.Task.{Task}
 use Rattle.ti_source.specs.declared.resolving.walk.Task.TheVariants.{Visit, Leave}
 use Rattle.ti_source.specs.declared.resolving.walk.Walk.{Walk}
 use Rattle.ti_source.specs.Described.{Described}
 use Rattle.ti_source.specs.Resolving.Named.{index_of}
-use Rattle.ti_source.specs.Resolving.Uses.{unknown, cycle}
+use Rattle.ti_source.specs.Resolving.Uses.{cycle, merged, unknown}
 use Rattle.ti_source.specs.Result.{Stops}
-use Rattle.ti_source.specs.Code.Walk.{visits, leaves, indices, FaultAt, FaultIn, known, AreKnown, PassesOn, Within, IsWalk, Kept, count_new, Stepped, StuckAt, IsReady, IsStopped, IsTakenBack, with_fault}
-use Rattle.ti_source.proofs.ChainLaws.{awaited-done, awaited-entered, faulty-at, ready-again, ready-back}
-use Rattle.ti_source.proofs.GatherLaws.{passed-kept}
+use Rattle.ti_source.specs.Code.Walk.{visits, leaves, indices, FaultAt, FaultIn, known, AreKnown, IsLight, IsMarkOf, Keeps, TakeEffect, Within, IsWalk, count_new, one_if_new, steps_of, Stepped, StuckAt, IsReady, IsStopped, IsTakenBack, with_fault}
+use Rattle.ti_source.proofs.ChainLaws.{awaited-done, awaited-entered, faulty-at, open-unknown, ready-again, ready-back}
+use Rattle.ti_source.proofs.GatherLaws.{known-resolved, mark-resolved}
+use Rattle.ti_source.proofs.LoweringLaws.{Extends, Lowers, lowers-set, mark-lower}
 use Rattle.ti_source.proofs.NamedLaws.{found-none}
-use Rattle.ti_source.proofs.IndexLaws.{get-append, get-cases, get-lt, get-none, get-push, get-set, get-within}
-use Rattle.ti_source.proofs.TaskLaws.{all-from, all-known, count-done, count-open, enter-lifts, found-at, held-mono, held-visits, known-set, leaves-visits, not-new, index-there, indices-visits}
+use Rattle.ti_source.proofs.IndexLaws.{get-append, get-cases, get-none, get-other, get-push, get-set, get-within}
+use Rattle.ti_source.proofs.TaskLaws.{all-from, all-known, count-known, count-open, enter-lifts, found-at, held-mono, held-visits, known-set, leaves-visits, not-new, index-there, resolved-at, indices-visits}
 
 -- ---- each kind of task
 
@@ -37,7 +39,8 @@ entered-stepped entries marks after kept i d tasks left w new at few after-is le
           | inl h ↦ absurd (cc (h.1))
           | inr h ↦ let b = w.fresh j h.1 in neither (eqb i j) (list_any (λ x. eqb x j) (leaves tasks)) (differs i j h.0) b
         ]);
-        keeps = λ j k e. elim (get-cases marks i Open j (Done k) e) [ inl h ↦ absurd (cc (h.1)) | inr h ↦ w.keeps j k h.1 ];
+        chain = λ j on. chained j (eqb i j) refl (sym (ap (λ ls. list_any (λ x. eqb x j) ls) leaves-are) ∙ on);
+        keeps = λ j m e. elim (get-cases marks i Open j m e) [ inl h ↦ rw (h.1) tt | inr h ↦ mark-lower entries marks (set marks i Open) kept kept j m (lowers-set marks i Open (rw new refl)) (λ k fields there. there) (w.keeps j m h.1) ];
         held = held-visits entries (set marks i Open) d.uses [] (Leave i ∷ tasks) (λ firsts sub. (
           (d, at, all-from (set marks i Open) firsts (map (index_of entries) d.uses) (λ p a. sub p (inl a))),
           held-mono entries marks (set marks i Open) (Some i ∷ []) (Some i ∷ firsts) tasks (λ p x. by-index p firsts x) w.held,
@@ -64,6 +67,10 @@ entered-stepped entries marks after kept i d tasks left w new at few after-is le
     differs : (a b : ℕ) → b ≢ a → eqb a b ≡ false
     differs a b ne = grind (arith, nat_tests)
 
+    chained : (j : ℕ) (t : Bool) → eqb i j ≡ t → (t || list_any (λ x. eqb x j) (leaves tasks)) ≡ true → slice_get (set marks i Open) j ≡ Some Open
+    chained j true is on = subst (λ k. slice_get (set marks i Open) k ≡ Some Open) (eqb-true i j is) (get-set marks i Open New new)
+    chained j false is on = get-other marks i j Open (grind (arith, nat_tests)) ∙ w.chain j on
+
     stays : (p : Option ℕ) → known marks p ≡ true → known (set marks i Open) p ≡ true
     stays p h = known-set marks i Open p (λ k. absurd (not-new (slice_get marks i) new k)) h
 
@@ -83,60 +90,70 @@ entered-stepped entries marks after kept i d tasks left w new at few after-is le
         let own = length-map d.uses (λ name. Visit (index_of entries name)) in
         omega arith
 
-pub done-stepped : (entries : List Described) (marks : List Mark) (kept : List (List Statement)) (i k : ℕ) (tasks : List Task) → IsWalk entries marks kept (Visit (Some i) ∷ tasks) → slice_get marks i ≡ Some (Done k) → Stepped entries marks (Visit (Some i) ∷ tasks) marks kept tasks
-done-stepped entries marks kept i k tasks w at =
+-- a mark that is known
+pub done-stepped : (entries : List Described) (marks : List Mark) (kept : List (List Statement)) (i : ℕ) (m : Mark) (tasks : List Task) → IsWalk entries marks kept (Visit (Some i) ∷ tasks) → slice_get marks i ≡ Some m → is_some (steps_of (Some m)) ≡ true → Stepped entries marks (Visit (Some i) ∷ tasks) marks kept tasks
+done-stepped entries marks kept i m tasks w at some =
+    let r = known-resolved entries marks kept i w.keeps there in
+    let resolved = resolved-at entries i r.entry r.used r.at r.resolved in
     record {
       walk = record {
         sized = w.sized;
         opened = w.opened;
         fresh = w.fresh;
+        chain = w.chain;
         keeps = w.keeps;
         held = held-mono entries marks marks (Some i ∷ []) [] tasks (λ p x. known-first p [] x) w.held;
-        awaited = let had = w.keeps i k at in awaited-done entries tasks [] (Some i) had.2.d had.2.resolved w.awaited;
+        awaited = awaited-done entries tasks [] (Some i) (merged r.entry r.used) resolved w.awaited;
         faulty = w.faulty;
       };
-      lifts = λ fault h. let had = w.keeps i k at in inr ((had.2.d, had.2.resolved), h);
+      lifts = λ fault h. inr ((merged r.entry r.used, resolved), h);
       carries = λ p x. known-first p (indices tasks) x;
       less = omega arith;
     }
   where
     there : known marks (Some i) ≡ true
-    there = rw at refl
+    there = ap (λ o. is_some (steps_of o)) at ∙ some
 
     known-first : (p : Option ℕ) (firsts : List (Option ℕ)) → Within marks (Some i ∷ firsts) p → Within marks firsts p
     known-first p firsts (inl h) = inl h
     known-first p firsts (inr (inl e)) = inl (rw e there)
     known-first p firsts (inr (inr a)) = inr a
 
--- an entry whose fields are kept at k
-done-left : (entries : List Described) (marks after : List Mark) (kept after_kept : List (List Statement)) (i k : ℕ) (fields : List Statement) (tasks : List Task) → IsWalk entries marks kept (Leave i ∷ tasks) → Kept entries i fields → after ≡ set marks i (Done k) → slice_get after_kept k ≡ Some fields → ((j : ℕ) (others : List Statement) → slice_get kept j ≡ Some others → slice_get after_kept j ≡ Some others) → Stepped entries marks (Leave i ∷ tasks) after after_kept tasks
-done-left entries marks after kept after_kept i k fields tasks w keep after-is there-is stays =
+known-old : (m : Mark) → is_some (steps_of (Some m)) ≡ true → one_if_new m ≡ 0
+known-old New h = cc
+known-old Open h = refl
+known-old (Done n) h = refl
+known-old (Over k n) h = refl
+known-old (Kept k) h = refl
+known-old (Faulty f) h = refl
+
+-- an entry that is left with a mark that is known
+done-left : (entries : List Described) (marks after : List Mark) (kept after_kept : List (List Statement)) (i : ℕ) (mark : Mark) (tasks : List Task) → IsWalk entries marks kept (Leave i ∷ tasks) → is_some (steps_of (Some mark)) ≡ true → IsMarkOf entries marks after_kept i mark → Extends kept after_kept → after ≡ set marks i mark → Stepped entries marks (Leave i ∷ tasks) after after_kept tasks
+done-left entries marks after kept after_kept i mark tasks w some says extends after-is =
+    let r = mark-resolved entries marks after_kept i mark some says in
     rw after-is (record {
       walk = record {
-        sized = length-set marks i (Done k) ∙ w.sized;
-        opened = λ j e. elim (get-cases marks i (Done k) j Open e) [
-          | inl h ↦ absurd (cc (h.1))
+        sized = length-set marks i mark ∙ w.sized;
+        opened = λ j e. elim (get-cases marks i mark j Open e) [
+          | inl h ↦ absurd (open-unknown mark (sym (h.1)) some)
           | inr h ↦ let b = w.opened j h.1 in other (eqb i j) (list_any (λ x. eqb x j) (leaves tasks)) (differs i j h.0) b
         ];
-        fresh = λ j e. elim (get-cases marks i (Done k) j New e) [
-          | inl h ↦ absurd (cc (h.1))
+        fresh = λ j e. elim (get-cases marks i mark j New e) [
+          | inl h ↦ absurd (new-unknown mark (sym (h.1)) some)
           | inr h ↦ let b = w.fresh j h.1 in none (eqb i j) (list_any (λ x. eqb x j) (leaves tasks)) b
         ];
-        keeps = λ j l e. elim (get-cases marks i (Done k) j (Done l) e) [
-          | inl h ↦
-              let index : l ≡ k = cc (h.1) in
-              (fields, rw index there-is, rw (h.0) keep)
-          | inr h ↦
-              let had = w.keeps j l h.1 in
-              (had.0, stays l had.0 had.1, had.2)
+        chain = λ j on. chained j on (eqb j i) refl;
+        keeps = λ j m e. elim (get-cases marks i mark j m e) [
+          | inl h ↦ rw (h.0, h.1) (mark-lower entries marks (set marks i mark) after_kept after_kept i mark lowers (λ k fields there. there) says)
+          | inr h ↦ mark-lower entries marks (set marks i mark) kept after_kept j m lowers extends (w.keeps j m h.1)
         ];
-        held = held-mono entries marks (set marks i (Done k)) (Some i ∷ []) [] tasks (λ p x. known-first p [] x) w.held.1;
-        awaited = awaited-done entries tasks [] (Some i) keep.d keep.resolved w.awaited.1;
-        faulty = λ j f e. elim (get-cases marks i (Done k) j (Faulty f) e) [ inl h ↦ absurd (cc (h.1)) | inr h ↦ w.faulty j f h.1 ];
+        held = held-mono entries marks (set marks i mark) (Some i ∷ []) [] tasks (λ p x. known-first p [] x) w.held.1;
+        awaited = awaited-done entries tasks [] (Some i) (merged r.entry r.used) (resolved-at entries i r.entry r.used r.at r.resolved) w.awaited.1;
+        faulty = λ j f e. elim (get-cases marks i mark j (Faulty f) e) [ inl h ↦ absurd (faulty-unknown f mark (sym (h.1)) some) | inr h ↦ w.faulty j f h.1 ];
       };
       lifts = λ fault h. h;
       carries = λ p x. known-first p (indices tasks) x;
-      less = let fewer = count-done marks i k in omega arith;
+      less = let fewer = count-known marks i mark (known-old mark some) in omega arith;
     })
   where
     other : (a b : Bool) → a ≡ false → (a || b) ≡ true → b ≡ true
@@ -147,34 +164,54 @@ done-left entries marks after kept after_kept i k fields tasks w keep after-is t
     none true b e = cc
     none false b e = e
 
+    either : (a b : Bool) → b ≡ true → (a || b) ≡ true
+    either true b e = refl
+    either false b e = e
+
     differs : (a b : ℕ) → b ≢ a → eqb a b ≡ false
     differs a b ne = grind (arith, nat_tests)
 
-    room : (m : Mark) × (slice_get marks i ≡ Some m)
-    room = let lt = get-lt entries i keep.entry keep.at in get-within marks i (rw w.sized lt)
+    new-unknown : (m : Mark) → m ≡ New → is_some (steps_of (Some m)) ≡ true → ⊥
+    new-unknown m is h = let bad : is_some (steps_of (Some New)) ≡ true = ap (λ x. is_some (steps_of (Some x))) (sym is) ∙ h in cc
 
-    there : known (set marks i (Done k)) (Some i) ≡ true
-    there = rw (get-set marks i (Done k) room.0 room.1) refl
+    faulty-unknown : (f : SourceFault) (m : Mark) → m ≡ Faulty f → is_some (steps_of (Some m)) ≡ true → ⊥
+    faulty-unknown f m is h = let bad : is_some (steps_of (Some (Faulty f))) ≡ true = ap (λ x. is_some (steps_of (Some x))) (sym is) ∙ h in cc
 
-    known-first : (p : Option ℕ) (firsts : List (Option ℕ)) → Within marks (Some i ∷ firsts) p → Within (set marks i (Done k)) firsts p
-    known-first p firsts (inl h) = inl (known-set marks i (Done k) p (λ _. refl) h)
+    open_is : slice_get marks i ≡ Some Open
+    open_is = let self : eqb i i ≡ true = eq-eqb i i refl in w.chain i (rw self refl)
+
+    lowers : Lowers marks (set marks i mark)
+    lowers = lowers-set marks i mark (ap (λ o. is_some (steps_of o)) open_is)
+
+    chained : (j : ℕ) → list_any (λ x. eqb x j) (leaves tasks) ≡ true → (t : Bool) → eqb j i ≡ t → slice_get (set marks i mark) j ≡ Some Open
+    chained j on true is =
+        let again : list_any (λ x. eqb x i) (leaves tasks) ≡ true = ap (λ k. list_any (λ x. eqb x k) (leaves tasks)) (sym (eqb-true j i is)) ∙ on in
+        absurd (cc (again, w.awaited.0.once))
+    chained j on false is =
+        get-other marks i j mark (grind (arith, nat_tests)) ∙ w.chain j (either (eqb i j) (list_any (λ x. eqb x j) (leaves tasks)) on)
+
+    there : known (set marks i mark) (Some i) ≡ true
+    there = rw (get-set marks i mark Open open_is) some
+
+    known-first : (p : Option ℕ) (firsts : List (Option ℕ)) → Within marks (Some i ∷ firsts) p → Within (set marks i mark) firsts p
+    known-first p firsts (inl h) = inl (known-set marks i mark p (λ _. some) h)
     known-first p firsts (inr (inl e)) = inl (rw e there)
     known-first p firsts (inr (inr a)) = inr a
 
-pub left-stepped : (entries : List Described) (marks after : List Mark) (kept after_kept : List (List Statement)) (i : ℕ) (fields : List Statement) (tasks : List Task) → IsWalk entries marks kept (Leave i ∷ tasks) → Kept entries i fields → after ≡ set marks i (Done (length kept)) → after_kept ≡ kept ++ fields ∷ [] → Stepped entries marks (Leave i ∷ tasks) after after_kept tasks
+pub left-stepped : (entries : List Described) (marks after : List Mark) (kept after_kept : List (List Statement)) (i : ℕ) (fields : List Statement) (tasks : List Task) → IsWalk entries marks kept (Leave i ∷ tasks) → TakeEffect entries i fields → after ≡ set marks i (Kept (length kept)) → after_kept ≡ kept ++ fields ∷ [] → Stepped entries marks (Leave i ∷ tasks) after after_kept tasks
 left-stepped entries marks after kept after_kept i fields tasks w keep after-is kept-is =
-    rw kept-is (done-left entries marks after kept (kept ++ fields ∷ []) i (length kept) fields tasks w keep after-is (get-push kept fields) (λ j others at. get-append kept (fields ∷ []) j others at))
+    rw kept-is (done-left entries marks after kept (kept ++ fields ∷ []) i (Kept (length kept)) tasks w refl (fields, get-push kept fields, keep) (λ j others at. get-append kept (fields ∷ []) j others at) after-is)
 
--- the same where they are kept of another
-pub passed-stepped : (entries : List Described) (marks after : List Mark) (kept : List (List Statement)) (i k : ℕ) (d : Described) (tasks : List Task) → IsWalk entries marks kept (Leave i ∷ tasks) → slice_get entries i ≡ Some d → PassesOn entries marks d k → after ≡ set marks i (Done k) → Stepped entries marks (Leave i ∷ tasks) after kept tasks
-passed-stepped entries marks after kept i k d tasks w at p after-is =
-    let had = passed-kept entries marks kept i k d at w.keeps p in
-    done-left entries marks after kept kept i k had.0 tasks w had.2 after-is had.1 (λ j others at. at)
+-- the same where no fields are kept
+pub light-stepped : (entries : List Described) (marks after : List Mark) (kept : List (List Statement)) (i : ℕ) (d : Described) (mark : Mark) (tasks : List Task) → IsWalk entries marks kept (Leave i ∷ tasks) → slice_get entries i ≡ Some d → IsLight entries marks kept d mark → after ≡ set marks i mark → Stepped entries marks (Leave i ∷ tasks) after kept tasks
+light-stepped entries marks after kept i d mark tasks w at light after-is =
+    done-left entries marks after kept kept i mark tasks w (ap is_some light.1) (light.2 i at) (λ j others there. there) after-is
 
 -- an entry that was all that is left is as one that was not entered
 pub finished-ready : (entries : List Described) (marks after : List Mark) (kept : List (List Statement)) (i : ℕ) → IsWalk entries marks kept (Leave i ∷ []) → after ≡ set marks i New → IsWalk entries after kept []
 finished-ready entries marks after kept i w after-is = ready-back entries marks after kept (Leave i ∷ []) w (rw after-is (record {
   sized = length-set marks i New;
+  others = λ j mark e ne. by j mark e ne (eqb j i) refl;
   stay = λ j mark e. elim (get-cases marks i New j mark e) [
     | inl h ↦ inl (cc (h.1))
     | inr h ↦ inr (h.1, λ on. let b = w.opened j (h.1 ∙ ap Some on) in other (eqb i j) (differs i j h.0) b)
@@ -187,6 +224,15 @@ finished-ready entries marks after kept i w after-is = ready-back entries marks 
 
     differs : (a b : ℕ) → b ≢ a → eqb a b ≡ false
     differs a b ne = grind (arith, nat_tests)
+
+    by : (j : ℕ) (mark : Mark) → slice_get marks j ≡ Some mark → mark ≢ Open → (t : Bool) → eqb j i ≡ t → slice_get (set marks i New) j ≡ Some mark
+    by j mark at ne true is =
+        let self : eqb i i ≡ true = eq-eqb i i refl in
+        let open_is : slice_get marks i ≡ Some Open = w.chain i (rw self refl) in
+        let here : slice_get marks i ≡ Some mark = ap (slice_get marks) (sym (eqb-true j i is)) ∙ at in
+        let same : mark ≡ Open = cc (here, open_is) in
+        absurd (ne same)
+    by j mark at ne false is = get-other marks i j New (grind (arith, nat_tests)) ∙ at
 
 pub leave-known : (entries : List Described) (marks : List Mark) (kept : List (List Statement)) (i : ℕ) (tasks : List Task) → IsWalk entries marks kept (Leave i ∷ tasks) → (d : Described) × (slice_get entries i ≡ Some d) × AreKnown marks (map (index_of entries) d.uses)
 leave-known entries marks kept i tasks w = (w.held.0.0, w.held.0.1, all-known marks (map (index_of entries) w.held.0.0.uses) w.held.0.2)
@@ -217,7 +263,7 @@ pub record IsReaching (entries : List Described) (before : List Mark) (index : O
 pub reaching-init : (entries : List Described) (marks : List Mark) (kept : List (List Statement)) (index : Option ℕ) (tasks : List Task) → IsWalk entries marks kept [] → tasks ≡ Visit index ∷ [] → IsReaching entries marks index marks kept tasks
 reaching-init entries marks kept index tasks w is =
     rw is (record {
-      walk = record { sized = w.sized; opened = w.opened; fresh = w.fresh; keeps = w.keeps; held = tt; awaited = tt; faulty = w.faulty };
+      walk = record { sized = w.sized; opened = w.opened; fresh = w.fresh; chain = w.chain; keeps = w.keeps; held = tt; awaited = tt; faulty = w.faulty };
       lifts = λ fault h. h;
       carries = λ p h. h;
     })
@@ -270,7 +316,8 @@ walk-new entries marks kept is =
       sized = length-replicate (length entries) New;
       opened = λ i e. absurd (only (length entries) i Open e (λ p. cc));
       fresh = λ i e. refl;
-      keeps = λ i k e. absurd (only (length entries) i (Done k) e (λ p. cc));
+      chain = λ i on. cc;
+      keeps = fresh-marks;
       held = tt;
       awaited = tt;
       faulty = λ i fault e. absurd (only (length entries) i (Faulty fault) e (λ p. cc));
@@ -280,3 +327,11 @@ walk-new entries marks kept is =
     only zero i m e ne = cc
     only (suc n) zero m e ne = ne (cc)
     only (suc n) (suc i) m e ne = only n i m e ne
+
+    fresh-marks : Keeps entries (replicate (length entries) New) kept
+    fresh-marks i New e = tt
+    fresh-marks i Open e = tt
+    fresh-marks i (Faulty f) e = tt
+    fresh-marks i (Done n) e = absurd (only (length entries) i (Done n) e (λ p. cc))
+    fresh-marks i (Over next n) e = absurd (only (length entries) i (Over next n) e (λ p. cc))
+    fresh-marks i (Kept k) e = absurd (only (length entries) i (Kept k) e (λ p. cc))

@@ -1,13 +1,13 @@
 -- What the marks and the list of work of a way through uses stand for.
-use Rattle.std.specs.Prelude.{◌≡◌, ◌≢◌, ◌⊎◌, ◌<◌, ℕ, ◌+◌, ◌*◌, Bool, true, false, List, [], ◌∷◌, ◌++◌, Option, Some, None, length, map, reverse, slice_get, slice_set, is_some, ◌==◌}
+use Rattle.std.specs.Prelude.{◌≡◌, ◌≢◌, ◌⊎◌, ◌<◌, ℕ, ◌+◌, ◌*◌, Bool, true, false, List, [], ◌∷◌, ◌++◌, Option, Some, None, length, map, reverse, slice_get, slice_set, is_some, ◌==◌, nat_lt, if◌then◌else◌}
 use Rattle.std.specs.List.{list_any}
 use Rattle.ti_caps.specs.declared.table.Kind.{Kind}
 use Rattle.ti_caps.specs.Description.{Description}
 use Rattle.ti_caps.specs.Table.{or_else}
 use Rattle.ti_source.specs.declared.faults.SourceFault.{SourceFault}
 use Rattle.ti_source.specs.declared.faults.SourceFault.TheVariants.{NoMemory}
-use Rattle.ti_source.specs.declared.resolving.walk.Mark.{Mark}
-use Rattle.ti_source.specs.declared.resolving.walk.Mark.TheVariants.{New, Open, Done, Faulty}
+use Rattle.ti_source.specs.declared.resolving.marks.Mark.{Mark}
+use Rattle.ti_source.specs.declared.resolving.marks.Mark.TheVariants.{New, Open, Done, Over, Kept, Faulty}
 use Rattle.ti_source.specs.declared.resolving.walk.Task.{Task}
 use Rattle.ti_source.specs.declared.resolving.walk.Task.TheVariants.{Visit, Leave}
 use Rattle.ti_source.specs.declared.resolving.walk.Walk.{Walk}
@@ -15,7 +15,7 @@ use Rattle.ti_source.specs.declared.reading.statement.Statement.{Statement}
 use Rattle.ti_source.specs.Described.{Described}
 use Rattle.ti_source.specs.Resolving.Named.{index_of}
 use Rattle.ti_source.specs.Resolving.Uses.{Resolve, Resolved, Fault, merged, value_of_capability}
-use Rattle.ti_source.specs.Code.FirstFields.{first_value, value_in}
+use Rattle.ti_source.specs.Code.FirstFields.{first_value, if_present, value_in}
 use Rattle.ti_caps.specs.Slots.{positions_of}
 
 -- a visit of each of these names
@@ -48,21 +48,45 @@ FaultIn entries (Visit p ∷ tasks) fault =
     FaultAt entries (leaves tasks) p fault ⊎ (((d : Description) × ResolvedAt entries p d) × FaultIn entries tasks fault)
 FaultIn entries (Leave i ∷ tasks) fault = FaultIn entries tasks fault
 
-abbrev pub position : Option Mark → Option ℕ
-position (Some (Done k)) = Some k
-position _ = None
+-- the steps in which the fields of a resolved entry are listed, those of kept ones in none
+abbrev pub steps_of : Option Mark → Option ℕ
+steps_of (Some (Done n)) = Some n
+steps_of (Some (Over next n)) = Some n
+steps_of (Some (Kept k)) = Some 0
+steps_of _ = None
 
--- where the fields of the resolved entry at an index are kept
-abbrev pub done_at : List Mark → Option ℕ → Option ℕ
-done_at marks None = None
-done_at marks (Some i) = position (slice_get marks i)
+-- the same of the entry at an index
+abbrev pub steps_at : List Mark → Option ℕ → Option ℕ
+steps_at marks None = None
+steps_at marks (Some i) = steps_of (slice_get marks i)
 
 abbrev pub known : List Mark → Option ℕ → Bool
-known marks p = is_some (done_at marks p)
+known marks p = is_some (steps_at marks p)
 
 abbrev pub AreKnown : List Mark → List (Option ℕ) → Type 0
 AreKnown marks [] = Unit {0}
 AreKnown marks (p ∷ ps) = (known marks p ≡ true) × AreKnown marks ps
+
+-- known, in fewer steps than these
+abbrev pub IsBelow : List Mark → Option ℕ → ℕ → Type 0
+IsBelow marks p n = (m : ℕ) × (steps_at marks p ≡ Some m) × (m < n)
+
+abbrev pub AreBelow : List Mark → List (Option ℕ) → ℕ → Type 0
+AreBelow marks [] n = 0 < n
+AreBelow marks (p ∷ ps) n = IsBelow marks p n × AreBelow marks ps n
+
+-- the steps, as a number
+abbrev pub steps_or_0 : Option ℕ → ℕ
+steps_or_0 None = 0
+steps_or_0 (Some n) = n
+
+abbrev pub larger : ℕ → ℕ → ℕ
+larger a b = if nat_lt a b then b else a
+
+-- the most steps of any of these
+abbrev pub steps_of_all : List Mark → List (Option ℕ) → ℕ
+steps_of_all marks [] = 0
+steps_of_all marks (p ∷ ps) = larger (steps_or_0 (steps_at marks p)) (steps_of_all marks ps)
 
 abbrev pub IsAmong : Option ℕ → List (Option ℕ) → Type 0
 IsAmong p [] = ⊥
@@ -92,30 +116,73 @@ pub record StandsFor (names : List ℕ) (fields : List Statement) (d : Descripti
   pub says : (kind : Kind) (slot : ℕ) → slot < positions_of kind → value_of_capability kind slot fields ≡ value_in d kind slot
   pub whole : merged (of_fields names fields) [] ≡ d
 
--- an entry's fields, and behind them those of the resolved entries that it uses
+-- an entry's fields, and after them those of the resolved entries that it uses, as far as they make a capability present
 pub record Gathers (entries : List Described) (d : Described) (fields : List Statement) : Type 0 where
   pub used : List Description
   pub resolved : Resolve entries d.uses used
-  pub says : (kind : Kind) (slot : ℕ) → slot < positions_of kind → value_of_capability kind slot fields ≡ or_else (value_of_capability kind slot d.statements) (first_value used kind slot)
+  pub says : (kind : Kind) (slot : ℕ) → slot < positions_of kind → if_present kind (value_of_capability kind slot fields) ≡ if_present kind (or_else (value_of_capability kind slot d.statements) (first_value used kind slot))
 
--- what is kept of the resolved entry at an index
-pub record Kept (entries : List Described) (i : ℕ) (fields : List Statement) : Type 0 where
+-- fields by which the resolved entry at an index has what it has; some may cancel
+pub record Lists (entries : List Described) (i : ℕ) (fields : List Statement) : Type 0 where
   pub entry : Described
   pub at : slice_get entries i ≡ Some entry
-  pub d : Description
-  pub resolved : ResolvedAt entries (Some i) d
-  pub stands : StandsFor entry.names fields d
+  pub gathers : Gathers entries entry fields
 
--- what is kept of each entry that is done
+-- those of them that take effect
+pub record TakeEffect (entries : List Described) (i : ℕ) (fields : List Statement) : Type 0 where
+  pub entry : Described
+  pub at : slice_get entries i ≡ Some entry
+  pub used : List Description
+  pub resolved : Resolve entries entry.uses used
+  pub stands : StandsFor entry.names fields (merged entry used)
+
+-- what has such fields has them with those of the entry at the index `next`
+abbrev pub LeadsTo : List Described → ℕ → List Statement → ℕ → Type 0
+LeadsTo entries i own next = (fields : List Statement) → Lists entries next fields → Lists entries i (own ++ fields)
+
+-- the index itself, or that of the next one if the entry has no fields of its own
+abbrev pub IsLedOver : List Described → ℕ → ℕ → ℕ → Type 0
+IsLedOver entries i next led = (led ≡ i) ⊎ ((led ≡ next) × ((d : Described) × (slice_get entries i ≡ Some d) × (d.statements ≡ [])))
+
+-- an entry whose fields are its own and those of its uses, each of which takes fewer steps
+pub record IsDone (entries : List Described) (marks : List Mark) (i n : ℕ) : Type 0 where
+  pub entry : Described
+  pub at : slice_get entries i ≡ Some entry
+  pub used : List Description
+  pub resolved : Resolve entries entry.uses used
+  pub below : AreBelow marks (map (index_of entries) entry.uses) n
+
+-- an entry whose fields are its own and those of another, which takes fewer steps
+pub record IsOver (entries : List Described) (marks : List Mark) (i next n : ℕ) : Type 0 where
+  pub entry : Described
+  pub at : slice_get entries i ≡ Some entry
+  pub used : List Description
+  pub resolved : Resolve entries entry.uses used
+  pub below : IsBelow marks (Some next) n
+  pub leads : LeadsTo entries i entry.statements next
+
+-- what a mark says of the entry at an index
+abbrev pub IsMarkOf : List Described → List Mark → List (List Statement) → ℕ → Mark → Type 0
+IsMarkOf entries marks kept i (Done n) = IsDone entries marks i n
+IsMarkOf entries marks kept i (Over next n) = IsOver entries marks i next n
+IsMarkOf entries marks kept i (Kept k) = (fields : List Statement) × (slice_get kept k ≡ Some fields) × TakeEffect entries i fields
+IsMarkOf entries marks kept i _ = Unit {0}
+
+-- what the marks of all entries say
 abbrev pub Keeps : List Described → List Mark → List (List Statement) → Type 0
-Keeps entries marks kept = (i k : ℕ) → slice_get marks i ≡ Some (Done k) → (fields : List Statement) × (slice_get kept k ≡ Some fields) × Kept entries i fields
+Keeps entries marks kept = (i : ℕ) (mark : Mark) → slice_get marks i ≡ Some mark → IsMarkOf entries marks kept i mark
 
--- an entry without fields of its own that uses one other, whose fields are kept here
-pub record PassesOn (entries : List Described) (marks : List Mark) (d : Described) (k : ℕ) : Type 0 where
-  pub name : List ℕ
-  pub own : d.statements ≡ []
-  pub uses : d.uses ≡ name ∷ []
-  pub done : done_at marks (index_of entries name) ≡ Some k
+-- a mark that an entry may have whose uses are resolved
+abbrev pub IsLight : List Described → List Mark → List (List Statement) → Described → Mark → Type 0
+IsLight entries marks kept d mark = (steps : ℕ) × (steps_of (Some mark) ≡ Some steps) × ((i : ℕ) → slice_get entries i ≡ Some d → IsMarkOf entries marks kept i mark)
+
+-- these fields with such as the resolved entry at an index has behind them
+abbrev pub Adds : List Described → ℕ → List Statement → List Statement → Type 0
+Adds entries i before now = (fields : List Statement) × (now ≡ before ++ fields) × Lists entries i fields
+
+-- the same of an entry's own and those of its uses
+abbrev pub AddsGathered : List Described → Described → List Statement → List Statement → Type 0
+AddsGathered entries d before now = (fields : List Statement) × (now ≡ before ++ fields) × Gathers entries d fields
 
 -- an entry that is left later, and is left once: those of its uses that come first are still to be visited, and those before them resolve
 pub record Awaits (entries : List Described) (first : List (Option ℕ)) (i : ℕ) (tasks : List Task) : Type 0 where
@@ -140,6 +207,7 @@ pub record IsWalk (entries : List Described) (marks : List Mark) (kept : List (L
   pub sized : length marks ≡ length entries
   pub opened : (i : ℕ) → slice_get marks i ≡ Some Open → list_any (λ j. j == i) (leaves tasks) ≡ true
   pub fresh : (i : ℕ) → slice_get marks i ≡ Some New → list_any (λ j. j == i) (leaves tasks) ≡ false
+  pub chain : (i : ℕ) → list_any (λ j. j == i) (leaves tasks) ≡ true → slice_get marks i ≡ Some Open
   pub keeps : Keeps entries marks kept
   pub held : Held entries marks [] tasks
   pub awaited : Awaited entries [] tasks
@@ -176,6 +244,7 @@ with_fault fault (i ∷ is) marks = with_fault fault is (slice_set marks i (Faul
 -- no entry is on a chain, and the marks of the others stay
 pub record IsTakenBack (before after : List Mark) : Type 0 where
   pub sized : length after ≡ length before
+  pub others : (i : ℕ) (mark : Mark) → slice_get before i ≡ Some mark → mark ≢ Open → slice_get after i ≡ Some mark
   pub stay : (i : ℕ) (mark : Mark) → slice_get after i ≡ Some mark → (mark ≡ New) ⊎ ((slice_get before i ≡ Some mark) × (mark ≢ Open))
 
 -- what a fault leaves of the marks, with these entries on the chain

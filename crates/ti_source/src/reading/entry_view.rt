@@ -63,6 +63,16 @@ impl<'a> EntryView<'a> {
         self.uses
     }
 
+    /// The name that the entry uses, if it has exactly one use.
+    pub(crate) fn single_use(&self) -> Option<&'a [u8]>
+        ensures { IfSome result (λ other. self.now.uses ≡ other.now ∷ []) }
+    {
+        match self.uses {
+            [other] => Some(other.0.as_slice()),
+            _ => None,
+        }
+    }
+
     /// The name that the entry uses, if it has no fields of its own and exactly one use.
     pub(crate) fn only_use(&self) -> Option<&'a [u8]>
         ensures { IfSome result (λ other. (self.now.statements ≡ []) × (self.now.uses ≡ other.now ∷ [])) }

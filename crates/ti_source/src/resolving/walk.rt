@@ -1,7 +1,7 @@
 //! The walk through the uses of entries, which enters each entry at most once.
 
-ghost use Rattle.std.specs.Prelude.{◌≡◌, ◌<◌, ◌∷◌, [], ◌++◌, length, Some, None, true, IfOk, IfErr, IfSome, OnErr, OnOk, map, replicate, reverse, slice_get, slice_set};
-ghost use Rattle.ti_source.specs.Code.Walk.{AreKnown, FaultAt, Gathers, IsReady, IsStopped, IsTakenBack, IsWalk, Keeps, PassesOn, ResolvedAt, Stepped, StuckAt, done_at, known, leaves, visits, with_fault};
+ghost use Rattle.std.specs.Prelude.{◌≡◌, ◌<◌, ◌∷◌, [], ◌++◌, length, Some, None, true, IfOk, IfErr, IfSome, OnErr, OnOk, map, reverse, slice_get};
+ghost use Rattle.ti_source.specs.Code.Walk.{AreKnown, FaultAt, Gathers, IsReady, IsStopped, IsWalk, Keeps, ResolvedAt, Stepped, StuckAt, known, leaves, visits, with_fault};
 ghost use Rattle.ti_source.specs.Resolving.Named.{index_of};
 ghost use Rattle.ti_source.specs.Result.{Stops};
 
@@ -10,22 +10,11 @@ use crate::reading::entries::Entries;
 use crate::reading::entry_view::EntryView;
 use crate::resolving::fields::Fields;
 use crate::resolving::first_fields::effective_fields;
+use crate::resolving::listing::{add_gathered, effective_at, light_mark};
+use crate::resolving::marks::{Mark, mark_at, new_marks, put_mark, take_back};
 use crate::resolving::merge::merge;
 use std::alloc::{AllocError, Global};
 use ti_caps::{Bytes, Entry};
-
-/// How far the walk has come with an entry.
-#[derive(Clone, Copy)]
-pub(crate) enum Mark {
-    /// Not entered.
-    New,
-    /// On the chain of uses.
-    Open,
-    /// Resolved; its fields are kept at this position.
-    Done(usize),
-    /// Followed, with this fault.
-    Faulty(SourceFault),
-}
 
 /// A task of the walk.
 #[derive(Clone, Copy)]
@@ -113,11 +102,11 @@ impl<'a> Walk<'a> {
         made
     }
 
-    /// The resolved entry at an index, which is done and kept.
+    /// The resolved entry at an index, which is done.
     fn entry(
         &self,
         alloc: Global,
-        entries: &Entries,
+        entries: &'a Entries,
         index: Option<usize>,
     ) -> Result<Entry, SourceFault>
         requires known { known self.now.marks.items index ≡ true }
@@ -126,9 +115,8 @@ impl<'a> Walk<'a> {
         ensures err { IfErr result (λ f. f ≡ SourceFault.NoMemory) }
     {
         let i = index.unwrap();
-        let position = done_at(&self.marks, index).unwrap();
-        let entry = entries.at(i);
-        merge(alloc, entry.names(), &self.kept[position])
+        let fields = effective_at(alloc, entries, &self.marks, &self.kept, i)?;
+        merge(alloc, entries.at(i).names(), &fields)
     }
 
     /// Enters an entry: its uses are visited next, then it is left.
@@ -156,6 +144,8 @@ impl<'a> Walk<'a> {
             Some(Mark::New) => self.enter(entries, i),
             Some(Mark::Open) => Err(SourceFault::UseCycle),
             Some(Mark::Done(_)) => Ok(()),
+            Some(Mark::Over(_, _)) => Ok(()),
+            Some(Mark::Kept(_)) => Ok(()),
             Some(Mark::Faulty(fault)) => Err(fault),
             None => Err(SourceFault::UnknownName),
         }
@@ -170,14 +160,14 @@ impl<'a> Walk<'a> {
         ensures kept { OnErr result ((self.new.marks.items ≡ self.old.marks.items) × (self.new.kept.items ≡ self.old.kept.items)) }
     {
         let entry = entries.at(i);
-        if let Some(position) = passed_on(entries, &self.marks, &entry) {
-            self.marks[i] = Mark::Done(position);
+        if let Some(mark) = light_mark(entries, &self.marks, &self.kept, &entry) {
+            self.marks[i] = mark;
             return Ok(());
         }
         let position = self.kept.len();
         let fields = gathered(alloc, entries, &self.marks, &self.kept, &entry)?;
         self.kept.push(effective_fields(alloc, &fields)?)?;
-        self.marks[i] = Mark::Done(position);
+        self.marks[i] = Mark::Kept(position);
         Ok(())
     }
 
@@ -212,36 +202,6 @@ impl<'a> Walk<'a> {
     }
 }
 
-fn new_marks(alloc: Global, count: usize) -> Result<Vec<Mark>, AllocError>
-    ensures { IfOk result (λ v. v.items ≡ replicate count Mark.New) }
-{
-    vec![in alloc; Mark::New; count]
-}
-
-fn mark_at(marks: &[Mark], index: usize) -> Option<Mark>
-    ensures { result ≡ slice_get marks.now index }
-{
-    marks.get(index).copied()
-}
-
-/// Where the fields of the resolved entry at an index are kept, if it is done.
-fn done_at(marks: &[Mark], index: Option<usize>) -> Option<usize>
-    ensures { result ≡ done_at marks.now index }
-{
-    match mark_at(marks, index?)? {
-        Mark::Done(position) => Some(position),
-        _ => None,
-    }
-}
-
-fn put_mark(marks: &mut [Mark], index: usize, mark: Mark)
-    ensures { marks.new ≡ slice_set marks.old index mark }
-{
-    if index < marks.len() {
-        marks[index] = mark;
-    }
-}
-
 /// Adds a visit of each of these names, the first to be done next.
 fn put_visits(tasks: &mut Vec<Task>, entries: &Entries, uses: &[Bytes]) -> Result<(), AllocError>
     ensures { OnOk result (reverse tasks.new.items ≡ visits entries.now uses.now ++ reverse tasks.old.items) }
@@ -256,20 +216,12 @@ fn put_visits(tasks: &mut Vec<Task>, entries: &Entries, uses: &[Bytes]) -> Resul
     Ok(())
 }
 
-/// Where the fields of an entry are kept that has none of its own and exactly one use: with the
-/// used entry, which is done.
-fn passed_on(entries: &Entries, marks: &[Mark], entry: &EntryView<'_>) -> Option<usize>
-    ensures { IfSome result (λ k. PassesOn entries.now marks.now entry.now k) }
-{
-    done_at(marks, entries.index_of(entry.only_use()?))
-}
-
 /// The resolved entry at an index whose uses are done.
-fn made(
+fn made<'a>(
     alloc: Global,
-    entries: &Entries,
+    entries: &'a Entries,
     marks: &[Mark],
-    kept: &[Fields<'_>],
+    kept: &[Fields<'a>],
     i: usize,
 ) -> Result<Entry, SourceFault>
     requires walk { IsWalk entries.now marks.now kept.now (Task.Leave i ∷ []) }
@@ -277,9 +229,6 @@ fn made(
     ensures err { IfErr result (λ f. f ≡ SourceFault.NoMemory) }
 {
     let entry = entries.at(i);
-    if let Some(position) = passed_on(entries, marks, &entry) {
-        return merge(alloc, entry.names(), &kept[position]);
-    }
     let fields = gathered(alloc, entries, marks, kept, &entry)?;
     merge(alloc, entry.names(), &effective_fields(alloc, &fields)?)
 }
@@ -287,7 +236,7 @@ fn made(
 /// The fields of an entry, followed by those of the resolved entries that it uses, in order.
 fn gathered<'a>(
     alloc: Global,
-    entries: &Entries,
+    entries: &'a Entries,
     marks: &[Mark],
     kept: &[Fields<'a>],
     entry: &EntryView<'a>,
@@ -297,12 +246,7 @@ fn gathered<'a>(
     ensures { IfOk result (λ fields. Gathers entries.now entry.entry.now fields) }
 {
     let mut fields = Fields::new(alloc);
-    fields.extend_from_slice(entry.statements())?;
-    for other in entry.uses() {
-        let index = entries.index_of(other.0.as_slice());
-        let position = done_at(marks, index).unwrap();
-        fields.extend(&kept[position])?;
-    }
+    add_gathered(alloc, entries, marks, kept, entry, &mut fields)?;
     Ok(fields)
 }
 
@@ -314,17 +258,6 @@ fn put_fault(marks: &mut [Mark], tasks: &mut Vec<Task>, fault: SourceFault)
     while let Some(task) = tasks.pop() {
         if let Task::Leave(i) = task {
             put_mark(marks, i, Mark::Faulty(fault));
-        }
-    }
-}
-
-/// Marks the entries on the chain of uses as not entered.
-fn take_back(marks: &mut [Mark])
-    ensures { IsTakenBack marks.old marks.new }
-{
-    for i in 0..marks.len() {
-        if let Mark::Open = marks[i] {
-            marks[i] = Mark::New;
         }
     }
 }

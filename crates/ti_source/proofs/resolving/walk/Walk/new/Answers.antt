@@ -1,5 +1,5 @@
 use Rattle.std.proofs.Common.{◌∙◌, ap, replicate, refl}
-use Rattle.ti_source.specs.declared.resolving.walk.Mark.TheVariants.{New}
+use Rattle.ti_source.specs.declared.resolving.marks.Mark.TheVariants.{New}
 use Rattle.ti_source.proofs.WalkLaws.{walk-new}
 use Rattle.ti_source.proofs.resolving.walk.Walk.new.Goals as goal
 

@@ -1,0 +1,191 @@
+//! Listing the fields of resolved entries. What is kept of an entry is a matter of work: of most
+//! entries only how their fields are listed, of others the fields.
+
+ghost use Rattle.std.specs.Prelude.{◌≡◌, ◌≤◌, ◌<◌, ℕ, List, length, Some, true, IfOk, IfSome, OnOk, map, slice_get};
+ghost use Rattle.ti_source.specs.declared.reading.statement.Statement.{Statement};
+ghost use Rattle.ti_source.specs.Resolving.Named.{index_of};
+ghost use Rattle.ti_source.specs.Code.Walk.{Adds, AddsGathered, AreBelow, AreKnown, IsBelow, IsLight, Keeps, IsLedOver, Lists, TakeEffect, known, steps_at};
+
+use crate::reading::entries::Entries;
+use crate::reading::entry_view::EntryView;
+use crate::resolving::fields::Fields;
+use crate::resolving::first_fields::effective_fields;
+use crate::resolving::marks::{Mark, mark_at};
+use std::alloc::{AllocError, Global};
+use ti_caps::Bytes;
+
+/// Past so many steps, besides those for its own fields, the fields of an entry are kept.
+const MOST_STEPS: u32 = 1024;
+
+/// The same where an entry has several uses.
+const MOST_OF_SEVERAL: u32 = 2048;
+
+/// As many steps as it takes to follow a use.
+const STEPS_OF_USE: u32 = 4;
+
+/// As many steps as it takes to find an entry and which of its fields take effect.
+const STEPS_OF_SEVERAL: u32 = 200;
+
+/// The mark of an entry whose uses are resolved, if its fields need not be kept.
+pub(crate) fn light_mark(
+    entries: &Entries,
+    marks: &[Mark],
+    kept: &[Fields<'_>],
+    entry: &EntryView<'_>,
+) -> Option<Mark>
+    requires known { AreKnown marks.now (map (index_of entries.now) entry.now.uses) }
+    requires kept { Keeps entries.now marks.now kept.now }
+    ensures { IfSome result (λ m. IsLight entries.now marks.now kept.now entry.now m) }
+{
+    let own = u32::try_from(entry.statements().len()).ok()?;
+    if let Some(other) = entry.single_use() {
+        let used = entries.index_of(other)?;
+        return over(marks, kept, led_to(entries, marks, kept, used), own);
+    }
+    several(entries, marks, kept, entry.uses(), own)
+}
+
+/// The mark of an entry with so many fields of its own, followed by those of the entry at an index.
+fn over(marks: &[Mark], kept: &[Fields<'_>], next: usize, own: u32) -> Option<Mark>
+    ensures { IfSome result (λ m. (n : ℕ) × (m ≡ Mark.Over next n) × IsBelow marks.now (Some next) n) }
+{
+    let steps = steps_at(marks, kept, next)?;
+    if steps > MOST_STEPS {
+        return None;
+    }
+    let all = steps.checked_add(STEPS_OF_USE)?.checked_add(own)?;
+    Some(Mark::Over(u32::try_from(next).ok()?, all))
+}
+
+/// The entry of whose fields those of the entry at an index are a copy, which may be itself.
+fn led_to(entries: &Entries, marks: &[Mark], kept: &[Fields<'_>], i: usize) -> usize
+    requires { Keeps entries.now marks.now kept.now }
+    ensures { (fields : List Statement) → Lists entries.now result fields → Lists entries.now i fields }
+{
+    match mark_at(marks, i) {
+        Some(Mark::Over(next, _)) => led_over(entries, i, next),
+        _ => i,
+    }
+}
+
+fn led_over(entries: &Entries, i: usize, next: u32) -> usize
+    requires { i < length entries.now }
+    ensures { IsLedOver entries.now i next result }
+{
+    if entries.at(i).statements().is_empty() {
+        next as usize
+    } else {
+        i
+    }
+}
+
+/// The mark of an entry with so many fields of its own and these uses.
+fn several(
+    entries: &Entries,
+    marks: &[Mark],
+    kept: &[Fields<'_>],
+    uses: &[Bytes],
+    own: u32,
+) -> Option<Mark>
+    ensures { IfSome result (λ m. (n : ℕ) × (m ≡ Mark.Done n) × AreBelow marks.now (map (index_of entries.now) uses.now) n) }
+{
+    let mut steps = 1u32;
+    for other in uses {
+        let used = entries.index_of(other.0.as_slice())?;
+        let more = steps_at(marks, kept, used)?.checked_add(STEPS_OF_SEVERAL)?;
+        steps = steps.checked_add(more)?;
+    }
+    if steps > MOST_OF_SEVERAL {
+        return None;
+    }
+    Some(Mark::Done(steps.checked_add(own)?))
+}
+
+/// The steps in which the fields of the entry at an index are listed; `None` if it is not resolved.
+fn steps_at(marks: &[Mark], kept: &[Fields<'_>], i: usize) -> Option<u32>
+    ensures { IfSome result (λ n. (m : ℕ) × (steps_at marks.now (Some i) ≡ Some m) × (m ≤ n)) }
+{
+    match mark_at(marks, i)? {
+        Mark::Done(steps) => Some(steps),
+        Mark::Over(_, steps) => Some(steps),
+        Mark::Kept(position) => u32::try_from(kept.get(position)?.len()).ok(),
+        _ => None,
+    }
+}
+
+/// The fields that are kept at a position.
+fn kept_at<'b, 'a>(kept: &'b [Fields<'a>], position: usize) -> &'b Fields<'a>
+    requires { position < length kept.now }
+    ensures { slice_get kept.now position ≡ Some result.now }
+{
+    &kept[position]
+}
+
+/// Adds the fields of the resolved entry at an index. The first about a capability counts.
+#[cycle(listing)]
+pub(crate) fn add_fields<'a>(
+    alloc: Global,
+    entries: &'a Entries,
+    marks: &[Mark],
+    kept: &[Fields<'a>],
+    i: usize,
+    fields: &mut Fields<'a>,
+) -> Result<(), AllocError>
+    requires known { known marks.now (Some i) ≡ true }
+    requires kept { Keeps entries.now marks.now kept.now }
+    ensures { OnOk result (Adds entries.now i fields.old fields.new) }
+{
+    match mark_at(marks, i) {
+        Some(Mark::Kept(position)) => fields.extend(kept_at(kept, position)),
+        Some(Mark::Over(next, _)) => {
+            fields.extend_from_slice(entries.at(i).statements())?;
+            add_fields(alloc, entries, marks, kept, next as usize, fields)
+        }
+        Some(Mark::Done(_)) => { add_gathered(alloc, entries, marks, kept, &entries.at(i), fields) }
+        _ => Ok(()),
+    }
+}
+
+/// Adds the fields of an entry, followed by those of the resolved entries that it uses, in order.
+#[cycle(listing)]
+pub(crate) fn add_gathered<'a>(
+    alloc: Global,
+    entries: &'a Entries,
+    marks: &[Mark],
+    kept: &[Fields<'a>],
+    entry: &EntryView<'a>,
+    fields: &mut Fields<'a>,
+) -> Result<(), AllocError>
+    requires known { AreKnown marks.now (map (index_of entries.now) entry.now.uses) }
+    requires kept { Keeps entries.now marks.now kept.now }
+    ensures { OnOk result (AddsGathered entries.now entry.entry.now fields.old fields.new) }
+{
+    fields.extend_from_slice(entry.statements())?;
+    if let Some(other) = entry.single_use() {
+        let used = entries.index_of(other).unwrap();
+        return add_fields(alloc, entries, marks, kept, used, fields);
+    }
+    for other in entry.uses() {
+        let used = entries.index_of(other.0.as_slice()).unwrap();
+        fields.extend(&effective_at(alloc, entries, marks, kept, used)?)?;
+    }
+    Ok(())
+}
+
+/// The fields that take effect of the resolved entry at an index.
+#[cycle(listing)]
+pub(crate) fn effective_at<'a>(
+    alloc: Global,
+    entries: &'a Entries,
+    marks: &[Mark],
+    kept: &[Fields<'a>],
+    i: usize,
+) -> Result<Fields<'a>, AllocError>
+    requires known { known marks.now (Some i) ≡ true }
+    requires kept { Keeps entries.now marks.now kept.now }
+    ensures { IfOk result (λ v. TakeEffect entries.now i v) }
+{
+    let mut fields = Fields::new(alloc);
+    add_fields(alloc, entries, marks, kept, i, &mut fields)?;
+    effective_fields(alloc, &fields)
+}
