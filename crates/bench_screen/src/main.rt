@@ -20,7 +20,7 @@ mod terminals;
 mod windows;
 mod writes;
 
-use anyhow::{Result, bail};
+use anyhow::{Context, Result, bail};
 use std::alloc::Global;
 use std::env;
 
@@ -50,7 +50,7 @@ pub fn repeat<F: FnMut(u32) -> Result<u64>>(count: u32, mut once: F) -> Result<u
     Ok(sum)
 }
 
-// Does a row of a table.
+// Does a row of a table, and gives its number.
 fn measured(alloc: Global, words: [&str; 3], numbers: [u32; 4]) -> Result<u64> {
     let [table, action, name] = words;
     let [first, second, third, _] = numbers;
@@ -73,36 +73,38 @@ fn print(rt: &HostRuntime, words: [&str; 3], numbers: [u32; 4]) -> Result<()> {
     Ok(println!(rt; "{result}")?)
 }
 
-// Up to three words and up to four numbers.
-fn row_of(arguments: &[String]) -> ([&str; 3], [u32; 4]) {
-    let (mut words, mut numbers) = ([""; 3], [0; 4]);
-    let (mut next_word, mut next_number) = (0usize, 0usize);
-    for argument in arguments {
-        if let Ok(number) = argument.as_str().parse::<u32>() {
-            if let Some(place) = numbers.get_mut(next_number) {
-                *place = number;
-            }
-            next_number = next_number.saturating_add(1);
-        } else {
-            if let Some(place) = words.get_mut(next_word) {
-                *place = argument.as_str();
-            }
-            next_word = next_word.saturating_add(1);
-        }
+// Up to four numbers.
+fn numbers_of(words: &[String]) -> Result<[u32; 4]> {
+    let mut numbers = [0; 4];
+    for (number, word) in numbers.iter_mut().zip(words.iter()) {
+        *number = word.as_str().parse::<u32>().context("no number")?;
     }
-    (words, numbers)
+    Ok(numbers)
+}
+
+// A word, empty where there is none.
+fn word(words: &[String], place: usize) -> &str {
+    match words.get(place) {
+        Some(word) => word.as_str(),
+        None => "",
+    }
+}
+
+// Does the row that the command line has: two words or three, and numbers.
+fn measure(rt: &HostRuntime, words: &[String]) -> Result<()> {
+    let row = [word(words, 1), word(words, 2), word(words, 3)];
+    let is_named = matches!(row[0], "update" | "terminals");
+    let begin = if is_named { 4 } else { 3 };
+    print(rt, row, numbers_of(words.get(begin..).unwrap_or(&[]))?)
 }
 
 fn main(rt: HostRuntime) -> Result<()> {
-    let arguments: Vec<String> = env::args(&rt)?.collect(rt.alloc())?;
-    if let [_, row @ ..] = arguments.as_slice()
-        && !row.is_empty()
-    {
-        let (words, numbers) = row_of(row);
-        return print(&rt, words, numbers);
+    let words: Vec<String> = env::args(&rt)?.collect(rt.alloc())?;
+    if words.len() > 1 {
+        return measure(&rt, &words);
     }
-    for (words, numbers) in &SMALL {
-        print(&rt, *words, *numbers)?;
+    for (row, numbers) in &SMALL {
+        print(&rt, *row, *numbers)?;
     }
     Ok(())
 }
