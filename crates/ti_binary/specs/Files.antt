@@ -181,12 +181,12 @@ has_bad_count bytes =
 abbrev pub has_bad_names : List ℕ → Bool
 has_bad_names section = not (list_any is_nul section && are_names (before_first is_nul section))
 
--- The fault of a file with another magic number. Where 16-bit numbers are read, that of 32-bit numbers has its own.
+-- The error of a file with another magic number. Where 16-bit numbers are read, that of 32-bit numbers has its own.
 abbrev pub wrong_magic : Width → ℕ → BinFault
 wrong_magic Legacy found = if found == 542 then WideNumbers else BadMagic
 wrong_magic Wide found = BadMagic
 
--- Why bytes are no file, by their size and the magic number.
+-- Why bytes are not a file, by their size and the magic number.
 abbrev pub header_refusal : Width → List ℕ → Option BinFault
 header_refusal width bytes =
     if nat_lt 32768 (length bytes) then Some TooLarge else

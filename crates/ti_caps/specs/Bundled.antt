@@ -1,4 +1,4 @@
--- The bundled entry: a terminal that takes control functions of ECMA-48 (8.3), as terminfo(5) describes it.
+-- The bundled entry: a terminal that obeys control functions of ECMA-48 (8.3), as terminfo(5) describes it.
 use Rattle.std.specs.Prelude.{ℕ, ◌≡◌, ◌==◌, List, [], ◌∷◌, ◌++◌, codes, Option, Some, None, if◌then◌else◌}
 use Rattle.std.specs.List.{list_any}
 use Rattle.ti_caps.specs.Description.{Description, flag_at, number_at, text_at}

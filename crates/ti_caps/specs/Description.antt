@@ -13,7 +13,7 @@ pub record Description : Type 0 where
   pub numbers : List (Option ℕ)
   pub texts : List (Option (List ℕ))
 
--- What stands at a position; nothing beyond the limits.
+-- What is at a position; nothing beyond the limits.
 abbrev pub flag_at : Description → ℕ → Bool
 flag_at d slot = slice_index_or d.flags slot false
 

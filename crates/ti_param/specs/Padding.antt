@@ -1,4 +1,4 @@
--- Padding in a capability's text: terminfo(5), 'Delays and Padding'. A delay in milliseconds may stand anywhere in a
+-- Padding in a capability's text: terminfo(5), 'Delays and Padding'. A delay in milliseconds may be anywhere in a
 -- text, as `$<5>`, `$<2.5*>` or `$<10*/>`.
 use Rattle.std.specs.Prelude.{◌≡◌, ◌≢◌, ℕ, ◌⊎◌, true, List, [], ◌∷◌, ◌++◌, codes}
 use Rattle.ti_param.specs.Digits.{is_digit, all_digits}
@@ -32,7 +32,7 @@ BeginsWithout text = (padding rest : List ℕ) → text ≡ padding ++ rest → 
 
 -- `Stripped text result`: the result is the text without its padding, removed once from the left. Where a padding
 -- begins, it is left out, and what follows is looked at next; every other byte stays. So bytes that only meet after a
--- removal are no padding.
+-- removal are not padding.
 pub data Stripped : List ℕ → List ℕ → Type 0 where
   ended : Stripped [] []
   left_out : {text padding rest result : List ℕ} → text ≡ padding ++ rest → IsPadding padding → Stripped rest result → Stripped text result
