@@ -7,16 +7,16 @@ mod file_paths;
 mod folders;
 mod memory;
 mod names;
-mod programs;
 mod reading;
 mod searching;
 mod stores;
+mod system;
 
 pub use faults::DatabaseFault;
 pub use file_paths::{FilePath, FilePaths, paths};
 pub use folders::Variables;
 pub use memory::MemoryFiles;
-pub use programs::find;
 pub use reading::read_entry;
 pub use searching::{find_in, search};
 pub use stores::Store;
+pub use system::find;

@@ -1,6 +1,6 @@
 use Rattle.std.proofs.Common.{rules, None}
 use Rattle.ti_database.proofs.SearchLaws.{any_variables}
-use Rattle.ti_database.proofs.programs.find.Goals as goal
+use Rattle.ti_database.proofs.system.find.Goals as goal
 
 pub returns-in_err-variables : goal.returns-in_err-variables
 returns-in_err-variables g c = search rules
