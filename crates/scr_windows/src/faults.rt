@@ -27,7 +27,7 @@ pub enum WinFault {
     #[error("the window is a pad")]
     IsPad,
     /// The window is not a pad.
-    #[error("the window is no pad")]
+    #[error("the window is not a pad")]
     NotPad,
     /// The window is a subwindow.
     #[error("the window is a subwindow")]
