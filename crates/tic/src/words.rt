@@ -68,7 +68,7 @@ fn verbose<'a>(alloc: Global) -> Arg<'a> {
     Arg::new(alloc, "verbose")
         .short('v')
         .action(ArgAction::SetTrue)
-        .help("Says which entry a fault is in, and how often each unknown name stands")
+        .help("Says which entry an error is in, and how often each unknown name occurs")
 }
 
 // The usage text tells the version in its first line.
