@@ -10,6 +10,7 @@ use crate::reading::entries::Entries;
 use crate::reading::entry_view::EntryView;
 use crate::resolving::fields::Fields;
 use crate::resolving::first_fields::effective_fields;
+use crate::resolving::leading::leading_use;
 use crate::resolving::listing::{add_gathered, effective_at, light_mark};
 use crate::resolving::marks::{Mark, mark_at, new_marks, put_mark, take_back};
 use crate::resolving::merge::merge;
@@ -31,6 +32,8 @@ pub(crate) enum Task {
 pub(crate) struct Walk<'a> {
     marks: Vec<Mark>,
     kept: Vec<Fields<'a>>,
+    /// How many fields are kept.
+    count: usize,
     tasks: Vec<Task>,
 }
 
@@ -42,6 +45,7 @@ impl<'a> Walk<'a> {
         Ok(Walk {
             marks: new_marks(alloc, entries.len())?,
             kept: Vec::new(alloc),
+            count: 0,
             tasks: Vec::new(alloc),
         })
     }
@@ -160,13 +164,18 @@ impl<'a> Walk<'a> {
         ensures kept { OnErr result ((self.new.marks.items ≡ self.old.marks.items) × (self.new.kept.items ≡ self.old.kept.items)) }
     {
         let entry = entries.at(i);
-        if let Some(mark) = light_mark(entries, &self.marks, &self.kept, &entry) {
+        let leading = leading_use(alloc, entries, &self.marks, &self.kept, &entry)?;
+        let full = are_many(self.count, entries.len());
+        if let Some(mark) = light_mark(entries, &self.marks, &self.kept, &entry, leading, full) {
             self.marks[i] = mark;
             return Ok(());
         }
         let position = self.kept.len();
         let fields = gathered(alloc, entries, &self.marks, &self.kept, &entry)?;
-        self.kept.push(effective_fields(alloc, &fields)?)?;
+        let fields = effective_fields(alloc, &fields)?;
+        let count = self.count.saturating_add(fields.len());
+        self.kept.push(fields)?;
+        self.count = count;
         self.marks[i] = Mark::Kept(position);
         Ok(())
     }
@@ -200,6 +209,11 @@ impl<'a> Walk<'a> {
             put_fault(&mut self.marks, &mut self.tasks, fault);
         }
     }
+}
+
+/// Whether so many kept fields are many beside so many entries.
+fn are_many(count: usize, entries: usize) -> bool {
+    count / 8 > entries.saturating_add(8_192)
 }
 
 /// Adds a visit of each of these names, the first to be done next.
