@@ -27,7 +27,7 @@ pub struct Decoded {
 /// Reads a compiled file: its entry, and how many bytes follow its string table (term(5), 'Legacy
 /// Storage Format'). Capabilities without a name are kept.
 ///
-/// Refused with the first fault that applies, in the order of `BinFault`; with `NoMemory` if memory
+/// Refused with the first error that applies, in the order of `BinFault`; with `NoMemory` if memory
 /// runs out and nothing else is wrong.
 pub fn decode(alloc: Global, bytes: &[u8]) -> Result<(Entry, usize), BinFault>
     ensures refused { IfErr result (λ fault. (fault ≡ BinFault.NoMemory) ⊎ (refusal Legacy bytes.now ≡ Some fault)) }

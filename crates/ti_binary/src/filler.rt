@@ -60,7 +60,7 @@ pub(crate) fn set_texts(
     Ok(())
 }
 
-/// The fault of an entry where only memory can run out.
+/// The error of an entry where only memory can run out.
 pub(crate) fn want_of_memory(fault: CapFault) -> BinFault
     requires { fault ≡ CapFault.NoMemory }
     ensures { result ≡ BinFault.NoMemory }

@@ -34,7 +34,7 @@ impl Width {
         }
     }
 
-    /// The fault of a file with another magic number.
+    /// The error of a file with another magic number.
     pub(crate) fn wrong_magic(self, found: u16) -> BinFault
         ensures fault { result ≡ wrong_magic self found }
         ensures plain { result ≡ BinFault.NoMemory → ⊥ }

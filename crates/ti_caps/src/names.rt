@@ -5,7 +5,7 @@ ghost use Rattle.std.specs.List.{list_all};
 ghost use Rattle.ti_caps.specs.Cuts.{alternatives_behind};
 ghost use Rattle.ti_caps.specs.Names.{alternatives, are_names, begins_with_hash, first_name, has_bytes, has_no_blank, is_name_byte};
 
-/// Splits names at the first `|`: the first alternative, and the rest behind the `|` if there is
+/// Splits names at the first `|`: the first alternative, and the rest after the `|` if there is
 /// one.
 pub fn cut_name(names: &[u8]) -> (&[u8], Option<&[u8]>)
     ensures first { result.0.now ≡ first_name names.now }

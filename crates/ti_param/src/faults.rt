@@ -2,7 +2,7 @@
 
 use thiserror::Error;
 
-/// Why a text is not a parameter string: its leftmost fault, by the index of its `%`, in bytes from
+/// Why a text is not a parameter string: its leftmost error, by the index of its `%`, in bytes from
 /// 0 (terminfo(5), 'Parameterized Strings').
 #[derive(Clone, Copy, Debug, PartialEq, Eq, Error)]
 pub enum ParamFault {

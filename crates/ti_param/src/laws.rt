@@ -14,17 +14,17 @@ pub fn text_is_parsed()
     ensures { IsParsed }
 {}
 
-/// Every text spells a tree or has a fault.
+/// Every text spells a tree or has an error.
 pub fn text_has_tree_or_fault()
     ensures { HasTreeOrFault }
 {}
 
-/// No text both spells a tree and has a fault.
+/// No text both spells a tree and has an error.
 pub fn text_has_not_both()
     ensures { HasNotBoth }
 {}
 
-/// A text has at most one fault.
+/// A text has at most one error.
 pub fn text_has_one_fault()
     ensures { HasOneFault }
 {}

@@ -23,7 +23,7 @@ marks_of_two a b = if (a == 42 && b == 47) || (a == 47 && b == 42) then 2 else (
 abbrev pub marks_at : List ℕ → ℕ → ℕ
 marks_at text index = marks_of_two (slice_index text index) (slice_index text (index + 1))
 
--- where the `>` has to stand behind so many digits
+-- where the `>` has to follow so many digits
 abbrev pub padding_end : List ℕ → ℕ → ℕ
 padding_end text digits = let point = 2 + digits + point_at text (2 + digits) in point + marks_at text point
 

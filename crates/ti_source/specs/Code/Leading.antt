@@ -47,6 +47,6 @@ pub record AddNothing (entries : List Described) (names : List (List ℕ)) (fiel
   pub resolved : Resolve entries names (first ∷ rest)
   pub covers : CoversUsed fields rest
 
--- the fields of this entry follow the entry's own, and nothing else has to
+-- the entry's own fields, followed by those of the entry at the index `used`, are all that it has
 abbrev pub Leads : List Described → Described → ℕ → Type 0
 Leads entries d used = (fields : List Statement) → Lists entries used fields → Gathers entries d (d.statements ++ fields)

@@ -18,8 +18,8 @@ use crate::resolving::marks::Mark;
 use std::alloc::{AllocError, Global};
 use ti_caps::Bytes;
 
-/// The entry at whose index has all fields that an entry gets from its uses, which are resolved;
-/// `None` if there is none or it is not the first of several.
+/// The index of the entry that has all fields that this one gets from its uses, which are resolved:
+/// its only use, or the first of several; `None` if neither has.
 pub(crate) fn leading_use<'a>(
     alloc: Global,
     entries: &'a Entries,

@@ -1,5 +1,5 @@
-//! Listing the fields of resolved entries. What is kept of an entry is a matter of work: of most
-//! entries only how their fields are listed, of others the fields.
+//! Listing the fields of resolved entries. Of most entries it is only kept how their fields are
+//! listed, and in how many steps; where that would be very many, the list itself is kept.
 
 ghost use Rattle.std.specs.Prelude.{◌≡◌, ◌≤◌, ◌<◌, ℕ, List, length, Some, true, IfOk, IfSome, OnOk, map, slice_get};
 ghost use Rattle.ti_source.specs.declared.reading.statement.Statement.{Statement};
@@ -15,8 +15,8 @@ use crate::resolving::marks::{Mark, mark_at};
 use std::alloc::{AllocError, Global};
 use ti_caps::Bytes;
 
-/// Past so many steps, besides those for its own fields, the fields of an entry are kept: where one
-/// use gives them, and where each of several has its part.
+/// The fields of an entry are kept if listing them takes more steps than this, besides those for
+/// its own: where all others come from one use, and where they come from several.
 const MOST_STEPS: u32 = 1024;
 
 const MOST_OF_SEVERAL: u32 = 2048;
@@ -26,10 +26,10 @@ const MOST_STEPS_WHEN_FULL: u32 = 4096;
 
 const MOST_OF_SEVERAL_WHEN_FULL: u32 = 32_768;
 
-/// As many steps as it takes to follow a use.
+/// The steps that it takes to follow a use.
 const STEPS_OF_USE: u32 = 4;
 
-/// As many steps as it takes to find an entry and which of its fields take effect.
+/// The steps that it takes to find an entry, and which of its fields take effect.
 const STEPS_OF_SEVERAL: u32 = 200;
 
 /// The mark of an entry whose uses are resolved, if its fields need not be kept. The entry at the
@@ -71,7 +71,8 @@ fn most(full: bool, usual: u32, when_full: u32) -> u32 {
     if full { when_full } else { usual }
 }
 
-/// The entry of whose fields those of the entry at an index are a copy, which may be itself.
+/// The index of the entry from which the one at an index has all its fields; that index itself if
+/// the entry has some of its own.
 fn led_to(entries: &Entries, marks: &[Mark], kept: &[Fields<'_>], i: usize) -> usize
     requires { Keeps entries.now marks.now kept.now }
     ensures { (fields : List Statement) → Lists entries.now result fields → Lists entries.now i fields }

@@ -26,8 +26,8 @@ pub(crate) enum Task {
     Leave(usize),
 }
 
-/// How far each entry is, the kept fields of those that are resolved, and the tasks that are left,
-/// the next one last.
+/// How far each entry is, the lists of fields that are kept, and the tasks that are left, the next
+/// one last.
 #[derive(Drop)]
 pub(crate) struct Walk<'a> {
     marks: Vec<Mark>,
@@ -51,7 +51,7 @@ impl<'a> Walk<'a> {
     }
 
     /// The resolved entry at an index; `UnknownName` if there is none. The entries that it uses are
-    /// kept, but it is not. What was followed stays kept after a fault.
+    /// then known, but it is not. What was followed stays known after an error.
     pub(crate) fn resolved(
         &mut self,
         alloc: Global,
@@ -195,7 +195,7 @@ impl<'a> Walk<'a> {
         }
     }
 
-    /// Drops all tasks after a fault. The entries on the chain of uses get the same fault, unless
+    /// Drops all tasks after an error. The entries on the chain of uses get the same error, unless
     /// memory ran out.
     fn stop(&mut self, fault: SourceFault)
         ensures kept { self.new.kept.items ≡ self.old.kept.items }
@@ -264,7 +264,7 @@ fn gathered<'a>(
     Ok(fields)
 }
 
-/// Marks the entries that are still to be left as followed to a fault, and drops all tasks.
+/// Marks the entries that are still to be left as followed to an error, and drops all tasks.
 fn put_fault(marks: &mut [Mark], tasks: &mut Vec<Task>, fault: SourceFault)
     ensures marks { marks.new ≡ with_fault fault (leaves (reverse tasks.old.items)) marks.old }
     ensures tasks { tasks.new.items ≡ [] }
