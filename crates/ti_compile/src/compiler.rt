@@ -44,9 +44,9 @@ pub struct Compiled {
 /// each of its reference names (`t1` has `t/t1`, and a name that occurs twice has two files), and
 /// its first reference name with the size of the file.
 ///
-/// The fault is that of reading, otherwise that of the first faulty entry. An entry is faulty if it
-/// does not resolve, then if it exceeds the limits of a compiled file, then if one of its reference
-/// names contains `/` or is `.` or `..`. `NoMemory`: memory ran out.
+/// The error is that of reading, otherwise that of the first entry that is refused. An entry is
+/// refused if it does not resolve, then if it exceeds the limits of a compiled file, then if one of
+/// its reference names contains `/` or is `.` or `..`. `NoMemory`: memory ran out.
 pub fn compile(alloc: Global, source: &[u8]) -> Result<Compiled, TicFault>
     ensures ok { IfOk result (λ c. IsCompiled source.now c) }
     ensures err { IfErr result (λ f. (f ≡ TicFault.NoMemory) ⊎ IsFaulty source.now f) }

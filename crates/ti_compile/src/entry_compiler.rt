@@ -53,8 +53,8 @@ impl<'a> EntryCompiler<'a> {
     /// files that `compile` gives for the entry, in order; its name and the number of its bytes are
     /// the entry's size.
     ///
-    /// The fault is that of the first faulty entry, as in `compile`, and comes again if the next
-    /// entry is asked for again. `NoMemory`: memory ran out. Nothing is compiled then.
+    /// The error is that of the first entry that has one, as in `compile`, and comes again if the
+    /// next entry is asked for again. `NoMemory`: memory ran out. Nothing is compiled then.
     pub fn next_entry(&mut self, alloc: Global) -> Result<Option<CompiledEntry>, TicFault>
         ensures more { IfOk result (λ r. IfSome r (λ c. IsCompiledNext self.old.entries self.old.next c × (self.new ≡ record self.old { next = self.old.next + 1 }))) }
         ensures end { IfOk result (λ r. IfNone r ((self.new ≡ self.old) × AllCompiled self.old.entries self.old.next)) }

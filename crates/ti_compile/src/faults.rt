@@ -5,11 +5,11 @@ use thiserror::Error;
 use ti_binary::{BinFault, EncFault};
 use ti_source::SourceFault;
 
-/// Why a source or a file was refused. If memory ran out, the fault is always `NoMemory`, never one
-/// inside another fault.
+/// Why a source or a file was refused. If memory ran out, the error is always `NoMemory`, never one
+/// inside another error.
 #[derive(Clone, Copy, Debug, PartialEq, Eq, Error)]
 pub enum TicFault {
-    /// The source is faulty, or an entry of it does not resolve.
+    /// The source has an error, or an entry of it does not resolve.
     #[error(transparent)]
     Source(SourceFault),
     /// An entry exceeds the limits of a compiled file.
@@ -48,7 +48,7 @@ impl<T: Drop> From<AllocFailed<T>> for TicFault {
     }
 }
 
-// `NoMemory` stays `NoMemory`; any other fault is one of the source.
+// `NoMemory` stays `NoMemory`; any other error is one of the source.
 impl From<SourceFault> for TicFault {
     ghost use Rattle.ti_compile.specs.Faults.{of_source};
     ghost use Rattle.std.specs.Prelude.{◌≡◌};
@@ -63,7 +63,7 @@ impl From<SourceFault> for TicFault {
     }
 }
 
-// `NoMemory` stays `NoMemory`; any other fault is one of writing.
+// `NoMemory` stays `NoMemory`; any other error is one of writing.
 impl From<EncFault> for TicFault {
     ghost use Rattle.ti_compile.specs.Faults.{of_encoding};
     ghost use Rattle.std.specs.Prelude.{◌≡◌};
@@ -78,7 +78,7 @@ impl From<EncFault> for TicFault {
     }
 }
 
-// `NoMemory` stays `NoMemory`; any other fault is one of reading.
+// `NoMemory` stays `NoMemory`; any other error is one of reading.
 impl From<BinFault> for TicFault {
     ghost use Rattle.ti_compile.specs.Faults.{of_decoding};
     ghost use Rattle.std.specs.Prelude.{◌≡◌};

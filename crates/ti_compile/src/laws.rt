@@ -11,7 +11,7 @@ pub fn sources_compile_once()
     names_resolve_once();
 }
 
-/// A source has at most one fault: that of reading, or of the first entry that is refused.
+/// A source has at most one error: that of reading, or of the first entry that is refused.
 pub fn sources_have_one_fault()
     ensures { FaultyOnce }
 {
@@ -20,7 +20,7 @@ pub fn sources_have_one_fault()
     resolved_names_have_no_fault();
 }
 
-/// A source that can be compiled has no fault.
+/// A source that can be compiled has no error.
 pub fn compiled_sources_have_no_fault()
     ensures { CompiledOrFaulty }
 {

@@ -59,7 +59,7 @@ impl Display for FilePaths {
 /// (terminfo(5), 'Fetching Compiled Descriptions'). The folders are the one of `TERMINFO`, the
 /// folder `.terminfo` in `HOME`, those of `TERMINFO_DIRS`, where an empty one stands for the
 /// system's, and the system's: `/etc/terminfo`, `/lib/terminfo` and `/usr/share/terminfo`. A
-/// variable that is not set, or empty, gives no folder. In each, the file stands in a folder named
+/// variable that is not set, or empty, gives no folder. In each, the file is in a folder named
 /// by the first letter of the name, or else by that letter's code, two lower-case hexadecimal
 /// digits.
 ///

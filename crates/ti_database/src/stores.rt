@@ -11,7 +11,7 @@ use ti_caps::Bytes;
 
 /// Files by path.
 pub trait Store {
-    // What stands at each path, if that is known.
+    // What is at each path, if that is known.
     ghost has: { Self → Option (List ℕ → Option (List ℕ)) };
 
     /// The file at a path, at most its first 32,769 bytes: one more than a compiled entry has.
@@ -24,7 +24,7 @@ pub trait Store {
 /// The most bytes that are read of a file.
 const MOST_BYTES: usize = 32_769;
 
-/// The files of the system. What stands at which path is not known: others change them.
+/// The files of the system. What is at which path is not known: others change them.
 #[derive(Clone, Copy)]
 pub(crate) struct SystemFiles<'a, R> {
     /// The runtime that reaches them.

@@ -89,7 +89,7 @@ alone {chain = chain} all h = shorter (none-on chain) (λ i on. inr (all i on)) 
 
 -- ---- what is awaited
 
-resolve-append : {entries : List Described} {names more_names : List (List ℕ)} {ds es : List Description} → Resolve entries names ds → Resolve entries more_names es → Resolve entries (names ++ more_names) (ds ++ es)
+pub resolve-append : {entries : List Described} {names more_names : List (List ℕ)} {ds es : List Description} → Resolve entries names ds → Resolve entries more_names es → Resolve entries (names ++ more_names) (ds ++ es)
 resolve-append nothing r = r
 resolve-append (more {found = found} f u is r) s = more {found = found} f u is (resolve-append r s)
 

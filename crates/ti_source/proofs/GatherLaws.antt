@@ -18,11 +18,11 @@ use Rattle.ti_source.proofs.StandsForLaws.{merged-says, stands-for}
 use Rattle.ti_source.proofs.MergedBackLaws.{value_of_capability-append, or-none}
 use Rattle.ti_source.proofs.TaskLaws.{resolve-cons, resolved-at}
 
-or-or : (a b c : Option FieldValue) → or_else (or_else a b) c ≡ or_else a (or_else b c)
+pub or-or : (a b c : Option FieldValue) → or_else (or_else a b) c ≡ or_else a (or_else b c)
 or-or None b c = refl
 or-or (Some s) b c = refl
 
-first-last : (us : List Description) (d : Description) (kind : Kind) (slot : ℕ) → first_value (us ++ d ∷ []) kind slot ≡ or_else (first_value us kind slot) (value_in d kind slot)
+pub first-last : (us : List Description) (d : Description) (kind : Kind) (slot : ℕ) → first_value (us ++ d ∷ []) kind slot ≡ or_else (first_value us kind slot) (value_in d kind slot)
 first-last [] d kind slot = or-none (value_in d kind slot)
 first-last (u ∷ us) d kind slot =
     ap (or_else (value_in u kind slot)) (first-last us d kind slot) ∙ sym (or-or (value_in u kind slot) (first_value us kind slot) (value_in d kind slot))
@@ -93,7 +93,7 @@ effective-entry entries i d names fields e at t named is =
     subst (λ x. ResolvedAt entries (Some i) x) (sym (is ∙ ap (λ ns. merged (of_fields ns fields) []) (named ∙ ap (λ (x : Described). x.names) own) ∙ t.stands.whole)) (resolved-at entries i t.entry t.used t.at t.resolved)
 
 -- what a resolved entry says is present
-says-present : (d : Description) (kind : Kind) (slot : ℕ) → if_present kind (value_in d kind slot) ≡ value_in d kind slot
+pub says-present : (d : Description) (kind : Kind) (slot : ℕ) → if_present kind (value_in d kind slot) ≡ value_in d kind slot
 says-present d Flag slot = by (flag_at d slot)
   where
     by : (b : Bool) → if_present Flag (flag_value b) ≡ flag_value b
@@ -124,7 +124,7 @@ effective-lists entries i fields t = record {
 }
 
 -- only what is present counts
-present-or : (kind : Kind) (a b c : Option FieldValue) → if_present kind b ≡ if_present kind c → if_present kind (or_else a b) ≡ if_present kind (or_else a c)
+pub present-or : (kind : Kind) (a b c : Option FieldValue) → if_present kind b ≡ if_present kind c → if_present kind (or_else a b) ≡ if_present kind (or_else a c)
 present-or kind None b c e = e
 present-or kind (Some s) b c e = refl
 

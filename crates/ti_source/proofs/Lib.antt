@@ -11,6 +11,7 @@ pub mod FormsBackLaws
 pub mod GatherLaws
 pub mod StandsForLaws
 pub mod GoodLaws
+pub mod LeadingLaws
 pub mod LinesBackLaws
 pub mod ListingLaws
 pub mod LoweringLaws

@@ -8,6 +8,7 @@ use Rattle.ti_source.specs.declared.resolving.marks.Mark.TheVariants.{Done, Over
 use Rattle.ti_source.specs.Described.{Described}
 use Rattle.ti_source.specs.Resolving.Named.{index_of}
 use Rattle.ti_source.specs.Code.FirstFields.{AreEffective}
+use Rattle.ti_source.specs.Code.Leading.{Leads}
 use Rattle.ti_source.specs.Code.Walk.{Adds, AddsGathered, AreBelow, AreKnown, IsBelow, IsDone, IsLedOver, IsLight, IsOver, Keeps, Lists, TakeEffect, known, larger, steps_at, steps_of_all, steps_or_0}
 use Rattle.ti_source.proofs.GatherLaws.{effective-lists, gathers-one, resolve-known, take-effect}
 use Rattle.ti_source.proofs.IndexLaws.{take-at}
@@ -76,8 +77,8 @@ led-lists entries marks i next n led fields over (inr (e, (d, at, none))) l =
     let own : over.entry.statements ++ fields ≡ fields = ap (λ (x : Described). x.statements ++ fields) same ∙ ap (λ ss. ss ++ fields) none in
     subst (λ fs. Lists entries i fs) own (over.leads fields (subst (λ x. Lists entries x fields) e l))
 
-pub over-light : (entries : List Described) (marks : List Mark) (kept : List (List Statement)) (d : Described) (name : List ℕ) (used next n : ℕ) (mark : Mark) → Keeps entries marks kept → AreKnown marks (map (index_of entries) d.uses) → d.uses ≡ name ∷ [] → index_of entries name ≡ Some used → ((fields : List Statement) → Lists entries next fields → Lists entries used fields) → mark ≡ Over next n → IsBelow marks (Some next) n → IsLight entries marks kept d mark
-over-light entries marks kept d name used next n mark keeps known uses index led is below =
+pub over-light : (entries : List Described) (marks : List Mark) (kept : List (List Statement)) (d : Described) (used next n : ℕ) (mark : Mark) → Keeps entries marks kept → AreKnown marks (map (index_of entries) d.uses) → Leads entries d used → ((fields : List Statement) → Lists entries next fields → Lists entries used fields) → mark ≡ Over next n → IsBelow marks (Some next) n → IsLight entries marks kept d mark
+over-light entries marks kept d used next n mark keeps known leads led is below =
     let r = resolve-known entries marks kept d.uses keeps known in
     rw is (
       n,
@@ -88,7 +89,7 @@ over-light entries marks kept d name used next n mark keeps known uses index led
         used = r.0;
         resolved = r.1;
         below = below;
-        leads = λ fields l. record { entry = d; at = at; gathers = gathers-one entries d name used fields uses index (led fields l) };
+        leads = λ fields l. record { entry = d; at = at; gathers = leads fields (led fields l) };
       },
     )
 

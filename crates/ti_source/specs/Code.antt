@@ -9,5 +9,6 @@ pub mod Parts
 pub mod Plain
 pub mod Seen
 pub mod FirstFields
+pub mod Leading
 pub mod Steps
 pub mod Walk

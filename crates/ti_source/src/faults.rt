@@ -3,7 +3,7 @@
 use std::alloc::{AllocError, AllocFailed};
 use thiserror::Error;
 
-/// Why a source or a name of it was refused, with the line if the fault is in one.
+/// Why a source or a name of it was refused, with the line if the error is in one.
 #[derive(Clone, Copy, Debug, PartialEq, Eq, Error)]
 pub enum SourceFault {
     /// A byte 0, or one from 128 on, outside a comment.

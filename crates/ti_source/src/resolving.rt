@@ -2,6 +2,7 @@
 
 pub(crate) mod fields;
 pub(crate) mod first_fields;
+pub(crate) mod leading;
 pub(crate) mod listing;
 pub(crate) mod marks;
 pub(crate) mod merge;

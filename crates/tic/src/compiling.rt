@@ -86,7 +86,7 @@ fn unread<'a>(rt: &HostRuntime, text: &[u8], fault: SourceFault, verbose: bool) 
     TicFault::from(fault).into()
 }
 
-// Prints on standard error which entry a fault is in.
+// Prints on standard error which entry an error is in.
 fn tell_entry(rt: &HostRuntime, text: &[u8], index: usize) {
     if let Some(place) = place_of(text, index) {
         let mut line = Vec::new(rt.alloc());
@@ -221,7 +221,7 @@ fn hold_entries<'a>(
     Ok(taken <= MOST_HELD)
 }
 
-// Compiles the next entry, and gives how many bytes are taken with it.
+// Compiles the next entry, and gives how many bytes are held with it.
 fn hold_next<'a>(
     job: &Job<'_>,
     compiler: &mut EntryCompiler<'_>,
@@ -235,7 +235,7 @@ fn hold_next<'a>(
     }
 }
 
-// Holds an entry, or none where they take too many bytes with it.
+// Holds an entry, or drops all where they take too many bytes with it.
 fn hold<'a>(
     entry: CompiledEntry,
     taken: usize,

@@ -6,9 +6,9 @@
 //! COMPILED is `-`, it is the standard input.
 //!
 //! Notes on doubtful fields, and what a listing leaves out, go to standard error; with `-v` also
-//! the entry of a fault that has no line, and how often each unknown name occurs. A fault is
+//! the entry of an error that has no line, and how often each unknown name occurs. An error is
 //! printed there as `tic: ` and its text. So is the usage text, which `--help` and `--version` ask
-//! for. The status is 0, 1 for a fault and 2 for a usage error, as these two are.
+//! for. The status is 0, 1 for an error and 2 for a usage error, as these two are.
 #![tactic(auto)]
 
 mod compiling;

@@ -1,4 +1,4 @@
-//! Where the entries of a source begin, to report faults that have no line.
+//! Where the entries of a source begin, to report errors that have no line.
 
 use bstr::ByteSlice;
 use std::alloc::Global;

@@ -26,7 +26,7 @@ pub(crate) fn add_size(
     add_line(name, digits.as_bytes(), lines)
 }
 
-/// Adds the line that names the entry that a fault is in.
+/// Adds the line that names the entry that an error is in.
 pub(crate) fn add_entry(
     alloc: Global,
     place: Place<'_>,

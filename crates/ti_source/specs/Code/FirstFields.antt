@@ -11,7 +11,7 @@ use Rattle.ti_source.specs.declared.reading.statement.Statement.{Statement}
 use Rattle.ti_source.specs.Reading.Sources.{concerns}
 use Rattle.ti_source.specs.Resolving.Uses.{value_of_capability}
 
--- where a capability stands among those of all kinds
+-- where a capability is among those of all kinds
 abbrev pub ordinal : Kind → ℕ → ℕ
 ordinal Flag slot = slot
 ordinal Number slot = 64 + slot

@@ -7,7 +7,7 @@ use Rattle.bstr.specs.Text.{lines_of}
 use Rattle.sha2.specs.Sha512.{sha512}
 use Rattle.ti_source.specs.Reading.Line.{begins_blank, begins_hash}
 
--- a line that is no comment and begins with no blank
+-- a line that is not a comment and does not begin with a blank
 abbrev pub begins_entry : List ℕ → Bool
 begins_entry line = not (begins_hash line) && not (begins_blank line)
 
@@ -18,6 +18,6 @@ line_of_names line = if begins_entry line then line else []
 abbrev pub lines_of_names : List ℕ → List ℕ
 lines_of_names source = flat_map line_of_names (lines_of source)
 
--- SipHash of keys 0 behind the digest of the lines that begin entries
+-- SipHash of keys 0 after the digest of the lines that begin entries
 abbrev pub keyed : List ℕ → DefaultHasher
 keyed source = sip.write sip.initial (sha512 (lines_of_names source))

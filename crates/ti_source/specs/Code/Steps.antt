@@ -121,7 +121,7 @@ notes_of (Some f) = f.notes
 abbrev pub filled : List Described → OpenEntry → Result ReaderState SourceFault
 filled done f = Ok (record { done = done; current = Some f.entry; notes = f.notes })
 
--- an entry behind others, with these fields
+-- an entry after others, with these fields
 abbrev pub filled_by : ℕ → List (List ℕ) → List Described → OpenEntry → Result ReaderState SourceFault
 filled_by line more done f = with_fields line more f >>= filled done
 

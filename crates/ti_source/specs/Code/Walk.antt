@@ -22,7 +22,7 @@ use Rattle.ti_caps.specs.Slots.{positions_of}
 abbrev pub visits : List Described → List (List ℕ) → List Task
 visits entries names = map (λ name. Visit (index_of entries name)) names
 
--- the entries that are left later: those of the chain on which the next task stands
+-- the entries that are left later: those of the chain on which the next task is
 abbrev pub leaves : List Task → List ℕ
 leaves [] = []
 leaves (Visit p ∷ tasks) = leaves tasks
@@ -41,7 +41,7 @@ ResolvedAt entries p d = (name : List ℕ) → index_of entries name ≡ p → R
 abbrev pub FaultAt : List Described → List ℕ → Option ℕ → SourceFault → Type 0
 FaultAt entries chain p fault = (name : List ℕ) → index_of entries name ≡ p → Fault entries chain (name ∷ []) fault
 
--- the first fault of the tasks: of the next visit over the entries that are left later, or, where that resolves, of those behind
+-- the first fault of the tasks: of the next visit over the entries that are left later, or, where that resolves, of those after it
 abbrev pub FaultIn : List Described → List Task → SourceFault → Type 0
 FaultIn entries [] fault = ⊥
 FaultIn entries (Visit p ∷ tasks) fault =
@@ -136,11 +136,11 @@ pub record TakeEffect (entries : List Described) (i : ℕ) (fields : List Statem
   pub resolved : Resolve entries entry.uses used
   pub stands : StandsFor entry.names fields (merged entry used)
 
--- what has such fields has them with those of the entry at the index `next`
+-- these fields, followed by those of the entry at the index `next`, are such fields of the entry at the index i
 abbrev pub LeadsTo : List Described → ℕ → List Statement → ℕ → Type 0
 LeadsTo entries i own next = (fields : List Statement) → Lists entries next fields → Lists entries i (own ++ fields)
 
--- the index itself, or that of the next one if the entry has no fields of its own
+-- the index itself, or `next` if the entry has no fields of its own
 abbrev pub IsLedOver : List Described → ℕ → ℕ → ℕ → Type 0
 IsLedOver entries i next led = (led ≡ i) ⊎ ((led ≡ next) × ((d : Described) × (slice_get entries i ≡ Some d) × (d.statements ≡ [])))
 
@@ -176,11 +176,11 @@ Keeps entries marks kept = (i : ℕ) (mark : Mark) → slice_get marks i ≡ Som
 abbrev pub IsLight : List Described → List Mark → List (List Statement) → Described → Mark → Type 0
 IsLight entries marks kept d mark = (steps : ℕ) × (steps_of (Some mark) ≡ Some steps) × ((i : ℕ) → slice_get entries i ≡ Some d → IsMarkOf entries marks kept i mark)
 
--- these fields with such as the resolved entry at an index has behind them
+-- these fields, followed by fields by which the resolved entry at an index has what it has
 abbrev pub Adds : List Described → ℕ → List Statement → List Statement → Type 0
 Adds entries i before now = (fields : List Statement) × (now ≡ before ++ fields) × Lists entries i fields
 
--- the same of an entry's own and those of its uses
+-- the same, followed by an entry's own fields and those of its uses
 abbrev pub AddsGathered : List Described → Described → List Statement → List Statement → Type 0
 AddsGathered entries d before now = (fields : List Statement) × (now ≡ before ++ fields) × Gathers entries d fields
 

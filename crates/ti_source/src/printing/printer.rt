@@ -26,7 +26,7 @@ pub struct Printed {
 /// of positions. Also counts the present capabilities that have no name.
 ///
 /// The text is a source of one entry without a note. By its first reference name it resolves to the
-/// entry without its unnamed capabilities. The only fault is `NoMemory`.
+/// entry without its unnamed capabilities. The only error is `NoMemory`.
 pub fn print(alloc: Global, entry: &Entry) -> Result<Printed, SourceFault>
     ensures text { IfOk result (λ p. p.text ≡ printed entry.now) }
     ensures unnamed { IfOk result (λ p. p.unnamed ≡ unnamed_count entry.now) }

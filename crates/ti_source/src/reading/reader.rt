@@ -67,9 +67,9 @@ impl ReadSource {
 /// Reads a source: its entries in order, and a note for each doubtful field, in the order of fields
 /// (terminfo(5)).
 ///
-/// A line ends at LF, at CR LF or at the end of the bytes, and lines count from 1. The fault is
-/// that of the first faulty line: `NotAscii` before any other fault of that line, otherwise the
-/// leftmost one; `BadNames` before `DuplicateName`.
+/// A line ends at LF, at CR LF or at the end of the bytes, and lines count from 1. The error is
+/// that of the first line that has one: `NotAscii` before any other error of that line, otherwise
+/// the leftmost one; `BadNames` before `DuplicateName`.
 pub fn read(alloc: Global, bytes: &[u8]) -> Result<Source, SourceFault>
     ensures { Gives result (source_of bytes.now) }
 {

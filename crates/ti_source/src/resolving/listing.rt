@@ -1,9 +1,10 @@
-//! Listing the fields of resolved entries. What is kept of an entry is a matter of work: of most
-//! entries only how their fields are listed, of others the fields.
+//! Listing the fields of resolved entries. Of most entries it is only kept how their fields are
+//! listed, and in how many steps; where that would be very many, the list itself is kept.
 
 ghost use Rattle.std.specs.Prelude.{◌≡◌, ◌≤◌, ◌<◌, ℕ, List, length, Some, true, IfOk, IfSome, OnOk, map, slice_get};
 ghost use Rattle.ti_source.specs.declared.reading.statement.Statement.{Statement};
 ghost use Rattle.ti_source.specs.Resolving.Named.{index_of};
+ghost use Rattle.ti_source.specs.Code.Leading.{Leads};
 ghost use Rattle.ti_source.specs.Code.Walk.{Adds, AddsGathered, AreBelow, AreKnown, IsBelow, IsLight, Keeps, IsLedOver, Lists, TakeEffect, known, steps_at};
 
 use crate::reading::entries::Entries;
@@ -14,50 +15,64 @@ use crate::resolving::marks::{Mark, mark_at};
 use std::alloc::{AllocError, Global};
 use ti_caps::Bytes;
 
-/// Past so many steps, besides those for its own fields, the fields of an entry are kept.
+/// The fields of an entry are kept if listing them takes more steps than this, besides those for
+/// its own: where all others come from one use, and where they come from several.
 const MOST_STEPS: u32 = 1024;
 
-/// The same where an entry has several uses.
 const MOST_OF_SEVERAL: u32 = 2048;
 
-/// As many steps as it takes to follow a use.
+/// The same once very many fields are kept.
+const MOST_STEPS_WHEN_FULL: u32 = 4096;
+
+const MOST_OF_SEVERAL_WHEN_FULL: u32 = 32_768;
+
+/// The steps that it takes to follow a use.
 const STEPS_OF_USE: u32 = 4;
 
-/// As many steps as it takes to find an entry and which of its fields take effect.
+/// The steps that it takes to find an entry, and which of its fields take effect.
 const STEPS_OF_SEVERAL: u32 = 200;
 
-/// The mark of an entry whose uses are resolved, if its fields need not be kept.
+/// The mark of an entry whose uses are resolved, if its fields need not be kept. The entry at the
+/// index `leading`, if there is one, has all fields that the entry gets from its uses. `full` says
+/// whether very many fields are kept already.
 pub(crate) fn light_mark(
     entries: &Entries,
     marks: &[Mark],
     kept: &[Fields<'_>],
     entry: &EntryView<'_>,
+    leading: Option<usize>,
+    full: bool,
 ) -> Option<Mark>
     requires known { AreKnown marks.now (map (index_of entries.now) entry.now.uses) }
     requires kept { Keeps entries.now marks.now kept.now }
+    requires leads { IfSome leading (λ used. Leads entries.now entry.now used) }
     ensures { IfSome result (λ m. IsLight entries.now marks.now kept.now entry.now m) }
 {
     let own = u32::try_from(entry.statements().len()).ok()?;
-    if let Some(other) = entry.single_use() {
-        let used = entries.index_of(other)?;
-        return over(marks, kept, led_to(entries, marks, kept, used), own);
+    match leading {
+        Some(used) => over(marks, kept, led_to(entries, marks, kept, used), own, full),
+        None => several(entries, marks, kept, entry.uses(), own, full),
     }
-    several(entries, marks, kept, entry.uses(), own)
 }
 
 /// The mark of an entry with so many fields of its own, followed by those of the entry at an index.
-fn over(marks: &[Mark], kept: &[Fields<'_>], next: usize, own: u32) -> Option<Mark>
+fn over(marks: &[Mark], kept: &[Fields<'_>], next: usize, own: u32, full: bool) -> Option<Mark>
     ensures { IfSome result (λ m. (n : ℕ) × (m ≡ Mark.Over next n) × IsBelow marks.now (Some next) n) }
 {
     let steps = steps_at(marks, kept, next)?;
-    if steps > MOST_STEPS {
+    if steps > most(full, MOST_STEPS, MOST_STEPS_WHEN_FULL) {
         return None;
     }
     let all = steps.checked_add(STEPS_OF_USE)?.checked_add(own)?;
     Some(Mark::Over(u32::try_from(next).ok()?, all))
 }
 
-/// The entry of whose fields those of the entry at an index are a copy, which may be itself.
+fn most(full: bool, usual: u32, when_full: u32) -> u32 {
+    if full { when_full } else { usual }
+}
+
+/// The index of the entry from which the one at an index has all its fields; that index itself if
+/// the entry has some of its own.
 fn led_to(entries: &Entries, marks: &[Mark], kept: &[Fields<'_>], i: usize) -> usize
     requires { Keeps entries.now marks.now kept.now }
     ensures { (fields : List Statement) → Lists entries.now result fields → Lists entries.now i fields }
@@ -86,6 +101,7 @@ fn several(
     kept: &[Fields<'_>],
     uses: &[Bytes],
     own: u32,
+    full: bool,
 ) -> Option<Mark>
     ensures { IfSome result (λ m. (n : ℕ) × (m ≡ Mark.Done n) × AreBelow marks.now (map (index_of entries.now) uses.now) n) }
 {
@@ -95,7 +111,7 @@ fn several(
         let more = steps_at(marks, kept, used)?.checked_add(STEPS_OF_SEVERAL)?;
         steps = steps.checked_add(more)?;
     }
-    if steps > MOST_OF_SEVERAL {
+    if steps > most(full, MOST_OF_SEVERAL, MOST_OF_SEVERAL_WHEN_FULL) {
         return None;
     }
     Some(Mark::Done(steps.checked_add(own)?))

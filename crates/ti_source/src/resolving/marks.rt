@@ -21,7 +21,7 @@ pub(crate) enum Mark {
     Over(u32, u32),
     /// Resolved. Its fields are kept at this position.
     Kept(usize),
-    /// Followed, with this fault.
+    /// Followed, with this error.
     Faulty(SourceFault),
 }
 

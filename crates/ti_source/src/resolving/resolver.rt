@@ -23,8 +23,8 @@ use ti_caps::Entry;
 /// Resolves names of one source, one after another (terminfo(5), "Similar Terminals"). Contracts
 /// see the source's entries.
 ///
-/// An entry that others use is followed once: its fields that take effect are kept, and so are
-/// faults. For an entry that is only asked for, no list of fields is kept.
+/// An entry that others use is followed once: how its fields are listed is kept, or its error. The
+/// list itself is kept only where making it again would be much work.
 #[derive(Drop)]
 pub struct Resolver<'a> {
     entries: &'a Entries,
@@ -95,7 +95,7 @@ impl<'a> Resolver<'a> {
 /// has it present. A used entry is resolved on its own, completely before the next one, and passes
 /// on no cancellation.
 ///
-/// The fault is the first from left to right. `UnknownName`: no entry has the name, or one that is
+/// The error is the first from left to right. `UnknownName`: no entry has the name, or one that is
 /// used. `UseCycle`: a use leads back to an entry on its own chain. `NoMemory`: memory ran out,
 /// which cannot happen for a name that no entry has.
 ///
@@ -114,12 +114,12 @@ pub fn names_resolve_once()
     ensures { ResolveOnce }
 {}
 
-/// Law: a name has at most one fault, the first from left to right.
+/// Law: a name has at most one error, the first from left to right.
 pub fn names_have_one_fault()
     ensures { FaultOnce }
 {}
 
-/// Law: a name that resolves has no fault.
+/// Law: a name that resolves has no error.
 pub fn resolved_names_have_no_fault()
     ensures { ResolveOrFault }
 {}

@@ -10,6 +10,7 @@ use crate::reading::entries::Entries;
 use crate::reading::entry_view::EntryView;
 use crate::resolving::fields::Fields;
 use crate::resolving::first_fields::effective_fields;
+use crate::resolving::leading::leading_use;
 use crate::resolving::listing::{add_gathered, effective_at, light_mark};
 use crate::resolving::marks::{Mark, mark_at, new_marks, put_mark, take_back};
 use crate::resolving::merge::merge;
@@ -25,12 +26,14 @@ pub(crate) enum Task {
     Leave(usize),
 }
 
-/// How far each entry is, the kept fields of those that are resolved, and the tasks that are left,
-/// the next one last.
+/// How far each entry is, the lists of fields that are kept, and the tasks that are left, the next
+/// one last.
 #[derive(Drop)]
 pub(crate) struct Walk<'a> {
     marks: Vec<Mark>,
     kept: Vec<Fields<'a>>,
+    /// How many fields are kept.
+    count: usize,
     tasks: Vec<Task>,
 }
 
@@ -42,12 +45,13 @@ impl<'a> Walk<'a> {
         Ok(Walk {
             marks: new_marks(alloc, entries.len())?,
             kept: Vec::new(alloc),
+            count: 0,
             tasks: Vec::new(alloc),
         })
     }
 
     /// The resolved entry at an index; `UnknownName` if there is none. The entries that it uses are
-    /// kept, but it is not. What was followed stays kept after a fault.
+    /// then known, but it is not. What was followed stays known after an error.
     pub(crate) fn resolved(
         &mut self,
         alloc: Global,
@@ -160,13 +164,18 @@ impl<'a> Walk<'a> {
         ensures kept { OnErr result ((self.new.marks.items ≡ self.old.marks.items) × (self.new.kept.items ≡ self.old.kept.items)) }
     {
         let entry = entries.at(i);
-        if let Some(mark) = light_mark(entries, &self.marks, &self.kept, &entry) {
+        let leading = leading_use(alloc, entries, &self.marks, &self.kept, &entry)?;
+        let full = are_many(self.count, entries.len());
+        if let Some(mark) = light_mark(entries, &self.marks, &self.kept, &entry, leading, full) {
             self.marks[i] = mark;
             return Ok(());
         }
         let position = self.kept.len();
         let fields = gathered(alloc, entries, &self.marks, &self.kept, &entry)?;
-        self.kept.push(effective_fields(alloc, &fields)?)?;
+        let fields = effective_fields(alloc, &fields)?;
+        let count = self.count.saturating_add(fields.len());
+        self.kept.push(fields)?;
+        self.count = count;
         self.marks[i] = Mark::Kept(position);
         Ok(())
     }
@@ -186,7 +195,7 @@ impl<'a> Walk<'a> {
         }
     }
 
-    /// Drops all tasks after a fault. The entries on the chain of uses get the same fault, unless
+    /// Drops all tasks after an error. The entries on the chain of uses get the same error, unless
     /// memory ran out.
     fn stop(&mut self, fault: SourceFault)
         ensures kept { self.new.kept.items ≡ self.old.kept.items }
@@ -200,6 +209,11 @@ impl<'a> Walk<'a> {
             put_fault(&mut self.marks, &mut self.tasks, fault);
         }
     }
+}
+
+/// Whether so many kept fields are many beside so many entries.
+fn are_many(count: usize, entries: usize) -> bool {
+    count / 8 > entries.saturating_add(8_192)
 }
 
 /// Adds a visit of each of these names, the first to be done next.
@@ -250,7 +264,7 @@ fn gathered<'a>(
     Ok(fields)
 }
 
-/// Marks the entries that are still to be left as followed to a fault, and drops all tasks.
+/// Marks the entries that are still to be left as followed to an error, and drops all tasks.
 fn put_fault(marks: &mut [Mark], tasks: &mut Vec<Task>, fault: SourceFault)
     ensures marks { marks.new ≡ with_fault fault (leaves (reverse tasks.old.items)) marks.old }
     ensures tasks { tasks.new.items ≡ [] }
