@@ -1,4 +1,4 @@
-//! The calls on the windows of a screen, by families: where a function is for several calls, C says by a number which.
+//! The calls on the windows of a screen. Where a function is for several, C says which by a number or a truth value.
 
 mod changing;
 mod making;

@@ -1,4 +1,4 @@
-//! Calls on windows that give nothing: each is one call of `curses::Screen`, which a number or a truth value may choose.
+//! Calls on windows that give nothing: each is one call of `curses::Screen`.
 ghost use Rattle.std.specs.Prelude.{if◌then◌else◌};
 ghost use Rattle.scr_virtual.specs.Pairs.{set_pair_call};
 ghost use Rattle.scr_windows.specs.Calls.Erasing.{clear_to_eol_call};

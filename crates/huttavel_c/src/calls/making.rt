@@ -1,4 +1,4 @@
-//! Making windows, and copying from one to another: by a number, each one call of `curses::Screen`.
+//! Making windows, and copying from one to another: each is one call of `curses::Screen`.
 ghost use Rattle.scr_windows.specs.Calls.Copying.{copy_call, overlay_call};
 ghost use Rattle.scr_virtual.specs.Taking.{take_pad_call};
 ghost use Rattle.huttavel_c.specs.Asking.{Asked, AskedForMemory, on_both, on_windows};

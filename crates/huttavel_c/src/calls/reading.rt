@@ -1,4 +1,4 @@
-//! What is asked of windows and of the screen: each one call of `curses::Screen`, some by a number.
+//! What is asked of windows and of the screen: each is one call of `curses::Screen`.
 ghost use Rattle.std.specs.Prelude.{◌≡◌, ◌≤◌, length, if◌then◌else◌};
 ghost use Rattle.scr_term.specs.Operations.Profiles.{has_colours, shown_set};
 ghost use Rattle.scr_windows.specs.Calls.Reading.{cell_at_answer, line_touched_answer, nth_answer, window_answer, window_touched_answer};
