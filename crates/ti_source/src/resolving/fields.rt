@@ -1,7 +1,7 @@
 //! Lists of fields, in an order in which the first about a capability counts. Each field is a
 //! `Statement`.
 
-ghost use Rattle.std.specs.Prelude.{◌≡◌, ◌<◌, ◌∷◌, [], ◌++◌, Some, OnOk, length, map, slice_get};
+ghost use Rattle.std.specs.Prelude.{◌≡◌, ◌<◌, ◌∷◌, [], ◌++◌, Some, IfOk, OnOk, length, map, slice_get};
 ghost use Rattle.ti_source.specs.Described.{AreGood, IsGood};
 
 use crate::reading::statement::Statement;
@@ -29,6 +29,13 @@ impl<'a> Fields<'a> {
         ensures { result ≡ [] }
     {
         Fields(Vec::new(alloc))
+    }
+
+    /// No fields, with room for so many.
+    pub(crate) fn with_capacity(alloc: Global, count: usize) -> Result<Fields<'a>, AllocError>
+        ensures { IfOk result (λ f. f ≡ []) }
+    {
+        Ok(Fields(Vec::with_capacity(alloc, count)?))
     }
 
     /// The fields, without spare room.

@@ -30,14 +30,14 @@ pub(crate) fn effective_fields<'a>(
     ensures { IfOk result (λ v. AreEffective fields.now v) }
 {
     let index = index_of(alloc, fields)?;
-    let mut found = Fields::new(alloc);
+    let mut found = Fields::with_capacity(alloc, fields.len().min(CAPABILITIES))?;
     for i in 0..fields.len() {
         let field = fields.at(i);
         if is_effective(field, &index, i) {
             found.push(field)?;
         }
     }
-    Ok(found.shrunk())
+    Ok(found)
 }
 
 fn no_places(alloc: Global, count: usize) -> Result<Vec<Option<usize>>, AllocError>

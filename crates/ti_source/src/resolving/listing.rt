@@ -17,7 +17,7 @@ use ti_caps::Bytes;
 
 /// The fields of an entry are kept if listing them takes more steps than this, besides those for
 /// its own: where all others come from one use, and where they come from several.
-const MOST_STEPS: u32 = 1024;
+const MOST_STEPS: u32 = 640;
 
 const MOST_OF_SEVERAL: u32 = 2048;
 

@@ -174,7 +174,7 @@ impl<'a> Walk<'a> {
         let fields = gathered(alloc, entries, &self.marks, &self.kept, &entry)?;
         let fields = effective_fields(alloc, &fields)?;
         let count = self.count.saturating_add(fields.len());
-        self.kept.push(fields)?;
+        self.kept.push(fields.shrunk())?;
         self.count = count;
         self.marks[i] = Mark::Kept(position);
         Ok(())

@@ -5,7 +5,7 @@ use Rattle.ti_source.proofs.resolving.first_fields.effective_fields.Goals.{then-
 use Rattle.ti_source.proofs.resolving.first_fields.effective_fields.Goals as goal
 
 pub loop-i-init : goal.loop-i-init
-loop-i-init c = rw c.new-found.ensures (none-so-far c.args.fields.now c.in_ok-index.index.items)
+loop-i-init c = rw c.in_ok-found.ensures (none-so-far c.args.fields.now c.in_ok-index.index.items)
 
 pub loop-i-preserved : goal.loop-i-preserved
 loop-i-preserved c =
@@ -15,4 +15,4 @@ loop-i-preserved c =
     ])
 
 pub returns : goal.returns
-returns c = rw c.shrunk.ensures (all-in-force c.args.fields.now c.in_ok-index.index.items c.loop-i.i c.loop-i.found c.in_ok-index.ensures (omega arith) c.loop-i.invariant)
+returns c = (all-in-force c.args.fields.now c.in_ok-index.index.items c.loop-i.i c.loop-i.found c.in_ok-index.ensures (omega arith) c.loop-i.invariant)

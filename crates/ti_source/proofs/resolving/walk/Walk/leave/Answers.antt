@@ -1,4 +1,4 @@
-use Rattle.std.proofs.Common.{◌≡◌, ◌∙◌, ap, length, map, refl, slice_get, set, Some, reverse, rules, subst}
+use Rattle.std.proofs.Common.{◌≡◌, ◌∙◌, ◌++◌, ◌∷◌, [], ap, length, map, refl, slice_get, set, Some, reverse, rules, subst}
 use Rattle.ti_source.specs.declared.resolving.marks.Mark.TheVariants.{Kept}
 use Rattle.ti_source.specs.Described.{Described}
 use Rattle.ti_source.specs.Resolving.Named.{index_of}
@@ -42,8 +42,8 @@ returns-clause-ok c =
     let tasks = reverse c.args.self.now.tasks.items in
     let sized : c.args.self.now.kept.len ≡ length kept = search rules in
     let at : slice_get entries c.args.i ≡ Some c.at-entry.result = c.at-entry.ensures in
-    let keep = take-effect entries c.args.i c.at-entry.result _ _ at c.in_ok-fields.ensures c.in_ok-fields-2.ensures in
-    left-stepped entries marks _ kept c.push.new.self.items c.args.i _ tasks c.requires.walk keep (ap (λ n. set marks c.args.i (Kept n)) (c.len-position.ensures ∙ sized)) c.in_ok-push.ensures.items
+    let keep = take-effect entries c.args.i c.at-entry.result _ c.in_ok-fields-2.fields at c.in_ok-fields.ensures c.in_ok-fields-2.ensures in
+    left-stepped entries marks _ kept c.push.new.self.items c.args.i _ tasks c.requires.walk keep (ap (λ n. set marks c.args.i (Kept n)) (c.len-position.ensures ∙ sized)) (c.in_ok-push.ensures.items ∙ ap (λ fs. kept ++ fs ∷ []) c.shrunk.ensures)
 
 pub returns-in-Some-clause-ok : goal.returns-in-Some-clause-ok
 returns-in-Some-clause-ok c =
