@@ -1,6 +1,6 @@
 //! Lines about compiled files.
 
-use crate::answers::{add_entry, add_refusal, add_size};
+use crate::answers::{add_entry, add_made, add_refusal, add_size};
 use check_harness::answers::{add_number, add_text};
 use check_harness::buffers::Buffer;
 use check_harness::checking::put;
@@ -56,10 +56,8 @@ fn encode_named(
         words.fail(Trouble::Bad("no names"));
         return;
     }
-    match ti_binary::encode_named(alloc, entry, names) {
-        Ok(encoded) => add_text(&encoded.0, came),
-        Err(fault) => add_refusal(&fault, came),
-    }
+    let encoded = ti_binary::encode_named(alloc, entry, names);
+    add_made(encoded, came, |encoded, came| add_text(&encoded.0, came));
 }
 
 /// The line `file BYTES`.
@@ -73,45 +71,49 @@ pub fn take_file(alloc: Global, file: &mut Vec<u8>, words: &mut Words<'_>, came:
 /// The lines `decode-wide`, `read-entry` and `list`, which leave all as it is. Tells whether a line is one of them.
 pub fn answer_of_file(alloc: Global, file: &[u8], word: &str, came: &mut Buffer) -> bool {
     match word {
-        "decode-wide" => add_wide(alloc, file, came),
-        "read-entry" => add_read(alloc, file, came),
-        "list" => add_listing(alloc, file, came),
+        "decode-wide" => add_made(decode_wide(alloc, file), came, |decoded, came| {
+            add_size(decoded.skipped, came);
+            add_number(i64::from(decoded.clamped), came);
+            add_entry(&decoded.entry, came);
+        }),
+        "read-entry" => add_made(read_entry(alloc, file), came, add_entry),
+        "list" => add_made(list(alloc, file), came, |listing, came| {
+            add_text(&listing.text.0, came);
+            add_size(listing.unnamed, came);
+            add_size(listing.skipped, came);
+        }),
         _ => return false,
     }
     true
 }
 
-fn add_wide(alloc: Global, file: &[u8], came: &mut Buffer) {
-    match &decode_wide(alloc, file) {
-        Ok(decoded) => {
-            add_size(decoded.skipped, came);
-            add_number(i64::from(decoded.clamped), came);
-            add_entry(&decoded.entry, came);
+/// The line `decode`, or `changed INDEX BYTE..`, which reads the file with bytes changed.
+pub fn decode_changed(
+    alloc: Global,
+    file: &[u8],
+    entry: &mut Option<Entry>,
+    words: &mut Words<'_>,
+    text: &mut Buffer,
+    came: &mut Buffer,
+) {
+    text.clear();
+    text.extend(file);
+    words.check(text.done());
+    for _ in 0..u32::MAX {
+        if words.is_at_end() {
+            break;
         }
-        Err(fault) => add_refusal(fault, came),
-    }
-}
-
-fn add_read(alloc: Global, file: &[u8], came: &mut Buffer) {
-    match &read_entry(alloc, file) {
-        Ok(entry) => add_entry(entry, came),
-        Err(fault) => add_refusal(fault, came),
-    }
-}
-
-fn add_listing(alloc: Global, file: &[u8], came: &mut Buffer) {
-    match &list(alloc, file) {
-        Ok(listing) => {
-            add_text(&listing.text.0, came);
-            add_size(listing.unnamed, came);
-            add_size(listing.skipped, came);
+        let (index, byte) = (words.number() as usize, words.byte());
+        match text.vector().get_mut(index) {
+            Some(old) => *old = byte,
+            None => words.fail(Trouble::Bad("no such index in the file")),
         }
-        Err(fault) => add_refusal(fault, came),
     }
+    add_decoded(alloc, text.bytes(), entry, came);
 }
 
-/// Adds what bytes are read as, which is the entry then.
-pub fn add_decoded(alloc: Global, bytes: &[u8], entry: &mut Option<Entry>, came: &mut Buffer) {
+// Adds what bytes are read as, which is the entry then.
+fn add_decoded(alloc: Global, bytes: &[u8], entry: &mut Option<Entry>, came: &mut Buffer) {
     match decode(alloc, bytes) {
         Ok((decoded, rest)) => {
             add_size(rest, came);

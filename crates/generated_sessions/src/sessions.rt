@@ -1,11 +1,10 @@
 //! Sessions that are made up: what a program does with windows, pads, colours, marks and wishes, and updates that fail
-//! now and then, or are cut at every byte.
+//! now and then.
 
 use crate::answers::add_count;
-use crate::cuts::cut_update;
+use crate::calls::{Obeyed, obey};
 use crate::entries::read_entry;
 use crate::made_up::{add_line, add_taking};
-use crate::obeying::{Obeyed, obey};
 use crate::recorded::Recorded;
 use check_harness::answers::{add_number, add_text, add_word, read_size};
 use check_harness::buffers::Buffer;
@@ -29,13 +28,12 @@ static BEGIN: [&str; 8] = [
     "add_text 0 \"pi rho omicron alpha be gamma delta\\n\\nx be alpha rho gamma delta pi\\nbe\\n\"",
 ];
 
-// How many updates sent something and ended well, failed, and moved rows or characters; or how many were cut.
+// How many updates sent something and ended well, failed, and moved rows or characters.
 #[derive(Clone, Copy)]
 struct Counts {
-    sent: u64,
-    failed: u64,
-    moved: u64,
-    cuts: u64,
+    sent: u32,
+    failed: u32,
+    moved: u32,
 }
 
 // The sessions of a line, up to now.
@@ -44,7 +42,6 @@ struct Sessions {
     alloc: Global,
     size: Size,
     updates: u32,
-    is_cut: bool,
     random: Random,
     counts: Counts,
     line: Buffer,
@@ -54,18 +51,14 @@ struct Sessions {
 }
 
 /// The line `sessions R C COUNT UPDATES SEED SENT FAILED MOVED NAME ..`: so many sessions on a screen as with `screen R
-/// C NAME ..`, each of so many updates behind calls that are made up, and now and then behind others' bytes on a row
-/// that is marked. Some updates fail behind some of their bytes. Each that is Ok has to show the plain picture and to
+/// C NAME ..`, each of so many updates after calls that are made up, and now and then after others' bytes on a row
+/// that is marked. Some updates fail after some of their bytes. Each that is Ok has to show the plain picture and to
 /// send no more than it may, and all calls of a session, made again by `session`, answer and send the same. Adds
 /// `agrees`, where at least so many updates sent something, failed, and moved rows or characters. Where something does
 /// not agree, adds the number of the session, what came of its last line, and all its lines.
-///
-/// The line `cut_sessions R C COUNT UPDATES SEED CUTS NAME ..`: the same, but that each update is cut at every byte and
-/// at its flush, which is at least so many cuts.
 pub fn check_sessions(
     alloc: Global,
     opened: &mut Option<Recorded>,
-    is_cut: bool,
     words: &mut Words<'_>,
     came: &mut Buffer,
 ) -> Result<(), Trouble> {
@@ -73,11 +66,11 @@ pub fn check_sessions(
         return Ok(());
     };
     let (count, updates, seed) = (words.number(), words.number(), words.number());
-    let least = read_least(is_cut, words);
+    let least = [words.number(), words.number(), words.number()];
     let names = *words;
     let _entry = read_entry(alloc, words);
     words.done()?;
-    let mut sessions = Sessions::new(alloc, size, updates, is_cut, seed);
+    let mut sessions = Sessions::new(alloc, size, updates, seed);
     for number in 0..count {
         if !sessions.check(opened, names)? {
             sessions.add_trouble(number, came);
@@ -88,53 +81,24 @@ pub fn check_sessions(
     Ok(())
 }
 
-// How many there have to be at least.
-fn read_least(is_cut: bool, words: &mut Words<'_>) -> Counts {
-    let mut least = Counts::none();
-    if is_cut {
-        least.cuts = u64::from(words.number());
-    } else {
-        least.sent = u64::from(words.number());
-        least.failed = u64::from(words.number());
-        least.moved = u64::from(words.number());
-    }
-    least
-}
-
 impl Counts {
-    fn none() -> Counts {
-        Counts {
-            sent: 0,
-            failed: 0,
-            moved: 0,
-            cuts: 0,
-        }
-    }
-
     // Counts an update that answered so and began these operations.
     fn count(&mut self, answer: &[u8], ops: &[Op]) {
-        if !answer.starts_with(b" Ok") {
-            self.failed = self.failed.saturating_add(1);
-        } else if !ops.is_empty() {
-            self.sent = self.sent.saturating_add(1);
-        }
-        if has_moved(ops) {
-            self.moved = self.moved.saturating_add(1);
-        }
+        let is_well = answer.starts_with(b" Ok");
+        let is_sent = is_well && !ops.is_empty();
+        self.failed = self.failed.saturating_add(u32::from(!is_well));
+        self.sent = self.sent.saturating_add(u32::from(is_sent));
+        self.moved = self.moved.saturating_add(u32::from(has_moved(ops)));
     }
 
     // Adds `agrees`, or how many there are of each, where these are fewer than at least wanted.
-    fn add(&self, least: Counts, came: &mut Buffer) {
-        let are_enough = self.sent >= least.sent
-            && self.failed >= least.failed
-            && self.moved >= least.moved
-            && self.cuts >= least.cuts;
-        if are_enough {
+    fn add(&self, [sent, failed, moved]: [u32; 3], came: &mut Buffer) {
+        if self.sent >= sent && self.failed >= failed && self.moved >= moved {
             add_word("agrees", came);
             return;
         }
-        for count in [self.sent, self.failed, self.moved, self.cuts] {
-            add_count(count, came);
+        for count in [self.sent, self.failed, self.moved] {
+            add_count(u64::from(count), came);
         }
     }
 }
@@ -152,14 +116,17 @@ fn has_moved(ops: &[Op]) -> bool {
 }
 
 impl Sessions {
-    fn new(alloc: Global, size: Size, updates: u32, is_cut: bool, seed: u32) -> Sessions {
+    fn new(alloc: Global, size: Size, updates: u32, seed: u32) -> Sessions {
         Sessions {
             alloc,
             size,
             updates,
-            is_cut,
             random: Random::new(seed),
-            counts: Counts::none(),
+            counts: Counts {
+                sent: 0,
+                failed: 0,
+                moved: 0,
+            },
             line: Buffer::new(alloc),
             answer: Buffer::new(alloc),
             story: Buffer::new(alloc),
@@ -204,13 +171,13 @@ impl Sessions {
         Ok(self.answer.bytes().ends_with(b" agrees"))
     }
 
-    // Makes the next calls and an update, and cuts that everywhere, or it may fail.
+    // Makes the next calls and an update, which may fail.
     fn check_update(&mut self, opened: &mut Recorded) -> Result<bool, Trouble> {
         for _ in 0..=self.random.below(8) {
             add_line(self.alloc, &opened.screen, &mut self.random, &mut self.line);
             let _is_well = self.make(opened)?;
         }
-        if !self.is_cut && self.random.below(16) == 0 && opened.display.emulated.is_free() {
+        if self.random.below(16) == 0 && opened.display.emulated.is_free() {
             self.write_as_others(opened)?;
         }
         add_taking(self.alloc, &opened.screen, &mut self.random, &mut self.line);
@@ -218,18 +185,7 @@ impl Sessions {
         self.add_update();
         let is_well = self.make(opened)?;
         self.counts.count(self.answer.bytes(), opened.last_begun());
-        Ok(is_well && (!self.is_cut || self.cut(opened)?))
-    }
-
-    // Cuts the last update everywhere, and tells whether all cuts agree.
-    fn cut(&mut self, opened: &mut Recorded) -> Result<bool, Trouble> {
-        match cut_update(self.alloc, opened, &mut self.answer)? {
-            Some(cuts) => {
-                self.counts.cuts = self.counts.cuts.saturating_add(cuts);
-                Ok(true)
-            }
-            None => Ok(false),
-        }
+        Ok(is_well)
     }
 
     // Marks a row, and has others write there, if it could be marked: an attribute where it can be turned off, and a
@@ -254,13 +210,9 @@ impl Sessions {
         Ok(())
     }
 
-    // Adds an update, which fails now and then, most often behind a few bytes.
+    // Adds an update, which fails now and then, most often after a few bytes.
     fn add_update(&mut self) {
-        let kind = if self.is_cut {
-            9
-        } else {
-            self.random.below(10)
-        };
+        let kind = self.random.below(10);
         let word = match kind {
             0..3 => "update_writing",
             3 => "update_stuck",
