@@ -7,9 +7,9 @@ use check_harness::checking::put;
 use check_harness::troubles::Trouble;
 use check_harness::words::Words;
 use std::alloc::Global;
-use ti_binary::{decode, decode_wide};
-use ti_caps::{Entry, are_names};
-use ti_compile::list;
+use ti_binary::{BinFault, decode, decode_wide};
+use ti_caps::{Bytes, Entry, are_names};
+use ti_compile::{TicFault, list};
 use ti_database::read_entry;
 
 /// The lines `encode` and `encode-named NAMES`, which write the file of an entry. Tells whether a line is one of them.
@@ -122,4 +122,86 @@ fn add_decoded(alloc: Global, bytes: &[u8], entry: &mut Option<Entry>, came: &mu
         }
         Err(fault) => add_refusal(&fault, came),
     }
+}
+
+/// The lines `file-cuts`, `wide-cuts` and `file-bytes BYTE..`. Tells whether a line is one of them.
+pub fn answer_of_changes(
+    alloc: Global,
+    file: &[u8],
+    word: &str,
+    words: &mut Words<'_>,
+    text: &mut Buffer,
+    came: &mut Buffer,
+) -> bool {
+    let counted = match word {
+        "file-cuts" | "wide-cuts" => count_truncated(alloc, file, word == "wide-cuts"),
+        "file-bytes" => count_changed(alloc, file, words, text),
+        _ => return false,
+    };
+    add_size(counted.unwrap_or(0), came);
+    words.check(counted.and(Ok(())));
+    true
+}
+
+// How many beginnings of a file are truncated.
+fn count_truncated(alloc: Global, file: &[u8], is_wide: bool) -> Result<usize, Trouble> {
+    let mut count = 0usize;
+    for length in 0..file.len() {
+        let beginning = file.get(..length).unwrap_or(file);
+        let fault = if is_wide {
+            decode_wide(alloc, beginning).err()
+        } else {
+            decode(alloc, beginning).err()
+        };
+        match fault {
+            Some(BinFault::Truncated) => count = count.saturating_add(1),
+            Some(BinFault::NoMemory) => return Err(Trouble::NoMemory),
+            _ => {}
+        }
+    }
+    Ok(count)
+}
+
+// Sets each byte of a file in turn to each of those of a line, and counts the files that are sound.
+fn count_changed(
+    alloc: Global,
+    file: &[u8],
+    words: &mut Words<'_>,
+    text: &mut Buffer,
+) -> Result<usize, Trouble> {
+    let mut count = 0usize;
+    for _ in 0..u32::MAX {
+        if words.is_at_end() {
+            break;
+        }
+        let byte = words.byte();
+        for index in 0..file.len() {
+            text.clear();
+            text.extend(file.get(..index).unwrap_or(b""));
+            text.push(byte);
+            text.extend(file.get(index.saturating_add(1)..).unwrap_or(b""));
+            text.done()?;
+            count = count.saturating_add(usize::from(is_sound(alloc, text.bytes())?));
+        }
+    }
+    Ok(count)
+}
+
+// Whether bytes are refused, or read and written as a file that is read and written as itself.
+fn is_sound(alloc: Global, bytes: &[u8]) -> Result<bool, Trouble> {
+    match written(alloc, bytes) {
+        Ok(file) => match written(alloc, &file.0) {
+            Ok(again) => Ok(again.0 == file.0),
+            Err(TicFault::NoMemory) => Err(Trouble::NoMemory),
+            Err(_) => Ok(false),
+        },
+        Err(TicFault::NoMemory) => Err(Trouble::NoMemory),
+        Err(_) => Ok(true),
+    }
+}
+
+// The file that is written of what is read of bytes.
+fn written(alloc: Global, bytes: &[u8]) -> Result<Bytes, TicFault> {
+    let (entry, _) = decode(alloc, bytes)?;
+    Ok(ti_binary::encode(alloc, &entry)?)
 }

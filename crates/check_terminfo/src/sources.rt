@@ -4,7 +4,8 @@ use crate::answers::{
     add_entry, add_entry_if_any, add_made, add_note, add_notes, add_size, is_taken_back, keep,
 };
 use check_harness::answers::{add_any, add_number, add_text, add_word};
-use check_harness::buffers::Buffer;
+use check_harness::buffers::{Buffer, are_same};
+use check_harness::checking::put;
 use check_harness::troubles::Trouble;
 use check_harness::words::Words;
 use std::alloc::Global;
@@ -13,8 +14,8 @@ use ti_caps::{Entry, Slot};
 use ti_compile::{Compiled, CompiledEntry, EntryCompiler};
 use ti_source::{Resolver, Source, SourceFault};
 
-/// The lines `source TEXT` and `chained COUNT USES LAST`, and those about the source that there is. Tells whether a line
-/// is one of them.
+/// The lines `source TEXT`, `chained COUNT USES LAST` and `source-cuts TEXT`, and those about the source that there is.
+/// Tells whether a line is one of them.
 pub fn answer_of_source(
     alloc: Global,
     source: &mut Option<Source>,
@@ -31,6 +32,10 @@ pub fn answer_of_source(
         "chained" => {
             write_chain(alloc, words, text);
             read_source(alloc, source, words, text, came);
+        }
+        "source-cuts" => {
+            words.text(text);
+            words.check(add_beginnings(alloc, text.bytes(), came));
         }
         "take-notes" => take_notes(source, words, came),
         "listed" | "notes" | "resolver" | "compiler" => match source {
@@ -92,6 +97,30 @@ fn add_length(source: &Option<Source>, words: &mut Words<'_>, came: &mut Buffer)
         }
         add_size(source.len(), came);
     }
+}
+
+// Adds what each beginning of a source is read as, how many entries or the refusal, after the length of the first that
+// is read so.
+fn add_beginnings(alloc: Global, text: &[u8], came: &mut Buffer) -> Result<(), Trouble> {
+    let mut before = Buffer::new(alloc);
+    for length in 0..=text.len() {
+        let mut read = Buffer::new(alloc);
+        let source = ti_source::read(alloc, text.get(..length).unwrap_or(text));
+        add_made(
+            source,
+            &mut read,
+            |source, read| add_size(source.len(), read),
+        );
+        if read.bytes().ends_with(b" NoMemory") {
+            return Err(Trouble::NoMemory);
+        }
+        if !are_same(&read, &before)? {
+            add_size(length, came);
+            came.extend(read.bytes());
+            put(&mut before, read);
+        }
+    }
+    Ok(())
 }
 
 fn take_notes(source: &mut Option<Source>, words: &mut Words<'_>, came: &mut Buffer) {

@@ -16,6 +16,7 @@
 //! - `source TEXT`: how many entries a source has; it is what the next lines are about
 //! - `chained COUNT USES LAST`: the same of a source of COUNT entries, `e0` and so on, each of which uses the next one
 //!   USES times; the last has the field LAST
+//! - `source-cuts TEXT`: what each beginning of a source is read as, after the length from which on it is so
 //! - `listed`, `notes`, `take-notes`: the first name of each entry; the notes on it; the same, and the source is gone
 //! - `resolve NAME`: the resolved entry, which is then the entry
 //! - `resolver NAME..`: each resolved entry or refusal, by one resolver
@@ -27,6 +28,8 @@
 //! - `decode-wide`: how many bytes follow a file with 32-bit numbers, how many numbers are clamped, and its entry
 //! - `read-entry`: the entry of a file in either format
 //! - `changed INDEX BYTE..`: as `decode`, of the file with bytes changed
+//! - `file-cuts`, `wide-cuts`: how many beginnings of the file are `truncated`; the same of one with 32-bit numbers
+//! - `file-bytes BYTE..`: how many files are read or refused where each byte in turn is set to each of these
 //! - `compile SOURCE`: each `file PATH BYTES`, each `size NAME BYTES`, each `note LINE CAUSE NAME`
 //! - `compiler STEP..`: what the entries of the source are compiled to, one after another by one compiler: at each
 //!   `next` a name, its paths and the bytes of their file, or `end`; `restart` goes back before the first
@@ -47,7 +50,9 @@
 use crate::answers::{add_entry_if_any, add_notes};
 use crate::database::{answer_of_database, store};
 use crate::entries::answer_of_entry;
-use crate::files::{answer_of_file, answer_of_writing, decode_changed, take_file};
+use crate::files::{
+    answer_of_changes, answer_of_file, answer_of_writing, decode_changed, take_file,
+};
 use crate::inputs::answer_of_input;
 use crate::programs::{answer_of_programs, run};
 use crate::sources::{add_list, answer_of_meaning, answer_of_source, resolve};
@@ -149,6 +154,7 @@ impl TerminfoSubject {
             || answer_of_source(alloc, &mut self.source, word, words, text, came)
             || answer_of_writing(alloc, &self.entry, &mut self.file, word, words, text, came)
             || answer_of_file(alloc, &self.file, word, came)
+            || answer_of_changes(alloc, &self.file, word, words, text, came)
             || answer_of_database(alloc, &self.store, word, words, text, came)
     }
 }
