@@ -8,7 +8,9 @@ use check_harness::buffers::Buffer;
 use check_harness::troubles::Trouble;
 use check_harness::words::Words;
 use curses::{Device, OpenFault, Screen};
-use generated_sessions::{MOVING, Obeyed, Recorded, add_count, check_sessions, obey, read_entry};
+use generated_sessions::{
+    MOVING, Obeyed, Recorded, add_count, check_sessions, count_cuts, obey, read_entry,
+};
 use scr_cells::Size;
 use screen_sessions::session;
 use std::alloc::Global;
@@ -35,7 +37,10 @@ pub fn answer_of_screen(
         "screen" => open(alloc, &mut screens.opened, words, came),
         "moving" => open_moving(alloc, &mut screens.opened, words, came),
         "drawn" => open_drawn(alloc, &mut screens.opened, words, came),
-        "sessions" => check_sessions(alloc, &mut screens.made_up, words, came),
+        "sessions" | "cut_sessions" => {
+            let is_cut = word == "cut_sessions";
+            check_sessions(alloc, &mut screens.made_up, is_cut, words, came)
+        }
         "changed" => check_changed(alloc, words, came),
         "refusal" => add_refusal(alloc, words, came),
         _ => match &mut screens.opened {
@@ -182,6 +187,10 @@ fn answer_of_opened(
 ) -> Result<(), Trouble> {
     match word {
         "session" => opened.add_session(came),
+        "cuts" => {
+            add_count(count_cuts(opened)? as u64, came);
+            Ok(())
+        }
         "update_within" => update_within(alloc, opened, words, came),
         "all" => call_listed(alloc, opened, words, came),
         _ => call(alloc, opened, word, words, came),

@@ -1,5 +1,5 @@
 //! Screens with the terminals that they are shown on, each update compared with a plain picture of what was copied, and
-//! sessions that are made up, with updates that fail.
+//! sessions that are made up, with updates that fail or are cut after each number of their bytes.
 //!
 //! What an update sends goes into a writer that fails where it is told to, and what that accepted is fed to an emulated
 //! terminal, or the operations, where an entry can insert and delete lines and characters.
@@ -8,6 +8,7 @@
 mod answers;
 mod bounds;
 mod calls;
+mod cuts;
 mod emulated;
 mod entries;
 mod made_up;
@@ -19,6 +20,7 @@ mod writers;
 pub use answers::{add_count, add_spot};
 pub use bounds::{bytes_of, joined_on};
 pub use calls::{Obeyed, obey};
+pub use cuts::count_cuts;
 pub use emulated::{Emulated, step_on};
 pub use entries::{MOVING, change_capability, read_entry};
 pub use plain::{is_touched, line_of};

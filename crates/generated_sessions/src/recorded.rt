@@ -26,7 +26,7 @@ pub struct Display {
     /// What the terminal shows.
     pub emulated: Emulated,
     // What it has to show after an update that ends well.
-    plain: Plain,
+    pub(crate) plain: Plain,
     // What the last update left there.
     left: Left,
 }
@@ -34,19 +34,19 @@ pub struct Display {
 /// A screen, its terminal, and what was called, answered and sent since it was opened.
 #[derive(Drop)]
 pub struct Recorded {
-    alloc: Global,
-    size: Size,
-    entry: Entry,
+    pub(crate) alloc: Global,
+    pub(crate) size: Size,
+    pub(crate) entry: Entry,
     /// The screen.
     pub screen: Screen,
     /// The terminal.
     pub display: Display,
     // Each update has a writer of its own. The device counts the failures of all.
     device: Device<Faulty>,
-    calls: Vec<Call>,
+    pub(crate) calls: Vec<Call>,
     answers: Buffer,
     // All bytes that the writers accepted, and where they failed, after how many of these.
-    sent: Vec<u8>,
+    pub(crate) sent: Vec<u8>,
     faults: Vec<WriterFault>,
     // Whether the last update ended well.
     last_ok: bool,

@@ -1,8 +1,9 @@
 //! Sessions that are made up: what a program does with windows, pads, colours, marks and wishes, and updates that fail
-//! now and then.
+//! now and then, or are cut after each number of their bytes.
 
 use crate::answers::add_count;
 use crate::calls::{Obeyed, obey};
+use crate::cuts::{count_cuts, cuts_of};
 use crate::entries::read_entry;
 use crate::made_up::{add_line, add_taking};
 use crate::recorded::Recorded;
@@ -28,12 +29,13 @@ static BEGIN: [&str; 8] = [
     "add_text 0 \"pi rho omicron alpha be gamma delta\\n\\nx be alpha rho gamma delta pi\\nbe\\n\"",
 ];
 
-// How many updates sent something and ended well, failed, and moved rows or characters.
+// How many updates sent something and ended well, failed, and moved rows or characters, and how often one was cut.
 #[derive(Clone, Copy)]
 struct Counts {
     sent: u32,
     failed: u32,
     moved: u32,
+    cuts: u32,
 }
 
 // The sessions of a line, up to now.
@@ -42,6 +44,8 @@ struct Sessions {
     alloc: Global,
     size: Size,
     updates: u32,
+    // Whether each update is cut after each number of its bytes.
+    is_cut: bool,
     random: Random,
     counts: Counts,
     line: Buffer,
@@ -56,9 +60,13 @@ struct Sessions {
 /// send no more than it may, and all calls of a session, made again by `session`, answer and send the same. Adds
 /// `agrees`, where at least so many updates sent something, failed, and moved rows or characters. Where something does
 /// not agree, adds the number of the session, what came of its last line, and all its lines.
+///
+/// The line `cut_sessions R C COUNT UPDATES SEED CUTS NAME ..`: the same, but that no update fails and nothing is
+/// written by others, and each update is cut as with `count_cuts`, which is at least so many cuts.
 pub fn check_sessions(
     alloc: Global,
     opened: &mut Option<Recorded>,
+    is_cut: bool,
     words: &mut Words<'_>,
     came: &mut Buffer,
 ) -> Result<(), Trouble> {
@@ -66,11 +74,15 @@ pub fn check_sessions(
         return Ok(());
     };
     let (count, updates, seed) = (words.number(), words.number(), words.number());
-    let least = [words.number(), words.number(), words.number()];
+    let least = if is_cut {
+        [0, 0, 0, words.number()]
+    } else {
+        [words.number(), words.number(), words.number(), 0]
+    };
     let names = *words;
     let _entry = read_entry(alloc, words);
     words.done()?;
-    let mut sessions = Sessions::new(alloc, size, updates, seed);
+    let mut sessions = Sessions::new(alloc, size, updates, is_cut, seed);
     for number in 0..count {
         if !sessions.check(opened, names)? {
             sessions.add_trouble(number, came);
@@ -92,12 +104,13 @@ impl Counts {
     }
 
     // Adds `agrees`, or how many there are of each, where these are fewer than at least wanted.
-    fn add(&self, [sent, failed, moved]: [u32; 3], came: &mut Buffer) {
-        if self.sent >= sent && self.failed >= failed && self.moved >= moved {
+    fn add(&self, [sent, failed, moved, cuts]: [u32; 4], came: &mut Buffer) {
+        let are_enough = self.sent >= sent && self.failed >= failed && self.moved >= moved;
+        if are_enough && self.cuts >= cuts {
             add_word("agrees", came);
             return;
         }
-        for count in [self.sent, self.failed, self.moved] {
+        for count in [self.sent, self.failed, self.moved, self.cuts] {
             add_count(u64::from(count), came);
         }
     }
@@ -116,16 +129,18 @@ fn has_moved(ops: &[Op]) -> bool {
 }
 
 impl Sessions {
-    fn new(alloc: Global, size: Size, updates: u32, seed: u32) -> Sessions {
+    fn new(alloc: Global, size: Size, updates: u32, is_cut: bool, seed: u32) -> Sessions {
         Sessions {
             alloc,
             size,
             updates,
+            is_cut,
             random: Random::new(seed),
             counts: Counts {
                 sent: 0,
                 failed: 0,
                 moved: 0,
+                cuts: 0,
             },
             line: Buffer::new(alloc),
             answer: Buffer::new(alloc),
@@ -171,13 +186,13 @@ impl Sessions {
         Ok(self.answer.bytes().ends_with(b" agrees"))
     }
 
-    // Makes the next calls and an update, which may fail.
+    // Makes the next calls and an update, which may fail or is cut in each way.
     fn check_update(&mut self, opened: &mut Recorded) -> Result<bool, Trouble> {
         for _ in 0..=self.random.below(8) {
             add_line(self.alloc, &opened.screen, &mut self.random, &mut self.line);
             let _is_well = self.make(opened)?;
         }
-        if self.random.below(16) == 0 && opened.display.emulated.is_free() {
+        if !self.is_cut && self.random.below(16) == 0 && opened.display.emulated.is_free() {
             self.write_as_others(opened)?;
         }
         add_taking(self.alloc, &opened.screen, &mut self.random, &mut self.line);
@@ -185,7 +200,19 @@ impl Sessions {
         self.add_update();
         let is_well = self.make(opened)?;
         self.counts.count(self.answer.bytes(), opened.last_begun());
-        Ok(is_well)
+        Ok(is_well && (!self.is_cut || self.cut(opened)?))
+    }
+
+    // Cuts the last update in each way, and tells whether all cuts agree; adds how many agree where not all do.
+    fn cut(&mut self, opened: &mut Recorded) -> Result<bool, Trouble> {
+        let (agreeing, all) = (count_cuts(opened)?, cuts_of(opened));
+        if agreeing < all {
+            add_word("cuts", &mut self.answer);
+            add_count(agreeing as u64, &mut self.answer);
+        }
+        let cuts = u32::try_from(agreeing).unwrap_or(0);
+        self.counts.cuts = self.counts.cuts.saturating_add(cuts);
+        Ok(agreeing == all)
     }
 
     // Marks a row, and has others write there, if it could be marked: an attribute where it can be turned off, and a
@@ -212,7 +239,11 @@ impl Sessions {
 
     // Adds an update, which fails now and then, most often after a few bytes.
     fn add_update(&mut self) {
-        let kind = self.random.below(10);
+        let kind = if self.is_cut {
+            9
+        } else {
+            self.random.below(10)
+        };
         let word = match kind {
             0..3 => "update_writing",
             3 => "update_stuck",
