@@ -1,10 +1,10 @@
-//! Answers in words, as they stand behind the `=` of a line.
+//! Answers in words, as they follow the `=` of a line.
 
 use crate::buffers::Buffer;
 use crate::texts::{write_byte, write_text};
 use crate::troubles::Trouble;
 use crate::words::Words;
-use scr_cells::{Attrs, Cell, Look, NoMemory, Size};
+use scr_cells::{Attrs, Cell, Look, Size};
 use std::fmt::Debug;
 use std::io::Write;
 
@@ -32,6 +32,30 @@ pub fn add_name<F: Debug>(fault: &F, came: &mut Buffer) {
     came.check(written.is_ok());
 }
 
+/// Adds what there is, or `none`.
+pub fn add_any<T: Drop, A: FnOnce(T, &mut Buffer)>(there: Option<T>, came: &mut Buffer, add: A)
+    requires { A.IsAlwaysCallable add }
+{
+    match there {
+        Some(value) => add(value, came),
+        None => add_word("none", came),
+    }
+}
+
+/// Adds what was made, or the name of the refusal.
+pub fn add_made<T: Drop, F: Debug + Drop, A: FnOnce(T, &mut Buffer)>(
+    made: Result<T, F>,
+    came: &mut Buffer,
+    add: A,
+)
+    requires { A.IsAlwaysCallable add }
+{
+    match made {
+        Ok(value) => add(value, came),
+        Err(fault) => add_name(&fault, came),
+    }
+}
+
 /// Adds `yes` or `no`.
 pub fn add_flag(flag: bool, came: &mut Buffer) {
     add_word(if flag { "yes" } else { "no" }, came);
@@ -43,12 +67,9 @@ pub fn add_place(row: u32, column: u32, came: &mut Buffer) {
     add_number(i64::from(column), came);
 }
 
-/// Adds `Ok`, or that memory ran out.
-pub fn add_done(done: Result<(), NoMemory>, came: &mut Buffer) {
-    match done {
-        Ok(()) => add_word("Ok", came),
-        Err(NoMemory) => add_word("NoMemory", came),
-    }
+/// Adds `Ok`, or the name of the refusal.
+pub fn add_done<F: Debug + Drop>(done: Result<(), F>, came: &mut Buffer) {
+    add_made(done, came, |_, came| add_word("Ok", came));
 }
 
 /// Adds what a cell holds: a byte, attributes, and the colour pair where it is not 0.

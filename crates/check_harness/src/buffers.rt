@@ -1,9 +1,9 @@
-//! Bytes that are written one behind the other.
+//! Bytes that are written one after the other.
 
 use crate::troubles::Trouble;
 use std::alloc::Global;
 
-/// Bytes that are written one behind the other: an answer in words, or all that can be seen of a state. Where memory
+/// Bytes that are written one after the other: an answer in words, or all that can be seen of a state. Where memory
 /// runs out some are left out, which `done` tells, so that those who write need not ask each time.
 #[derive(Drop)]
 pub struct Buffer {
@@ -50,7 +50,7 @@ impl Buffer {
         self.is_short = self.is_short || !are_written;
     }
 
-    /// Takes all away.
+    /// Removes all.
     pub fn clear(&mut self) {
         self.bytes.clear();
         self.is_short = false;

@@ -4,40 +4,94 @@ use crate::buffers::Buffer;
 use crate::troubles::Trouble;
 use scr_cells::is_character;
 
-// Where in a text its reader is.
-#[derive(Clone, Copy)]
-enum Position {
-    Outside,
-    Inside,
-    Escaped,
-    FirstDigit,
-    SecondDigit(u8),
-    Times(usize),
-    // It is no text.
-    Bad(&'static str),
-}
-
-// What was read of a text, and where its last piece begins.
-#[derive(Drop)]
-struct Reader<'a> {
-    bytes: &'a mut Buffer,
-    part: Position,
-    begin: usize,
-}
-
-/// Adds the bytes of a text: pieces in quotation marks with `+` between, and `*N` behind one that is repeated.
+/// Adds the bytes of a text: pieces in quotation marks with `+` between, and `*N` after one that is repeated.
 /// `\n`, `\t`, `\e`, `\"`, `\\` and `\xHH` stand for bytes.
 pub fn read_text(word: &[u8], bytes: &mut Buffer) -> Result<(), Trouble> {
-    let begin = bytes.bytes().len();
-    let mut reader = Reader {
-        bytes,
-        part: first_part(word),
-        begin,
-    };
-    for byte in word {
-        reader.take(*byte);
+    let mut rest = word;
+    for _ in 0..word.len() {
+        let begin = bytes.bytes().len();
+        rest = repeat(begin, read_piece(rest, bytes)?, bytes)?;
+        rest = match rest {
+            [] => return bytes.done(),
+            [b'+', rest @ ..] => rest,
+            _ => return Err(Trouble::Bad("a text goes on after its end")),
+        };
     }
-    reader.end()
+    Err(Trouble::Bad("no text"))
+}
+
+// Adds a piece in quotation marks, and gives what comes after it.
+fn read_piece<'a>(text: &'a [u8], bytes: &mut Buffer) -> Result<&'a [u8], Trouble> {
+    let [b'"', rest @ ..] = text else {
+        return Err(Trouble::Bad("no text"));
+    };
+    let mut rest = rest;
+    for _ in 0..text.len() {
+        rest = match rest {
+            [] => break,
+            [b'"', rest @ ..] => return Ok(rest),
+            [b'\\', b'x', high, low, rest @ ..] => {
+                bytes.push(digit(*high)?.wrapping_mul(16) | digit(*low)?);
+                rest
+            }
+            [b'\\', byte, rest @ ..] => {
+                bytes.push(escaped(*byte)?);
+                rest
+            }
+            [byte, rest @ ..] => {
+                bytes.push(*byte);
+                rest
+            }
+        };
+    }
+    Err(Trouble::Bad("a text has no end"))
+}
+
+// The byte that is meant after a backslash.
+fn escaped(byte: u8) -> Result<u8, Trouble> {
+    match byte {
+        b'n' => Ok(b'\n'),
+        b't' => Ok(b'\t'),
+        b'e' => Ok(27),
+        b'"' | b'\\' => Ok(byte),
+        _ => Err(Trouble::Bad("no such escape")),
+    }
+}
+
+// Repeats the bytes from a place on if `*N` follows their piece, and gives what comes after it.
+fn repeat<'a>(begin: usize, text: &'a [u8], bytes: &mut Buffer) -> Result<&'a [u8], Trouble> {
+    let [b'*', digits @ ..] = text else {
+        return Ok(text);
+    };
+    let (mut rest, mut count) = (digits, 0usize);
+    for _ in 0..digits.len() {
+        rest = match rest {
+            [byte, rest @ ..] if *byte != b'+' => {
+                count = count
+                    .saturating_mul(10)
+                    .saturating_add(usize::from(digit(*byte)?));
+                rest
+            }
+            _ => break,
+        };
+    }
+    let end = bytes.bytes().len();
+    for _ in 1..count {
+        for place in begin..end {
+            let byte = bytes.bytes().get(place).copied().unwrap_or(0);
+            bytes.push(byte);
+        }
+    }
+    Ok(rest)
+}
+
+// The number that a hexadecimal digit stands for.
+fn digit(byte: u8) -> Result<u8, Trouble> {
+    match byte {
+        b'0'..=b'9' => Ok(byte - b'0'),
+        b'a'..=b'f' => Ok(byte - b'a' + 10),
+        _ => Err(Trouble::Bad("no digit")),
+    }
 }
 
 /// Adds bytes as a text in quotation marks.
@@ -49,7 +103,7 @@ pub fn write_text(bytes: &[u8], text: &mut Buffer) {
     text.push(b'"');
 }
 
-/// Adds a byte as it stands within a text.
+/// Adds a byte as it is written within a text.
 pub fn write_byte(byte: u8, text: &mut Buffer) {
     match byte {
         b'\n' => text.extend(b"\\n"),
@@ -58,125 +112,6 @@ pub fn write_byte(byte: u8, text: &mut Buffer) {
         b'"' | b'\\' => text.extend(&[b'\\', byte]),
         _ if is_character(byte) => text.push(byte),
         _ => text.extend(&[b'\\', b'x', hexadecimal(byte / 16), hexadecimal(byte % 16)]),
-    }
-}
-
-fn first_part(word: &[u8]) -> Position {
-    if word.starts_with(b"\"") {
-        Position::Outside
-    } else {
-        Position::Bad("no text")
-    }
-}
-
-impl Reader<'_> {
-    fn take(&mut self, byte: u8) {
-        match self.part {
-            Position::Outside => self.take_outside(byte),
-            Position::Inside => self.take_inside(byte),
-            Position::Escaped => self.take_escaped(byte),
-            Position::FirstDigit => self.part = first_digit(byte),
-            Position::SecondDigit(high) => self.take_second_digit(high, byte),
-            Position::Times(count) => self.take_count(count, byte),
-            Position::Bad(_) => {}
-        }
-    }
-
-    fn take_outside(&mut self, byte: u8) {
-        match byte {
-            b'"' => {
-                self.begin = self.bytes.bytes().len();
-                self.part = Position::Inside;
-            }
-            b'*' => self.part = Position::Times(0),
-            b'+' => {}
-            _ => self.part = Position::Bad("a text goes on behind its end"),
-        }
-    }
-
-    fn take_inside(&mut self, byte: u8) {
-        match byte {
-            b'"' => self.part = Position::Outside,
-            b'\\' => self.part = Position::Escaped,
-            _ => self.bytes.push(byte),
-        }
-    }
-
-    fn take_escaped(&mut self, byte: u8) {
-        match byte {
-            b'n' => self.add(b'\n'),
-            b't' => self.add(b'\t'),
-            b'e' => self.add(27),
-            b'"' | b'\\' => self.add(byte),
-            b'x' => self.part = Position::FirstDigit,
-            _ => self.part = Position::Bad("no such escape"),
-        }
-    }
-
-    fn take_second_digit(&mut self, high: u8, byte: u8) {
-        match digit(byte) {
-            Some(low) => self.add(high.wrapping_mul(16) | low),
-            None => self.part = Position::Bad("no digit"),
-        }
-    }
-
-    // Adds a byte that was escaped.
-    fn add(&mut self, byte: u8) {
-        self.part = Position::Inside;
-        self.bytes.push(byte);
-    }
-
-    // Takes a digit of how often a piece is there, or what follows the last.
-    fn take_count(&mut self, count: usize, byte: u8) {
-        if byte == b'+' {
-            self.part = Position::Outside;
-            self.repeat(count);
-            return;
-        }
-        self.part = match digit(byte) {
-            Some(digit) => Position::Times(
-                count.saturating_mul(10).saturating_add(usize::from(digit)),
-            ),
-            None => Position::Bad("no digit"),
-        };
-    }
-
-    fn end(&mut self) -> Result<(), Trouble> {
-        match self.part {
-            Position::Outside => {}
-            Position::Times(count) => self.repeat(count),
-            Position::Bad(cause) => return Err(Trouble::Bad(cause)),
-            _ => return Err(Trouble::Bad("a text has no end")),
-        }
-        self.bytes.done()
-    }
-
-    // Has the last piece stand so often.
-    fn repeat(&mut self, count: usize) {
-        let end = self.bytes.bytes().len();
-        for _ in 1..count {
-            for place in self.begin..end {
-                let byte = self.bytes.bytes().get(place).copied().unwrap_or(0);
-                self.bytes.push(byte);
-            }
-        }
-    }
-}
-
-// What follows the first hexadecimal digit of a byte.
-fn first_digit(byte: u8) -> Position {
-    match digit(byte) {
-        Some(high) => Position::SecondDigit(high),
-        None => Position::Bad("no digit"),
-    }
-}
-
-// The number that a hexadecimal digit stands for.
-fn digit(byte: u8) -> Option<u8> {
-    match byte {
-        b'0'..=b'9' => Some(byte - b'0'),
-        b'a'..=b'f' => Some(byte - b'a' + 10),
-        _ => None,
     }
 }
 

@@ -4,8 +4,8 @@ use crate::buffers::Buffer;
 use crate::texts::read_text;
 use crate::troubles::Trouble;
 
-/// What is left of a line, and the first trouble with what was taken of it. A word that is not what it is taken as is
-/// taken as 0, and those who take words need not ask each time.
+/// What is left of a line, and the first trouble with the words that were read. A word that is not of the kind that is
+/// read counts as 0, and those who read words need not ask each time.
 #[derive(Clone, Copy)]
 pub struct Words<'a> {
     rest: &'a [u8],
@@ -13,7 +13,7 @@ pub struct Words<'a> {
 }
 
 impl<'a> Words<'a> {
-    /// The words of a line, none of them taken yet.
+    /// The words of a line, none of them read yet.
     pub fn new(line: &'a [u8]) -> Words<'a> {
         Words {
             rest: line,
@@ -43,7 +43,7 @@ impl<'a> Words<'a> {
 
     /// The next word, empty where there is none.
     pub fn next(&mut self) -> &'a [u8] {
-        let (word, rest) = cut_word(after_blanks(self.rest));
+        let (word, rest) = cut_word(self.rest.trim_ascii_start());
         self.rest = rest;
         word
     }
@@ -55,22 +55,21 @@ impl<'a> Words<'a> {
 
     /// The word that follows, which stays.
     pub fn peek(&self) -> &'a [u8] {
-        let (word, _) = cut_word(after_blanks(self.rest));
-        word
+        let mut words = *self;
+        words.next()
     }
 
     /// Whether no word is left before what is wanted of the line, which a word `=` begins.
     pub fn is_at_end(&self) -> bool {
-        matches!(str::from_utf8(self.peek()), Ok("" | "="))
+        matches!(self.peek(), b"" | b"=")
     }
 
     /// The next word as a number with a sign.
     pub fn integer(&mut self) -> i64 {
-        let word = self.next();
-        match integer(word) {
+        match self.name().parse::<i64>() {
             Ok(number) => number,
-            Err(trouble) => {
-                self.fail(trouble);
+            Err(_) => {
+                self.fail(Trouble::Bad("no number"));
                 0
             }
         }
@@ -78,8 +77,7 @@ impl<'a> Words<'a> {
 
     /// The next word as a number.
     pub fn number(&mut self) -> u32 {
-        let number = self.integer();
-        match u32::try_from(number) {
+        match u32::try_from(self.integer()) {
             Ok(number) => number,
             Err(_) => {
                 self.fail(Trouble::Bad("a number is out of range"));
@@ -95,11 +93,14 @@ impl<'a> Words<'a> {
 
     /// The next word as a byte, which may be written as a text of one character.
     pub fn byte(&mut self) -> u8 {
-        let word = self.next();
-        match byte(word) {
+        if let [b'"', byte, b'"'] = self.peek() {
+            let _byte = self.next();
+            return *byte;
+        }
+        match u8::try_from(self.integer()) {
             Ok(byte) => byte,
-            Err(trouble) => {
-                self.fail(trouble);
+            Err(_) => {
+                self.fail(Trouble::Bad("no byte"));
                 0
             }
         }
@@ -113,40 +114,7 @@ impl<'a> Words<'a> {
     }
 }
 
-// A word as a number with a sign.
-fn integer(word: &[u8]) -> Result<i64, Trouble> {
-    match str::from_utf8(word).unwrap_or("").parse::<i64>() {
-        Ok(number) => Ok(number),
-        Err(_) => Err(Trouble::Bad("no number")),
-    }
-}
-
-// A word as a byte, which may be written as a text of one character.
-fn byte(word: &[u8]) -> Result<u8, Trouble> {
-    match word {
-        [b'"', byte, b'"'] => Ok(*byte),
-        _ => byte_of(integer(word)),
-    }
-}
-
-// A number as a byte.
-fn byte_of(number: Result<i64, Trouble>) -> Result<u8, Trouble> {
-    match u8::try_from(number?) {
-        Ok(byte) => Ok(byte),
-        Err(_) => Err(Trouble::Bad("no byte")),
-    }
-}
-
-fn after_blanks(text: &[u8]) -> &[u8] {
-    for (place, byte) in text.iter().enumerate() {
-        if *byte != b' ' {
-            return &text[place..];
-        }
-    }
-    &[]
-}
-
-// What stands before the first blank outside of quotation marks, and what stands behind it.
+// What comes before the first blank outside of quotation marks, and what comes after it.
 fn cut_word(text: &[u8]) -> (&[u8], &[u8]) {
     let mut quoted = false;
     let mut escaped = false;

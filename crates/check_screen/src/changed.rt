@@ -1,4 +1,4 @@
-//! Lines about the columns of each row that a taking may have changed.
+//! Lines about the columns of each row that a copy may have changed.
 ghost use Rattle.std.specs.Prelude.{◌≡◌};
 
 use check_harness::answers::{add_number, add_place, add_word, read_size};
@@ -14,8 +14,8 @@ use scr_virtual::Virtual;
 use scr_windows::{Desk, Win, WinFault};
 use std::alloc::Global;
 
-/// The line `changed R C ROWS COLUMNS ROW COLUMN BYTE`: a virtual screen of R rows and C columns onto which the first
-/// window is taken, and which is settled then, as by an update that ends well; then a new window is taken, of so many
+/// The line `changed R C ROWS COLUMNS ROW COLUMN BYTE`: a virtual screen of R rows and C columns to which the first
+/// window is copied, and which is settled then, as by an update that ends well; then a new window is copied, of so many
 /// rows and columns at a row and a column, whose first place has this byte. Adds for each row of the screen the first
 /// and the last column that may have changed since, and the first and the last that may look otherwise, or `none`; then
 /// how many bytes a plan of the bundled entry sends where nothing is known of the terminal.
@@ -57,7 +57,7 @@ fn add_changed_on(
     }
 }
 
-// Takes the first window, settles, takes a new window of so many rows and columns at a row and a column with a byte in
+// Copies the first window, settles, copies a new window of so many rows and columns at a row and a column with a byte in
 // its first place, and adds what may have changed since.
 fn add_changed_by(
     alloc: Global,
@@ -88,7 +88,7 @@ fn add_byte(desk: &mut Desk, win: Win, byte: u8) -> Result<(), Trouble> {
     }
 }
 
-// Takes a window onto a screen of the same size.
+// Copies a window to a screen of the same size.
 fn take(screen: &mut Virtual, desk: &mut Desk, win: Win) -> Result<(), Trouble> {
     let (size, other) = (screen.size(), desk.screen());
     if size.rows != other.rows || size.columns != other.columns {

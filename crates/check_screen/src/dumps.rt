@@ -21,7 +21,7 @@ pub fn dump_entry(entry: &Entry, bytes: &mut Buffer) {
     }
 }
 
-// Adds what stands at a position of each kind, where something is present.
+// Adds what is at a position of each kind, where something is present.
 fn dump_slot(entry: &Entry, slot: Slot, bytes: &mut Buffer) {
     if entry.flag(slot) {
         add_number(i64::from(slot.0), bytes);
@@ -47,7 +47,7 @@ pub fn dump_profile(profile: &Profile, bytes: &mut Buffer) {
     add_number(i64::try_from(profile.longest()).unwrap_or(-1), bytes);
 }
 
-/// Adds the windows, the picture, what the terminal shows, and what the writer took.
+/// Adds the windows, the picture, what the terminal shows, and what the writer accepted.
 pub fn dump_screen(opened: &Recorded, bytes: &mut Buffer) {
     dump_windows(&opened.screen, bytes);
     dump_picture(opened.screen.picture(), bytes);

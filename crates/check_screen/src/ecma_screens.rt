@@ -1,7 +1,9 @@
 //! Lines about an emulated screen.
 
 use crate::terminals::{add_at, add_colours, keep};
-use check_harness::answers::{add_flag, add_number, add_place, add_text, add_word, read_size};
+use check_harness::answers::{
+    add_flag, add_made, add_number, add_place, add_text, add_word, read_size,
+};
 use check_harness::buffers::{Buffer, are_same};
 use check_harness::troubles::Trouble;
 use check_harness::words::Words;
@@ -11,7 +13,7 @@ use scr_terminal::EcmaScreen;
 use screen_scripts::print_screen;
 use std::alloc::Global;
 
-/// The lines `screen R C`, `feed TEXT`, `cuts TEXT` and `undefined_after TEXT TEXT`, and those that ask. Tells whether
+/// The lines `screen R C`, `feed TEXT`, `after TEXT` and `undefined_after TEXT TEXT`, and those that ask. Tells whether
 /// a line is one of them.
 pub fn answer_of_ecma(
     alloc: Global,
@@ -42,7 +44,7 @@ fn answer_of_made(
 ) -> bool {
     match word {
         "feed" => feed(alloc, screen, words, came),
-        "cuts" => add_cuts(alloc, screen.size(), words, came),
+        "after" => add_after(alloc, screen.size(), words, came),
         "undefined_after" => add_undefined_after(alloc, screen.size(), words, came),
         _ => return ask(alloc, screen, word, words, came),
     }
@@ -107,10 +109,8 @@ fn row_of(screen: &EcmaScreen, row: u32) -> &[Look] {
 
 fn add_printed(alloc: Global, screen: &EcmaScreen, came: &mut Buffer) {
     let mut text = Vec::new(alloc);
-    match print_screen(screen, &mut text) {
-        Ok(()) => add_text(&text, came),
-        Err(NoMemory) => add_word("NoMemory", came),
-    }
+    let printed = print_screen(screen, &mut text);
+    add_made(printed, came, |_, came| add_text(&text, came));
 }
 
 fn add_state(alloc: Global, screen: &EcmaScreen, came: &mut Buffer) {
@@ -131,48 +131,27 @@ fn feed(alloc: Global, screen: &mut EcmaScreen, words: &mut Words<'_>, came: &mu
     }
 }
 
-// Feeds a text to a blank screen of the same size in two pieces, once for each place where it can be cut, and adds
-// the state after, or the first cut that makes it another.
-fn add_cuts(alloc: Global, size: Size, words: &mut Words<'_>, came: &mut Buffer) {
+// Adds the state of a blank screen of the same size after a text.
+fn add_after(alloc: Global, size: Size, words: &mut Words<'_>, came: &mut Buffer) {
     let mut text = Buffer::new(alloc);
-    let mut whole = Buffer::new(alloc);
-    let mut state = Buffer::new(alloc);
     words.text(&mut text);
-    words.check(add_cuts_of(alloc, size, text.bytes(), &mut whole, &mut state, came));
+    match EcmaScreen::new(alloc, size) {
+        Ok(mut screen) => {
+            let fed = screen.feed(text.bytes());
+            text.clear();
+            print_state(&screen, &mut text);
+            if fed.is_err() {
+                text.extend(b"undefined\n");
+            }
+            add_text(text.bytes(), came);
+            came.check(text.done().is_ok());
+        }
+        Err(NoMemory) => add_word("NoMemory", came),
+    }
 }
 
-// The same of a text, with room for the state after the first cut and after another.
-fn add_cuts_of(
-    alloc: Global,
-    size: Size,
-    text: &[u8],
-    whole: &mut Buffer,
-    state: &mut Buffer,
-    came: &mut Buffer,
-) -> Result<(), Trouble> {
-    if feed_two(alloc, size, &[], text, whole).is_err() {
-        add_word("NoMemory", came);
-        return Ok(());
-    }
-    for cut in 1..=text.len() {
-        state.clear();
-        let (head, tail) = text.split_at(cut);
-        if feed_two(alloc, size, head, tail, state).is_err() {
-            add_word("NoMemory", came);
-            return Ok(());
-        }
-        if !are_same(whole, state)? {
-            add_word("cut", came);
-            add_number(i64::try_from(cut).unwrap_or(0), came);
-            return Ok(());
-        }
-    }
-    add_text(whole.bytes(), came);
-    whole.done()
-}
-
-// Whether a text that is fed behind another, which is defined, to a blank screen of the same size is undefined, and
-// the screen then stays as it was.
+// Whether a text that is fed to a blank screen of the same size after another, which is defined, is undefined, and the
+// screen then stays as it was.
 fn add_undefined_after(alloc: Global, size: Size, words: &mut Words<'_>, came: &mut Buffer) {
     let mut head = Buffer::new(alloc);
     let mut tail = Buffer::new(alloc);
@@ -181,15 +160,11 @@ fn add_undefined_after(alloc: Global, size: Size, words: &mut Words<'_>, came: &
     match EcmaScreen::new(alloc, size) {
         Ok(mut screen) => {
             let stays = stays_after(alloc, &mut screen, head.bytes(), tail.bytes());
-            words.check(add_whether(stays, came));
+            add_flag(stays.unwrap_or(false), came);
+            words.check(stays.and(Ok(())));
         }
         Err(NoMemory) => add_word("NoMemory", came),
     }
-}
-
-fn add_whether(stays: Result<bool, Trouble>, came: &mut Buffer) -> Result<(), Trouble> {
-    add_flag(stays?, came);
-    Ok(())
 }
 
 // How many places show something other than a blank without attributes, in default colours.
@@ -205,28 +180,7 @@ fn marked(screen: &EcmaScreen) -> u32 {
     count
 }
 
-fn feed_two(
-    alloc: Global,
-    size: Size,
-    head: &[u8],
-    tail: &[u8],
-    state: &mut Buffer,
-) -> Result<(), NoMemory> {
-    let mut screen = EcmaScreen::new(alloc, size)?;
-    feed_both(&mut screen, head, tail, state);
-    Ok(())
-}
-
-// Feeds a screen a text in two pieces, and adds its state.
-fn feed_both(screen: &mut EcmaScreen, head: &[u8], tail: &[u8], state: &mut Buffer) {
-    let both = screen.feed(head).and(screen.feed(tail));
-    print_state(screen, state);
-    if both.is_err() {
-        state.extend(b"undefined\n");
-    }
-}
-
-// Whether the second text is undefined behind the first, and the screen stays as it was before it.
+// Whether the second text is undefined after the first, and the screen stays as it was before it.
 fn stays_after(
     alloc: Global,
     screen: &mut EcmaScreen,

@@ -124,7 +124,7 @@ pub fn add_profile_fault(fault: ProfileFault, came: &mut Buffer) {
     }
 }
 
-// Adds a fault and the capability that it is about.
+// Adds an error and the capability that it is about.
 fn add_named(fault: &str, capability: (Kind, Slot), came: &mut Buffer) {
     add_word(fault, came);
     add_word(name_of(capability.0, capability.1).unwrap_or("?"), came);

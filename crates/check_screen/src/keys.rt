@@ -141,29 +141,18 @@ fn give(keyboard: &mut Keyboard, bytes: &[u8]) -> Result<(), KeyFault> {
     Ok(())
 }
 
-// Takes all keys that wait: `Slot` and its position, or `Byte` and the byte.
+// Takes all keys that wait: `Slot` and its position, or `Byte` and the byte; or `none`.
 fn add_keys(keyboard: &mut Keyboard, came: &mut Buffer) {
-    if !add_next(keyboard, came) {
-        add_word("none", came);
-        return;
+    for taken in 0..ALL {
+        let (word, number) = match keyboard.next() {
+            Some(Key::Slot(slot)) => ("Slot", i64::from(slot)),
+            Some(Key::Byte(byte)) => ("Byte", i64::from(byte)),
+            None if taken == 0 => return add_word("none", came),
+            None => return,
+        };
+        add_word(word, came);
+        add_number(number, came);
     }
-    for _ in 0..ALL {
-        if !add_next(keyboard, came) {
-            break;
-        }
-    }
-}
-
-// Takes the next key, and tells whether one waited.
-fn add_next(keyboard: &mut Keyboard, came: &mut Buffer) -> bool {
-    let (word, number) = match keyboard.next() {
-        Some(Key::Slot(slot)) => ("Slot", i64::from(slot)),
-        Some(Key::Byte(byte)) => ("Byte", i64::from(byte)),
-        None => return false,
-    };
-    add_word(word, came);
-    add_number(number, came);
-    true
 }
 
 // Adds `Ok`, or `Refused` and why; or `NoMemory`.

@@ -1,7 +1,9 @@
 //! Lines about a picture.
 
 use crate::terminals::keep;
-use check_harness::answers::{add_cell, add_place, add_text_of, add_word, read_parts, read_size};
+use check_harness::answers::{
+    add_any, add_cell, add_place, add_text_of, add_word, read_parts, read_size,
+};
 use check_harness::buffers::Buffer;
 use check_harness::dumps::{dump_cells, dump_place};
 use check_harness::troubles::Trouble;
@@ -10,7 +12,7 @@ use scr_cells::{Cell, Picture};
 use std::alloc::Global;
 
 /// The lines `picture R C`, `put R C B A P`, `put_row R C B A P`, `fill R C E B A P`, `wish R C`, `wish none`, and
-/// `set_pair P F G`, where a foreground and a background are set; and those that ask. `put_row` puts a blank behind the
+/// `set_pair P F G`, where a foreground and a background are set; and those that ask. `put_row` puts a blank after the
 /// cell, `fill` puts a cell in the columns from C up to E. Tells whether a line is one of them.
 pub fn answer_of_picture(
     alloc: Global,
@@ -52,10 +54,9 @@ pub fn add_seen(picture: &Picture, word: &str, words: &mut Words<'_>, came: &mut
                 None => words.fail(Trouble::Bad("no place of the picture")),
             }
         }
-        "pair" => match picture.pair(words.number()) {
-            Some((fore, back)) => add_place(u32::from(fore), u32::from(back), came),
-            None => add_word("none", came),
-        },
+        "pair" => add_any(picture.pair(words.number()), came, |(fore, back), came| {
+            add_place(u32::from(fore), u32::from(back), came);
+        }),
         _ => return false,
     }
     true
@@ -88,7 +89,7 @@ fn change(picture: &mut Picture, word: &str, words: &mut Words<'_>, came: &mut B
     true
 }
 
-// A cell, by itself, with a blank behind it as a run, or in each column of a part of a row.
+// A cell, by itself, with a blank after it as a run, or in each column of a part of a row.
 fn put(picture: &mut Picture, word: &str, words: &mut Words<'_>) -> Result<(), Trouble> {
     let (row, column) = (words.number(), words.number());
     let end = match word {
@@ -148,10 +149,11 @@ fn set_pair(picture: &mut Picture, words: &mut Words<'_>) -> Result<(), Trouble>
 
 /// Adds where the cursor is wanted.
 pub fn add_wish(picture: &Picture, came: &mut Buffer) {
-    match picture.wish() {
-        Some((row, column)) => add_place(row, column, came),
-        None => add_word("none", came),
-    }
+    add_any(
+        picture.wish(),
+        came,
+        |(row, column), came| add_place(row, column, came),
+    );
 }
 
 /// Adds its cells, its pairs and its wish.

@@ -3,13 +3,12 @@
 use crate::entries::add_profile_fault;
 use crate::operations::read_op;
 use check_harness::answers::{
-    add_done, add_flag, add_number, add_place, add_text, add_word, read_size,
+    add_any, add_flag, add_made, add_number, add_place, add_text, add_word, read_size,
 };
 use check_harness::buffers::Buffer;
 use check_harness::troubles::Trouble;
 use check_harness::words::Words;
 use generated_sessions::add_count;
-use scr_cells::NoMemory;
 use scr_term::{Op, Profile, ProfileFault};
 use std::alloc::Global;
 use ti_caps::Entry;
@@ -66,38 +65,26 @@ fn answer_of_made(
 
 // Adds what a profile tells of an operation.
 fn add_of_op(alloc: Global, profile: &Profile, word: &str, op: Op, came: &mut Buffer) {
-    match (word, profile.cost(op)) {
-        ("has", _) => add_flag(profile.has(op), came),
-        (_, None) => add_word("none", came),
-        ("cost", Some(cost)) => add_count(cost as u64, came),
-        (_, Some(cost)) => add_rendered(alloc, profile, op, cost, came),
+    match word {
+        "has" => add_flag(profile.has(op), came),
+        "cost" => add_any(
+            profile.cost(op),
+            came,
+            |cost, came| add_count(cost as u64, came),
+        ),
+        _ => add_rendered(alloc, profile, op, came),
     }
 }
 
-// Adds the bytes of an operation of this price; it says so where their number is another.
-fn add_rendered(alloc: Global, profile: &Profile, op: Op, cost: usize, came: &mut Buffer) {
+// Adds the bytes of an operation, or `none` where the terminal has no such operation.
+fn add_rendered(alloc: Global, profile: &Profile, op: Op, came: &mut Buffer) {
     if !profile.has(op) {
         add_word("none", came);
         return;
     }
     let mut bytes = Vec::new(alloc);
     let done = profile.render(op, &mut bytes);
-    add_bytes(done, cost, &bytes, came);
-}
-
-fn add_bytes(done: Result<(), NoMemory>, cost: usize, bytes: &[u8], came: &mut Buffer) {
-    if done.is_err() {
-        if bytes.is_empty() {
-            add_done(done, came);
-        } else {
-            add_word("refused with bytes", came);
-        }
-        return;
-    }
-    if cost != bytes.len() {
-        add_word("with another price", came);
-    }
-    add_text(bytes, came);
+    add_made(done, came, |_, came| add_text(&bytes, came));
 }
 
 // Makes a profile of an entry, of its own size or of the one that a line has.

@@ -4,7 +4,7 @@
 use crate::operations::add_op;
 use crate::pictures::ready as ready_picture;
 use crate::profiles::ready;
-use check_harness::answers::{add_text, add_word};
+use check_harness::answers::{add_made, add_text, add_word};
 use check_harness::buffers::Buffer;
 use check_harness::troubles::Trouble;
 use check_harness::words::Words;
@@ -133,10 +133,8 @@ fn add_scratch_bytes(alloc: Global, scene: &Scene<'_>, came: &mut Buffer) -> Res
     if size.rows != other.rows || size.columns != other.columns {
         return Err(Trouble::Bad("the profile has another size"));
     }
-    match scratch_bytes(alloc, profile, picture) {
-        Ok(bytes) => add_text(&bytes, came),
-        Err(NoMemory) => add_word("NoMemory", came),
-    }
+    let bytes = scratch_bytes(alloc, profile, picture);
+    add_made(bytes, came, |bytes, came| add_text(&bytes, came));
     Ok(())
 }
 

@@ -4,12 +4,12 @@ use crate::changed::check_changed;
 use crate::shown::answer_of_shown;
 use crate::windows::answer_of_windows;
 use check_harness::answers::{add_name, add_word, read_size};
-use check_harness::buffers::{Buffer, are_same};
+use check_harness::buffers::Buffer;
 use check_harness::troubles::Trouble;
 use check_harness::words::Words;
 use curses::{Device, OpenFault, Screen};
 use generated_sessions::{
-    MOVING, Obeyed, Recorded, add_count, check_sessions, cut_update, obey, read_entry,
+    MOVING, Obeyed, Recorded, add_count, check_sessions, count_cuts, obey, read_entry,
 };
 use scr_cells::Size;
 use screen_sessions::session;
@@ -37,8 +37,10 @@ pub fn answer_of_screen(
         "screen" => open(alloc, &mut screens.opened, words, came),
         "moving" => open_moving(alloc, &mut screens.opened, words, came),
         "drawn" => open_drawn(alloc, &mut screens.opened, words, came),
-        "sessions" => check_sessions(alloc, &mut screens.made_up, false, words, came),
-        "cut_sessions" => check_sessions(alloc, &mut screens.made_up, true, words, came),
+        "sessions" | "cut_sessions" => {
+            let is_cut = word == "cut_sessions";
+            check_sessions(alloc, &mut screens.made_up, is_cut, words, came)
+        }
         "changed" => check_changed(alloc, words, came),
         "refusal" => add_refusal(alloc, words, came),
         _ => match &mut screens.opened {
@@ -49,7 +51,7 @@ pub fn answer_of_screen(
 }
 
 // The line `screen R C NAME ..`, which opens a screen of so many rows and columns on the bundled entry without the
-// texts and flags of these names; a number's name has its value behind it, and that of a text that is another has this
+// texts and flags of these names; a number's name has its value after it, and that of a text that is another has this
 // text.
 fn open(
     alloc: Global,
@@ -185,20 +187,14 @@ fn answer_of_opened(
 ) -> Result<(), Trouble> {
     match word {
         "session" => opened.add_session(came),
-        "cuts" => add_cuts(alloc, opened, came),
+        "cuts" => {
+            add_count(count_cuts(opened)? as u64, came);
+            Ok(())
+        }
         "update_within" => update_within(alloc, opened, words, came),
         "all" => call_listed(alloc, opened, words, came),
         _ => call(alloc, opened, word, words, came),
     }
-}
-
-// The line `cuts`: cuts the last update, which ended well, at every byte. Adds how many cuts there are, or how and
-// where the first was made that does not agree.
-fn add_cuts(alloc: Global, opened: &mut Recorded, came: &mut Buffer) -> Result<(), Trouble> {
-    if let Some(cuts) = cut_update(alloc, opened, came)? {
-        add_count(cuts, came);
-    }
-    Ok(())
 }
 
 // Makes a call or an update, or adds what is shown.
@@ -243,19 +239,10 @@ fn update_within(
     came: &mut Buffer,
 ) -> Result<(), Trouble> {
     let most = words.number() as usize;
-    let _obeyed = obey(alloc, opened, "update", words, came)?;
-    let sent = opened.last_sent().len();
-    if sent <= most && is_well(alloc, sent, came)? {
+    let is_well = obey(alloc, opened, "update", words, came)? == Obeyed::Well;
+    if is_well && came.bytes().starts_with(b" Ok ") && opened.last_sent().len() <= most {
         came.clear();
         add_word("Ok", came);
     }
     Ok(())
-}
-
-// Whether an update answered that it sent so many bytes.
-fn is_well(alloc: Global, sent: usize, came: &Buffer) -> Result<bool, Trouble> {
-    let mut well = Buffer::new(alloc);
-    add_word("Ok", &mut well);
-    add_count(sent as u64, &mut well);
-    are_same(came, &well)
 }

@@ -1,11 +1,10 @@
 //! Lines about the scripts of the demonstration program.
 
-use check_harness::answers::{add_number, add_text, add_word};
+use check_harness::answers::{add_made, add_number, add_text, add_word};
 use check_harness::buffers::Buffer;
 use check_harness::troubles::Trouble;
 use check_harness::words::Words;
 use generated_sessions::{Fails, writer_that};
-use scr_cells::NoMemory;
 use scr_terminal::EcmaScreen;
 use screen_scripts::{DemoFault, refusals, run};
 use std::alloc::Global;
@@ -31,7 +30,8 @@ pub fn answer_of_script(
     words.text(&mut text);
     let done = match (word, screen) {
         ("refusals", _) => {
-            add_refusals(alloc, text.bytes(), came);
+            let lines = refusals(alloc, text.bytes());
+            add_made(lines, came, |lines, came| add_text(&lines, came));
             Ok(())
         }
         ("feed_run", Some(screen)) => feed_run(alloc, screen, text.bytes(), came),
@@ -55,13 +55,6 @@ fn add_run(
     add_text(out.taken(), came);
     add_end(&ended, came);
     Ok(())
-}
-
-fn add_refusals(alloc: Global, text: &[u8], came: &mut Buffer) {
-    match refusals(alloc, text) {
-        Ok(lines) => add_text(&lines, came),
-        Err(NoMemory) => add_word("NoMemory", came),
-    }
 }
 
 // Feeds a screen the bytes that a script sends.

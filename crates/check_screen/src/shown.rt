@@ -68,7 +68,7 @@ fn add_begun(ops: &[Op], came: &mut Buffer) {
     }
 }
 
-// Adds an operation behind a text that has not ended, or not, and tells whether it is a character of a text.
+// Adds an operation after others, of which the last are characters of a text or not, and tells whether it is one.
 fn add_begun_op(op: Op, is_text: bool, came: &mut Buffer) -> bool {
     if let Op::Put(byte) = op {
         if !is_text {

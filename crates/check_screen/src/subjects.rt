@@ -1,4 +1,4 @@
-//! What the lines of a script work on. A line `about WHAT` begins anew with nothing, and says what those behind it are
+//! What the lines of a script work on. A line `about WHAT` begins anew with nothing, and says what those after it are
 //! about: `values`, `keys`, `texts`, `terminals` or `screens`.
 
 use crate::dumps::{dump_entry, dump_profile, dump_screen};
@@ -25,16 +25,6 @@ use scr_term::Profile;
 use scr_terminal::{EcmaScreen, Terminal};
 use std::alloc::Global;
 use ti_caps::Entry;
-
-// The lines that leave the state as it is.
-static ALONE: [&str; 6] = [
-    "changed",
-    "cuts",
-    "cut_sessions",
-    "refusal",
-    "session",
-    "sessions",
-];
 
 // What lines are about.
 #[derive(Clone, Copy)]
@@ -128,19 +118,10 @@ impl Subject for ScreenSubject {
             dump_screen(opened, bytes);
         }
     }
-
-    fn leaves_all(word: &[u8]) -> bool {
-        for name in &ALONE {
-            if word == name.as_bytes() {
-                return true;
-            }
-        }
-        false
-    }
 }
 
 impl ScreenSubject {
-    // The line `about WHAT`: nothing is there yet for the lines behind it.
+    // The line `about WHAT`: nothing is there yet for the lines after it.
     fn begin(&mut self, words: &mut Words<'_>, came: &mut Buffer) {
         self.about = match words.name() {
             "values" => About::Values,

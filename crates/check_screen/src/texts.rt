@@ -1,10 +1,10 @@
 //! Lines about a text that is edited.
 
-use check_harness::answers::{add_flag, add_name, add_text, add_word};
+use check_harness::answers::{add_any, add_done, add_flag, add_made, add_text, add_word};
 use check_harness::buffers::Buffer;
 use check_harness::checking::put;
 use check_harness::words::Words;
-use edit_text::{EditFault, NoMemory, Place, Text};
+use edit_text::{NoMemory, Place, Text};
 use generated_sessions::add_count;
 use std::alloc::Global;
 
@@ -34,7 +34,7 @@ pub fn answer_of_text(
     true
 }
 
-// Puts a text that was made in the place of another.
+// Puts a text that was made in place of another.
 fn keep_text(made: Result<Text, NoMemory>, text: &mut Option<Text>, came: &mut Buffer) {
     match made {
         Ok(made) => {
@@ -60,11 +60,11 @@ fn change(text: &mut Text, word: &str, words: &mut Words<'_>, came: &mut Buffer)
     match word {
         "insert" => {
             let place = place(words);
-            add_edit(text.insert(place, words.byte()), came);
+            add_done(text.insert(place, words.byte()), came);
         }
-        "split" => add_edit(text.split(place(words)), came),
-        "delete" => add_deleted(text.delete(place(words)), came),
-        "undo" => add_undone(text.undo(), came),
+        "split" => add_done(text.split(place(words)), came),
+        "delete" => add_made(text.delete(place(words)), came, add_flag),
+        "undo" => add_made(text.undo(), came, add_place),
         _ => return false,
     }
     true
@@ -74,12 +74,16 @@ fn change(text: &mut Text, word: &str, words: &mut Words<'_>, came: &mut Buffer)
 fn ask(alloc: Global, text: &Text, word: &str, words: &mut Words<'_>, came: &mut Buffer) -> bool {
     match word {
         "lines" => add_count(text.line_count() as u64, came),
-        "line" => add_line(text.line(words.number() as usize), came),
+        "line" => add_any(text.line(words.number() as usize), came, add_text),
         "length" => add_count(text.line_length(words.number() as usize) as u64, came),
         "inside" => add_flag(text.is_inside(place(words)), came),
         "find" => find(alloc, text, words, came),
         "version" => add_count(text.version(), came),
-        "bytes" => add_bytes(text.bytes(alloc), came),
+        "bytes" => add_made(
+            text.bytes(alloc),
+            came,
+            |bytes, came| add_text(&bytes, came),
+        ),
         _ => return false,
     }
     true
@@ -97,49 +101,10 @@ fn place(words: &mut Words<'_>) -> Place {
     Place { line, column }
 }
 
-// Adds a line, or `none`.
-fn add_line(line: Option<&[u8]>, came: &mut Buffer) {
-    match line {
-        Some(line) => add_text(line, came),
-        None => add_word("none", came),
-    }
-}
-
 // Adds a place, or `none`.
 fn add_place(place: Option<Place>, came: &mut Buffer) {
-    match place {
-        Some(place) => {
-            add_count(place.line as u64, came);
-            add_count(place.column as u64, came);
-        }
-        None => add_word("none", came),
-    }
-}
-
-fn add_edit(edit: Result<(), EditFault>, came: &mut Buffer) {
-    match edit {
-        Ok(()) => add_word("Ok", came),
-        Err(fault) => add_name(&fault, came),
-    }
-}
-
-fn add_deleted(deleted: Result<bool, EditFault>, came: &mut Buffer) {
-    match deleted {
-        Ok(some) => add_flag(some, came),
-        Err(fault) => add_name(&fault, came),
-    }
-}
-
-fn add_undone(undone: Result<Option<Place>, NoMemory>, came: &mut Buffer) {
-    match undone {
-        Ok(place) => add_place(place, came),
-        Err(NoMemory) => add_word("NoMemory", came),
-    }
-}
-
-fn add_bytes(bytes: Result<Vec<u8>, NoMemory>, came: &mut Buffer) {
-    match bytes {
-        Ok(bytes) => add_text(&bytes, came),
-        Err(NoMemory) => add_word("NoMemory", came),
-    }
+    add_any(place, came, |place, came| {
+        add_count(place.line as u64, came);
+        add_count(place.column as u64, came);
+    });
 }

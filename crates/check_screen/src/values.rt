@@ -1,7 +1,7 @@
 //! Lines about sizes, sets of attributes, cells and looks, and rows of these.
 
 use bitflags::Flags;
-use check_harness::answers::{add_cell, add_flag, add_look, add_number, add_word};
+use check_harness::answers::{add_any, add_cell, add_flag, add_look, add_number};
 use check_harness::buffers::Buffer;
 use check_harness::troubles::Trouble;
 use check_harness::words::Words;
@@ -29,10 +29,16 @@ pub fn answer_of_values(
         "union" | "difference" | "contains" | "all_attributes" => {
             answer_of_sets(word, words, came);
         }
-        "new_cell" => add_new_cell(words, came),
-        "paired" => add_paired(words, came),
+        "new_cell" => {
+            let cell = Cell::new(words.byte(), Attrs(words.byte()));
+            add_any(cell, came, add_cell);
+        }
+        "paired" => {
+            let cell = Cell::paired(words.byte(), Attrs(words.byte()), words.number());
+            add_any(cell, came, add_cell);
+        }
         "blank_cell" => add_cell(Cell::blank(), came),
-        "new_look" => add_new_look(words, came),
+        "new_look" => add_any(read_look(words), came, add_look),
         "blank_look" => add_look(Look::blank(), came),
         "same_look" => add_same_look(words, came),
         "differences" | "shown_before" => {
@@ -99,10 +105,7 @@ fn fill_row(text: &[u8], row: &mut Row) -> Result<(), Trouble> {
 }
 
 fn add_place(place: Option<usize>, came: &mut Buffer) {
-    match place {
-        Some(place) => add_count(place as u64, came),
-        None => add_word("none", came),
-    }
+    add_any(place, came, |place, came| add_count(place as u64, came));
 }
 
 fn answer_of_sets(word: &str, words: &mut Words<'_>, came: &mut Buffer) {
@@ -118,41 +121,13 @@ fn answer_of_sets(word: &str, words: &mut Words<'_>, came: &mut Buffer) {
     }
 }
 
-fn add_new_cell(words: &mut Words<'_>, came: &mut Buffer) {
-    match Cell::new(words.byte(), Attrs(words.byte())) {
-        Some(cell) => add_cell(cell, came),
-        None => add_word("none", came),
-    }
-}
-
-fn add_paired(words: &mut Words<'_>, came: &mut Buffer) {
-    match Cell::paired(words.byte(), Attrs(words.byte()), words.number()) {
-        Some(cell) => add_cell(cell, came),
-        None => add_word("none", came),
-    }
-}
-
-fn add_new_look(words: &mut Words<'_>, came: &mut Buffer) {
-    match look_of(read_look(words)) {
-        Some(look) => add_look(look, came),
-        None => add_word("none", came),
-    }
-}
-
-// A byte, attributes, a foreground and a background.
-type LookParts = (u8, Attrs, Option<u8>, Option<u8>);
-
-// Reads what a look is made of; a colour that is `-` is the default.
-fn read_look(words: &mut Words<'_>) -> LookParts {
+// Reads a look: a byte, attributes, a foreground and a background.
+fn read_look(words: &mut Words<'_>) -> Option<Look> {
     let (byte, attrs) = (words.byte(), Attrs(words.byte()));
-    let (foreground, background) = (read_colour(words), read_colour(words));
-    (byte, attrs, foreground, background)
+    Look::new(byte, attrs, read_colour(words), read_colour(words))
 }
 
-fn look_of(parts: LookParts) -> Option<Look> {
-    Look::new(parts.0, parts.1, parts.2, parts.3)
-}
-
+// Reads a colour; `-` is the default one.
 fn read_colour(words: &mut Words<'_>) -> Option<u8> {
     if words.peek() == b"-".as_slice() {
         let _default = words.next();
@@ -162,8 +137,7 @@ fn read_colour(words: &mut Words<'_>) -> Option<u8> {
 }
 
 fn add_same_look(words: &mut Words<'_>, came: &mut Buffer) {
-    let (one, other) = (read_look(words), read_look(words));
-    match (look_of(one), look_of(other)) {
+    match (read_look(words), read_look(words)) {
         (Some(one), Some(other)) => add_flag(one == other, came),
         _ => words.fail(Trouble::Bad("no look")),
     }

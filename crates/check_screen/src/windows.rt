@@ -1,14 +1,13 @@
 //! Lines about the windows of a screen: which there are, and what one holds and tells.
 
 use check_harness::answers::{
-    add_cell, add_flag, add_name, add_number, add_place, add_text_of, add_word,
+    add_any, add_cell, add_flag, add_made, add_name, add_number, add_place, add_text_of,
 };
 use check_harness::buffers::Buffer;
 use check_harness::troubles::Trouble;
 use check_harness::words::Words;
 use curses::Screen;
 use generated_sessions::{is_touched, line_of};
-use scr_cells::Cell;
 use scr_windows::{Win, WinFault, WindowRef};
 
 /// What a window tells but for its lines, by the names of the library's calls.
@@ -35,7 +34,10 @@ pub fn answer_of_windows(
     came: &mut Buffer,
 ) -> bool {
     match word {
-        "screen_size" => add_size(screen, came),
+        "screen_size" => {
+            let size = screen.screen();
+            add_place(size.rows, size.columns, came);
+        }
         "count" => add_number(screen.count() as i64, came),
         "nth" => add_window(screen.nth(words.number() as usize), came),
         "rows" | "touched" => add_rows(screen, word, Win(words.number()), came),
@@ -70,65 +72,51 @@ fn add_where(window: &WindowRef<'_>, name: &str, came: &mut Buffer) -> Result<()
         "region" => Some(window.region()),
         _ => return Err(Trouble::Bad("no such field")),
     };
-    match told {
-        Some((row, column)) => add_place(row, column, came),
-        None => add_word("none", came),
-    }
+    add_any(
+        told,
+        came,
+        |(row, column), came| add_place(row, column, came),
+    );
     Ok(())
-}
-
-fn add_size(screen: &Screen, came: &mut Buffer) {
-    let size = screen.screen();
-    add_place(size.rows, size.columns, came);
 }
 
 // Adds the number of a window, if there is one.
 fn add_window(win: Option<Win>, came: &mut Buffer) {
-    match win {
-        Some(win) => add_number(i64::from(win.0), came),
-        None => add_word("none", came),
-    }
+    add_any(win, came, |win, came| add_number(i64::from(win.0), came));
 }
 
 // Adds the bytes of each row of a window, or which of them are touched.
 fn add_rows(screen: &Screen, word: &str, win: Win, came: &mut Buffer) {
-    match screen.window(win) {
-        Ok(window) if word == "rows" => add_each_row(&window, came),
-        Ok(window) => add_touched(&window, came),
-        Err(fault) => add_name(&fault, came),
-    }
-}
-
-fn add_each_row(window: &WindowRef<'_>, came: &mut Buffer) {
-    let (rows, _) = window.size();
-    for row in 0..rows {
-        add_text_of(line_of(window, row), came);
-    }
-}
-
-fn add_touched(window: &WindowRef<'_>, came: &mut Buffer) {
-    let (rows, _) = window.size();
-    came.push(b' ');
-    for row in 0..rows {
-        came.push(if is_touched(window, row) { b'x' } else { b'.' });
-    }
+    add_made(screen.window(win), came, |window, came| {
+        let (rows, _) = window.size();
+        if word == "touched" {
+            came.push(b' ');
+        }
+        for row in 0..rows {
+            match word {
+                "rows" => add_text_of(line_of(&window, row), came),
+                _ => came.push(if is_touched(&window, row) { b'x' } else { b'.' }),
+            }
+        }
+    });
 }
 
 // Adds the bytes of a line, or the attributes or the colour pair of each of its cells.
 fn add_line(screen: &Screen, word: &str, words: &mut Words<'_>, came: &mut Buffer) {
     let win = Win(words.number());
-    match screen.line(win, words.number()) {
-        Ok(cells) if word == "line" => add_text_of(cells, came),
-        Ok(cells) => add_of_each(cells, word == "pairs", came),
-        Err(fault) => add_name(&fault, came),
-    }
-}
-
-fn add_of_each(cells: &[Cell], pairs: bool, came: &mut Buffer) {
-    for cell in cells {
-        let attrs = u32::from(cell.attrs().0);
-        add_number(i64::from(if pairs { cell.pair() } else { attrs }), came);
-    }
+    add_made(screen.line(win, words.number()), came, |cells, came| {
+        if word == "line" {
+            add_text_of(cells, came);
+            return;
+        }
+        for cell in cells {
+            let attrs = u32::from(cell.attrs().0);
+            add_number(
+                i64::from(if word == "pairs" { cell.pair() } else { attrs }),
+                came,
+            );
+        }
+    });
 }
 
 // Adds what a line asks of a window that is lent.

@@ -3,29 +3,33 @@
 use check_harness::answers::{add_name, add_number, add_text, add_word};
 use check_harness::buffers::Buffer;
 use check_harness::checking::put;
+use check_harness::words::Words;
 use std::fmt::Display;
 use std::io::Write;
 use ti_caps::{Entry, Kind, Slot, name_of};
 use ti_source::Note;
+
+/// Reads the position of a capability, 65,535 where the number is greater.
+pub fn read_slot(words: &mut Words<'_>) -> Slot {
+    Slot(u16::try_from(words.number()).unwrap_or(u16::MAX))
+}
 
 /// Adds a size.
 pub fn add_size(size: usize, came: &mut Buffer) {
     add_number(i64::try_from(size).unwrap_or(i64::MAX), came);
 }
 
-/// Adds a text, or `none`.
-pub fn add_text_if_any(text: Option<&[u8]>, came: &mut Buffer) {
-    match text {
-        Some(text) => add_text(text, came),
-        None => add_word("none", came),
-    }
-}
-
-/// Adds a number, or `none`.
-pub fn add_number_if_any(number: Option<u16>, came: &mut Buffer) {
-    match number {
-        Some(number) => add_number(i64::from(number), came),
-        None => add_word("none", came),
+/// Adds what was made, or that it was refused.
+pub fn add_made<T: Drop, F: Display + Drop, A: FnOnce(&T, &mut Buffer)>(
+    made: Result<T, F>,
+    came: &mut Buffer,
+    add: A,
+)
+    requires { A.IsAlwaysCallable add }
+{
+    match made {
+        Ok(made) => add(&made, came),
+        Err(fault) => add_refusal(&fault, came),
     }
 }
 
@@ -55,7 +59,7 @@ pub fn keep<T: Drop, F: Display + Drop>(
     }
 }
 
-/// Whether memory ran out for what was added behind so many bytes, which is taken away then.
+/// Whether memory ran out for what was added after so many bytes, which is removed then.
 pub fn is_taken_back(from: usize, came: &mut Buffer) -> bool {
     let ran_out = came.bytes().ends_with(b" NoMemory");
     if ran_out {
@@ -64,7 +68,7 @@ pub fn is_taken_back(from: usize, came: &mut Buffer) -> bool {
     ran_out
 }
 
-/// Adds that a call was refused, with the text of the fault, and `NoMemory` behind it where memory ran out.
+/// Adds that a call was refused, with the text of the error, and `NoMemory` after it where memory ran out.
 pub fn add_refusal<F: Display>(fault: &F, came: &mut Buffer) {
     came.extend(b" refused \"");
     let written = write!(came.vector(), "{fault}");
@@ -76,7 +80,7 @@ pub fn add_refusal<F: Display>(fault: &F, came: &mut Buffer) {
     }
 }
 
-/// Adds an entry: its names, each flag by its name, each number behind its name, and each text behind its name, each
+/// Adds an entry: its names, each flag by its name, each number after its name, and each text after its name, each
 /// kind by position. A capability without a name has its kind and its position, as `Flag 40`, `Number 40 0` and `Text
 /// 271 "x"`.
 pub fn add_entry(entry: &Entry, came: &mut Buffer) {

@@ -1,6 +1,6 @@
 //! Lines about finding entries by the names of terminals.
 
-use crate::answers::{add_entry, add_refusal};
+use crate::answers::{add_entry, add_made};
 use check_harness::answers::{add_text, add_word};
 use check_harness::buffers::Buffer;
 use check_harness::words::Words;
@@ -8,7 +8,7 @@ use std::alloc::Global;
 use ti_caps::Bytes;
 use ti_database::{FilePath, MemoryFiles, Variables, find_in, paths};
 
-/// The line `store PATH BYTES ..`: files in the place of those before.
+/// The line `store PATH BYTES ..`: files in place of those before.
 pub fn store(alloc: Global, store: &mut MemoryFiles, words: &mut Words<'_>, came: &mut Buffer) {
     store.0.clear();
     for _ in 0..u32::MAX {
@@ -27,8 +27,8 @@ fn store_file(alloc: Global, store: &mut MemoryFiles, words: &mut Words<'_>, cam
     came.check(pushed.is_ok());
 }
 
-/// Reads a text.
-pub fn read_bytes(alloc: Global, words: &mut Words<'_>) -> Vec<u8> {
+// Reads a text.
+fn read_bytes(alloc: Global, words: &mut Words<'_>) -> Vec<u8> {
     let mut bytes = Buffer::new(alloc);
     words.text(&mut bytes);
     bytes.into_bytes()
@@ -49,35 +49,23 @@ pub fn answer_of_database(
     words.text(text);
     let variables = read_variables(alloc, words, came);
     if word == "paths" {
-        add_paths(alloc, text.bytes(), &variables, came);
+        add_made(
+            paths(alloc, text.bytes(), &variables),
+            came,
+            |paths, came| {
+                for path in &paths.0 {
+                    add_text(&path.0, came);
+                }
+            },
+        );
     } else {
-        look_up(alloc, store, text.bytes(), &variables, came);
+        add_made(
+            find_in(alloc, store, text.bytes(), &variables),
+            came,
+            add_entry,
+        );
     }
     true
-}
-
-fn add_paths(alloc: Global, name: &[u8], variables: &Variables, came: &mut Buffer) {
-    match &paths(alloc, name, variables) {
-        Ok(paths) => {
-            for path in &paths.0 {
-                add_text(&path.0, came);
-            }
-        }
-        Err(fault) => add_refusal(fault, came),
-    }
-}
-
-fn look_up(
-    alloc: Global,
-    store: &MemoryFiles,
-    name: &[u8],
-    variables: &Variables,
-    came: &mut Buffer,
-) {
-    match &find_in(alloc, store, name, variables) {
-        Ok(entry) => add_entry(entry, came),
-        Err(fault) => add_refusal(fault, came),
-    }
 }
 
 // Reads the variables that are set.
@@ -104,7 +92,7 @@ fn variable(alloc: Global, line: Words<'_>, name: &[u8], came: &mut Buffer) -> O
     Some(Bytes(bytes.into_bytes()))
 }
 
-// What stands behind a name in the words of a line.
+// What follows a name in the words of a line.
 fn value_of<'a>(line: Words<'a>, name: &[u8]) -> Option<&'a [u8]> {
     let mut words = line;
     for _ in 0..u32::MAX {

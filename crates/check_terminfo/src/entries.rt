@@ -1,15 +1,12 @@
 //! Lines about the entry.
 
-use crate::answers::{
-    add_done, add_entry, add_number_if_any, add_refusal, add_size, add_text_if_any, keep,
-};
-use crate::reading::read_slot;
-use check_harness::answers::{add_flag, add_text, add_word};
+use crate::answers::{add_done, add_entry, add_made, add_size, keep, read_slot};
+use check_harness::answers::{add_any, add_flag, add_number, add_text, add_word};
 use check_harness::buffers::Buffer;
 use check_harness::troubles::Trouble;
 use check_harness::words::Words;
 use std::alloc::Global;
-use ti_caps::{CapFault, Entry, Kind, Slot, bundled, name_of};
+use ti_caps::{CapFault, Entry, Slot, bundled};
 use ti_source::print;
 
 /// The line `entry NAMES`, and those about the entry that there is. Tells whether a line is one of them.
@@ -54,30 +51,20 @@ fn make_entry(
 fn show(alloc: Global, entry: &Entry, word: &str, words: &mut Words<'_>, came: &mut Buffer) {
     match word {
         "shown" => add_entry(entry, came),
-        "is-bundled" => compare_bundled(alloc, entry, came),
+        "is-bundled" => add_made(bundled(alloc), came, |bundled, came| {
+            add_flag(are_same(bundled, entry), came);
+        }),
         "names" => add_text(entry.names(), came),
         "unnamed" => add_size(entry.unnamed(), came),
-        "print" => add_printed(alloc, entry, came),
-        "flag" => add_flag(entry.flag(read_slot(words)), came),
-        "number" => add_number_if_any(entry.number(read_slot(words)), came),
-        _ => add_text_if_any(entry.text(read_slot(words)), came),
-    }
-}
-
-fn compare_bundled(alloc: Global, entry: &Entry, came: &mut Buffer) {
-    match bundled(alloc) {
-        Ok(bundled) => add_flag(are_same(&bundled, entry), came),
-        Err(fault) => add_refusal(&fault, came),
-    }
-}
-
-fn add_printed(alloc: Global, entry: &Entry, came: &mut Buffer) {
-    match print(alloc, entry) {
-        Ok(printed) => {
+        "print" => add_made(print(alloc, entry), came, |printed, came| {
             add_text(&printed.text.0, came);
             add_size(printed.unnamed, came);
-        }
-        Err(fault) => add_refusal(&fault, came),
+        }),
+        "flag" => add_flag(entry.flag(read_slot(words)), came),
+        "number" => add_any(entry.number(read_slot(words)), came, |number, came| {
+            add_number(i64::from(number), came);
+        }),
+        _ => add_any(entry.text(read_slot(words)), came, add_text),
     }
 }
 
@@ -97,7 +84,7 @@ fn set(entry: &mut Entry, word: &str, words: &mut Words<'_>, text: &mut Buffer, 
     add_done(done, came);
 }
 
-// Sets a number, at most 32,767, or takes it away.
+// Sets a number, at most 32,767, or removes it.
 fn set_number(entry: &mut Entry, slot: Slot, words: &mut Words<'_>) -> Result<(), CapFault> {
     if words.is_at_end() {
         return entry.set_number(slot, None);
@@ -106,40 +93,20 @@ fn set_number(entry: &mut Entry, slot: Slot, words: &mut Words<'_>) -> Result<()
     entry.set_number(slot, Some(number.min(32_767)))
 }
 
-/// Whether two entries have the same names, and the same at each position.
-pub fn are_same(one: &Entry, other: &Entry) -> bool {
-    are_same_where(one, other, false)
-}
-
-/// Whether an entry is what another is without all that has no name.
-pub fn is_named_part(part: &Entry, entry: &Entry) -> bool {
-    part.unnamed() == 0 && are_same_where(part, entry, true)
-}
-
-// Whether two entries have the same names, and the same at each position, or at each that has a name.
-fn are_same_where(one: &Entry, other: &Entry, named: bool) -> bool {
+// Whether two entries have the same names, and the same at each position.
+fn are_same(one: &Entry, other: &Entry) -> bool {
     let mut same = one.names() == other.names();
     for position in 0..512u16 {
-        same = same && are_same_at(one, other, Slot(position), named);
+        same = same && are_same_at(one, other, Slot(position));
     }
     same
 }
 
-fn are_same_at(one: &Entry, other: &Entry, slot: Slot, named: bool) -> bool {
-    let flags = one.flag(slot) == other.flag(slot) || is_left_out(Kind::Flag, slot, named);
-    let numbers = one.number(slot) == other.number(slot) || is_left_out(Kind::Number, slot, named);
-    let texts = are_same_texts(one.text(slot), other.text(slot));
-    flags && numbers && (texts || is_left_out(Kind::Text, slot, named))
-}
-
-fn are_same_texts(one: Option<&[u8]>, other: Option<&[u8]>) -> bool {
-    match (one, other) {
+fn are_same_at(one: &Entry, other: &Entry, slot: Slot) -> bool {
+    let are_texts = match (one.text(slot), other.text(slot)) {
         (Some(one), Some(other)) => one == other,
         (None, None) => true,
         _ => false,
-    }
-}
-
-fn is_left_out(kind: Kind, slot: Slot, named: bool) -> bool {
-    named && name_of(kind, slot).is_none()
+    };
+    are_texts && one.flag(slot) == other.flag(slot) && one.number(slot) == other.number(slot)
 }

@@ -1,15 +1,15 @@
 //! Lines about compiled files.
 
-use crate::answers::{add_entry, add_refusal, add_size};
+use crate::answers::{add_entry, add_made, add_refusal, add_size};
 use check_harness::answers::{add_number, add_text};
 use check_harness::buffers::Buffer;
 use check_harness::checking::put;
 use check_harness::troubles::Trouble;
 use check_harness::words::Words;
 use std::alloc::Global;
-use ti_binary::{decode, decode_wide};
-use ti_caps::{Entry, are_names};
-use ti_compile::list;
+use ti_binary::{BinFault, decode, decode_wide};
+use ti_caps::{Bytes, Entry, are_names};
+use ti_compile::{TicFault, list};
 use ti_database::read_entry;
 
 /// The lines `encode` and `encode-named NAMES`, which write the file of an entry. Tells whether a line is one of them.
@@ -56,10 +56,8 @@ fn encode_named(
         words.fail(Trouble::Bad("no names"));
         return;
     }
-    match ti_binary::encode_named(alloc, entry, names) {
-        Ok(encoded) => add_text(&encoded.0, came),
-        Err(fault) => add_refusal(&fault, came),
-    }
+    let encoded = ti_binary::encode_named(alloc, entry, names);
+    add_made(encoded, came, |encoded, came| add_text(&encoded.0, came));
 }
 
 /// The line `file BYTES`.
@@ -73,45 +71,49 @@ pub fn take_file(alloc: Global, file: &mut Vec<u8>, words: &mut Words<'_>, came:
 /// The lines `decode-wide`, `read-entry` and `list`, which leave all as it is. Tells whether a line is one of them.
 pub fn answer_of_file(alloc: Global, file: &[u8], word: &str, came: &mut Buffer) -> bool {
     match word {
-        "decode-wide" => add_wide(alloc, file, came),
-        "read-entry" => add_read(alloc, file, came),
-        "list" => add_listing(alloc, file, came),
+        "decode-wide" => add_made(decode_wide(alloc, file), came, |decoded, came| {
+            add_size(decoded.skipped, came);
+            add_number(i64::from(decoded.clamped), came);
+            add_entry(&decoded.entry, came);
+        }),
+        "read-entry" => add_made(read_entry(alloc, file), came, add_entry),
+        "list" => add_made(list(alloc, file), came, |listing, came| {
+            add_text(&listing.text.0, came);
+            add_size(listing.unnamed, came);
+            add_size(listing.skipped, came);
+        }),
         _ => return false,
     }
     true
 }
 
-fn add_wide(alloc: Global, file: &[u8], came: &mut Buffer) {
-    match &decode_wide(alloc, file) {
-        Ok(decoded) => {
-            add_size(decoded.skipped, came);
-            add_number(i64::from(decoded.clamped), came);
-            add_entry(&decoded.entry, came);
+/// The line `decode`, or `changed INDEX BYTE..`, which reads the file with bytes changed.
+pub fn decode_changed(
+    alloc: Global,
+    file: &[u8],
+    entry: &mut Option<Entry>,
+    words: &mut Words<'_>,
+    text: &mut Buffer,
+    came: &mut Buffer,
+) {
+    text.clear();
+    text.extend(file);
+    words.check(text.done());
+    for _ in 0..u32::MAX {
+        if words.is_at_end() {
+            break;
         }
-        Err(fault) => add_refusal(fault, came),
-    }
-}
-
-fn add_read(alloc: Global, file: &[u8], came: &mut Buffer) {
-    match &read_entry(alloc, file) {
-        Ok(entry) => add_entry(entry, came),
-        Err(fault) => add_refusal(fault, came),
-    }
-}
-
-fn add_listing(alloc: Global, file: &[u8], came: &mut Buffer) {
-    match &list(alloc, file) {
-        Ok(listing) => {
-            add_text(&listing.text.0, came);
-            add_size(listing.unnamed, came);
-            add_size(listing.skipped, came);
+        let (index, byte) = (words.number() as usize, words.byte());
+        match text.vector().get_mut(index) {
+            Some(old) => *old = byte,
+            None => words.fail(Trouble::Bad("no such index in the file")),
         }
-        Err(fault) => add_refusal(fault, came),
     }
+    add_decoded(alloc, text.bytes(), entry, came);
 }
 
-/// Adds what bytes are read as, which is the entry then.
-pub fn add_decoded(alloc: Global, bytes: &[u8], entry: &mut Option<Entry>, came: &mut Buffer) {
+// Adds what bytes are read as, which is the entry then.
+fn add_decoded(alloc: Global, bytes: &[u8], entry: &mut Option<Entry>, came: &mut Buffer) {
     match decode(alloc, bytes) {
         Ok((decoded, rest)) => {
             add_size(rest, came);
@@ -120,4 +122,86 @@ pub fn add_decoded(alloc: Global, bytes: &[u8], entry: &mut Option<Entry>, came:
         }
         Err(fault) => add_refusal(&fault, came),
     }
+}
+
+/// The lines `file-cuts`, `wide-cuts` and `file-bytes BYTE..`. Tells whether a line is one of them.
+pub fn answer_of_changes(
+    alloc: Global,
+    file: &[u8],
+    word: &str,
+    words: &mut Words<'_>,
+    text: &mut Buffer,
+    came: &mut Buffer,
+) -> bool {
+    let counted = match word {
+        "file-cuts" | "wide-cuts" => count_truncated(alloc, file, word == "wide-cuts"),
+        "file-bytes" => count_changed(alloc, file, words, text),
+        _ => return false,
+    };
+    add_size(counted.unwrap_or(0), came);
+    words.check(counted.and(Ok(())));
+    true
+}
+
+// How many beginnings of a file are truncated.
+fn count_truncated(alloc: Global, file: &[u8], is_wide: bool) -> Result<usize, Trouble> {
+    let mut count = 0usize;
+    for length in 0..file.len() {
+        let beginning = file.get(..length).unwrap_or(file);
+        let fault = if is_wide {
+            decode_wide(alloc, beginning).err()
+        } else {
+            decode(alloc, beginning).err()
+        };
+        match fault {
+            Some(BinFault::Truncated) => count = count.saturating_add(1),
+            Some(BinFault::NoMemory) => return Err(Trouble::NoMemory),
+            _ => {}
+        }
+    }
+    Ok(count)
+}
+
+// Sets each byte of a file in turn to each of those of a line, and counts the files that are sound.
+fn count_changed(
+    alloc: Global,
+    file: &[u8],
+    words: &mut Words<'_>,
+    text: &mut Buffer,
+) -> Result<usize, Trouble> {
+    let mut count = 0usize;
+    for _ in 0..u32::MAX {
+        if words.is_at_end() {
+            break;
+        }
+        let byte = words.byte();
+        for index in 0..file.len() {
+            text.clear();
+            text.extend(file.get(..index).unwrap_or(b""));
+            text.push(byte);
+            text.extend(file.get(index.saturating_add(1)..).unwrap_or(b""));
+            text.done()?;
+            count = count.saturating_add(usize::from(is_sound(alloc, text.bytes())?));
+        }
+    }
+    Ok(count)
+}
+
+// Whether bytes are refused, or read and written as a file that is read and written as itself.
+fn is_sound(alloc: Global, bytes: &[u8]) -> Result<bool, Trouble> {
+    match written(alloc, bytes) {
+        Ok(file) => match written(alloc, &file.0) {
+            Ok(again) => Ok(again.0 == file.0),
+            Err(TicFault::NoMemory) => Err(Trouble::NoMemory),
+            Err(_) => Ok(false),
+        },
+        Err(TicFault::NoMemory) => Err(Trouble::NoMemory),
+        Err(_) => Ok(true),
+    }
+}
+
+// The file that is written of what is read of bytes.
+fn written(alloc: Global, bytes: &[u8]) -> Result<Bytes, TicFault> {
+    let (entry, _) = decode(alloc, bytes)?;
+    Ok(ti_binary::encode(alloc, &entry)?)
 }

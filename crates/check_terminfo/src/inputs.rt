@@ -1,7 +1,7 @@
 //! Lines about reading an input, of readers that fail.
 
-use crate::answers::{add_refusal, add_size};
-use check_harness::answers::add_text;
+use crate::answers::{add_made, add_size};
+use check_harness::answers::{add_text, add_word};
 use check_harness::buffers::Buffer;
 use check_harness::troubles::Trouble;
 use check_harness::words::Words;
@@ -47,7 +47,12 @@ pub fn answer_of_input(
         "input" => read_pieces(alloc, words, came),
         "input-of" => {
             words.text(text);
-            read_text(alloc, text.bytes(), came);
+            let mut reader = text.bytes();
+            add_made(
+                read_input(alloc, &mut reader),
+                came,
+                |bytes, came| add_text(bytes, came),
+            );
         }
         _ => return false,
     }
@@ -60,28 +65,15 @@ fn read_pieces(alloc: Global, words: &mut Words<'_>, came: &mut Buffer) {
         each: words.number() as usize,
         fault: read_fault(words),
     };
-    match read_input(alloc, &mut pieces) {
-        Ok(bytes) => add_pieces(&bytes, words, came),
-        Err(fault) => add_refusal(&fault, came),
-    }
-}
-
-// Adds how many bytes are read.
-fn add_pieces(bytes: &[u8], words: &mut Words<'_>, came: &mut Buffer) {
-    for byte in bytes {
-        if *byte != b'x' {
-            words.fail(Trouble::Bad("other bytes are read"));
+    let read = read_input(alloc, &mut pieces);
+    add_made(read, came, |bytes, came| {
+        for byte in bytes {
+            if *byte != b'x' {
+                add_word("another", came);
+            }
         }
-    }
-    add_size(bytes.len(), came);
-}
-
-fn read_text(alloc: Global, text: &[u8], came: &mut Buffer) {
-    let mut reader = text;
-    match read_input(alloc, &mut reader) {
-        Ok(bytes) => add_text(&bytes, came),
-        Err(fault) => add_refusal(&fault, came),
-    }
+        add_size(bytes.len(), came);
+    });
 }
 
 // Reads how many reads come before one that is `interrupted` or `broken`, if there is one.

@@ -4,16 +4,11 @@
 #![tactic(auto)]
 
 mod answers;
-mod chains;
-mod changes;
-mod cuts;
 mod database;
 mod entries;
 mod files;
 mod inputs;
-mod mutated;
 mod programs;
-mod reading;
 mod sources;
 mod subjects;
 mod table;

@@ -1,17 +1,17 @@
 //! Lines about sources.
 
 use crate::answers::{
-    add_entry, add_entry_if_any, add_note, add_notes, add_number_if_any, add_refusal, add_size,
-    add_text_if_any, is_taken_back, keep,
+    add_entry, add_entry_if_any, add_made, add_note, add_notes, add_size, is_taken_back, keep,
 };
-use crate::chains::{add_beginnings, write_chain};
-use check_harness::answers::{add_text, add_word};
-use check_harness::buffers::Buffer;
+use check_harness::answers::{add_any, add_number, add_text, add_word};
+use check_harness::buffers::{Buffer, are_same};
+use check_harness::checking::put;
 use check_harness::troubles::Trouble;
 use check_harness::words::Words;
 use std::alloc::Global;
+use std::io::Write;
 use ti_caps::{Entry, Slot};
-use ti_compile::{Compiled, CompiledEntry, EntryCompiler, TicFault};
+use ti_compile::{Compiled, CompiledEntry, EntryCompiler};
 use ti_source::{Resolver, Source, SourceFault};
 
 /// The lines `source TEXT`, `chained COUNT USES LAST` and `source-cuts TEXT`, and those about the source that there is.
@@ -47,6 +47,35 @@ pub fn answer_of_source(
     true
 }
 
+// Reads `COUNT USES LAST` and writes a source of COUNT entries, `e0`, `e1` and so on, each of which uses the next one
+// USES times; the last has the field LAST.
+fn write_chain(alloc: Global, words: &mut Words<'_>, text: &mut Buffer) {
+    let (count, uses) = (words.number(), words.number());
+    let mut last = Buffer::new(alloc);
+    words.text(&mut last);
+    text.clear();
+    for index in 0..count {
+        let written = write!(text.vector(), "e{index},\n\t");
+        text.check(written.is_ok());
+        let next = index.saturating_add(1);
+        if next < count {
+            write_uses(next, uses, text);
+        } else {
+            text.extend(last.bytes());
+            text.extend(b",");
+        }
+        text.push(b'\n');
+    }
+}
+
+// Writes fields that use an entry of a chain.
+fn write_uses(index: u32, uses: u32, text: &mut Buffer) {
+    for _ in 0..uses {
+        let written = write!(text.vector(), "use=e{index}, ");
+        text.check(written.is_ok());
+    }
+}
+
 fn read_source(
     alloc: Global,
     source: &mut Option<Source>,
@@ -68,6 +97,30 @@ fn add_length(source: &Option<Source>, words: &mut Words<'_>, came: &mut Buffer)
         }
         add_size(source.len(), came);
     }
+}
+
+// Adds what each beginning of a source is read as, how many entries or the refusal, after the length of the first that
+// is read so.
+fn add_beginnings(alloc: Global, text: &[u8], came: &mut Buffer) -> Result<(), Trouble> {
+    let mut before = Buffer::new(alloc);
+    for length in 0..=text.len() {
+        let mut read = Buffer::new(alloc);
+        let source = ti_source::read(alloc, text.get(..length).unwrap_or(text));
+        add_made(
+            source,
+            &mut read,
+            |source, read| add_size(source.len(), read),
+        );
+        if read.bytes().ends_with(b" NoMemory") {
+            return Err(Trouble::NoMemory);
+        }
+        if !are_same(&read, &before)? {
+            add_size(length, came);
+            came.extend(read.bytes());
+            put(&mut before, read);
+        }
+    }
+    Ok(())
 }
 
 fn take_notes(source: &mut Option<Source>, words: &mut Words<'_>, came: &mut Buffer) {
@@ -122,16 +175,9 @@ fn resolve_all(
 // Adds what a name resolves to by a resolver, which gives the same where memory was refused before.
 fn resolve_next(alloc: Global, resolver: &mut Resolver<'_>, name: &[u8], came: &mut Buffer) {
     let from = came.bytes().len();
-    add_resolved(&resolver.resolve(alloc, name), came);
+    add_made(resolver.resolve(alloc, name), came, add_entry);
     if is_taken_back(from, came) {
-        add_resolved(&resolver.resolve(alloc, name), came);
-    }
-}
-
-fn add_resolved(resolved: &Result<Entry, SourceFault>, came: &mut Buffer) {
-    match resolved {
-        Ok(entry) => add_entry(entry, came),
-        Err(fault) => add_refusal(fault, came),
+        add_made(resolver.resolve(alloc, name), came, add_entry);
     }
 }
 
@@ -146,20 +192,12 @@ pub fn resolve(
 ) {
     words.text(text);
     match source {
-        Some(source) => resolve_name(alloc, source, text.bytes(), entry, came),
+        Some(source) => {
+            if keep(ti_source::resolve(alloc, source, text.bytes()), entry, came) {
+                add_entry_if_any(entry, came);
+            }
+        }
         None => words.fail(Trouble::Bad("no source")),
-    }
-}
-
-fn resolve_name(
-    alloc: Global,
-    source: &Source,
-    name: &[u8],
-    entry: &mut Option<Entry>,
-    came: &mut Buffer,
-) {
-    if keep(ti_source::resolve(alloc, source, name), entry, came) {
-        add_entry_if_any(entry, came);
     }
 }
 
@@ -182,22 +220,18 @@ fn compile_all(alloc: Global, source: &Source, words: &mut Words<'_>, came: &mut
 // then.
 fn compile_next(alloc: Global, compiler: &mut EntryCompiler<'_>, came: &mut Buffer) {
     let from = came.bytes().len();
-    add_next(&compiler.next_entry(alloc), came);
+    add_made(compiler.next_entry(alloc), came, add_next);
     if is_taken_back(from, came) {
-        add_next(&compiler.next_entry(alloc), came);
+        add_made(compiler.next_entry(alloc), came, add_next);
     }
 }
 
-fn add_next(compiled: &Result<Option<CompiledEntry>, TicFault>, came: &mut Buffer) {
-    match compiled {
-        Ok(Some(entry)) => add_compiled_entry(entry, came),
-        Ok(None) => add_word("end", came),
-        Err(fault) => add_refusal(fault, came),
-    }
-}
-
-// Adds what an entry is compiled to: its name, its paths and the bytes of its file.
-fn add_compiled_entry(entry: &CompiledEntry, came: &mut Buffer) {
+// Adds what an entry is compiled to, its name, its paths and the bytes of its file, or `end` where there is none.
+fn add_next(compiled: &Option<CompiledEntry>, came: &mut Buffer) {
+    let Some(entry) = compiled else {
+        add_word("end", came);
+        return;
+    };
     add_text(&entry.name.0, came);
     for path in &entry.paths.0 {
         add_text(&path.0, came);
@@ -217,7 +251,10 @@ pub fn answer_of_meaning(
     match word {
         "string" => mean(alloc, [b"t,\n\tcr=", b""], words, text, came),
         "decimal" => mean(alloc, [b"t,\n\tcols#", b","], words, text, came),
-        "compile" => compile(alloc, words, text, came),
+        "compile" => {
+            words.text(text);
+            add_made(ti_compile::compile(alloc, text.bytes()), came, add_compiled);
+        }
         _ => return false,
     }
     true
@@ -237,31 +274,17 @@ fn mean(
     source.extend(text.bytes());
     source.extend(parts[1]);
     words.check(source.done());
-    add_meaning(&entry_in(alloc, source.bytes()), came);
-}
-
-fn add_meaning(entry: &Result<Entry, SourceFault>, came: &mut Buffer) {
-    match entry {
-        Ok(entry) if entry.number(Slot(0)).is_some() => add_number_if_any(
-            entry.number(Slot(0)),
-            came,
-        ),
-        Ok(entry) => add_text_if_any(entry.text(Slot(2)), came),
-        Err(fault) => add_refusal(fault, came),
-    }
+    add_made(entry_in(alloc, source.bytes()), came, |entry, came| {
+        match entry.number(Slot(0)) {
+            Some(number) => add_number(i64::from(number), came),
+            None => add_any(entry.text(Slot(2)), came, add_text),
+        }
+    });
 }
 
 fn entry_in(alloc: Global, source: &[u8]) -> Result<Entry, SourceFault> {
     let read = ti_source::read(alloc, source)?;
     ti_source::resolve(alloc, &read, b"t")
-}
-
-fn compile(alloc: Global, words: &mut Words<'_>, text: &mut Buffer, came: &mut Buffer) {
-    words.text(text);
-    match &ti_compile::compile(alloc, text.bytes()) {
-        Ok(compiled) => add_compiled(compiled, came),
-        Err(fault) => add_refusal(fault, came),
-    }
 }
 
 // Adds each `file PATH BYTES`, each `size NAME BYTES` and each `note LINE CAUSE NAME`.

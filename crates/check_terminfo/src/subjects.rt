@@ -1,9 +1,9 @@
-//! What the lines of a script work on. Where nothing else is said a line answers `Ok`, or `refused` and the fault's
+//! What the lines of a script work on. Where nothing else is said a line answers `Ok`, or `refused` and the error's
 //! text; one that has nothing to answer has `none`.
 //!
 //! - `find NAME`: the kind and position of a capability, or `none`
 //! - `name-of KIND POSITION`: the name there, or `none`
-//! - `table KIND POSITION NAME..`: the position behind these names, which stand there one after another
+//! - `table KIND POSITION NAME..`: the position after these names, which are there one after another
 //! - `named KIND`: how many positions have a name
 //! - `are-names TEXT`, `first-name TEXT`: `yes` or `no`; the first alternative
 //! - `entry NAMES`: makes an entry, which the next lines are about
@@ -16,50 +16,44 @@
 //! - `source TEXT`: how many entries a source has; it is what the next lines are about
 //! - `chained COUNT USES LAST`: the same of a source of COUNT entries, `e0` and so on, each of which uses the next one
 //!   USES times; the last has the field LAST
-//! - `source-cuts TEXT`: what each beginning of a source is read as, behind the length from which on it is so
+//! - `source-cuts TEXT`: what each beginning of a source is read as, after the length from which on it is so
 //! - `listed`, `notes`, `take-notes`: the first name of each entry; the notes on it; the same, and the source is gone
 //! - `resolve NAME`: the resolved entry, which is then the entry
 //! - `resolver NAME..`: each resolved entry or refusal, by one resolver
 //! - `string TEXT`, `decimal TEXT`: what a string or a number in a source means
 //! - `encode`: the compiled file of the entry, which is then the file
-//! - `encode-named NAMES`: the compiled file of the entry with these names in the place of its own
-//! - `file BYTES`: takes these bytes as the file, and answers how many there are
+//! - `encode-named NAMES`: the compiled file of the entry with these names in place of its own
+//! - `file BYTES`: these bytes are the file then; answers how many there are
 //! - `decode`: how many bytes follow, and the entry of the file, which is then the entry
 //! - `decode-wide`: how many bytes follow a file with 32-bit numbers, how many numbers are clamped, and its entry
 //! - `read-entry`: the entry of a file in either format
 //! - `changed INDEX BYTE..`: as `decode`, of the file with bytes changed
-//! - `file-cuts`: how many ways there are to cut the file short, each of which is `truncated`
-//! - `wide-cuts`: the same of a file with 32-bit numbers
-//! - `file-bytes BYTE..`: how many files come of setting each byte in turn to each of these, read or refused
+//! - `file-cuts`, `wide-cuts`: how many beginnings of the file are `truncated`; the same of one with 32-bit numbers
+//! - `file-bytes BYTE..`: how many files are read or refused where each byte in turn is set to each of these
 //! - `compile SOURCE`: each `file PATH BYTES`, each `size NAME BYTES`, each `note LINE CAUSE NAME`
 //! - `compiler STEP..`: what the entries of the source are compiled to, one after another by one compiler: at each
 //!   `next` a name, its paths and the bytes of their file, or `end`; `restart` goes back before the first
-//! - `store PATH BYTES ..`: takes these files, and no others, as those in which names are looked up
+//! - `store PATH BYTES ..`: names are looked up in these files then, and no others
 //! - `paths NAME VARIABLE=VALUE..`: the paths at which the entry of a name is looked for, where these variables are
 //!   set
 //! - `look-up NAME VARIABLE=VALUE..`: the entry that is found there
 //! - `list`: the text of the file, how many capabilities that leaves out, and how many bytes follow
 //! - `padding TEXT`: the text without padding
 //! - `vars`: sets the static variables to 0
-//! - `program TEXT PARAMETER..`: what the program writes; `length` and `bound` are compared with it, and where no more
-//!   than two parameters and no variable are set, `length_of_two` and `run_of_two`
+//! - `program TEXT PARAMETER..`: what the program writes, as many bytes as `length` says
 //! - `measure TEXT`: the bound and the depth of a program
 //! - `read-program TEXT`: whether a text is a program
-//! - `mutated-sources SEED COUNT READ REFUSED TEXT..`: `Ok` where so many texts, made of these by changes at random,
-//!   agree (`mutated.rt`), of which at least READ are read and REFUSED refused
-//! - `mutated-files ..`, `mutated-programs ..`: the same of compiled files and of programs
-//! - `cuts TEXT..`: whether each text, cut at each place, is a program, or is refused for the cut or as the text is
 //! - `input COUNT EACH [BEFORE FAULT]`: how many bytes are read of a reader that gives EACH at a time, of which the
-//!   read behind BEFORE others is `interrupted` or `broken`
+//!   read after BEFORE others is `interrupted` or `broken`
 //! - `input-of TEXT`: what is read of a reader of these bytes
 
 use crate::answers::{add_entry_if_any, add_notes};
-use crate::changes::{answer_of_changes, decode_changed};
 use crate::database::{answer_of_database, store};
 use crate::entries::answer_of_entry;
-use crate::files::{answer_of_file, answer_of_writing, take_file};
+use crate::files::{
+    answer_of_changes, answer_of_file, answer_of_writing, decode_changed, take_file,
+};
 use crate::inputs::answer_of_input;
-use crate::mutated::answer_of_mutants;
 use crate::programs::{answer_of_programs, run};
 use crate::sources::{add_list, answer_of_meaning, answer_of_source, resolve};
 use crate::table::answer_of_table;
@@ -73,25 +67,6 @@ use ti_caps::Entry;
 use ti_database::MemoryFiles;
 use ti_param::Vars;
 use ti_source::Source;
-
-// The lines that may change what is there.
-const CHANGING: [&str; 15] = [
-    "entry",
-    "set-flag",
-    "set-number",
-    "set-text",
-    "source",
-    "chained",
-    "take-notes",
-    "resolve",
-    "encode",
-    "file",
-    "decode",
-    "changed",
-    "store",
-    "vars",
-    "program",
-];
 
 /// What earlier lines have made.
 #[derive(Drop)]
@@ -149,15 +124,6 @@ impl Subject for TerminfoSubject {
         }
         add_name(&self.vars, bytes);
     }
-
-    fn leaves_all(word: &[u8]) -> bool {
-        for changing in &CHANGING {
-            if changing.as_bytes() == word {
-                return false;
-            }
-        }
-        true
-    }
 }
 
 impl TerminfoSubject {
@@ -205,5 +171,4 @@ fn answer_of_values(
         || answer_of_meaning(alloc, word, words, text, came)
         || answer_of_programs(alloc, word, words, text, came)
         || answer_of_input(alloc, word, words, text, came)
-        || answer_of_mutants(alloc, word, words, came)
 }

@@ -1,6 +1,6 @@
 //! Lines about the table of capabilities and about names.
 
-use crate::reading::read_slot;
+use crate::answers::read_slot;
 use check_harness::answers::{add_flag, add_name, add_number, add_text, add_word};
 use check_harness::buffers::Buffer;
 use check_harness::troubles::Trouble;
@@ -53,7 +53,7 @@ fn answer_of_kind(word: &str, words: &mut Words<'_>, came: &mut Buffer) {
     }
 }
 
-// Adds the position behind names that stand one after another, and before it each that does not stand there.
+// Adds each name that is not at its position, one after another, and then the position after the last.
 fn add_names_from(kind: Kind, first: u16, words: &mut Words<'_>, came: &mut Buffer) {
     let mut position = first;
     for _ in 0..u16::MAX {

@@ -81,34 +81,31 @@ fn add_well(bytes: u64, came: &mut Buffer) {
 
 // Adds why an update ended early, how many operations it began, and how many bytes it sent.
 fn add_fault(fault: &UpdateFault, came: &mut Buffer) {
-    match fault {
-        UpdateFault::NoMemory => add_word("NoMemory", came),
-        UpdateFault::Write { begun, sent, kind } => {
-            add_failed("Write", *kind, came);
-            add_count(begun.0.len() as u64, came);
-            add_count(*sent, came)
+    let (what, begun, sent, kind) = match fault {
+        UpdateFault::NoMemory => {
+            add_word("NoMemory", came);
+            return;
         }
-        UpdateFault::Flush { begun, sent, kind } => {
-            add_failed("Flush", *kind, came);
-            add_count(begun.0.len() as u64, came);
-            add_count(*sent, came)
-        }
-    }
+        UpdateFault::Write { begun, sent, kind } => ("Write", begun.0.len(), *sent, *kind),
+        UpdateFault::Flush { begun, sent, kind } => ("Flush", begun.0.len(), *sent, *kind),
+    };
+    add_failed(what, kind, came);
+    add_count(begun as u64, came);
+    add_count(sent, came);
 }
 
 /// Adds how many bytes a text at an end of a screen's use had, or why not all were sent, and how many.
 pub fn add_sent(sent: &Result<u64, SendFault>, came: &mut Buffer) {
-    match sent {
-        Ok(bytes) => add_well(*bytes, came),
-        Err(SendFault::Write { sent, kind }) => {
-            add_failed("Write", *kind, came);
-            add_count(*sent, came)
+    let (what, sent, kind) = match sent {
+        Ok(bytes) => {
+            add_well(*bytes, came);
+            return;
         }
-        Err(SendFault::Flush { sent, kind }) => {
-            add_failed("Flush", *kind, came);
-            add_count(*sent, came)
-        }
-    }
+        Err(SendFault::Write { sent, kind }) => ("Write", *sent, *kind),
+        Err(SendFault::Flush { sent, kind }) => ("Flush", *sent, *kind),
+    };
+    add_failed(what, kind, came);
+    add_count(sent, came);
 }
 
 // Adds what failed, and the kind of its error.

@@ -1,7 +1,9 @@
-//! Calls on a screen by the names of its methods, with the arguments of a line: a window by its number, a flag as 0 or
-//! 1.
+//! Lines that change a screen or its terminal, whether they are written or made up: calls by the names of the screen's
+//! methods, with their arguments, a window by its number and a flag as 0 or 1, and updates.
 
-use check_harness::answers::read_parts;
+use crate::recorded::Recorded;
+use crate::writers::{read_end, read_update};
+use check_harness::answers::{add_word, read_parts};
 use check_harness::buffers::Buffer;
 use check_harness::troubles::Trouble;
 use check_harness::words::Words;
@@ -11,8 +13,57 @@ use screen_sessions::Call;
 use std::alloc::Global;
 use ti_caps::Bytes;
 
-/// The call of a name, with its words; `None` where the name is that of none, or of an update.
-pub fn call_of(alloc: Global, name: &str, words: &mut Words<'_>) -> Option<Call> {
+/// What came of a line.
+#[derive(Clone, Copy, PartialEq, Eq)]
+pub enum Obeyed {
+    /// All is as it has to be.
+    Well,
+    /// An update ended in something that may not be.
+    Badly,
+    /// The line is none of these.
+    No,
+}
+
+/// The calls of a screen by their names, `update`, `start` and `close` with a writer that fails as the word says, and
+/// `others TEXT`, which others write on the terminal. Adds what came.
+pub fn obey(
+    alloc: Global,
+    opened: &mut Recorded,
+    word: &str,
+    words: &mut Words<'_>,
+    came: &mut Buffer,
+) -> Result<Obeyed, Trouble> {
+    if word == "others" {
+        others(alloc, opened, words, came);
+        return Ok(Obeyed::Well);
+    }
+    if let Some(fails) = read_update(word, words) {
+        let is_well = opened.update(fails, came)?;
+        return Ok(if is_well { Obeyed::Well } else { Obeyed::Badly });
+    }
+    if let Some((end, fails)) = read_end(word, words) {
+        opened.send_end(end, fails, came)?;
+        return Ok(Obeyed::Well);
+    }
+    match call_of(alloc, word, words) {
+        Some(call) => {
+            opened.call(call, came)?;
+            Ok(Obeyed::Well)
+        }
+        None => Ok(Obeyed::No),
+    }
+}
+
+// Feeds the terminal what others write.
+fn others(alloc: Global, opened: &mut Recorded, words: &mut Words<'_>, came: &mut Buffer) {
+    let mut text = Buffer::new(alloc);
+    words.text(&mut text);
+    let is_defined = opened.display.emulated.feed(text.bytes());
+    add_word(if is_defined { "Ok" } else { "Undefined" }, came);
+}
+
+// The call of a name, with its words; `None` where the name is that of none, or of an update.
+fn call_of(alloc: Global, name: &str, words: &mut Words<'_>) -> Option<Call> {
     if name == "add_text" {
         return Some(Call::AddText(win(words), text(alloc, words)));
     }
@@ -136,7 +187,7 @@ fn showing(name: &str, by: &mut Words<'_>) -> Option<Call> {
     })
 }
 
-// A part of a pad that is taken onto the virtual screen: its first place in the pad, and its corners on the screen.
+// A part of a pad that is copied to the virtual screen: its first place in the pad, and its corners on the screen.
 fn taking_pad(by: &mut Words<'_>) -> Call {
     let (win, row, column) = (win(by), by.number(), by.number());
     let (top, left) = (by.number(), by.number());

@@ -30,16 +30,11 @@ pub enum Emulated {
 impl Emulated {
     /// A blank terminal of an entry.
     pub fn new(alloc: Global, entry: &Entry, size: Size) -> Result<Emulated, NoMemory> {
-        if has_any(entry, &MOVING_SLOTS) {
+        if MOVING_SLOTS.iter().any(|slot| entry.text(*slot).is_some()) {
             Ok(Emulated::Operations(Terminal::new(alloc, size)?))
         } else {
-            Emulated::by_bytes(alloc, size)
+            Ok(Emulated::Bytes(EcmaScreen::new(alloc, size)?))
         }
-    }
-
-    /// A blank terminal that reads bytes.
-    pub fn by_bytes(alloc: Global, size: Size) -> Result<Emulated, NoMemory> {
-        Ok(Emulated::Bytes(EcmaScreen::new(alloc, size)?))
     }
 
     /// Reads bytes, and tells whether they are defined. One that executes operations reads none.
@@ -121,14 +116,4 @@ pub fn step_on(terminal: &mut Terminal, profile: &Profile, op: Op) -> Option<boo
         return None;
     }
     Some(terminal.step(profile, op).is_ok())
-}
-
-// Whether an entry has a text for one of these.
-fn has_any(entry: &Entry, slots: &[Slot]) -> bool {
-    for slot in slots {
-        if entry.text(*slot).is_some() {
-            return true;
-        }
-    }
-    false
 }

@@ -15,14 +15,14 @@ pub static MOVING: &str =
 const MOST: usize = 64;
 
 /// The bundled entry without the flags and the texts that a line names, up to its `=`, and with the numbers that it
-/// names and gives; a text that stands behind its name is taken in place of the bundled one. `None` where the library
+/// names and gives; a text that follows its name is used in place of the bundled one. `None` where the library
 /// was refused memory.
 pub fn read_entry(alloc: Global, words: &mut Words<'_>) -> Option<Entry> {
     let entry = match bundled(alloc) {
         Ok(mut entry) => change_all(alloc, &mut entry, words).then_some(entry),
         Err(_) => None,
     };
-    // What is wanted of the line stands behind the names that are left.
+    // What is wanted of the line comes after the names that are left.
     for _ in 0..MOST {
         if words.is_at_end() {
             break;
@@ -45,7 +45,7 @@ fn change_all(alloc: Global, entry: &mut Entry, words: &mut Words<'_>) -> bool {
     true
 }
 
-/// Has an entry no flag of the name that follows, or the text or the number that stands behind the name, or no text.
+/// Has an entry no flag of the name that follows, or the text or the number that comes after the name, or no text.
 pub fn change_capability(
     alloc: Global,
     entry: &mut Entry,

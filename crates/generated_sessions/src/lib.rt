@@ -1,7 +1,7 @@
-//! Screens with the terminals that they are shown on, each update held to a plain picture of what was taken, and
-//! sessions that are made up, with updates that fail or are cut at every byte.
+//! Screens with the terminals that they are shown on, each update compared with a plain picture of what was copied, and
+//! sessions that are made up, with updates that fail or are cut after each number of their bytes.
 //!
-//! What an update sends goes into a writer that fails where it is told to, and what that took is fed to an emulated
+//! What an update sends goes into a writer that fails where it is told to, and what that accepted is fed to an emulated
 //! terminal, or the operations, where an entry can insert and delete lines and characters.
 #![tactic(auto)]
 
@@ -9,11 +9,9 @@ mod answers;
 mod bounds;
 mod calls;
 mod cuts;
-mod displays;
 mod emulated;
 mod entries;
 mod made_up;
-mod obeying;
 mod plain;
 mod recorded;
 mod sessions;
@@ -21,10 +19,10 @@ mod writers;
 
 pub use answers::{add_count, add_spot};
 pub use bounds::{bytes_of, joined_on};
-pub use cuts::cut_update;
+pub use calls::{Obeyed, obey};
+pub use cuts::count_cuts;
 pub use emulated::{Emulated, step_on};
 pub use entries::{MOVING, change_capability, read_entry};
-pub use obeying::{Obeyed, obey};
 pub use plain::{is_touched, line_of};
 pub use recorded::Recorded;
 pub use sessions::check_sessions;

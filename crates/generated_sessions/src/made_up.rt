@@ -96,7 +96,7 @@ pub fn add_line(alloc: Global, screen: &Screen, random: &mut Random, line: &mut 
     add_arguments(alloc, screen, made, random, line);
 }
 
-/// Adds the taking of a window, most often the first.
+/// Adds a copy of a window to the virtual screen, most often of the first.
 pub fn add_taking(alloc: Global, screen: &Screen, random: &mut Random, line: &mut Buffer) {
     let taking = match random.below(8) {
         0 => "noutrefresh 1",
@@ -215,7 +215,7 @@ impl<'a> About<'a> {
     }
 }
 
-// The number that a letter stands for which is about no window.
+// The number that a letter stands for, if that does not depend on a window.
 fn plain_number(word: &str, random: &mut Random) -> Option<u32> {
     Some(match word {
         "N" => random.about(2),

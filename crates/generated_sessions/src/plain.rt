@@ -1,4 +1,4 @@
-//! A plain picture of what was taken from windows and pads, put together here, place by place: what a terminal has to
+//! A plain picture of what was copied from windows and pads, put together here, place by place: what a terminal has to
 //! show after an update that ends well.
 
 use crate::emulated::Emulated;
@@ -21,7 +21,7 @@ pub struct Plain {
     // The foreground and the background of each colour pair.
     pairs: Vec<(u8, u8)>,
     wish: Option<(u32, u32)>,
-    // Which lines of the window that is taken next are touched.
+    // Which lines of the window that is copied next are touched.
     touched: Vec<bool>,
 }
 
@@ -34,7 +34,7 @@ struct Part {
     left: u32,
     rows: u32,
     columns: u32,
-    // Whether untouched lines are taken, too.
+    // Whether untouched lines are copied, too.
     is_whole: bool,
 }
 
@@ -51,7 +51,7 @@ impl Plain {
         })
     }
 
-    /// Keeps which lines a call takes that is made next.
+    /// Keeps which lines the next call copies.
     pub fn prepare(&mut self, screen: &Screen, call: &Call) -> Result<(), Trouble> {
         if let Call::Noutrefresh(win) = call
             && let Ok(window) = screen.window(*win)
@@ -100,7 +100,7 @@ impl Plain {
         }
     }
 
-    // Takes a part of a window, and the window's cursor, where it lies in that.
+    // Copies a part of a window, and the window's cursor, where it lies in that.
     fn take(&mut self, screen: &Screen, win: Win, part: Part) {
         let Ok(window) = screen.window(win) else {
             return;
@@ -118,7 +118,7 @@ impl Plain {
         };
     }
 
-    // Whether a line of the window that is taken was touched.
+    // Whether a line of the window that is copied was touched.
     fn was_touched(&self, line: u32) -> bool {
         self.touched.get(line as usize).copied().unwrap_or(false)
     }

@@ -1,37 +1,52 @@
-//! A screen whose calls and answers are kept, and the emulated terminal that takes what its updates send.
+//! A screen whose calls and answers are kept, and the emulated terminal that its updates are sent to.
 
 use crate::answers::{Ended, add_answer, add_answers, add_sent, begun_by, end_of, ran_out};
-use crate::displays::{Display, has_ends, may_paint_all, open_display};
+use crate::bounds::Left;
+use crate::emulated::Emulated;
+use crate::plain::Plain;
 use crate::writers::{End, Fails, writer_that};
 use check_harness::answers::add_word;
 use check_harness::buffers::{Buffer, are_same};
 use check_harness::checking::put;
 use check_harness::troubles::Trouble;
-use curses::{Counted, Device, OpenFault, Screen, UpdateFault};
+use curses::{Device, OpenFault, Screen, UpdateFault};
 use scr_cells::{NoMemory, Size};
-use scr_term::{Op, Ops};
+use scr_term::{Op, Ops, Profile, ProfileFault};
 use screen_sessions::{
     Answer, Call, Faulty, Report, WriterFailure, WriterFault, make_call, make_calls, session,
 };
 use std::alloc::Global;
-use ti_caps::Entry;
+use ti_caps::{Entry, slots};
+
+/// A terminal, what it has to show, and what the last update left there.
+#[derive(Drop)]
+pub struct Display {
+    /// The terminal's operations.
+    pub profile: Profile,
+    /// What the terminal shows.
+    pub emulated: Emulated,
+    // What it has to show after an update that ends well.
+    pub(crate) plain: Plain,
+    // What the last update left there.
+    left: Left,
+}
 
 /// A screen, its terminal, and what was called, answered and sent since it was opened.
 #[derive(Drop)]
 pub struct Recorded {
-    alloc: Global,
-    size: Size,
-    entry: Entry,
+    pub(crate) alloc: Global,
+    pub(crate) size: Size,
+    pub(crate) entry: Entry,
     /// The screen.
     pub screen: Screen,
     /// The terminal.
     pub display: Display,
     // Each update has a writer of its own. The device counts the failures of all.
     device: Device<Faulty>,
-    calls: Vec<Call>,
+    pub(crate) calls: Vec<Call>,
     answers: Buffer,
-    // All bytes that the writers took, and where they failed, behind how many of these.
-    sent: Vec<u8>,
+    // All bytes that the writers accepted, and where they failed, after how many of these.
+    pub(crate) sent: Vec<u8>,
     faults: Vec<WriterFault>,
     // Whether the last update ended well.
     last_ok: bool,
@@ -117,7 +132,7 @@ impl Recorded {
     }
 
     /// Starts or closes the screen with a writer that fails so, and adds what that answers. The emulated screen is fed
-    /// what was sent where the entry has no text for it: others are no ECMA-48 texts.
+    /// what was sent where the entry has no text for it: others are not ECMA-48.
     pub fn send_end(&mut self, end: End, fails: Fails, came: &mut Buffer) -> Result<(), Trouble> {
         self.display.left.forget();
         self.device.writer = writer_that(self.alloc, fails)?;
@@ -135,7 +150,7 @@ impl Recorded {
         self.keep_sent()
     }
 
-    /// Adds what the writer took, how often it failed, and whether the last update ended well.
+    /// Adds what the writer accepted, how often it failed, and whether the last update ended well.
     pub fn dump_writer(&self, bytes: &mut Buffer) {
         bytes.extend(&self.sent);
         bytes.extend(&self.device.failed_puts.to_be_bytes());
@@ -157,43 +172,13 @@ impl Recorded {
     pub fn add_session(&self, came: &mut Buffer) -> Result<(), Trouble> {
         let room = Vec::with_capacity(self.alloc, self.sent.len())?;
         let mut device = Device::new(Faulty::with_faults(room, self.faults.clone()?));
-        match self.session(&mut device)? {
-            Some(report) => self.add_agrees(&device, &report, came),
-            None => {
-                let is_called = device.writer.calls() > 0;
-                add_word(
-                    if is_called {
-                        "the writer was called"
-                    } else {
-                        "NoMemory"
-                    },
-                    came,
-                );
-                Ok(())
-            }
+        let size = Some(self.size);
+        match session(self.alloc, &self.entry, size, &self.calls, &mut device) {
+            Ok(report) => return self.add_agrees(&device, &report, came),
+            Err(OpenFault::NoMemory) if device.writer.calls() == 0 => add_word("NoMemory", came),
+            Err(_) => add_word("no session", came),
         }
-    }
-
-    /// Makes the calls by one session into a writer; `None` where the library was refused memory.
-    pub fn session<W: Counted>(&self, out: &mut W) -> Result<Option<Report>, Trouble> {
-        match session(self.alloc, &self.entry, Some(self.size), &self.calls, out) {
-            Ok(report) => Ok(Some(report)),
-            Err(OpenFault::NoMemory) => Ok(None),
-            Err(_) => Err(Trouble::Bad("no profile")),
-        }
-    }
-
-    /// Has `session` make two updates behind the calls.
-    pub fn go_on(&mut self) -> Result<(), Trouble> {
-        self.calls.push(Call::Doupdate)?;
-        self.calls.push(Call::Doupdate)?;
         Ok(())
-    }
-
-    /// Has it make them no longer.
-    pub fn go_back(&mut self) {
-        let count = self.calls.len().saturating_sub(2);
-        self.calls.truncate(count);
     }
 
     /// How many bytes the next update may send, as far as that is known.
@@ -201,11 +186,6 @@ impl Recorded {
         self.display
             .left
             .most(&self.display.profile, self.screen.picture())
-    }
-
-    /// What all updates sent.
-    pub fn sent(&self) -> &[u8] {
-        &self.sent
     }
 
     /// What the last update sent.
@@ -264,7 +244,7 @@ impl Recorded {
         Ok(())
     }
 
-    // Has the terminal take what the last update sent, and tells whether that is defined.
+    // Feeds the terminal what the last update sent, and tells whether that is defined.
     fn feed(&mut self) -> Result<bool, Trouble> {
         let (display, taken) = (&mut self.display, self.device.writer.taken());
         let is_fed = display.emulated.take(&display.profile, taken, &self.last.0);
@@ -272,7 +252,7 @@ impl Recorded {
         Ok(is_fed)
     }
 
-    // Keeps what the writer took.
+    // Keeps what the writer accepted.
     fn keep_sent(&mut self) -> Result<(), Trouble> {
         self.sent.extend_from_slice(self.device.writer.taken())?;
         Ok(())
@@ -317,11 +297,50 @@ impl Recorded {
         }
     }
 
-    // Whether another device has taken the same.
+    // Whether another device has accepted the same.
     fn has_sent(&self, device: &Device<Faulty>) -> bool {
         device.writer.taken() == self.sent.as_slice()
             && device.failed_puts == self.device.failed_puts
             && device.failed_finishes == self.device.failed_finishes
+    }
+}
+
+// The terminal of an entry, or why it has none.
+fn open_display(
+    alloc: Global,
+    entry: &Entry,
+    size: Size,
+) -> Result<Result<Display, OpenFault>, Trouble> {
+    let profile = match Profile::admit(alloc, entry, Some(size)) {
+        Ok(profile) => profile,
+        Err(ProfileFault::NoMemory) => return Ok(Err(OpenFault::NoMemory)),
+        Err(fault) => return Ok(Err(OpenFault::Profile(fault))),
+    };
+    Ok(Ok(Display {
+        profile,
+        emulated: Emulated::new(alloc, entry, size)?,
+        plain: Plain::blank(alloc, size)?,
+        left: Left::unknown(alloc, size)?,
+    }))
+}
+
+// Whether an entry has a text for the beginning or the end of a program's use of the screen.
+fn has_ends(entry: &Entry) -> bool {
+    [slots::SMCUP, slots::SMKX, slots::RMKX, slots::RMCUP]
+        .iter()
+        .any(|slot| entry.text(*slot).is_some())
+}
+
+// Whether an update after a call may paint more than what differs: a redrawing, or a window that wishes the whole
+// screen anew.
+fn may_paint_all(screen: &Screen, call: &Call) -> bool {
+    match call {
+        Call::RedrawWindow(_) | Call::RedrawLines(..) => true,
+        Call::Noutrefresh(win) | Call::PadNoutrefresh(win, ..) => match screen.window(*win) {
+            Ok(window) => window.clear_ok(),
+            Err(_) => false,
+        },
+        _ => false,
     }
 }
 

@@ -1,11 +1,11 @@
 //! Sessions that are made up: what a program does with windows, pads, colours, marks and wishes, and updates that fail
-//! now and then, or are cut at every byte.
+//! now and then, or are cut after each number of their bytes.
 
 use crate::answers::add_count;
-use crate::cuts::cut_update;
+use crate::calls::{Obeyed, obey};
+use crate::cuts::{count_cuts, cuts_of};
 use crate::entries::read_entry;
 use crate::made_up::{add_line, add_taking};
-use crate::obeying::{Obeyed, obey};
 use crate::recorded::Recorded;
 use check_harness::answers::{add_number, add_text, add_word, read_size};
 use check_harness::buffers::Buffer;
@@ -29,13 +29,13 @@ static BEGIN: [&str; 8] = [
     "add_text 0 \"pi rho omicron alpha be gamma delta\\n\\nx be alpha rho gamma delta pi\\nbe\\n\"",
 ];
 
-// How many updates sent something and ended well, failed, and moved rows or characters; or how many were cut.
+// How many updates sent something and ended well, failed, and moved rows or characters, and how often one was cut.
 #[derive(Clone, Copy)]
 struct Counts {
-    sent: u64,
-    failed: u64,
-    moved: u64,
-    cuts: u64,
+    sent: u32,
+    failed: u32,
+    moved: u32,
+    cuts: u32,
 }
 
 // The sessions of a line, up to now.
@@ -44,6 +44,7 @@ struct Sessions {
     alloc: Global,
     size: Size,
     updates: u32,
+    // Whether each update is cut after each number of its bytes.
     is_cut: bool,
     random: Random,
     counts: Counts,
@@ -54,14 +55,14 @@ struct Sessions {
 }
 
 /// The line `sessions R C COUNT UPDATES SEED SENT FAILED MOVED NAME ..`: so many sessions on a screen as with `screen R
-/// C NAME ..`, each of so many updates behind calls that are made up, and now and then behind others' bytes on a row
-/// that is marked. Some updates fail behind some of their bytes. Each that is Ok has to show the plain picture and to
+/// C NAME ..`, each of so many updates after calls that are made up, and now and then after others' bytes on a row
+/// that is marked. Some updates fail after some of their bytes. Each that is Ok has to show the plain picture and to
 /// send no more than it may, and all calls of a session, made again by `session`, answer and send the same. Adds
 /// `agrees`, where at least so many updates sent something, failed, and moved rows or characters. Where something does
 /// not agree, adds the number of the session, what came of its last line, and all its lines.
 ///
-/// The line `cut_sessions R C COUNT UPDATES SEED CUTS NAME ..`: the same, but that each update is cut at every byte and
-/// at its flush, which is at least so many cuts.
+/// The line `cut_sessions R C COUNT UPDATES SEED CUTS NAME ..`: the same, but that no update fails and nothing is
+/// written by others, and each update is cut as with `count_cuts`, which is at least so many cuts.
 pub fn check_sessions(
     alloc: Global,
     opened: &mut Option<Recorded>,
@@ -73,7 +74,11 @@ pub fn check_sessions(
         return Ok(());
     };
     let (count, updates, seed) = (words.number(), words.number(), words.number());
-    let least = read_least(is_cut, words);
+    let least = if is_cut {
+        [0, 0, 0, words.number()]
+    } else {
+        [words.number(), words.number(), words.number(), 0]
+    };
     let names = *words;
     let _entry = read_entry(alloc, words);
     words.done()?;
@@ -88,53 +93,25 @@ pub fn check_sessions(
     Ok(())
 }
 
-// How many there have to be at least.
-fn read_least(is_cut: bool, words: &mut Words<'_>) -> Counts {
-    let mut least = Counts::none();
-    if is_cut {
-        least.cuts = u64::from(words.number());
-    } else {
-        least.sent = u64::from(words.number());
-        least.failed = u64::from(words.number());
-        least.moved = u64::from(words.number());
-    }
-    least
-}
-
 impl Counts {
-    fn none() -> Counts {
-        Counts {
-            sent: 0,
-            failed: 0,
-            moved: 0,
-            cuts: 0,
-        }
-    }
-
     // Counts an update that answered so and began these operations.
     fn count(&mut self, answer: &[u8], ops: &[Op]) {
-        if !answer.starts_with(b" Ok") {
-            self.failed = self.failed.saturating_add(1);
-        } else if !ops.is_empty() {
-            self.sent = self.sent.saturating_add(1);
-        }
-        if has_moved(ops) {
-            self.moved = self.moved.saturating_add(1);
-        }
+        let is_well = answer.starts_with(b" Ok");
+        let is_sent = is_well && !ops.is_empty();
+        self.failed = self.failed.saturating_add(u32::from(!is_well));
+        self.sent = self.sent.saturating_add(u32::from(is_sent));
+        self.moved = self.moved.saturating_add(u32::from(has_moved(ops)));
     }
 
     // Adds `agrees`, or how many there are of each, where these are fewer than at least wanted.
-    fn add(&self, least: Counts, came: &mut Buffer) {
-        let are_enough = self.sent >= least.sent
-            && self.failed >= least.failed
-            && self.moved >= least.moved
-            && self.cuts >= least.cuts;
-        if are_enough {
+    fn add(&self, [sent, failed, moved, cuts]: [u32; 4], came: &mut Buffer) {
+        let are_enough = self.sent >= sent && self.failed >= failed && self.moved >= moved;
+        if are_enough && self.cuts >= cuts {
             add_word("agrees", came);
             return;
         }
         for count in [self.sent, self.failed, self.moved, self.cuts] {
-            add_count(count, came);
+            add_count(u64::from(count), came);
         }
     }
 }
@@ -159,7 +136,12 @@ impl Sessions {
             updates,
             is_cut,
             random: Random::new(seed),
-            counts: Counts::none(),
+            counts: Counts {
+                sent: 0,
+                failed: 0,
+                moved: 0,
+                cuts: 0,
+            },
             line: Buffer::new(alloc),
             answer: Buffer::new(alloc),
             story: Buffer::new(alloc),
@@ -204,7 +186,7 @@ impl Sessions {
         Ok(self.answer.bytes().ends_with(b" agrees"))
     }
 
-    // Makes the next calls and an update, and cuts that everywhere, or it may fail.
+    // Makes the next calls and an update, which may fail or is cut in each way.
     fn check_update(&mut self, opened: &mut Recorded) -> Result<bool, Trouble> {
         for _ in 0..=self.random.below(8) {
             add_line(self.alloc, &opened.screen, &mut self.random, &mut self.line);
@@ -221,15 +203,16 @@ impl Sessions {
         Ok(is_well && (!self.is_cut || self.cut(opened)?))
     }
 
-    // Cuts the last update everywhere, and tells whether all cuts agree.
+    // Cuts the last update in each way, and tells whether all cuts agree; adds how many agree where not all do.
     fn cut(&mut self, opened: &mut Recorded) -> Result<bool, Trouble> {
-        match cut_update(self.alloc, opened, &mut self.answer)? {
-            Some(cuts) => {
-                self.counts.cuts = self.counts.cuts.saturating_add(cuts);
-                Ok(true)
-            }
-            None => Ok(false),
+        let (agreeing, all) = (count_cuts(opened)?, cuts_of(opened));
+        if agreeing < all {
+            add_word("cuts", &mut self.answer);
+            add_count(agreeing as u64, &mut self.answer);
         }
+        let cuts = u32::try_from(agreeing).unwrap_or(0);
+        self.counts.cuts = self.counts.cuts.saturating_add(cuts);
+        Ok(agreeing == all)
     }
 
     // Marks a row, and has others write there, if it could be marked: an attribute where it can be turned off, and a
@@ -254,7 +237,7 @@ impl Sessions {
         Ok(())
     }
 
-    // Adds an update, which fails now and then, most often behind a few bytes.
+    // Adds an update, which fails now and then, most often after a few bytes.
     fn add_update(&mut self) {
         let kind = if self.is_cut {
             9

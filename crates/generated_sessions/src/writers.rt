@@ -14,9 +14,9 @@ const ROOM: usize = 8192;
 pub enum Fails {
     /// It does not.
     Never,
-    /// Behind so many bytes, with `BrokenPipe`.
+    /// After so many bytes, with `BrokenPipe`.
     Behind(u32),
-    /// Behind so many bytes, by taking nothing.
+    /// After so many bytes, by accepting nothing.
     StuckBehind(u32),
     /// When it is flushed, with `Other`.
     Flushed,
@@ -32,7 +32,7 @@ pub enum End {
 }
 
 impl Fails {
-    /// The same as a fault of a writer that has taken nothing before the update; `None` where it does not fail.
+    /// The same as a failure of a writer that has accepted nothing before the update; `None` where it does not fail.
     pub fn fault(self) -> Option<WriterFault> {
         let (limit, failure, kind) = match self {
             Fails::Never => return None,
