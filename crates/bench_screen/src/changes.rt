@@ -1,14 +1,7 @@
-//! What changes between two updates of a screen that two windows lie over, each over all of it:
-//!
-//! - `character`: a character in the middle
-//! - `lines`, `page`, `moved`: so many lines. The windows come in turn: they differ in every place, or are two pages of
-//!   text, or two pages of which one begins a line later
-//! - `status`: parts of a status line in reverse, and a character that is typed from the middle of the screen on
-//! - `scattered`: so many places all over the screen, in three pens
-//! - `letter`: a letter that is typed into the middle of a line: what comes after it moves to the right
+//! What changes between two updates.
 
 use crate::keys::digit;
-use crate::pages::{draw_line, draw_page};
+use crate::pages::{draw_line, draw_next_page, draw_page};
 use crate::screens::{FIRST, fill};
 use anyhow::{Result, bail};
 use curses::Screen;
@@ -16,42 +9,73 @@ use scr_cells::Attrs;
 use scr_windows::Win;
 use std::alloc::Global;
 
-/// Draws what a window holds before any change.
-pub fn prepare(alloc: Global, screen: &mut Screen, win: Win, change: &str) -> Result<()> {
-    let is_first = win == FIRST;
-    match change {
-        "character" | "lines" => fill(screen, win, if is_first { b'x' } else { b'y' }),
-        "moved" => draw_page(alloc, screen, win, 1, !is_first),
-        "letter" => {
-            draw_page(alloc, screen, win, 1, false)?;
-            draw_line(alloc, screen, win, 2)
+/// What changes between two updates of a screen that two windows lie over, each over all of it.
+#[derive(Clone, Copy)]
+pub enum Change {
+    /// A character in the middle.
+    Character,
+    /// So many lines: the windows come in turn, and differ in every place.
+    Lines(u32),
+    /// Parts of a status line in reverse, and a character that is typed from the middle of the screen on.
+    Status,
+    /// So many places all over the screen, in three pens.
+    Scattered(u32),
+    /// So many lines: the windows come in turn, and are pages of text.
+    Page(u32),
+    /// So many lines: the windows come in turn, and are pages of one text, of which one begins a line later.
+    Moved(u32),
+    /// A letter that is typed into the middle of a line: what is behind it moves to the right.
+    Letter,
+}
+
+impl Change {
+    /// The change of a name, with its number of lines or places.
+    pub fn named(name: &str, number: u32) -> Result<Change> {
+        match name {
+            "character" => Ok(Change::Character),
+            "lines" => Ok(Change::Lines(number)),
+            "status" => Ok(Change::Status),
+            "scattered" => Ok(Change::Scattered(number)),
+            "page" => Ok(Change::Page(number)),
+            "moved" => Ok(Change::Moved(number)),
+            "letter" => Ok(Change::Letter),
+            _ => bail!("no such change"),
         }
-        _ => draw_page(alloc, screen, win, if is_first { 1 } else { 2 }, false),
+    }
+
+    /// Draws what a window holds before any change: a page of text, or one character in all places. Each window has its
+    /// own.
+    pub fn prepare(self, alloc: Global, screen: &mut Screen, win: Win) -> Result<()> {
+        let is_first = win == FIRST;
+        match self {
+            Change::Character | Change::Lines(_) => {
+                fill(screen, win, if is_first { b'x' } else { b'y' })
+            }
+            Change::Moved(_) if !is_first => draw_next_page(alloc, screen, win, 1),
+            Change::Letter => draw_long_line(alloc, screen, win),
+            _ => draw_page(alloc, screen, win, if is_first { 1 } else { 2 }),
+        }
+    }
+
+    /// Draws the change, and gives the window that it is in. The number says how many were drawn before.
+    pub fn draw(self, screen: &mut Screen, windows: [Win; 2], done: u32) -> Result<Win> {
+        match self {
+            Change::Character => draw_character(screen, done)?,
+            Change::Status => draw_status(screen, done)?,
+            Change::Scattered(places) => draw_scattered(screen, places, done)?,
+            Change::Letter => draw_letter(screen, done)?,
+            Change::Lines(lines) | Change::Page(lines) | Change::Moved(lines) => {
+                return touch(screen, windows[done as usize % 2], lines);
+            }
+        }
+        Ok(FIRST)
     }
 }
 
-/// Draws a change of so many lines or places, and gives the window that it is in. The last number says how many were
-/// drawn before.
-pub fn draw(
-    screen: &mut Screen,
-    windows: [Win; 2],
-    change: &str,
-    number: u32,
-    done: u32,
-) -> Result<Win> {
-    match change {
-        "lines" | "page" | "moved" => {
-            let win = windows[done as usize % 2];
-            screen.touch_lines(win, 0, number, true)?;
-            return Ok(win);
-        }
-        "character" => draw_character(screen, done)?,
-        "status" => draw_status(screen, done)?,
-        "scattered" => draw_scattered(screen, number, done)?,
-        "letter" => draw_letter(screen, done)?,
-        _ => bail!("no such change"),
-    }
-    Ok(FIRST)
+// Touches lines of a window.
+fn touch(screen: &mut Screen, win: Win, lines: u32) -> Result<Win> {
+    screen.touch_lines(win, 0, lines, true)?;
+    Ok(win)
 }
 
 // Writes one of two characters in the middle of the first window.
@@ -63,47 +87,47 @@ fn draw_character(screen: &mut Screen, done: u32) -> Result<()> {
     Ok(())
 }
 
-// Where in the middle row the next character is typed.
-fn typing(screen: &Screen, done: u32) -> Result<(u32, u32)> {
+// Types a character behind those typed before, as an editor does: the status line is written anew.
+fn draw_status(screen: &mut Screen, done: u32) -> Result<()> {
     let (rows, columns) = screen.size(FIRST)?;
     let half = columns / 2;
-    Ok((rows / 2, half.saturating_add(done % half.max(1))))
-}
-
-// Types a character after those typed before, as an editor does: the status line is written anew.
-fn draw_status(screen: &mut Screen, done: u32) -> Result<()> {
-    let (rows, _) = screen.size(FIRST)?;
-    let (row, column) = typing(screen, done)?;
+    let column = half.saturating_add(done % half.max(1));
     screen.move_cursor(FIRST, rows.saturating_sub(1), 0)?;
     screen.clear_to_eol(FIRST)?;
     screen.attr_set(FIRST, Attrs::REVERSE)?;
-    for (text, number) in [
-        (b"notes.txt  column ".as_slice(), column),
-        (b"  size ", done.saturating_add(1000)),
-        (b"  key ", done),
-    ] {
-        let _ = screen.add_text(FIRST, text)?;
-        let _ = screen.add_text(FIRST, &digits(number))?;
-    }
+    add_number(screen, b"notes.txt  column ", column)?;
+    add_number(screen, b"  size ", done.saturating_add(1000))?;
+    add_number(screen, b"  key ", done)?;
     screen.attr_set(FIRST, Attrs(0))?;
-    screen.move_cursor(FIRST, row, column)?;
-    screen.add_byte(FIRST, letter(done), Attrs(0))?;
+    screen.move_cursor(FIRST, rows / 2, column)?;
+    screen.add_byte(FIRST, b'A' + (done % 26) as u8, Attrs(0))?;
     Ok(())
 }
 
-// Types a letter after those typed before.
+// A page of text whose middle line is long, and has room for more.
+fn draw_long_line(alloc: Global, screen: &mut Screen, win: Win) -> Result<()> {
+    let (rows, _) = screen.size(win)?;
+    draw_page(alloc, screen, win, 1)?;
+    draw_line(alloc, screen, win, 2, rows / 2)
+}
+
+// Types a letter behind those typed before.
 fn draw_letter(screen: &mut Screen, done: u32) -> Result<()> {
-    let (_, columns) = screen.size(FIRST)?;
-    let (row, column) = typing(screen, done)?;
-    screen.move_cursor(FIRST, row, column)?;
-    screen.insert_byte(FIRST, letter(done), Attrs(0))?;
+    let (rows, columns) = screen.size(FIRST)?;
+    let half = columns / 2;
+    let column = half.saturating_add(done % half.max(1));
+    screen.move_cursor(FIRST, rows / 2, column)?;
+    screen.insert_byte(FIRST, b'A' + (done % 26) as u8, Attrs(0))?;
     let next = column.saturating_add(1).min(columns.saturating_sub(1));
-    screen.move_cursor(FIRST, row, next)?;
+    screen.move_cursor(FIRST, rows / 2, next)?;
     Ok(())
 }
 
-fn letter(done: u32) -> u8 {
-    b'A' + (done % 26) as u8
+// Adds a text and the last four digits of a number.
+fn add_number(screen: &mut Screen, text: &[u8], number: u32) -> Result<()> {
+    let _ = screen.add_text(FIRST, text)?;
+    let _ = screen.add_text(FIRST, &digits(number))?;
+    Ok(())
 }
 
 // The last four digits of a number.

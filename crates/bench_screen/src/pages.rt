@@ -9,7 +9,7 @@ use std::alloc::Global;
 // Letters, each as often as it comes among 64 of an English text.
 const LETTERS: &[u8; 64] = b"eeeeeeeettttttaaaaaoooooiiiinnnnsssshhhhrrrrdddlllccuummwfgypbvk";
 
-// Random numbers, the same after the same seed.
+// Random numbers, the same behind the same seed.
 #[derive(Drop)]
 struct Random(u32);
 
@@ -28,54 +28,70 @@ impl Random {
             _ => columns.saturating_sub(1),
         }
     }
-
-    // Writes as many words, with a blank after each, as a width has room for.
-    fn write_line(&mut self, width: u32, line: &mut Vec<u8>) -> Result<()> {
-        line.clear();
-        for _ in 0..width {
-            let length = 2 + self.next() % 9;
-            if line.len().saturating_add(length as usize) > width as usize {
-                break;
-            }
-            for _ in 1..length {
-                line.push(LETTERS[self.next() as usize % 64])?;
-            }
-            line.push(b' ')?;
-        }
-        Ok(())
-    }
 }
 
-/// Writes the page of a seed onto a blank window, or what of it comes after its first line, with one more line.
-pub fn draw_page(
-    alloc: Global,
+// As many words, with a blank behind each, as a width has room for.
+fn write_line(random: &mut Random, width: u32, line: &mut Vec<u8>) -> Result<()> {
+    line.clear();
+    for _ in 0..width {
+        let length = 2 + random.next() % 9;
+        if line.len().saturating_add(length as usize) > width as usize {
+            break;
+        }
+        add_word(random, length, line)?;
+    }
+    Ok(())
+}
+
+// A word, whose length counts the blank behind it.
+fn add_word(random: &mut Random, length: u32, line: &mut Vec<u8>) -> Result<()> {
+    for _ in 1..length {
+        line.push(LETTERS[random.next() as usize % 64])?;
+    }
+    line.push(b' ')?;
+    Ok(())
+}
+
+// Writes a page line by line.
+fn write_page(
     screen: &mut Screen,
     win: Win,
-    seed: u32,
-    is_next: bool,
+    random: &mut Random,
+    line: &mut Vec<u8>,
 ) -> Result<()> {
     let (rows, columns) = screen.size(win)?;
-    let (mut random, mut line) = (Random(seed), Vec::new(alloc));
-    if is_next {
-        let width = random.width(columns);
-        random.write_line(width, &mut line)?;
-    }
     for row in 0..rows {
         let width = random.width(columns);
-        random.write_line(width, &mut line)?;
+        write_line(random, width, line)?;
         screen.move_cursor(win, row, 0)?;
-        let _ = screen.add_text(win, &line)?;
+        let _ = screen.add_text(win, line)?;
     }
     screen.move_cursor(win, 0, 0)?;
     Ok(())
 }
 
-/// Writes a line of words over three quarters of the middle row.
-pub fn draw_line(alloc: Global, screen: &mut Screen, win: Win, seed: u32) -> Result<()> {
-    let (rows, columns) = screen.size(win)?;
+/// Writes the page of a seed onto a blank window.
+pub fn draw_page(alloc: Global, screen: &mut Screen, win: Win, seed: u32) -> Result<()> {
     let mut line = Vec::new(alloc);
-    Random(seed).write_line(columns / 4 * 3, &mut line)?;
-    screen.move_cursor(win, rows / 2, 0)?;
+    write_page(screen, win, &mut Random(seed), &mut line)
+}
+
+/// Writes the page of a seed onto a blank window from its second line on, with one more line at its end.
+pub fn draw_next_page(alloc: Global, screen: &mut Screen, win: Win, seed: u32) -> Result<()> {
+    let (_, columns) = screen.size(win)?;
+    let mut random = Random(seed);
+    let mut line = Vec::new(alloc);
+    let width = random.width(columns);
+    write_line(&mut random, width, &mut line)?;
+    write_page(screen, win, &mut random, &mut line)
+}
+
+/// Writes a line of words over three quarters of a row.
+pub fn draw_line(alloc: Global, screen: &mut Screen, win: Win, seed: u32, row: u32) -> Result<()> {
+    let (_, columns) = screen.size(win)?;
+    let mut line = Vec::new(alloc);
+    write_line(&mut Random(seed), columns / 4 * 3, &mut line)?;
+    screen.move_cursor(win, row, 0)?;
     screen.clear_to_eol(win)?;
     let _ = screen.add_text(win, &line)?;
     Ok(())

@@ -1,18 +1,11 @@
-//! Parameter strings, profiles and the emulated screen: `terminals ACTION NAME COUNT`. The number is the sum of all
-//! results.
-//!
-//! - `read|run|length cup|sgr|clear|status`: reads, runs or measures a parameter string
-//! - `admit bundled`: makes a profile of the bundled entry
-//! - `feed bundled`, `place bundled`: feeds the emulated screen a cursor address, with a line of 79 graphic characters
-//!   after it or alone
-//! - `paint bundled`: renders the operations for one place of a screen, a bold character
-//! - `address bundled`, `price bundled`: renders a cursor address, or asks for its price
-//! - `scratch bundled`: makes the bytes that paint a whole screen of 24 rows and 80 columns
+//! Uses a terminal's parameter strings, profile and emulated screen: `terminals read|run|length cup|sgr|clear|status
+//! COUNT` reads, runs or measures a parameter string; `terminals admit|feed|place|paint|scratch|address|price bundled
+//! COUNT` makes a profile of the bundled entry, feeds the emulated screen a cursor address with a line of 79 graphic
+//! characters behind it or alone, renders the operations for one place of a screen, makes the bytes that paint a whole
+//! one of 24 rows and 80 columns, renders a cursor address, or asks for its price. The number is made of all results.
 
-use crate::repeat;
-use crate::screens::size_of;
-use anyhow::{Result, bail};
-use scr_cells::{Attrs, Picture};
+use anyhow::{Result, anyhow, bail};
+use scr_cells::{Attrs, Picture, Size};
 use scr_plan::scratch_bytes;
 use scr_term::{Op, Profile};
 use scr_terminal::EcmaScreen;
@@ -30,95 +23,170 @@ const CLEAR: &[u8] = b"\x1b[H\x1b[2J";
 const STATUS: &[u8] =
     b"\x1b[?1049h\x1b[22;0;0t\x1b[?1h\x1b=\x1b[?7h\x1b[4l\x1b>\x1b[?1000l\x1b[?25h\x1b(B\x1b[m";
 
-// A cursor address, and 79 graphic characters after it.
-const LINE: &[u8] =
-    b"\x1b[1;1H!\"#$%&'()*+,-./0123456789:;<=>?@ABCDEFGHIJKLMNOPQRSTUVWXYZ[\\]^_`abcdefghijklmno";
-
-// The operations for one place.
-const PLACE: &[Op] = &[
-    Op::Move(23, 78),
-    Op::Reset,
-    Op::Enter(Attrs(32)),
-    Op::Put(b'x'),
-];
-
-/// The sum of all results.
-pub fn measure(alloc: Global, action: &str, name: &str, count: u32) -> Result<u64> {
-    match name {
-        "cup" => of_program(alloc, action, CUP, [23, 79, 0, 0, 0, 0, 0, 0, 0], count),
-        "sgr" => of_program(alloc, action, SGR, [0, 1, 1, 0, 0, 1, 0, 0, 0], count),
-        "clear" => of_program(alloc, action, CLEAR, [0; 9], count),
-        "status" => of_program(alloc, action, STATUS, [0; 9], count),
-        _ => of_bundled(alloc, action, count),
-    }
-}
-
-// The table of parameter strings.
-fn of_program(
-    alloc: Global,
-    action: &str,
-    text: &[u8],
-    params: [i32; 9],
-    count: u32,
-) -> Result<u64> {
+// Runs a program so many times, and adds up what it writes.
+fn run_again(alloc: Global, text: &[u8], params: [i32; 9], count: u32) -> Result<usize> {
     let program = Program::read(alloc, text)?;
     let mut vars = Vars::new();
     let mut out = Vec::with_capacity(alloc, 256)?;
-    match action {
-        "run" => repeat(count, |_| {
-            out.clear();
-            program.run(params, &mut vars, &mut out)?;
-            Ok(out.len() as u64)
-        }),
-        "length" => repeat(count, |_| Ok(program.length(params, &vars)? as u64)),
-        "read" => repeat(count, |_| Ok(Program::read(alloc, text)?.bound() as u64)),
-        _ => bail!("no such action"),
+    let mut sum = 0usize;
+    for _ in 0..count {
+        out.clear();
+        program.run(params, &mut vars, &mut out)?;
+        sum = sum.wrapping_add(out.len());
     }
+    Ok(sum)
 }
 
-// The table of the bundled entry.
-fn of_bundled(alloc: Global, action: &str, count: u32) -> Result<u64> {
-    let size = size_of(24, 80)?;
-    let profile = Profile::ecma48(alloc, size)?;
-    let mut screen = EcmaScreen::new(alloc, size)?;
-    let mut out = Vec::with_capacity(alloc, 256)?;
-    match action {
-        "admit" => repeat(
-            count,
-            |_| Ok(Profile::ecma48(alloc, size)?.longest() as u64),
-        ),
-        "feed" => repeat(count, |_| Ok(u64::from(screen.feed(LINE).is_err()))),
-        "place" => repeat(count, |_| Ok(u64::from(screen.feed(b"\x1b[1;1H").is_err()))),
-        "paint" => repeat(count, |_| render(&profile, PLACE, &mut out)),
-        "address" => repeat(count, |_| render(&profile, &[Op::Move(23, 78)], &mut out)),
-        // Another row each time: the price of one address would be found once, before the loop.
-        "price" => repeat(count, |done| {
-            Ok(profile.cost(Op::Move(done % 16, 78)).unwrap_or(0) as u64)
-        }),
-        "scratch" => {
-            let picture = Picture::new(alloc, size)?;
-            repeat(count, |_| painted(alloc, &profile, &picture))
+// Asks so many times how much a program would write, and adds it up.
+fn measure_again(alloc: Global, text: &[u8], params: [i32; 9], count: u32) -> Result<usize> {
+    let program = Program::read(alloc, text)?;
+    let vars = Vars::new();
+    let mut sum = 0usize;
+    for _ in 0..count {
+        sum = sum.wrapping_add(program.length(params, &vars)?);
+    }
+    Ok(sum)
+}
+
+// Reads a text so many times, and adds up the bounds.
+fn read_again(alloc: Global, text: &[u8], count: u32) -> Result<usize> {
+    let mut sum = 0usize;
+    for _ in 0..count {
+        sum = sum.wrapping_add(Program::read(alloc, text)?.bound());
+    }
+    Ok(sum)
+}
+
+// The size of the screens here.
+fn size() -> Result<Size> {
+    Size::new(24, 80).ok_or_else(|| anyhow!("no size"))
+}
+
+// Makes the profile of the bundled entry so many times, and adds up the lengths of the longest texts.
+fn admit_again(alloc: Global, count: u32) -> Result<usize> {
+    let size = size()?;
+    let mut sum = 0usize;
+    for _ in 0..count {
+        let profile = Profile::ecma48(alloc, size)?;
+        sum = sum.wrapping_add(profile.longest());
+    }
+    Ok(sum)
+}
+
+// A cursor address, and graphic characters behind it.
+fn line(alloc: Global, characters: u8) -> Result<Vec<u8>> {
+    let mut line = Vec::with_capacity(alloc, 128)?;
+    line.extend_from_slice(b"\x1b[1;1H")?;
+    for byte in 33..33u8.saturating_add(characters) {
+        line.push(byte)?;
+    }
+    Ok(line)
+}
+
+// Feeds an emulated screen a cursor address with so many graphic characters behind it again and again, and counts how
+// often that is undefined.
+fn feed_again(alloc: Global, characters: u8, count: u32) -> Result<usize> {
+    let mut screen = EcmaScreen::new(alloc, size()?)?;
+    let line = line(alloc, characters)?;
+    let mut sum = 0usize;
+    for _ in 0..count {
+        if screen.feed(&line).is_err() {
+            sum = sum.wrapping_add(1);
         }
-        _ => bail!("no such action"),
     }
+    Ok(sum)
 }
 
-// Renders operations, those that the profile has, and gives how many bytes that makes.
-fn render(profile: &Profile, ops: &[Op], out: &mut Vec<u8>) -> Result<u64> {
-    out.clear();
+// Renders the operations for one place, a bold character, so many times, and adds up the bytes.
+fn paint_again(alloc: Global, count: u32) -> Result<usize> {
+    let place = [
+        Op::Move(23, 78),
+        Op::Reset,
+        Op::Enter(Attrs(32)),
+        Op::Put(b'x'),
+    ];
+    render_again(alloc, &place, count)
+}
+
+// Renders operations so many times, and adds up the bytes.
+fn render_again(alloc: Global, place: &[Op], count: u32) -> Result<usize> {
+    let profile = Profile::ecma48(alloc, size()?)?;
+    let mut out = Vec::with_capacity(alloc, 256)?;
+    let mut sum = 0usize;
+    for _ in 0..count {
+        out.clear();
+        render(&profile, place, &mut out)?;
+        sum = sum.wrapping_add(out.len());
+    }
+    Ok(sum)
+}
+
+// Makes the bytes that paint a whole screen so many times, and adds them up.
+fn scratch_again(alloc: Global, count: u32) -> Result<usize> {
+    let size = size()?;
+    let profile = Profile::ecma48(alloc, size)?;
+    let picture = Picture::new(alloc, size)?;
+    let mut sum = 0usize;
+    for _ in 0..count {
+        sum = sum.wrapping_add(scratch_bytes(alloc, &profile, &picture)?.len());
+    }
+    Ok(sum)
+}
+
+// Asks for the price of a cursor address so many times, and adds it up. The row changes: that of one address would be
+// found once, before the loop.
+fn price_again(alloc: Global, count: u32) -> Result<usize> {
+    let profile = Profile::ecma48(alloc, size()?)?;
+    let mut sum = 0usize;
+    for index in 0..count {
+        sum = sum.wrapping_add(profile.cost(Op::Move(index % 16, 78)).unwrap_or(0));
+    }
+    Ok(sum)
+}
+
+// Renders operations, those that the profile has.
+fn render(profile: &Profile, ops: &[Op], out: &mut Vec<u8>) -> Result<()> {
     for op in ops {
         if profile.has(*op) {
             profile.render(*op, out)?;
         }
     }
-    Ok(out.len() as u64)
+    Ok(())
 }
 
-/// How many bytes paint a picture.
-pub fn painted(alloc: Global, profile: &Profile, picture: &Picture) -> Result<u64> {
-    let (size, other) = (picture.size(), profile.size());
-    if size.rows != other.rows || size.columns != other.columns {
-        bail!("the profile has another size");
+/// The sum of all results.
+pub fn measure(alloc: Global, action: &str, name: &str, count: u32) -> Result<u64> {
+    let sum = match action {
+        "admit" => admit_again(alloc, count)?,
+        "feed" => feed_again(alloc, 79, count)?,
+        "place" => feed_again(alloc, 0, count)?,
+        "scratch" => scratch_again(alloc, count)?,
+        "paint" => paint_again(alloc, count)?,
+        "price" => price_again(alloc, count)?,
+        "address" => render_again(alloc, &[Op::Move(23, 78)], count)?,
+        _ => measure_text(alloc, action, name, count)?,
+    };
+    Ok(sum as u64)
+}
+
+// The same of a parameter string.
+fn measure_text(alloc: Global, action: &str, name: &str, count: u32) -> Result<usize> {
+    let (text, params) = text_of(name)?;
+    match action {
+        "run" => run_again(alloc, text, params, count),
+        "length" => measure_again(alloc, text, params, count),
+        "read" => read_again(alloc, text, count),
+        _ => bail!("no such action"),
     }
-    Ok(scratch_bytes(alloc, profile, picture)?.len() as u64)
+}
+
+// A text and its parameters.
+fn text_of(name: &str) -> Result<(&'static [u8], [i32; 9])> {
+    match name {
+        "cup" => Ok((CUP, [23, 79, 0, 0, 0, 0, 0, 0, 0])),
+        "sgr" => Ok((SGR, [0, 1, 1, 0, 0, 1, 0, 0, 0])),
+        "clear" => Ok((CLEAR, [0; 9])),
+        "status" => Ok((STATUS, [0; 9])),
+        _ => bail!("no such text"),
+    }
 }

@@ -1,10 +1,9 @@
-//! Window calls: `windows ACTION ROWS COLUMNS COUNT` makes one call on a window of so many rows and columns. The number
-//! is the row of the cursor at the end.
+//! Calls one window call again and again: `windows add|feed|erase|copy|scroll|background ROWS COLUMNS COUNT` on a
+//! window of so many rows and columns. The number is the row of the cursor at the end.
 
-use crate::repeat;
-use crate::screens::{FIRST, size_of};
+use crate::screens::FIRST;
 use anyhow::{Result, anyhow, bail};
-use scr_cells::{Attrs, Cell};
+use scr_cells::{Attrs, Cell, Size};
 use scr_windows::Desk;
 use std::alloc::Global;
 
@@ -12,61 +11,86 @@ use std::alloc::Global;
 const LINE: &[u8] =
     b"The quick brown fox jumps over the lazy dog, and the dog sleeps on as if nothing";
 
-/// Sets up a desk, makes a call so often, and gives the row of the cursor.
-pub fn measure(alloc: Global, action: &str, [rows, columns, count]: [u32; 3]) -> Result<u64> {
-    let mut desk = Desk::new(alloc, size_of(rows, columns)?)?;
-    let (bottom, right) = (rows.saturating_sub(1), columns.saturating_sub(1));
-    let _done = call(alloc, &mut desk, action, (bottom, right), count)?;
-    Ok(u64::from(desk.cursor(FIRST)?.0))
+// Adds a line at the first place again and again: nothing scrolls.
+fn add(desk: &mut Desk, count: u32) -> Result<()> {
+    for _ in 0..count {
+        desk.move_cursor(FIRST, 0, 0)?;
+        let _ = desk.add_text(FIRST, LINE)?;
+    }
+    Ok(())
 }
 
-// The table.
-fn call(
+// Adds lines from the last row on: each scrolls.
+fn feed(desk: &mut Desk, last: u32, count: u32) -> Result<()> {
+    desk.scroll_ok(FIRST, true)?;
+    desk.move_cursor(FIRST, last, 0)?;
+    for _ in 0..count {
+        let _ = desk.add_text(FIRST, LINE)?;
+    }
+    Ok(())
+}
+
+// Erases all places.
+fn erase(desk: &mut Desk, count: u32) -> Result<()> {
+    for _ in 0..count {
+        desk.erase(FIRST)?;
+    }
+    Ok(())
+}
+
+// Copies all places to another window.
+fn copy(alloc: Global, desk: &mut Desk, last: (u32, u32), count: u32) -> Result<()> {
+    let other = desk.new_window(alloc, 0, 0, 0, 0)?;
+    for _ in 0..count {
+        desk.copy(alloc, FIRST, other, 0, 0, 0, 0, last.0, last.1, false)?;
+    }
+    Ok(())
+}
+
+// Scrolls all rows by one.
+fn scroll(desk: &mut Desk, count: u32) -> Result<()> {
+    desk.scroll_ok(FIRST, true)?;
+    for _ in 0..count {
+        desk.scroll(FIRST, 1)?;
+    }
+    Ok(())
+}
+
+// Exchanges the background in all places.
+fn background(desk: &mut Desk, count: u32) -> Result<()> {
+    let dot = Cell::new(b'.', Attrs::BOLD).ok_or_else(|| anyhow!("no cell"))?;
+    let dash = Cell::new(b'-', Attrs::DIM).ok_or_else(|| anyhow!("no cell"))?;
+    for done in 0..count {
+        let cell = if done % 2 == 0 { dot } else { dash };
+        desk.change_background(FIRST, cell)?;
+    }
+    Ok(())
+}
+
+/// The row of the cursor at the end.
+pub fn measure(alloc: Global, action: &str, [rows, columns, count]: [u32; 3]) -> Result<u64> {
+    let size = Size::new(rows, columns).ok_or_else(|| anyhow!("a size from 1 to 500"))?;
+    let last = (rows.saturating_sub(1), columns.saturating_sub(1));
+    let mut desk = Desk::new(alloc, size)?;
+    repeat(alloc, &mut desk, action, last, count)
+}
+
+// The same on a desk.
+fn repeat(
     alloc: Global,
     desk: &mut Desk,
     action: &str,
-    (bottom, right): (u32, u32),
+    last: (u32, u32),
     count: u32,
 ) -> Result<u64> {
-    let other = desk.new_window(alloc, 0, 0, 0, 0)?;
-    let cells = [
-        Cell::new(b'.', Attrs::BOLD).ok_or_else(|| anyhow!("no cell"))?,
-        Cell::new(b'-', Attrs::DIM).ok_or_else(|| anyhow!("no cell"))?,
-    ];
-    desk.scroll_ok(FIRST, true)?;
     match action {
-        // A line at the first place: nothing scrolls.
-        "add" => repeat(count, |_| {
-            desk.move_cursor(FIRST, 0, 0)?;
-            let _ = desk.add_text(FIRST, LINE)?;
-            Ok(0)
-        }),
-        // Lines from the last row on: each scrolls.
-        "feed" => {
-            desk.move_cursor(FIRST, bottom, 0)?;
-            repeat(count, |_| {
-                let _ = desk.add_text(FIRST, LINE)?;
-                Ok(0)
-            })
-        }
-        "erase" => repeat(count, |_| {
-            desk.erase(FIRST)?;
-            Ok(0)
-        }),
-        // All places, to another window.
-        "copy" => repeat(count, |_| {
-            desk.copy(alloc, FIRST, other, 0, 0, 0, 0, bottom, right, false)?;
-            Ok(0)
-        }),
-        "scroll" => repeat(count, |_| {
-            desk.scroll(FIRST, 1)?;
-            Ok(0)
-        }),
-        // Another background than before, in all places.
-        "background" => repeat(count, |done| {
-            desk.change_background(FIRST, cells[done as usize % 2])?;
-            Ok(0)
-        }),
+        "add" => add(desk, count),
+        "feed" => feed(desk, last.0, count),
+        "erase" => erase(desk, count),
+        "copy" => copy(alloc, desk, last, count),
+        "scroll" => scroll(desk, count),
+        "background" => background(desk, count),
         _ => bail!("no such action"),
-    }
+    }?;
+    Ok(u64::from(desk.cursor(FIRST)?.0))
 }
