@@ -74,7 +74,7 @@ fresh_writer = record { taken = Some []; failed_puts = 0; failed_finishes = 0 }
 abbrev pub IsOpenedOn : Description → Option Size → Session → Type 0
 IsOpenedOn entry size session = IsOpened entry size session.screen × (writer session ≡ fresh_writer)
 
--- None was opened. Memory runs out only after the flags and numbers of the entry have refused nothing.
+-- None was opened. Memory runs out only for an entry that is neither Unsuitable nor AutoMargin.
 abbrev pub IsUnopenedOn : Description → Option Size → Reply → Type 0
 IsUnopenedOn entry size reply = (fault : OpenFault) × IsUnopened entry size fault × (fault ≡ NoMemory → IsSuitable entry) × (reply ≡ open_reply fault)
 
