@@ -16,7 +16,7 @@ pub trait Subject: Sized {
     fn new(alloc: Global) -> Self;
 
     /// Makes the call of a line, and adds what it answers, in words. A line that is none fails.
-    fn answer(&mut self, words: &mut Words<'_>, came: &mut Buffer);
+    fn answer(&mut self, words: &mut Words<'_>, got: &mut Buffer);
 
     /// Adds all that can be seen.
     fn dump(&self, bytes: &mut Buffer);
@@ -37,7 +37,7 @@ struct Checker<'a, S: Subject + Drop> {
     // Room for texts of what is wanted.
     text: Buffer,
     wanted: Buffer,
-    came: Buffer,
+    got: Buffer,
     // The number of the line, from 1 on, and how many agree.
     line: u32,
     agree: u32,
@@ -54,7 +54,7 @@ impl<'a, S: Subject + Drop> Checker<'a, S> {
             subject: S::new(alloc),
             text: Buffer::new(alloc),
             wanted: Buffer::new(alloc),
-            came: Buffer::new(alloc),
+            got: Buffer::new(alloc),
             line: 0,
             agree: 0,
             is_whole: false,
@@ -78,7 +78,7 @@ impl<'a, S: Subject + Drop> Checker<'a, S> {
     fn check_line(&mut self, words: Words<'_>, times: u32) -> Result<bool, Trouble> {
         for done in 0..times {
             self.call(words)?;
-            if ran_out(self.came.bytes()) && !ran_out(self.wanted.bytes()) {
+            if ran_out(self.got.bytes()) && !ran_out(self.wanted.bytes()) {
                 self.call_again(words, done)?;
             }
             if !self.agrees() {
@@ -93,38 +93,38 @@ impl<'a, S: Subject + Drop> Checker<'a, S> {
         if self.is_as_before(words, done)? {
             return self.call(words);
         }
-        add_word("after which something is changed", &mut self.came);
+        add_word("after which something is changed", &mut self.got);
         Ok(())
     }
 
-    // Whether what came is wanted; where nothing is said, it is no refusal.
+    // Whether the answer is the one wanted; where none is given, whether it is not a refusal.
     fn agrees(&mut self) -> bool {
         if !self.wanted.bytes().is_empty() {
-            return self.wanted.bytes() == self.came.bytes();
+            return self.wanted.bytes() == self.got.bytes();
         }
         add_word("no refusal", &mut self.wanted);
-        let came = self.came.bytes();
-        matches!(came, b" Ok" | b" Done") || came.get(1).is_some_and(|first| first.is_ascii_digit())
+        let got = self.got.bytes();
+        matches!(got, b" Ok" | b" Done") || got.get(1).is_some_and(|first| first.is_ascii_digit())
     }
 
     // Makes a call, and reads what is wanted of it; `end` answers how many lines were before it.
     fn call(&mut self, line: Words<'_>) -> Result<(), Trouble> {
         let mut words = line;
-        self.came.clear();
+        self.got.clear();
         self.wanted.clear();
         self.is_whole = words.peek() == b"end".as_slice();
         if self.is_whole {
             let _end = words.next();
-            add_number(i64::from(self.agree), &mut self.came);
+            add_number(i64::from(self.agree), &mut self.got);
         } else {
-            self.subject.answer(&mut words, &mut self.came);
+            self.subject.answer(&mut words, &mut self.got);
         }
         match words.name() {
             "" => {}
             "=" => add_wanted(&mut words, &mut self.text, &mut self.wanted),
             _ => words.fail(Trouble::Bad("too many arguments")),
         }
-        words.check(self.came.done());
+        words.check(self.got.done());
         words.check(self.wanted.done());
         words.done()
     }
@@ -162,11 +162,11 @@ fn make<S: Subject>(
     line: Words<'_>,
     times: u32,
 ) -> Result<(), Trouble> {
-    let mut came = Buffer::new(alloc);
+    let mut got = Buffer::new(alloc);
     for _ in 0..times {
         let mut words = line;
-        came.clear();
-        subject.answer(&mut words, &mut came);
+        got.clear();
+        subject.answer(&mut words, &mut got);
         words.done()?;
     }
     Ok(())
@@ -193,7 +193,7 @@ fn ran_out(answer: &[u8]) -> bool {
 }
 
 /// Checks the script that the standard input has, and prints how many lines agree, or the first that does not with what
-/// was wanted and what came.
+/// was wanted and what was answered.
 pub fn check_input<S: Subject + Drop>(rt: &HostRuntime) -> ExitCode {
     match check_script::<S>(rt) {
         Ok(true) => return ExitCode::SUCCESS,
@@ -230,8 +230,8 @@ fn print_checked<S: Subject + Drop>(
         Ok(false) => {
             let _ = print!(rt; "line {line}: wanted");
             let _ = io::writer(rt).write_all(checker.wanted.bytes());
-            let _ = print!(rt; ", came");
-            let _ = io::writer(rt).write_all(checker.came.bytes());
+            let _ = print!(rt; ", got");
+            let _ = io::writer(rt).write_all(checker.got.bytes());
             let _ = println!(rt; "");
         }
         Err(Trouble::Bad(cause)) => {

@@ -22,7 +22,7 @@ use std::alloc::Global;
 pub fn check_changed(
     alloc: Global,
     words: &mut Words<'_>,
-    came: &mut Buffer,
+    got: &mut Buffer,
 ) -> Result<(), Trouble> {
     let Some(size) = read_size(words) else {
         return Ok(());
@@ -32,13 +32,13 @@ pub fn check_changed(
     let area = [rows, columns, row, column];
     let byte = words.byte();
     match Desk::new(alloc, size) {
-        Ok(mut desk) => add_changed_on(alloc, &mut desk, size, area, byte, came),
-        Err(_) => add_no_memory(came),
+        Ok(mut desk) => add_changed_on(alloc, &mut desk, size, area, byte, got),
+        Err(_) => add_no_memory(got),
     }
 }
 
-fn add_no_memory(came: &mut Buffer) -> Result<(), Trouble> {
-    add_word("NoMemory", came);
+fn add_no_memory(got: &mut Buffer) -> Result<(), Trouble> {
+    add_word("NoMemory", got);
     Ok(())
 }
 
@@ -49,11 +49,11 @@ fn add_changed_on(
     size: Size,
     area: [u32; 4],
     byte: u8,
-    came: &mut Buffer,
+    got: &mut Buffer,
 ) -> Result<(), Trouble> {
     match Virtual::new(alloc, size) {
-        Ok(mut screen) => add_changed_by(alloc, desk, &mut screen, area, byte, came),
-        Err(_) => add_no_memory(came),
+        Ok(mut screen) => add_changed_by(alloc, desk, &mut screen, area, byte, got),
+        Err(_) => add_no_memory(got),
     }
 }
 
@@ -65,7 +65,7 @@ fn add_changed_by(
     screen: &mut Virtual,
     [rows, columns, row, column]: [u32; 4],
     byte: u8,
-    came: &mut Buffer,
+    got: &mut Buffer,
 ) -> Result<(), Trouble> {
     take(screen, desk, Win(0))?;
     screen.settle();
@@ -73,10 +73,10 @@ fn add_changed_by(
         Ok(win) => {
             add_byte(desk, win, byte)?;
             take(screen, desk, win)?;
-            add_changed(screen, came);
-            add_plan(alloc, screen, came)
+            add_changed(screen, got);
+            add_plan(alloc, screen, got)
         }
-        Err(WinFault::NoMemory) => add_no_memory(came),
+        Err(WinFault::NoMemory) => add_no_memory(got),
         Err(_) => Err(Trouble::Bad("no such window")),
     }
 }
@@ -100,31 +100,28 @@ fn take(screen: &mut Virtual, desk: &mut Desk, win: Win) -> Result<(), Trouble> 
     }
 }
 
-fn add_changed(screen: &Virtual, came: &mut Buffer) {
+fn add_changed(screen: &Virtual, got: &mut Buffer) {
     for row in 0..screen.size().rows {
-        add_range(screen.changed(row), came);
-        add_range(screen.altered(row), came);
+        add_range(screen.changed(row), got);
+        add_range(screen.altered(row), got);
     }
 }
 
-fn add_range(range: Option<(u32, u32)>, came: &mut Buffer) {
+fn add_range(range: Option<(u32, u32)>, got: &mut Buffer) {
     match range {
-        Some((first, last)) => add_place(first, last, came),
-        None => add_word("none", came),
+        Some((first, last)) => add_place(first, last, got),
+        None => add_word("none", got),
     }
 }
 
 // Adds how many bytes a plan of the bundled entry sends where nothing is known of the terminal.
-fn add_plan(alloc: Global, screen: &Virtual, came: &mut Buffer) -> Result<(), Trouble> {
+fn add_plan(alloc: Global, screen: &Virtual, got: &mut Buffer) -> Result<(), Trouble> {
     let Ok(profile) = Profile::ecma48(alloc, screen.size()) else {
-        return add_no_memory(came);
+        return add_no_memory(got);
     };
     match planned(alloc, &profile, screen) {
-        Ok(ops) => add_number(
-            i64::try_from(bytes_of(&profile, &ops.0)).unwrap_or(-1),
-            came,
-        ),
-        Err(_) => return add_no_memory(came),
+        Ok(ops) => add_number(i64::try_from(bytes_of(&profile, &ops.0)).unwrap_or(-1), got),
+        Err(_) => return add_no_memory(got),
     }
     Ok(())
 }

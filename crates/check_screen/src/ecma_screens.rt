@@ -20,16 +20,16 @@ pub fn answer_of_ecma(
     screen: &mut Option<EcmaScreen>,
     word: &str,
     words: &mut Words<'_>,
-    came: &mut Buffer,
+    got: &mut Buffer,
 ) -> bool {
     if word == "screen" {
         if let Some(size) = read_size(words) {
-            keep(EcmaScreen::new(alloc, size), screen, came);
+            keep(EcmaScreen::new(alloc, size), screen, got);
         }
         return true;
     }
     match screen {
-        Some(screen) => answer_of_made(alloc, screen, word, words, came),
+        Some(screen) => answer_of_made(alloc, screen, word, words, got),
         None => false,
     }
 }
@@ -40,13 +40,13 @@ fn answer_of_made(
     screen: &mut EcmaScreen,
     word: &str,
     words: &mut Words<'_>,
-    came: &mut Buffer,
+    got: &mut Buffer,
 ) -> bool {
     match word {
-        "feed" => feed(alloc, screen, words, came),
-        "after" => add_after(alloc, screen.size(), words, came),
-        "undefined_after" => add_undefined_after(alloc, screen.size(), words, came),
-        _ => return ask(alloc, screen, word, words, came),
+        "feed" => feed(alloc, screen, words, got),
+        "after" => add_after(alloc, screen.size(), words, got),
+        "undefined_after" => add_undefined_after(alloc, screen.size(), words, got),
+        _ => return ask(alloc, screen, word, words, got),
     }
     true
 }
@@ -76,23 +76,23 @@ fn ask(
     screen: &EcmaScreen,
     word: &str,
     words: &mut Words<'_>,
-    came: &mut Buffer,
+    got: &mut Buffer,
 ) -> bool {
     match word {
         "screen_size" => {
             let size = screen.size();
-            add_place(size.rows, size.columns, came)
+            add_place(size.rows, size.columns, got)
         }
         "shown" => {
             let (row, column) = (words.number(), words.number());
-            words.check(add_at(row_of(screen, row), column, came))
+            words.check(add_at(row_of(screen, row), column, got))
         }
-        "spot" => add_spot(screen.spot(), came),
-        "rendition" => add_number(i64::from(screen.rendition().0), came),
-        "colours" => add_colours(screen.colours(), came),
-        "marked" => add_number(i64::from(marked(screen)), came),
-        "printed" => add_printed(alloc, screen, came),
-        "state" => add_state(alloc, screen, came),
+        "spot" => add_spot(screen.spot(), got),
+        "rendition" => add_number(i64::from(screen.rendition().0), got),
+        "colours" => add_colours(screen.colours(), got),
+        "marked" => add_number(i64::from(marked(screen)), got),
+        "printed" => add_printed(alloc, screen, got),
+        "state" => add_state(alloc, screen, got),
         _ => return false,
     }
     true
@@ -107,32 +107,32 @@ fn row_of(screen: &EcmaScreen, row: u32) -> &[Look] {
     }
 }
 
-fn add_printed(alloc: Global, screen: &EcmaScreen, came: &mut Buffer) {
+fn add_printed(alloc: Global, screen: &EcmaScreen, got: &mut Buffer) {
     let mut text = Vec::new(alloc);
     let printed = print_screen(screen, &mut text);
-    add_made(printed, came, |_, came| add_text(&text, came));
+    add_made(printed, got, |_, got| add_text(&text, got));
 }
 
-fn add_state(alloc: Global, screen: &EcmaScreen, came: &mut Buffer) {
+fn add_state(alloc: Global, screen: &EcmaScreen, got: &mut Buffer) {
     let mut text = Buffer::new(alloc);
     print_state(screen, &mut text);
-    add_text(text.bytes(), came);
-    came.check(text.done().is_ok());
+    add_text(text.bytes(), got);
+    got.check(text.done().is_ok());
 }
 
 // Feeds a text, and adds whether it is defined and whether the screen waits for more.
-fn feed(alloc: Global, screen: &mut EcmaScreen, words: &mut Words<'_>, came: &mut Buffer) {
+fn feed(alloc: Global, screen: &mut EcmaScreen, words: &mut Words<'_>, got: &mut Buffer) {
     let mut text = Buffer::new(alloc);
     words.text(&mut text);
     let fed = screen.feed(text.bytes());
-    add_word(if fed.is_ok() { "Ok" } else { "Undefined" }, came);
+    add_word(if fed.is_ok() { "Ok" } else { "Undefined" }, got);
     if screen.waiting() {
-        add_word("waiting", came);
+        add_word("waiting", got);
     }
 }
 
 // Adds the state of a blank screen of the same size after a text.
-fn add_after(alloc: Global, size: Size, words: &mut Words<'_>, came: &mut Buffer) {
+fn add_after(alloc: Global, size: Size, words: &mut Words<'_>, got: &mut Buffer) {
     let mut text = Buffer::new(alloc);
     words.text(&mut text);
     match EcmaScreen::new(alloc, size) {
@@ -143,16 +143,16 @@ fn add_after(alloc: Global, size: Size, words: &mut Words<'_>, came: &mut Buffer
             if fed.is_err() {
                 text.extend(b"undefined\n");
             }
-            add_text(text.bytes(), came);
-            came.check(text.done().is_ok());
+            add_text(text.bytes(), got);
+            got.check(text.done().is_ok());
         }
-        Err(NoMemory) => add_word("NoMemory", came),
+        Err(NoMemory) => add_word("NoMemory", got),
     }
 }
 
 // Whether a text that is fed to a blank screen of the same size after another, which is defined, is undefined, and the
 // screen then stays as it was.
-fn add_undefined_after(alloc: Global, size: Size, words: &mut Words<'_>, came: &mut Buffer) {
+fn add_undefined_after(alloc: Global, size: Size, words: &mut Words<'_>, got: &mut Buffer) {
     let mut head = Buffer::new(alloc);
     let mut tail = Buffer::new(alloc);
     words.text(&mut head);
@@ -160,10 +160,10 @@ fn add_undefined_after(alloc: Global, size: Size, words: &mut Words<'_>, came: &
     match EcmaScreen::new(alloc, size) {
         Ok(mut screen) => {
             let stays = stays_after(alloc, &mut screen, head.bytes(), tail.bytes());
-            add_flag(stays.unwrap_or(false), came);
+            add_flag(stays.unwrap_or(false), got);
             words.check(stays.and(Ok(())));
         }
-        Err(NoMemory) => add_word("NoMemory", came),
+        Err(NoMemory) => add_word("NoMemory", got),
     }
 }
 

@@ -18,13 +18,13 @@ pub fn answer_of_entry(
     entry: &mut Option<Entry>,
     word: &str,
     words: &mut Words<'_>,
-    came: &mut Buffer,
+    got: &mut Buffer,
 ) -> bool {
     match word {
-        "entry" => make_entry(alloc, entry, words, came),
-        "bundled" => add_made(bundled(alloc), entry, came),
+        "entry" => make_entry(alloc, entry, words, got),
+        "bundled" => add_made(bundled(alloc), entry, got),
         _ => match entry {
-            Some(entry) => return answer_of_made(alloc, entry, word, words, came),
+            Some(entry) => return answer_of_made(alloc, entry, word, words, got),
             None => return false,
         },
     }
@@ -37,21 +37,21 @@ fn answer_of_made(
     entry: &mut Entry,
     word: &str,
     words: &mut Words<'_>,
-    came: &mut Buffer,
+    got: &mut Buffer,
 ) -> bool {
     match word {
-        "flag" => add_set(set_flag(entry, words), came),
-        "absent" => add_set(set_absent(entry, words), came),
-        "number" | "string" | "text" => add_set(change_capability(alloc, entry, words), came),
-        "opening_text" => add_of_screen(&opening_text(alloc, entry), came),
-        "closing_text" => add_of_screen(&closing_text(alloc, entry), came),
+        "flag" => add_set(set_flag(entry, words), got),
+        "absent" => add_set(set_absent(entry, words), got),
+        "number" | "string" | "text" => add_set(change_capability(alloc, entry, words), got),
+        "opening_text" => add_of_screen(&opening_text(alloc, entry), got),
+        "closing_text" => add_of_screen(&closing_text(alloc, entry), got),
         _ => return false,
     }
     true
 }
 
 // An entry that says nothing, with the names that a line has.
-fn make_entry(alloc: Global, entry: &mut Option<Entry>, words: &mut Words<'_>, came: &mut Buffer) {
+fn make_entry(alloc: Global, entry: &mut Option<Entry>, words: &mut Words<'_>, got: &mut Buffer) {
     let mut names = Buffer::new(alloc);
     if words.is_at_end() {
         names.extend(b"keys");
@@ -59,17 +59,17 @@ fn make_entry(alloc: Global, entry: &mut Option<Entry>, words: &mut Words<'_>, c
         words.text(&mut names);
     }
     words.check(names.done());
-    add_made(Entry::new(alloc, names.bytes()), entry, came);
+    add_made(Entry::new(alloc, names.bytes()), entry, got);
 }
 
 // Keeps an entry, or adds why there is none.
-fn add_made(made: Result<Entry, CapFault>, entry: &mut Option<Entry>, came: &mut Buffer) {
+fn add_made(made: Result<Entry, CapFault>, entry: &mut Option<Entry>, got: &mut Buffer) {
     match made {
         Ok(made) => {
             *entry = Some(made);
-            add_word("Ok", came);
+            add_word("Ok", got);
         }
-        Err(fault) => add_set(Err(fault), came),
+        Err(fault) => add_set(Err(fault), got),
     }
 }
 
@@ -95,37 +95,37 @@ fn set_absent(entry: &mut Entry, words: &mut Words<'_>) -> Result<(), CapFault> 
     }
 }
 
-fn add_set(set: Result<(), CapFault>, came: &mut Buffer) {
+fn add_set(set: Result<(), CapFault>, got: &mut Buffer) {
     match set {
-        Ok(()) => add_word("Ok", came),
-        Err(CapFault::NoMemory) => add_word("NoMemory", came),
-        Err(_) => add_word("refused", came),
+        Ok(()) => add_word("Ok", got),
+        Err(CapFault::NoMemory) => add_word("NoMemory", got),
+        Err(_) => add_word("refused", got),
     }
 }
 
 // Adds a text of an entry, or why it has none.
-fn add_of_screen(made: &Result<Bytes, OpenFault>, came: &mut Buffer) {
+fn add_of_screen(made: &Result<Bytes, OpenFault>, got: &mut Buffer) {
     match made {
-        Ok(text) => add_text(&text.0, came),
-        Err(OpenFault::Profile(fault)) => add_profile_fault(*fault, came),
-        Err(OpenFault::NoMemory) => add_word("NoMemory", came),
-        Err(OpenFault::KeyTooLong(_)) => add_word("KeyTooLong", came),
+        Ok(text) => add_text(&text.0, got),
+        Err(OpenFault::Profile(fault)) => add_profile_fault(*fault, got),
+        Err(OpenFault::NoMemory) => add_word("NoMemory", got),
+        Err(OpenFault::KeyTooLong(_)) => add_word("KeyTooLong", got),
     }
 }
 
 /// Adds why there is no profile, or a text of an entry cannot be run.
-pub fn add_profile_fault(fault: ProfileFault, came: &mut Buffer) {
+pub fn add_profile_fault(fault: ProfileFault, got: &mut Buffer) {
     match fault {
-        ProfileFault::Unsuitable(capability) => add_named("Unsuitable", capability, came),
-        ProfileFault::Missing(capability) => add_named("Missing", capability, came),
-        ProfileFault::BadString(capability) => add_named("BadString", capability, came),
-        ProfileFault::LongString(capability) => add_named("LongString", capability, came),
-        fault => add_name(&fault, came),
+        ProfileFault::Unsuitable(capability) => add_named("Unsuitable", capability, got),
+        ProfileFault::Missing(capability) => add_named("Missing", capability, got),
+        ProfileFault::BadString(capability) => add_named("BadString", capability, got),
+        ProfileFault::LongString(capability) => add_named("LongString", capability, got),
+        fault => add_name(&fault, got),
     }
 }
 
 // Adds an error and the capability that it is about.
-fn add_named(fault: &str, capability: (Kind, Slot), came: &mut Buffer) {
-    add_word(fault, came);
-    add_word(name_of(capability.0, capability.1).unwrap_or("?"), came);
+fn add_named(fault: &str, capability: (Kind, Slot), got: &mut Buffer) {
+    add_word(fault, got);
+    add_word(name_of(capability.0, capability.1).unwrap_or("?"), got);
 }

@@ -24,7 +24,7 @@ pub enum Keyboard {
 }
 
 impl Keyboard {
-    // A byte came, or none for a while.
+    // A byte was typed, or none for a while.
     fn take(&mut self, byte: Option<u8>) -> Result<(), KeyFault> {
         match (self, byte) {
             (Keyboard::Reader(reader), Some(byte)) => reader.byte(byte),
@@ -61,15 +61,15 @@ pub fn answer_of_keys(
     keyboards: &mut Keyboards,
     word: &str,
     words: &mut Words<'_>,
-    came: &mut Buffer,
+    got: &mut Buffer,
 ) -> bool {
     match (word, entry) {
-        ("reader" | "screen", Some(entry)) => open(alloc, entry, word, &mut keyboards.used, came),
+        ("reader" | "screen", Some(entry)) => open(alloc, entry, word, &mut keyboards.used, got),
         ("beside", Some(entry)) => {
-            open(alloc, entry, words.name(), &mut keyboards.beside, came);
+            open(alloc, entry, words.name(), &mut keyboards.beside, got);
         }
         _ => match &mut keyboards.used {
-            Some(keyboard) => return answer_of_keyboard(alloc, keyboard, word, words, came),
+            Some(keyboard) => return answer_of_keyboard(alloc, keyboard, word, words, got),
             None => return false,
         },
     }
@@ -83,7 +83,7 @@ fn open(
     entry: &Entry,
     word: &str,
     keyboard: &mut Option<Keyboard>,
-    came: &mut Buffer,
+    got: &mut Buffer,
 ) {
     let opened = match word {
         "reader" => open_reader(alloc, entry),
@@ -92,11 +92,11 @@ fn open(
     match opened {
         Ok(opened) => {
             put(keyboard, Some(opened));
-            add_word("Ok", came);
+            add_word("Ok", got);
         }
-        Err(OpenFault::Profile(_)) => add_word("Refused Profile", came),
-        Err(OpenFault::KeyTooLong(slot)) => add_done(Err(KeyFault::KeyTooLong(slot)), came),
-        Err(OpenFault::NoMemory) => add_done(Err(KeyFault::NoMemory), came),
+        Err(OpenFault::Profile(_)) => add_word("Refused Profile", got),
+        Err(OpenFault::KeyTooLong(slot)) => add_done(Err(KeyFault::KeyTooLong(slot)), got),
+        Err(OpenFault::NoMemory) => add_done(Err(KeyFault::NoMemory), got),
     }
 }
 
@@ -117,17 +117,17 @@ fn answer_of_keyboard(
     keyboard: &mut Keyboard,
     word: &str,
     words: &mut Words<'_>,
-    came: &mut Buffer,
+    got: &mut Buffer,
 ) -> bool {
     match word {
-        "byte" => add_done(keyboard.take(Some(words.byte())), came),
+        "byte" => add_done(keyboard.take(Some(words.byte())), got),
         "bytes" => {
             let mut text = Buffer::new(alloc);
             words.text(&mut text);
-            add_done(give(keyboard, text.bytes()), came);
+            add_done(give(keyboard, text.bytes()), got);
         }
-        "idle" => add_done(keyboard.take(None), came),
-        "keys" => add_keys(keyboard, came),
+        "idle" => add_done(keyboard.take(None), got),
+        "keys" => add_keys(keyboard, got),
         _ => return false,
     }
     true
@@ -142,28 +142,28 @@ fn give(keyboard: &mut Keyboard, bytes: &[u8]) -> Result<(), KeyFault> {
 }
 
 // Takes all keys that wait: `Slot` and its position, or `Byte` and the byte; or `none`.
-fn add_keys(keyboard: &mut Keyboard, came: &mut Buffer) {
+fn add_keys(keyboard: &mut Keyboard, got: &mut Buffer) {
     for taken in 0..ALL {
         let (word, number) = match keyboard.next() {
             Some(Key::Slot(slot)) => ("Slot", i64::from(slot)),
             Some(Key::Byte(byte)) => ("Byte", i64::from(byte)),
-            None if taken == 0 => return add_word("none", came),
+            None if taken == 0 => return add_word("none", got),
             None => return,
         };
-        add_word(word, came);
-        add_number(number, came);
+        add_word(word, got);
+        add_number(number, got);
     }
 }
 
 // Adds `Ok`, or `Refused` and why; or `NoMemory`.
-fn add_done(done: Result<(), KeyFault>, came: &mut Buffer) {
+fn add_done(done: Result<(), KeyFault>, got: &mut Buffer) {
     match done {
-        Ok(()) => add_word("Ok", came),
+        Ok(()) => add_word("Ok", got),
         Err(KeyFault::KeyTooLong(Slot(slot))) => {
-            add_word("Refused KeyTooLong", came);
-            add_number(i64::from(slot), came)
+            add_word("Refused KeyTooLong", got);
+            add_number(i64::from(slot), got)
         }
-        Err(KeyFault::QueueFull) => add_word("Refused QueueFull", came),
-        Err(KeyFault::NoMemory) => add_word("NoMemory", came),
+        Err(KeyFault::QueueFull) => add_word("Refused QueueFull", got),
+        Err(KeyFault::NoMemory) => add_word("NoMemory", got),
     }
 }

@@ -1,6 +1,6 @@
 //! Runs a script of calls on cells, keys, edited texts, terminals and screens, each with the answer or the state that
 //! is wanted, which it reads from the standard input. It prints how many lines agree, or the first that does not with
-//! what was wanted and what came (status 1).
+//! what was wanted and what was answered (status 1).
 #![tactic(auto)]
 
 mod changed;

@@ -40,26 +40,26 @@ fn read_moving(word: &str, words: &mut Words<'_>) -> Option<Op> {
 }
 
 /// Adds an operation.
-pub fn add_op(op: Op, came: &mut Buffer) {
+pub fn add_op(op: Op, got: &mut Buffer) {
     match op {
         Op::Move(row, column) => {
-            add_word("move", came);
-            add_place(row, column, came)
+            add_word("move", got);
+            add_place(row, column, got)
         }
-        Op::Enter(attrs) => add_op_of("enter", i64::from(attrs.0), came),
-        Op::Set(attrs) => add_op_of("set", i64::from(attrs.0), came),
-        Op::Fore(colour) => add_op_of("fore", i64::from(colour), came),
-        Op::Back(colour) => add_op_of("back", i64::from(colour), came),
+        Op::Enter(attrs) => add_op_of("enter", i64::from(attrs.0), got),
+        Op::Set(attrs) => add_op_of("set", i64::from(attrs.0), got),
+        Op::Fore(colour) => add_op_of("fore", i64::from(colour), got),
+        Op::Back(colour) => add_op_of("back", i64::from(colour), got),
         Op::Put(byte) => {
-            add_word("put", came);
-            add_text(&[byte], came)
+            add_word("put", got);
+            add_text(&[byte], got)
         }
-        Op::EraseChars(count) => add_op_of("erase_chars", i64::from(count), came),
-        Op::InsertLines(count) => add_op_of("insert_lines", i64::from(count), came),
-        Op::DeleteLines(count) => add_op_of("delete_lines", i64::from(count), came),
-        Op::InsertChars(count) => add_op_of("insert_chars", i64::from(count), came),
-        Op::DeleteChars(count) => add_op_of("delete_chars", i64::from(count), came),
-        op => add_bare_op(op, came),
+        Op::EraseChars(count) => add_op_of("erase_chars", i64::from(count), got),
+        Op::InsertLines(count) => add_op_of("insert_lines", i64::from(count), got),
+        Op::DeleteLines(count) => add_op_of("delete_lines", i64::from(count), got),
+        Op::InsertChars(count) => add_op_of("insert_chars", i64::from(count), got),
+        Op::DeleteChars(count) => add_op_of("delete_chars", i64::from(count), got),
+        op => add_bare_op(op, got),
     }
 }
 
@@ -81,27 +81,27 @@ fn read_motion(word: &str, words: &mut Words<'_>) -> Option<Op> {
     })
 }
 
-fn add_op_of(name: &str, number: i64, came: &mut Buffer) {
-    add_word(name, came);
-    add_number(number, came);
+fn add_op_of(name: &str, number: i64, got: &mut Buffer) {
+    add_word(name, got);
+    add_number(number, got);
 }
 
 // Adds an operation that is a motion by a number, or has none.
-fn add_bare_op(op: Op, came: &mut Buffer) {
+fn add_bare_op(op: Op, got: &mut Buffer) {
     match op {
-        Op::Column(column) => add_op_of("column", i64::from(column), came),
-        Op::Line(row) => add_op_of("line", i64::from(row), came),
-        Op::Up(count) => add_op_of("up", i64::from(count), came),
-        Op::Down(count) => add_op_of("down", i64::from(count), came),
-        Op::Left(count) => add_op_of("left", i64::from(count), came),
-        Op::Right(count) => add_op_of("right", i64::from(count), came),
-        Op::Home => add_word("home", came),
-        Op::Return => add_word("return", came),
-        Op::Clear => add_word("clear", came),
-        Op::EraseLine => add_word("erase_line", came),
-        Op::EraseBelow => add_word("erase_below", came),
-        Op::Reset => add_word("reset", came),
-        Op::ExitAttributes => add_word("exit_attributes", came),
-        _ => add_word("?", came),
+        Op::Column(column) => add_op_of("column", i64::from(column), got),
+        Op::Line(row) => add_op_of("line", i64::from(row), got),
+        Op::Up(count) => add_op_of("up", i64::from(count), got),
+        Op::Down(count) => add_op_of("down", i64::from(count), got),
+        Op::Left(count) => add_op_of("left", i64::from(count), got),
+        Op::Right(count) => add_op_of("right", i64::from(count), got),
+        Op::Home => add_word("home", got),
+        Op::Return => add_word("return", got),
+        Op::Clear => add_word("clear", got),
+        Op::EraseLine => add_word("erase_line", got),
+        Op::EraseBelow => add_word("erase_below", got),
+        Op::Reset => add_word("reset", got),
+        Op::ExitAttributes => add_word("exit_attributes", got),
+        _ => add_word("?", got),
     }
 }

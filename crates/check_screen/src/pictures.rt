@@ -19,43 +19,43 @@ pub fn answer_of_picture(
     picture: &mut Option<Picture>,
     word: &str,
     words: &mut Words<'_>,
-    came: &mut Buffer,
+    got: &mut Buffer,
 ) -> bool {
     if word == "picture" {
         if let Some(size) = read_size(words) {
-            keep(Picture::new(alloc, size), picture, came);
+            keep(Picture::new(alloc, size), picture, got);
         }
         return true;
     }
     match picture {
-        Some(picture) => change(picture, word, words, came) || add_seen(picture, word, words, came),
+        Some(picture) => change(picture, word, words, got) || add_seen(picture, word, words, got),
         None => false,
     }
 }
 
 /// The lines `wished`, `picture_size`, `picture_rows`, `picture_at R C` and `pair P`. Tells whether a line is one of
 /// them.
-pub fn add_seen(picture: &Picture, word: &str, words: &mut Words<'_>, came: &mut Buffer) -> bool {
+pub fn add_seen(picture: &Picture, word: &str, words: &mut Words<'_>, got: &mut Buffer) -> bool {
     match word {
-        "wished" => add_wish(picture, came),
+        "wished" => add_wish(picture, got),
         "picture_size" => {
             let size = picture.size();
-            add_place(size.rows, size.columns, came)
+            add_place(size.rows, size.columns, got)
         }
         "picture_rows" => {
             for row in 0..picture.size().rows {
-                add_text_of(row_of(picture, row), came);
+                add_text_of(row_of(picture, row), got);
             }
         }
         "picture_at" => {
             let (row, column) = (words.number(), words.number());
             match row_of(picture, row).get(column as usize) {
-                Some(cell) => add_cell(*cell, came),
+                Some(cell) => add_cell(*cell, got),
                 None => words.fail(Trouble::Bad("no place of the picture")),
             }
         }
-        "pair" => add_any(picture.pair(words.number()), came, |(fore, back), came| {
-            add_place(u32::from(fore), u32::from(back), came);
+        "pair" => add_any(picture.pair(words.number()), got, |(fore, back), got| {
+            add_place(u32::from(fore), u32::from(back), got);
         }),
         _ => return false,
     }
@@ -77,7 +77,7 @@ fn row_of(picture: &Picture, row: u32) -> &[Cell] {
 }
 
 // The lines that change a picture.
-fn change(picture: &mut Picture, word: &str, words: &mut Words<'_>, came: &mut Buffer) -> bool {
+fn change(picture: &mut Picture, word: &str, words: &mut Words<'_>, got: &mut Buffer) -> bool {
     let done = match word {
         "put" | "put_row" | "fill" => put(picture, word, words),
         "wish" => wish(picture, words),
@@ -85,7 +85,7 @@ fn change(picture: &mut Picture, word: &str, words: &mut Words<'_>, came: &mut B
         _ => return false,
     };
     words.check(done);
-    add_word("Ok", came);
+    add_word("Ok", got);
     true
 }
 
@@ -148,11 +148,11 @@ fn set_pair(picture: &mut Picture, words: &mut Words<'_>) -> Result<(), Trouble>
 }
 
 /// Adds where the cursor is wanted.
-pub fn add_wish(picture: &Picture, came: &mut Buffer) {
+pub fn add_wish(picture: &Picture, got: &mut Buffer) {
     add_any(
         picture.wish(),
-        came,
-        |(row, column), came| add_place(row, column, came),
+        got,
+        |(row, column), got| add_place(row, column, got),
     );
 }
 

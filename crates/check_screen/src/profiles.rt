@@ -21,17 +21,17 @@ pub fn answer_of_profile(
     profile: &mut Option<Profile>,
     word: &str,
     words: &mut Words<'_>,
-    came: &mut Buffer,
+    got: &mut Buffer,
 ) -> bool {
     match word {
         "profile" => {
             if let Some(size) = read_size(words) {
-                add_admission(Profile::ecma48(alloc, size), profile, came);
+                add_admission(Profile::ecma48(alloc, size), profile, got);
             }
         }
-        "admit" => admit(alloc, entry, profile, words, came),
+        "admit" => admit(alloc, entry, profile, words, got),
         _ => match profile {
-            Some(profile) => return answer_of_made(alloc, profile, word, words, came),
+            Some(profile) => return answer_of_made(alloc, profile, word, words, got),
             None => return false,
         },
     }
@@ -44,18 +44,18 @@ fn answer_of_made(
     profile: &Profile,
     word: &str,
     words: &mut Words<'_>,
-    came: &mut Buffer,
+    got: &mut Buffer,
 ) -> bool {
     match word {
         "profile_size" => {
             let size = profile.size();
-            add_place(size.rows, size.columns, came)
+            add_place(size.rows, size.columns, got)
         }
-        "shows" => add_number(i64::from(profile.shows().0), came),
-        "shows_colours" => add_flag(profile.colours(), came),
-        "longest" => add_count(profile.longest() as u64, came),
+        "shows" => add_number(i64::from(profile.shows().0), got),
+        "shows_colours" => add_flag(profile.colours(), got),
+        "longest" => add_count(profile.longest() as u64, got),
         "has" | "cost" | "render" => match read_op(words) {
-            Some(op) => add_of_op(alloc, profile, word, op, came),
+            Some(op) => add_of_op(alloc, profile, word, op, got),
             None => {}
         },
         _ => return false,
@@ -64,27 +64,27 @@ fn answer_of_made(
 }
 
 // Adds what a profile tells of an operation.
-fn add_of_op(alloc: Global, profile: &Profile, word: &str, op: Op, came: &mut Buffer) {
+fn add_of_op(alloc: Global, profile: &Profile, word: &str, op: Op, got: &mut Buffer) {
     match word {
-        "has" => add_flag(profile.has(op), came),
+        "has" => add_flag(profile.has(op), got),
         "cost" => add_any(
             profile.cost(op),
-            came,
-            |cost, came| add_count(cost as u64, came),
+            got,
+            |cost, got| add_count(cost as u64, got),
         ),
-        _ => add_rendered(alloc, profile, op, came),
+        _ => add_rendered(alloc, profile, op, got),
     }
 }
 
 // Adds the bytes of an operation, or `none` where the terminal has no such operation.
-fn add_rendered(alloc: Global, profile: &Profile, op: Op, came: &mut Buffer) {
+fn add_rendered(alloc: Global, profile: &Profile, op: Op, got: &mut Buffer) {
     if !profile.has(op) {
-        add_word("none", came);
+        add_word("none", got);
         return;
     }
     let mut bytes = Vec::new(alloc);
     let done = profile.render(op, &mut bytes);
-    add_made(done, came, |_, came| add_text(&bytes, came));
+    add_made(done, got, |_, got| add_text(&bytes, got));
 }
 
 // Makes a profile of an entry, of its own size or of the one that a line has.
@@ -93,7 +93,7 @@ fn admit(
     entry: &Option<Entry>,
     profile: &mut Option<Profile>,
     words: &mut Words<'_>,
-    came: &mut Buffer,
+    got: &mut Buffer,
 ) {
     let size = if words.is_at_end() {
         None
@@ -101,7 +101,7 @@ fn admit(
         read_size(words)
     };
     match entry {
-        Some(entry) => add_admission(Profile::admit(alloc, entry, size), profile, came),
+        Some(entry) => add_admission(Profile::admit(alloc, entry, size), profile, got),
         None => words.fail(Trouble::Bad("no entry")),
     }
 }
@@ -110,14 +110,14 @@ fn admit(
 fn add_admission(
     admitted: Result<Profile, ProfileFault>,
     profile: &mut Option<Profile>,
-    came: &mut Buffer,
+    got: &mut Buffer,
 ) {
     match admitted {
         Ok(made) => {
             *profile = Some(made);
-            add_word("Ok", came)
+            add_word("Ok", got)
         }
-        Err(fault) => add_profile_fault(fault, came),
+        Err(fault) => add_profile_fault(fault, got),
     }
 }
 

@@ -51,7 +51,7 @@ pub fn answer_of_repaint(
     screen: &mut Option<EcmaScreen>,
     word: &str,
     words: &mut Words<'_>,
-    came: &mut Buffer,
+    got: &mut Buffer,
 ) -> bool {
     let form = match word {
         "scratch" | "joined" | "plain" => Form::Names,
@@ -59,12 +59,12 @@ pub fn answer_of_repaint(
         "painted_count" | "joined_count" | "plain_count" => Form::Counts,
         "feed_painted" => Form::Fed,
         "scratch_bytes" => {
-            words.check(add_scratch_bytes(alloc, scene, came));
+            words.check(add_scratch_bytes(alloc, scene, got));
             return true;
         }
         _ => return false,
     };
-    words.check(add_repaint(alloc, scene, terminal, screen, word, form, came));
+    words.check(add_repaint(alloc, scene, terminal, screen, word, form, got));
     true
 }
 
@@ -76,7 +76,7 @@ fn add_repaint(
     screen: &mut Option<EcmaScreen>,
     word: &str,
     form: Form,
-    came: &mut Buffer,
+    got: &mut Buffer,
 ) -> Result<(), Trouble> {
     let made = match word {
         "joined" | "joined_count" => joined_of(alloc, scene, terminal),
@@ -84,8 +84,8 @@ fn add_repaint(
         _ => scratch_of(alloc, scene),
     };
     match made {
-        Ok(ops) => add_ops(alloc, ready(scene.profile)?, &ops, screen, form, came),
-        Err(Trouble::NoMemory) => add_word("NoMemory", came),
+        Ok(ops) => add_ops(alloc, ready(scene.profile)?, &ops, screen, form, got),
+        Err(Trouble::NoMemory) => add_word("NoMemory", got),
         Err(trouble) => return Err(trouble),
     }
     Ok(())
@@ -127,14 +127,14 @@ fn plain_of(alloc: Global, scene: &Scene<'_>) -> Result<Ops, Trouble> {
     Ok(plain(alloc, profile, memory, picture)?)
 }
 
-fn add_scratch_bytes(alloc: Global, scene: &Scene<'_>, came: &mut Buffer) -> Result<(), Trouble> {
+fn add_scratch_bytes(alloc: Global, scene: &Scene<'_>, got: &mut Buffer) -> Result<(), Trouble> {
     let (profile, picture) = (ready(scene.profile)?, ready_picture(scene.picture)?);
     let (size, other) = (picture.size(), profile.size());
     if size.rows != other.rows || size.columns != other.columns {
         return Err(Trouble::Bad("the profile has another size"));
     }
     let bytes = scratch_bytes(alloc, profile, picture);
-    add_made(bytes, came, |bytes, came| add_text(&bytes, came));
+    add_made(bytes, got, |bytes, got| add_text(&bytes, got));
     Ok(())
 }
 
@@ -144,41 +144,41 @@ fn add_ops(
     ops: &Ops,
     screen: &mut Option<EcmaScreen>,
     form: Form,
-    came: &mut Buffer,
+    got: &mut Buffer,
 ) {
     match form {
         Form::Names => {
             for op in &ops.0 {
-                add_op(*op, came);
+                add_op(*op, got);
             }
         }
         Form::Bytes => {
             let mut bytes = Vec::new(alloc);
-            add_each(profile, ops, &mut bytes, came);
+            add_each(profile, ops, &mut bytes, got);
         }
         Form::Counts => {
-            add_count(ops.0.len() as u64, came);
-            add_count(bytes_of(profile, &ops.0) as u64, came);
+            add_count(ops.0.len() as u64, got);
+            add_count(bytes_of(profile, &ops.0) as u64, got);
         }
         Form::Fed => {
             let mut bytes = Vec::new(alloc);
             let is_rendered = render_all(profile, ops, &mut bytes).is_ok();
-            add_word(fed(screen, &bytes, is_rendered), came);
+            add_word(fed(screen, &bytes, is_rendered), got);
         }
     }
 }
 
 // Adds the bytes of each operation, and how many there are in all, with room for the bytes of one.
-fn add_each(profile: &Profile, ops: &Ops, bytes: &mut Vec<u8>, came: &mut Buffer) {
+fn add_each(profile: &Profile, ops: &Ops, bytes: &mut Vec<u8>, got: &mut Buffer) {
     for op in &ops.0 {
         bytes.clear();
         if render(profile, *op, bytes).is_err() {
-            add_word("NoMemory", came);
+            add_word("NoMemory", got);
             return;
         }
-        add_text(bytes, came);
+        add_text(bytes, got);
     }
-    add_count(bytes_of(profile, &ops.0) as u64, came);
+    add_count(bytes_of(profile, &ops.0) as u64, got);
 }
 
 // Whether a screen finds defined what it is fed, in words.

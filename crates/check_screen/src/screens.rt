@@ -31,20 +31,20 @@ pub fn answer_of_screen(
     screens: &mut Screens,
     word: &str,
     words: &mut Words<'_>,
-    came: &mut Buffer,
+    got: &mut Buffer,
 ) -> Result<(), Trouble> {
     match word {
-        "screen" => open(alloc, &mut screens.opened, words, came),
-        "moving" => open_moving(alloc, &mut screens.opened, words, came),
-        "drawn" => open_drawn(alloc, &mut screens.opened, words, came),
+        "screen" => open(alloc, &mut screens.opened, words, got),
+        "moving" => open_moving(alloc, &mut screens.opened, words, got),
+        "drawn" => open_drawn(alloc, &mut screens.opened, words, got),
         "sessions" | "cut_sessions" => {
             let is_cut = word == "cut_sessions";
-            check_sessions(alloc, &mut screens.made_up, is_cut, words, came)
+            check_sessions(alloc, &mut screens.made_up, is_cut, words, got)
         }
-        "changed" => check_changed(alloc, words, came),
-        "refusal" => add_refusal(alloc, words, came),
+        "changed" => check_changed(alloc, words, got),
+        "refusal" => add_refusal(alloc, words, got),
         _ => match &mut screens.opened {
-            Some(opened) => answer_of_opened(alloc, opened, word, words, came),
+            Some(opened) => answer_of_opened(alloc, opened, word, words, got),
             None => Err(Trouble::Bad("no screen")),
         },
     }
@@ -57,10 +57,10 @@ fn open(
     alloc: Global,
     opened: &mut Option<Recorded>,
     words: &mut Words<'_>,
-    came: &mut Buffer,
+    got: &mut Buffer,
 ) -> Result<(), Trouble> {
     match read_size(words) {
-        Some(size) => open_on(alloc, size, opened, words, came),
+        Some(size) => open_on(alloc, size, opened, words, got),
         None => Ok(()),
     }
 }
@@ -70,12 +70,12 @@ fn open_moving(
     alloc: Global,
     opened: &mut Option<Recorded>,
     words: &mut Words<'_>,
-    came: &mut Buffer,
+    got: &mut Buffer,
 ) -> Result<(), Trouble> {
     match read_size(words) {
         Some(size) => {
             let mut names = Words::new(MOVING.as_bytes());
-            open_on(alloc, size, opened, &mut names, came)
+            open_on(alloc, size, opened, &mut names, got)
         }
         None => Ok(()),
     }
@@ -87,20 +87,20 @@ fn open_on(
     size: Size,
     opened: &mut Option<Recorded>,
     names: &mut Words<'_>,
-    came: &mut Buffer,
+    got: &mut Buffer,
 ) -> Result<(), Trouble> {
     let refusal = match read_entry(alloc, names) {
         Some(entry) => Recorded::open_into(alloc, entry, size, opened)?,
         None => Some(OpenFault::NoMemory),
     };
-    add_refused(refusal, came);
+    add_refused(refusal, got);
     names.done()
 }
 
-fn add_refused(refusal: Option<OpenFault>, came: &mut Buffer) {
+fn add_refused(refusal: Option<OpenFault>, got: &mut Buffer) {
     match refusal {
-        Some(fault) => add_name(&fault, came),
-        None => add_word("Ok", came),
+        Some(fault) => add_name(&fault, got),
+        None => add_word("Ok", got),
     }
 }
 
@@ -110,7 +110,7 @@ fn open_drawn(
     alloc: Global,
     opened: &mut Option<Recorded>,
     words: &mut Words<'_>,
-    came: &mut Buffer,
+    got: &mut Buffer,
 ) -> Result<(), Trouble> {
     let Some(size) = read_size(words) else {
         return Ok(());
@@ -119,14 +119,9 @@ fn open_drawn(
     line.extend(b"0 ");
     line.extend(words.next());
     line.done()?;
-    open_on(alloc, size, opened, &mut Words::new(b""), came)?;
+    open_on(alloc, size, opened, &mut Words::new(b""), got)?;
     match opened {
-        Some(opened) if came.bytes() == b" Ok".as_slice() => draw(
-            alloc,
-            opened,
-            line.bytes(),
-            came,
-        ),
+        Some(opened) if got.bytes() == b" Ok".as_slice() => draw(alloc, opened, line.bytes(), got),
         _ => Ok(()),
     }
 }
@@ -135,7 +130,7 @@ fn draw(
     alloc: Global,
     opened: &mut Recorded,
     text: &[u8],
-    came: &mut Buffer,
+    got: &mut Buffer,
 ) -> Result<(), Trouble> {
     for (word, rest) in [
         ("add_text", text),
@@ -143,37 +138,37 @@ fn draw(
         ("untouch", b"0"),
     ] {
         let mut words = Words::new(rest);
-        let _obeyed = obey(alloc, opened, word, &mut words, came)?;
+        let _obeyed = obey(alloc, opened, word, &mut words, got)?;
         words.done()?;
     }
-    came.clear();
-    add_word("Ok", came);
+    got.clear();
+    add_word("Ok", got);
     Ok(())
 }
 
 // The line `refusal R C NAME ..`: opens a screen and makes a session without calls, and adds why both are refused, `Ok`
 // where neither is, or `differs`. Nothing may be written then.
-fn add_refusal(alloc: Global, words: &mut Words<'_>, came: &mut Buffer) -> Result<(), Trouble> {
+fn add_refusal(alloc: Global, words: &mut Words<'_>, got: &mut Buffer) -> Result<(), Trouble> {
     let Some(size) = read_size(words) else {
         return Ok(());
     };
     match read_entry(alloc, words) {
-        Some(entry) => add_both(alloc, &entry, size, came),
-        None => add_word("NoMemory", came),
+        Some(entry) => add_both(alloc, &entry, size, got),
+        None => add_word("NoMemory", got),
     }
     Ok(())
 }
 
-fn add_both(alloc: Global, entry: &Entry, size: Size, came: &mut Buffer) {
+fn add_both(alloc: Global, entry: &Entry, size: Size, got: &mut Buffer) {
     let opened = Screen::open(alloc, entry, Some(size)).err();
     let mut device = Device::new(Vec::new(alloc));
     let made = session(alloc, entry, Some(size), &[], &mut device).err();
     if opened == Some(OpenFault::NoMemory) || made == Some(OpenFault::NoMemory) {
-        add_word("NoMemory", came);
+        add_word("NoMemory", got);
     } else if opened != made || !device.writer.is_empty() {
-        add_word("differs", came);
+        add_word("differs", got);
     } else {
-        add_refused(opened, came);
+        add_refused(opened, got);
     }
 }
 
@@ -183,17 +178,17 @@ fn answer_of_opened(
     opened: &mut Recorded,
     word: &str,
     words: &mut Words<'_>,
-    came: &mut Buffer,
+    got: &mut Buffer,
 ) -> Result<(), Trouble> {
     match word {
-        "session" => opened.add_session(came),
+        "session" => opened.add_session(got),
         "cuts" => {
-            add_count(count_cuts(opened)? as u64, came);
+            add_count(count_cuts(opened)? as u64, got);
             Ok(())
         }
-        "update_within" => update_within(alloc, opened, words, came),
-        "all" => call_listed(alloc, opened, words, came),
-        _ => call(alloc, opened, word, words, came),
+        "update_within" => update_within(alloc, opened, words, got),
+        "all" => call_listed(alloc, opened, words, got),
+        _ => call(alloc, opened, word, words, got),
     }
 }
 
@@ -203,11 +198,11 @@ fn call(
     opened: &mut Recorded,
     word: &str,
     words: &mut Words<'_>,
-    came: &mut Buffer,
+    got: &mut Buffer,
 ) -> Result<(), Trouble> {
-    if obey(alloc, opened, word, words, came)? == Obeyed::No
-        && !answer_of_shown(opened, word, words, came)
-        && !answer_of_windows(&opened.screen, word, words, came)
+    if obey(alloc, opened, word, words, got)? == Obeyed::No
+        && !answer_of_shown(opened, word, words, got)
+        && !answer_of_windows(&opened.screen, word, words, got)
     {
         return Err(Trouble::Bad("no such call"));
     }
@@ -219,13 +214,13 @@ fn call_listed(
     alloc: Global,
     opened: &mut Recorded,
     words: &mut Words<'_>,
-    came: &mut Buffer,
+    got: &mut Buffer,
 ) -> Result<(), Trouble> {
     let word = words.name();
     opened.is_listed = true;
     let done = match word {
-        "update_within" => update_within(alloc, opened, words, came),
-        _ => call(alloc, opened, word, words, came),
+        "update_within" => update_within(alloc, opened, words, got),
+        _ => call(alloc, opened, word, words, got),
     };
     opened.is_listed = false;
     done
@@ -236,13 +231,13 @@ fn update_within(
     alloc: Global,
     opened: &mut Recorded,
     words: &mut Words<'_>,
-    came: &mut Buffer,
+    got: &mut Buffer,
 ) -> Result<(), Trouble> {
     let most = words.number() as usize;
-    let is_well = obey(alloc, opened, "update", words, came)? == Obeyed::Well;
-    if is_well && came.bytes().starts_with(b" Ok ") && opened.last_sent().len() <= most {
-        came.clear();
-        add_word("Ok", came);
+    let is_well = obey(alloc, opened, "update", words, got)? == Obeyed::Well;
+    if is_well && got.bytes().starts_with(b" Ok ") && opened.last_sent().len() <= most {
+        got.clear();
+        add_word("Ok", got);
     }
     Ok(())
 }

@@ -17,7 +17,7 @@ pub fn answer_of_script(
     screen: &mut Option<EcmaScreen>,
     word: &str,
     words: &mut Words<'_>,
-    came: &mut Buffer,
+    got: &mut Buffer,
 ) -> bool {
     let fails = match word {
         "run" | "run_raw" | "refusals" | "feed_run" => Fails::Never,
@@ -31,12 +31,12 @@ pub fn answer_of_script(
     let done = match (word, screen) {
         ("refusals", _) => {
             let lines = refusals(alloc, text.bytes());
-            add_made(lines, came, |lines, came| add_text(&lines, came));
+            add_made(lines, got, |lines, got| add_text(&lines, got));
             Ok(())
         }
-        ("feed_run", Some(screen)) => feed_run(alloc, screen, text.bytes(), came),
+        ("feed_run", Some(screen)) => feed_run(alloc, screen, text.bytes(), got),
         ("feed_run", None) => Err(Trouble::Bad("no screen")),
-        _ => add_run(alloc, fails, word == "run_raw", text.bytes(), came),
+        _ => add_run(alloc, fails, word == "run_raw", text.bytes(), got),
     };
     words.check(done);
     true
@@ -48,12 +48,12 @@ fn add_run(
     fails: Fails,
     raw: bool,
     text: &[u8],
-    came: &mut Buffer,
+    got: &mut Buffer,
 ) -> Result<(), Trouble> {
     let mut out = writer_that(alloc, fails)?;
     let ended = run(alloc, text, raw, &mut out);
-    add_text(out.taken(), came);
-    add_end(&ended, came);
+    add_text(out.taken(), got);
+    add_end(&ended, got);
     Ok(())
 }
 
@@ -62,33 +62,33 @@ fn feed_run(
     alloc: Global,
     screen: &mut EcmaScreen,
     text: &[u8],
-    came: &mut Buffer,
+    got: &mut Buffer,
 ) -> Result<(), Trouble> {
     let mut out = writer_that(alloc, Fails::Never)?;
     let ended = run(alloc, text, true, &mut out);
     if ended.is_err() {
-        add_end(&ended, came);
+        add_end(&ended, got);
     } else {
         let fed = screen.feed(out.taken());
-        add_word(if fed.is_ok() { "Ok" } else { "Undefined" }, came);
+        add_word(if fed.is_ok() { "Ok" } else { "Undefined" }, got);
     }
     Ok(())
 }
 
 // How a run ended. The growth of a vector that is written to may be refused too.
-fn add_end(ended: &Result<(), DemoFault>, came: &mut Buffer) {
+fn add_end(ended: &Result<(), DemoFault>, got: &mut Buffer) {
     match ended {
-        Ok(()) => add_word("Ok", came),
+        Ok(()) => add_word("Ok", got),
         Err(DemoFault::BadCommand(line)) => {
-            add_word("BadCommand", came);
-            add_number(i64::from(*line), came)
+            add_word("BadCommand", got);
+            add_number(i64::from(*line), got)
         }
         Err(DemoFault::NoMemory) | Err(DemoFault::Write(ErrorKind::OutOfMemory)) => {
-            add_word("NoMemory", came)
+            add_word("NoMemory", got)
         }
-        Err(DemoFault::Write(ErrorKind::BrokenPipe)) => add_word("Write(BrokenPipe)", came),
-        Err(DemoFault::Write(ErrorKind::WriteZero)) => add_word("Write(WriteZero)", came),
-        Err(DemoFault::Write(ErrorKind::Other)) => add_word("Write(Other)", came),
-        Err(DemoFault::Write(_)) => add_word("Write(another)", came),
+        Err(DemoFault::Write(ErrorKind::BrokenPipe)) => add_word("Write(BrokenPipe)", got),
+        Err(DemoFault::Write(ErrorKind::WriteZero)) => add_word("Write(WriteZero)", got),
+        Err(DemoFault::Write(ErrorKind::Other)) => add_word("Write(Other)", got),
+        Err(DemoFault::Write(_)) => add_word("Write(another)", got),
     }
 }

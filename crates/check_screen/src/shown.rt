@@ -18,68 +18,68 @@ pub fn answer_of_shown(
     opened: &Recorded,
     word: &str,
     words: &mut Words<'_>,
-    came: &mut Buffer,
+    got: &mut Buffer,
 ) -> bool {
     let (emulated, picture) = (&opened.display.emulated, opened.screen.picture());
     match word {
         "shown_rows" => {
             for row in 0..emulated.size().rows {
-                add_text_shown(emulated.row(row), came);
+                add_text_shown(emulated.row(row), got);
             }
         }
-        "shown_cursor" => add_spot(emulated.spot(), came),
+        "shown_cursor" => add_spot(emulated.spot(), got),
         "shown" => {
             let (row, column) = (words.number(), words.number());
-            words.check(add_at(emulated.row(row), column, came))
+            words.check(add_at(emulated.row(row), column, got))
         }
-        "picture_rows" | "picture_at" => return add_seen(picture, word, words, came),
-        "wish" => add_wish(picture, came),
-        "most" => words.check(add_most(opened, came)),
-        "sent" => add_text(opened.last_sent(), came),
+        "picture_rows" | "picture_at" => return add_seen(picture, word, words, got),
+        "wish" => add_wish(picture, got),
+        "most" => words.check(add_most(opened, got)),
+        "sent" => add_text(opened.last_sent(), got),
         "first_sent" => {
             let (count, sent) = (words.number() as usize, opened.last_sent());
-            add_text(sent.get(..count).unwrap_or(sent), came)
+            add_text(sent.get(..count).unwrap_or(sent), got)
         }
-        "begun" => add_begun(opened.last_begun(), came),
+        "begun" => add_begun(opened.last_begun(), got),
         _ => return false,
     }
     true
 }
 
-fn add_most(opened: &Recorded, came: &mut Buffer) -> Result<(), Trouble> {
+fn add_most(opened: &Recorded, got: &mut Buffer) -> Result<(), Trouble> {
     match opened.most()? {
-        Some(bytes) => add_number(i64::try_from(bytes).unwrap_or(-1), came),
-        None => add_word("unknown", came),
+        Some(bytes) => add_number(i64::try_from(bytes).unwrap_or(-1), got),
+        None => add_word("unknown", got),
     }
     Ok(())
 }
 
 // Adds operations, with characters one after another as a text, or `none`.
-fn add_begun(ops: &[Op], came: &mut Buffer) {
+fn add_begun(ops: &[Op], got: &mut Buffer) {
     if ops.is_empty() {
-        add_word("none", came);
+        add_word("none", got);
     }
     let mut is_text = false;
     for op in ops {
-        is_text = add_begun_op(*op, is_text, came);
+        is_text = add_begun_op(*op, is_text, got);
     }
     if is_text {
-        came.push(b'"');
+        got.push(b'"');
     }
 }
 
 // Adds an operation after others, of which the last are characters of a text or not, and tells whether it is one.
-fn add_begun_op(op: Op, is_text: bool, came: &mut Buffer) -> bool {
+fn add_begun_op(op: Op, is_text: bool, got: &mut Buffer) -> bool {
     if let Op::Put(byte) = op {
         if !is_text {
-            came.extend(b" \"");
+            got.extend(b" \"");
         }
-        write_byte(byte, came);
+        write_byte(byte, got);
         return true;
     }
     if is_text {
-        came.push(b'"');
+        got.push(b'"');
     }
-    add_name(&op, came);
+    add_name(&op, got);
     false
 }

@@ -77,26 +77,26 @@ impl Subject for ScreenSubject {
         }
     }
 
-    fn answer(&mut self, words: &mut Words<'_>, came: &mut Buffer) {
+    fn answer(&mut self, words: &mut Words<'_>, got: &mut Buffer) {
         let (alloc, word) = (self.alloc, words.name());
         let entry = &mut self.entry;
         let is_call = match self.about {
             _ if word == "about" => {
-                self.begin(words, came);
+                self.begin(words, got);
                 true
             }
-            About::Values => answer_of_values(alloc, word, words, came),
+            About::Values => answer_of_values(alloc, word, words, got),
             About::Keys => {
-                answer_of_entry(alloc, entry, word, words, came)
-                    || answer_of_keys(alloc, entry, &mut self.keyboards, word, words, came)
+                answer_of_entry(alloc, entry, word, words, got)
+                    || answer_of_keys(alloc, entry, &mut self.keyboards, word, words, got)
             }
-            About::Texts => answer_of_text(alloc, &mut self.text, word, words, came),
+            About::Texts => answer_of_text(alloc, &mut self.text, word, words, got),
             About::Terminals => {
-                answer_of_entry(alloc, entry, word, words, came)
-                    || self.terminals.answer(alloc, entry, word, words, came)
+                answer_of_entry(alloc, entry, word, words, got)
+                    || self.terminals.answer(alloc, entry, word, words, got)
             }
             About::Screens => {
-                let done = answer_of_screen(alloc, &mut self.screens, word, words, came);
+                let done = answer_of_screen(alloc, &mut self.screens, word, words, got);
                 words.check(done);
                 true
             }
@@ -122,7 +122,7 @@ impl Subject for ScreenSubject {
 
 impl ScreenSubject {
     // The line `about WHAT`: nothing is there yet for the lines after it.
-    fn begin(&mut self, words: &mut Words<'_>, came: &mut Buffer) {
+    fn begin(&mut self, words: &mut Words<'_>, got: &mut Buffer) {
         self.about = match words.name() {
             "values" => About::Values,
             "keys" => About::Keys,
@@ -140,7 +140,7 @@ impl ScreenSubject {
         put(&mut self.text, None);
         put(&mut self.terminals, Terminals::none());
         put(&mut self.screens.opened, None);
-        add_word("Ok", came);
+        add_word("Ok", got);
     }
 }
 
@@ -162,16 +162,16 @@ impl Terminals {
         entry: &Option<Entry>,
         word: &str,
         words: &mut Words<'_>,
-        came: &mut Buffer,
+        got: &mut Buffer,
     ) -> bool {
         let (profile, terminal, screen) = (&mut self.profile, &mut self.terminal, &mut self.screen);
-        answer_of_profile(alloc, entry, profile, word, words, came)
-            || answer_of_terminal(alloc, terminal, profile, word, words, came)
-            || answer_of_memory(alloc, &mut self.memory, profile, word, words, came)
-            || answer_of_picture(alloc, &mut self.picture, word, words, came)
-            || answer_of_ecma(alloc, screen, word, words, came)
-            || answer_of_script(alloc, screen, word, words, came)
-            || self.answer_of_repaint(alloc, word, words, came)
+        answer_of_profile(alloc, entry, profile, word, words, got)
+            || answer_of_terminal(alloc, terminal, profile, word, words, got)
+            || answer_of_memory(alloc, &mut self.memory, profile, word, words, got)
+            || answer_of_picture(alloc, &mut self.picture, word, words, got)
+            || answer_of_ecma(alloc, screen, word, words, got)
+            || answer_of_script(alloc, screen, word, words, got)
+            || self.answer_of_repaint(alloc, word, words, got)
     }
 
     fn answer_of_repaint(
@@ -179,7 +179,7 @@ impl Terminals {
         alloc: Global,
         word: &str,
         words: &mut Words<'_>,
-        came: &mut Buffer,
+        got: &mut Buffer,
     ) -> bool {
         let scene = Scene {
             profile: &self.profile,
@@ -187,7 +187,7 @@ impl Terminals {
             memory: &self.memory,
         };
         let (terminal, screen) = (&mut self.terminal, &mut self.screen);
-        answer_of_repaint(alloc, &scene, terminal, screen, word, words, came)
+        answer_of_repaint(alloc, &scene, terminal, screen, word, words, got)
     }
 
     fn dump(&self, bytes: &mut Buffer) {

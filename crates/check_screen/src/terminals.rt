@@ -23,16 +23,16 @@ pub fn answer_of_terminal(
     profile: &Option<Profile>,
     word: &str,
     words: &mut Words<'_>,
-    came: &mut Buffer,
+    got: &mut Buffer,
 ) -> bool {
     if word == "terminal" {
         if let Some(size) = read_size(words) {
-            keep(Terminal::new(alloc, size), terminal, came);
+            keep(Terminal::new(alloc, size), terminal, got);
         }
         return true;
     }
     match terminal {
-        Some(terminal) => answer_of_made(terminal, profile, word, words, came),
+        Some(terminal) => answer_of_made(terminal, profile, word, words, got),
         None => false,
     }
 }
@@ -42,23 +42,23 @@ fn answer_of_made(
     profile: &Option<Profile>,
     word: &str,
     words: &mut Words<'_>,
-    came: &mut Buffer,
+    got: &mut Buffer,
 ) -> bool {
     match word {
         "step" => {
-            let done = step(terminal, profile, words, came);
+            let done = step(terminal, profile, words, got);
             words.check(done)
         }
-        "terminal_spot" => add_spot(terminal.spot(), came),
-        "terminal_attrs" => add_number(i64::from(terminal.attrs().0), came),
-        "terminal_colours" => add_colours(terminal.colours(), came),
+        "terminal_spot" => add_spot(terminal.spot(), got),
+        "terminal_attrs" => add_number(i64::from(terminal.attrs().0), got),
+        "terminal_colours" => add_colours(terminal.colours(), got),
         "terminal_at" => {
             let (row, column) = (words.number(), words.number());
-            words.check(add_at(row_of(terminal, row), column, came))
+            words.check(add_at(row_of(terminal, row), column, got))
         }
         "terminal_rows" => {
             for row in 0..terminal.size().rows {
-                add_text_shown(row_of(terminal, row), came);
+                add_text_shown(row_of(terminal, row), got);
             }
         }
         _ => return false,
@@ -67,15 +67,15 @@ fn answer_of_made(
 }
 
 /// Adds a foreground and a background.
-pub fn add_colours(colours: (Option<u8>, Option<u8>), came: &mut Buffer) {
-    add_colour(colours.0, came);
-    add_colour(colours.1, came);
+pub fn add_colours(colours: (Option<u8>, Option<u8>), got: &mut Buffer) {
+    add_colour(colours.0, got);
+    add_colour(colours.1, got);
 }
 
 /// Adds the look in a column of a row, which has to be there.
-pub fn add_at(row: &[Look], column: u32, came: &mut Buffer) -> Result<(), Trouble> {
+pub fn add_at(row: &[Look], column: u32, got: &mut Buffer) -> Result<(), Trouble> {
     match row.get(column as usize) {
-        Some(look) => add_look(*look, came),
+        Some(look) => add_look(*look, got),
         None => return Err(Trouble::Bad("no such place")),
     }
     Ok(())
@@ -91,13 +91,13 @@ fn row_of(terminal: &Terminal, row: u32) -> &[Look] {
 }
 
 /// Keeps what was made, or adds that there was no memory for it.
-pub fn keep<T: Drop>(made: Result<T, NoMemory>, place: &mut Option<T>, came: &mut Buffer) {
+pub fn keep<T: Drop>(made: Result<T, NoMemory>, place: &mut Option<T>, got: &mut Buffer) {
     match made {
         Ok(made) => {
             *place = Some(made);
-            add_word("Ok", came)
+            add_word("Ok", got)
         }
-        Err(NoMemory) => add_word("NoMemory", came),
+        Err(NoMemory) => add_word("NoMemory", got),
     }
 }
 
@@ -105,14 +105,14 @@ fn step(
     terminal: &mut Terminal,
     profile: &Option<Profile>,
     words: &mut Words<'_>,
-    came: &mut Buffer,
+    got: &mut Buffer,
 ) -> Result<(), Trouble> {
     let Some(op) = read_op(words) else {
         return Ok(());
     };
     match step_on(terminal, ready(profile)?, op) {
-        Some(true) => add_word("Ok", came),
-        Some(false) => add_word("Undefined", came),
+        Some(true) => add_word("Ok", got),
+        Some(false) => add_word("Undefined", got),
         None => return Err(Trouble::Bad("the profile has another size")),
     }
     Ok(())
@@ -143,24 +143,24 @@ pub fn answer_of_memory(
     profile: &Option<Profile>,
     word: &str,
     words: &mut Words<'_>,
-    came: &mut Buffer,
+    got: &mut Buffer,
 ) -> bool {
     if word == "memory" {
         if let Some(size) = read_size(words) {
-            keep(Memory::unknown(alloc, size), memory, came);
+            keep(Memory::unknown(alloc, size), memory, got);
         }
         return true;
     }
     match (memory, word) {
         (Some(memory), "follow") => {
-            let done = follow(memory, profile, words, came);
+            let done = follow(memory, profile, words, got);
             words.check(done)
         }
         (Some(memory), "disturb") => {
             memory.disturb(words.number(), words.number());
-            add_word("Ok", came)
+            add_word("Ok", got)
         }
-        (Some(memory), "known") => add_flag(memory.known(), came),
+        (Some(memory), "known") => add_flag(memory.known(), got),
         _ => return false,
     }
     true
@@ -170,7 +170,7 @@ fn follow(
     memory: &mut Memory,
     profile: &Option<Profile>,
     words: &mut Words<'_>,
-    came: &mut Buffer,
+    got: &mut Buffer,
 ) -> Result<(), Trouble> {
     let (op, profile) = (read_op(words), ready(profile)?);
     let (size, other) = (memory.size(), profile.size());
@@ -179,7 +179,7 @@ fn follow(
     }
     if let Some(op) = op {
         memory.follow(profile, op);
-        add_word("Ok", came);
+        add_word("Ok", got);
     }
     Ok(())
 }

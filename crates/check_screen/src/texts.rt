@@ -15,18 +15,18 @@ pub fn answer_of_text(
     text: &mut Option<Text>,
     word: &str,
     words: &mut Words<'_>,
-    came: &mut Buffer,
+    got: &mut Buffer,
 ) -> bool {
     match word {
-        "new" => keep_text(Text::new(alloc), text, came),
+        "new" => keep_text(Text::new(alloc), text, got),
         "read" => {
             let mut bytes = Buffer::new(alloc);
             words.text(&mut bytes);
-            keep_text(Text::read(alloc, bytes.bytes()), text, came);
+            keep_text(Text::read(alloc, bytes.bytes()), text, got);
         }
         _ => match text {
             Some(text) => {
-                return change(text, word, words, came) || ask(alloc, text, word, words, came);
+                return change(text, word, words, got) || ask(alloc, text, word, words, got);
             }
             None => return false,
         },
@@ -35,13 +35,13 @@ pub fn answer_of_text(
 }
 
 // Puts a text that was made in place of another.
-fn keep_text(made: Result<Text, NoMemory>, text: &mut Option<Text>, came: &mut Buffer) {
+fn keep_text(made: Result<Text, NoMemory>, text: &mut Option<Text>, got: &mut Buffer) {
     match made {
         Ok(made) => {
             put(text, Some(made));
-            add_word("Ok", came);
+            add_word("Ok", got);
         }
-        Err(NoMemory) => add_word("NoMemory", came),
+        Err(NoMemory) => add_word("NoMemory", got),
     }
 }
 
@@ -56,44 +56,40 @@ pub fn dump_text(text: &Text, bytes: &mut Buffer) {
 
 // The lines `insert LINE COLUMN BYTE`, `split LINE COLUMN`, `delete LINE COLUMN`, which has `yes` or `no`, and `undo`,
 // which has a place or `none`.
-fn change(text: &mut Text, word: &str, words: &mut Words<'_>, came: &mut Buffer) -> bool {
+fn change(text: &mut Text, word: &str, words: &mut Words<'_>, got: &mut Buffer) -> bool {
     match word {
         "insert" => {
             let place = place(words);
-            add_done(text.insert(place, words.byte()), came);
+            add_done(text.insert(place, words.byte()), got);
         }
-        "split" => add_done(text.split(place(words)), came),
-        "delete" => add_made(text.delete(place(words)), came, add_flag),
-        "undo" => add_made(text.undo(), came, add_place),
+        "split" => add_done(text.split(place(words)), got),
+        "delete" => add_made(text.delete(place(words)), got, add_flag),
+        "undo" => add_made(text.undo(), got, add_place),
         _ => return false,
     }
     true
 }
 
 // The lines `lines`, `line LINE`, `length LINE`, `inside LINE COLUMN`, `find LINE COLUMN TEXT`, `version` and `bytes`.
-fn ask(alloc: Global, text: &Text, word: &str, words: &mut Words<'_>, came: &mut Buffer) -> bool {
+fn ask(alloc: Global, text: &Text, word: &str, words: &mut Words<'_>, got: &mut Buffer) -> bool {
     match word {
-        "lines" => add_count(text.line_count() as u64, came),
-        "line" => add_any(text.line(words.number() as usize), came, add_text),
-        "length" => add_count(text.line_length(words.number() as usize) as u64, came),
-        "inside" => add_flag(text.is_inside(place(words)), came),
-        "find" => find(alloc, text, words, came),
-        "version" => add_count(text.version(), came),
-        "bytes" => add_made(
-            text.bytes(alloc),
-            came,
-            |bytes, came| add_text(&bytes, came),
-        ),
+        "lines" => add_count(text.line_count() as u64, got),
+        "line" => add_any(text.line(words.number() as usize), got, add_text),
+        "length" => add_count(text.line_length(words.number() as usize) as u64, got),
+        "inside" => add_flag(text.is_inside(place(words)), got),
+        "find" => find(alloc, text, words, got),
+        "version" => add_count(text.version(), got),
+        "bytes" => add_made(text.bytes(alloc), got, |bytes, got| add_text(&bytes, got)),
         _ => return false,
     }
     true
 }
 
-fn find(alloc: Global, text: &Text, words: &mut Words<'_>, came: &mut Buffer) {
+fn find(alloc: Global, text: &Text, words: &mut Words<'_>, got: &mut Buffer) {
     let from = place(words);
     let mut bytes = Buffer::new(alloc);
     words.text(&mut bytes);
-    add_place(text.find(from, bytes.bytes()), came);
+    add_place(text.find(from, bytes.bytes()), got);
 }
 
 fn place(words: &mut Words<'_>) -> Place {
@@ -102,9 +98,9 @@ fn place(words: &mut Words<'_>) -> Place {
 }
 
 // Adds a place, or `none`.
-fn add_place(place: Option<Place>, came: &mut Buffer) {
-    add_any(place, came, |place, came| {
-        add_count(place.line as u64, came);
-        add_count(place.column as u64, came);
+fn add_place(place: Option<Place>, got: &mut Buffer) {
+    add_any(place, got, |place, got| {
+        add_count(place.line as u64, got);
+        add_count(place.column as u64, got);
     });
 }

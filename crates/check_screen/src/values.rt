@@ -19,30 +19,30 @@ pub fn answer_of_values(
     alloc: Global,
     word: &str,
     words: &mut Words<'_>,
-    came: &mut Buffer,
+    got: &mut Buffer,
 ) -> bool {
     match word {
         "new_size" => {
             let (rows, columns) = (words.number(), words.number());
-            add_flag(Size::new(rows, columns).is_some(), came);
+            add_flag(Size::new(rows, columns).is_some(), got);
         }
         "union" | "difference" | "contains" | "all_attributes" => {
-            answer_of_sets(word, words, came);
+            answer_of_sets(word, words, got);
         }
         "new_cell" => {
             let cell = Cell::new(words.byte(), Attrs(words.byte()));
-            add_any(cell, came, add_cell);
+            add_any(cell, got, add_cell);
         }
         "paired" => {
             let cell = Cell::paired(words.byte(), Attrs(words.byte()), words.number());
-            add_any(cell, came, add_cell);
+            add_any(cell, got, add_cell);
         }
-        "blank_cell" => add_cell(Cell::blank(), came),
-        "new_look" => add_any(read_look(words), came, add_look),
-        "blank_look" => add_look(Look::blank(), came),
-        "same_look" => add_same_look(words, came),
+        "blank_cell" => add_cell(Cell::blank(), got),
+        "new_look" => add_any(read_look(words), got, add_look),
+        "blank_look" => add_look(Look::blank(), got),
+        "same_look" => add_same_look(words, got),
         "differences" | "shown_before" => {
-            let done = add_of_rows(alloc, word, words, came);
+            let done = add_of_rows(alloc, word, words, got);
             words.check(done);
         }
         _ => return false,
@@ -57,22 +57,22 @@ fn add_of_rows(
     alloc: Global,
     word: &str,
     words: &mut Words<'_>,
-    came: &mut Buffer,
+    got: &mut Buffer,
 ) -> Result<(), Trouble> {
     let (one, other) = (read_row(alloc, words)?, read_row(alloc, words)?);
     if one.cells.len() != other.cells.len() || one.looks.len() != other.looks.len() {
         return Err(Trouble::Bad("rows of different lengths"));
     }
     if word == "differences" {
-        add_place(first_difference(&one.cells, &other.cells), came);
-        add_place(last_difference(&one.cells, &other.cells), came);
-        add_place(first_look_difference(&one.looks, &other.looks), came);
-        add_place(last_look_difference(&one.looks, &other.looks), came);
+        add_place(first_difference(&one.cells, &other.cells), got);
+        add_place(last_difference(&one.cells, &other.cells), got);
+        add_place(first_look_difference(&one.looks, &other.looks), got);
+        add_place(last_look_difference(&one.looks, &other.looks), got);
         return Ok(());
     }
     let shown = Attrs(words.byte());
     if one.looks.len() == other.cells.len() {
-        add_place(Some(shown_before(&one.looks, &other.cells, shown)), came);
+        add_place(Some(shown_before(&one.looks, &other.cells, shown)), got);
     }
     Ok(())
 }
@@ -104,20 +104,20 @@ fn fill_row(text: &[u8], row: &mut Row) -> Result<(), Trouble> {
     Ok(())
 }
 
-fn add_place(place: Option<usize>, came: &mut Buffer) {
-    add_any(place, came, |place, came| add_count(place as u64, came));
+fn add_place(place: Option<usize>, got: &mut Buffer) {
+    add_any(place, got, |place, got| add_count(place as u64, got));
 }
 
-fn answer_of_sets(word: &str, words: &mut Words<'_>, came: &mut Buffer) {
+fn answer_of_sets(word: &str, words: &mut Words<'_>, got: &mut Buffer) {
     if word == "all_attributes" {
-        add_number(i64::from(Attrs::all().0), came);
+        add_number(i64::from(Attrs::all().0), got);
         return;
     }
     let (one, other) = (Attrs(words.byte()), Attrs(words.byte()));
     match word {
-        "union" => add_number(i64::from(one.union(other).0), came),
-        "difference" => add_number(i64::from(one.difference(other).0), came),
-        _ => add_flag(one.contains(other), came),
+        "union" => add_number(i64::from(one.union(other).0), got),
+        "difference" => add_number(i64::from(one.difference(other).0), got),
+        _ => add_flag(one.contains(other), got),
     }
 }
 
@@ -136,9 +136,9 @@ fn read_colour(words: &mut Words<'_>) -> Option<u8> {
     Some(words.byte())
 }
 
-fn add_same_look(words: &mut Words<'_>, came: &mut Buffer) {
+fn add_same_look(words: &mut Words<'_>, got: &mut Buffer) {
     match (read_look(words), read_look(words)) {
-        (Some(one), Some(other)) => add_flag(one == other, came),
+        (Some(one), Some(other)) => add_flag(one == other, got),
         _ => words.fail(Trouble::Bad("no look")),
     }
 }

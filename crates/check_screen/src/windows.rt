@@ -31,40 +31,40 @@ pub fn answer_of_windows(
     screen: &Screen,
     word: &str,
     words: &mut Words<'_>,
-    came: &mut Buffer,
+    got: &mut Buffer,
 ) -> bool {
     match word {
         "screen_size" => {
             let size = screen.screen();
-            add_place(size.rows, size.columns, came);
+            add_place(size.rows, size.columns, got);
         }
-        "count" => add_number(screen.count() as i64, came),
-        "nth" => add_window(screen.nth(words.number() as usize), came),
-        "rows" | "touched" => add_rows(screen, word, Win(words.number()), came),
-        "line" | "attributes" | "pairs" => add_line(screen, word, words, came),
-        "window" => add_asked(screen, words, came),
+        "count" => add_number(screen.count() as i64, got),
+        "nth" => add_window(screen.nth(words.number() as usize), got),
+        "rows" | "touched" => add_rows(screen, word, Win(words.number()), got),
+        "line" | "attributes" | "pairs" => add_line(screen, word, words, got),
+        "window" => add_asked(screen, words, got),
         _ => return false,
     }
     true
 }
 
 /// Adds what a window tells by a name, if it is one of `FIELDS`.
-pub fn add_field(window: &WindowRef<'_>, name: &str, came: &mut Buffer) -> Result<(), Trouble> {
+pub fn add_field(window: &WindowRef<'_>, name: &str, got: &mut Buffer) -> Result<(), Trouble> {
     match name {
-        "parent" => add_window(window.parent(), came),
-        "attrs" => add_number(i64::from(window.attrs().0), came),
-        "pair" => add_number(i64::from(window.pair()), came),
-        "background" => add_cell(window.background(), came),
-        "scroll_ok" => add_flag(window.scroll_ok(), came),
-        "clear_ok" => add_flag(window.clear_ok(), came),
-        "leave_ok" => add_flag(window.leave_ok(), came),
-        _ => return add_where(window, name, came),
+        "parent" => add_window(window.parent(), got),
+        "attrs" => add_number(i64::from(window.attrs().0), got),
+        "pair" => add_number(i64::from(window.pair()), got),
+        "background" => add_cell(window.background(), got),
+        "scroll_ok" => add_flag(window.scroll_ok(), got),
+        "clear_ok" => add_flag(window.clear_ok(), got),
+        "leave_ok" => add_flag(window.leave_ok(), got),
+        _ => return add_where(window, name, got),
     }
     Ok(())
 }
 
 // Adds a place or a size that a window tells.
-fn add_where(window: &WindowRef<'_>, name: &str, came: &mut Buffer) -> Result<(), Trouble> {
+fn add_where(window: &WindowRef<'_>, name: &str, got: &mut Buffer) -> Result<(), Trouble> {
     let told = match name {
         "origin" => window.origin(),
         "size" => Some(window.size()),
@@ -72,62 +72,58 @@ fn add_where(window: &WindowRef<'_>, name: &str, came: &mut Buffer) -> Result<()
         "region" => Some(window.region()),
         _ => return Err(Trouble::Bad("no such field")),
     };
-    add_any(
-        told,
-        came,
-        |(row, column), came| add_place(row, column, came),
-    );
+    add_any(told, got, |(row, column), got| add_place(row, column, got));
     Ok(())
 }
 
 // Adds the number of a window, if there is one.
-fn add_window(win: Option<Win>, came: &mut Buffer) {
-    add_any(win, came, |win, came| add_number(i64::from(win.0), came));
+fn add_window(win: Option<Win>, got: &mut Buffer) {
+    add_any(win, got, |win, got| add_number(i64::from(win.0), got));
 }
 
 // Adds the bytes of each row of a window, or which of them are touched.
-fn add_rows(screen: &Screen, word: &str, win: Win, came: &mut Buffer) {
-    add_made(screen.window(win), came, |window, came| {
+fn add_rows(screen: &Screen, word: &str, win: Win, got: &mut Buffer) {
+    add_made(screen.window(win), got, |window, got| {
         let (rows, _) = window.size();
         if word == "touched" {
-            came.push(b' ');
+            got.push(b' ');
         }
         for row in 0..rows {
             match word {
-                "rows" => add_text_of(line_of(&window, row), came),
-                _ => came.push(if is_touched(&window, row) { b'x' } else { b'.' }),
+                "rows" => add_text_of(line_of(&window, row), got),
+                _ => got.push(if is_touched(&window, row) { b'x' } else { b'.' }),
             }
         }
     });
 }
 
 // Adds the bytes of a line, or the attributes or the colour pair of each of its cells.
-fn add_line(screen: &Screen, word: &str, words: &mut Words<'_>, came: &mut Buffer) {
+fn add_line(screen: &Screen, word: &str, words: &mut Words<'_>, got: &mut Buffer) {
     let win = Win(words.number());
-    add_made(screen.line(win, words.number()), came, |cells, came| {
+    add_made(screen.line(win, words.number()), got, |cells, got| {
         if word == "line" {
-            add_text_of(cells, came);
+            add_text_of(cells, got);
             return;
         }
         for cell in cells {
             let attrs = u32::from(cell.attrs().0);
             add_number(
                 i64::from(if word == "pairs" { cell.pair() } else { attrs }),
-                came,
+                got,
             );
         }
     });
 }
 
 // Adds what a line asks of a window that is lent.
-fn add_asked(screen: &Screen, words: &mut Words<'_>, came: &mut Buffer) {
+fn add_asked(screen: &Screen, words: &mut Words<'_>, got: &mut Buffer) {
     let win = Win(words.number());
     let name = words.name();
     let row = match name {
         "is_touched" | "line" => Some(words.number()),
         _ => None,
     };
-    words.check(add_lent(screen.window(win), name, row, came));
+    words.check(add_lent(screen.window(win), name, row, got));
 }
 
 // Adds a field of a window that is lent, or what it tells of a row.
@@ -135,12 +131,12 @@ fn add_lent(
     lent: Result<WindowRef<'_>, WinFault>,
     name: &str,
     row: Option<u32>,
-    came: &mut Buffer,
+    got: &mut Buffer,
 ) -> Result<(), Trouble> {
     match (lent, row) {
-        (Ok(window), Some(row)) => return add_lent_row(&window, name, row, came),
-        (Ok(window), None) => return add_field(&window, name, came),
-        (Err(fault), _) => add_name(&fault, came),
+        (Ok(window), Some(row)) => return add_lent_row(&window, name, row, got),
+        (Ok(window), None) => return add_field(&window, name, got),
+        (Err(fault), _) => add_name(&fault, got),
     }
     Ok(())
 }
@@ -149,16 +145,16 @@ fn add_lent_row(
     window: &WindowRef<'_>,
     name: &str,
     row: u32,
-    came: &mut Buffer,
+    got: &mut Buffer,
 ) -> Result<(), Trouble> {
     let (rows, _) = window.size();
     if row >= rows {
         return Err(Trouble::Bad("no row of the window"));
     }
     if name == "line" {
-        add_text_of(window.line(row), came);
+        add_text_of(window.line(row), got);
     } else {
-        add_flag(window.is_touched(row), came);
+        add_flag(window.is_touched(row), got);
     }
     Ok(())
 }

@@ -15,29 +15,29 @@ pub fn read_slot(words: &mut Words<'_>) -> Slot {
 }
 
 /// Adds a size.
-pub fn add_size(size: usize, came: &mut Buffer) {
-    add_number(i64::try_from(size).unwrap_or(i64::MAX), came);
+pub fn add_size(size: usize, got: &mut Buffer) {
+    add_number(i64::try_from(size).unwrap_or(i64::MAX), got);
 }
 
 /// Adds what was made, or that it was refused.
 pub fn add_made<T: Drop, F: Display + Drop, A: FnOnce(&T, &mut Buffer)>(
     made: Result<T, F>,
-    came: &mut Buffer,
+    got: &mut Buffer,
     add: A,
 )
     requires { A.IsAlwaysCallable add }
 {
     match made {
-        Ok(made) => add(&made, came),
-        Err(fault) => add_refusal(&fault, came),
+        Ok(made) => add(&made, got),
+        Err(fault) => add_refusal(&fault, got),
     }
 }
 
 /// Adds `Ok`, or that a call was refused.
-pub fn add_done<F: Display + Drop>(done: Result<(), F>, came: &mut Buffer) {
+pub fn add_done<F: Display + Drop>(done: Result<(), F>, got: &mut Buffer) {
     match done {
-        Ok(()) => add_word("Ok", came),
-        Err(fault) => add_refusal(&fault, came),
+        Ok(()) => add_word("Ok", got),
+        Err(fault) => add_refusal(&fault, got),
     }
 }
 
@@ -45,7 +45,7 @@ pub fn add_done<F: Display + Drop>(done: Result<(), F>, came: &mut Buffer) {
 pub fn keep<T: Drop, F: Display + Drop>(
     made: Result<T, F>,
     place: &mut Option<T>,
-    came: &mut Buffer,
+    got: &mut Buffer,
 ) -> bool {
     match made {
         Ok(value) => {
@@ -53,97 +53,97 @@ pub fn keep<T: Drop, F: Display + Drop>(
             true
         }
         Err(fault) => {
-            add_refusal(&fault, came);
+            add_refusal(&fault, got);
             false
         }
     }
 }
 
 /// Whether memory ran out for what was added after so many bytes, which is removed then.
-pub fn is_taken_back(from: usize, came: &mut Buffer) -> bool {
-    let ran_out = came.bytes().ends_with(b" NoMemory");
+pub fn is_taken_back(from: usize, got: &mut Buffer) -> bool {
+    let ran_out = got.bytes().ends_with(b" NoMemory");
     if ran_out {
-        came.vector().truncate(from);
+        got.vector().truncate(from);
     }
     ran_out
 }
 
 /// Adds that a call was refused, with the text of the error, and `NoMemory` after it where memory ran out.
-pub fn add_refusal<F: Display>(fault: &F, came: &mut Buffer) {
-    came.extend(b" refused \"");
-    let written = write!(came.vector(), "{fault}");
-    came.check(written.is_ok());
-    let ran_out = came.bytes().ends_with(b"\"out of memory");
-    came.push(b'"');
+pub fn add_refusal<F: Display>(fault: &F, got: &mut Buffer) {
+    got.extend(b" refused \"");
+    let written = write!(got.vector(), "{fault}");
+    got.check(written.is_ok());
+    let ran_out = got.bytes().ends_with(b"\"out of memory");
+    got.push(b'"');
     if ran_out {
-        add_word("NoMemory", came);
+        add_word("NoMemory", got);
     }
 }
 
 /// Adds an entry: its names, each flag by its name, each number after its name, and each text after its name, each
 /// kind by position. A capability without a name has its kind and its position, as `Flag 40`, `Number 40 0` and `Text
 /// 271 "x"`.
-pub fn add_entry(entry: &Entry, came: &mut Buffer) {
-    add_text(entry.names(), came);
+pub fn add_entry(entry: &Entry, got: &mut Buffer) {
+    add_text(entry.names(), got);
     for position in 0..64u16 {
-        add_flag_at(entry, Slot(position), came);
+        add_flag_at(entry, Slot(position), got);
     }
     for position in 0..64u16 {
-        add_number_at(entry, Slot(position), came);
+        add_number_at(entry, Slot(position), got);
     }
     for position in 0..512u16 {
-        add_text_at(entry, Slot(position), came);
+        add_text_at(entry, Slot(position), got);
     }
 }
 
 /// Adds the entry that there is.
-pub fn add_entry_if_any(entry: &Option<Entry>, came: &mut Buffer) {
+pub fn add_entry_if_any(entry: &Option<Entry>, got: &mut Buffer) {
     if let Some(entry) = entry {
-        add_entry(entry, came);
+        add_entry(entry, got);
     }
 }
 
-fn add_flag_at(entry: &Entry, slot: Slot, came: &mut Buffer) {
+fn add_flag_at(entry: &Entry, slot: Slot, got: &mut Buffer) {
     if entry.flag(slot) {
-        add_capability(Kind::Flag, slot, came);
+        add_capability(Kind::Flag, slot, got);
     }
 }
 
-fn add_number_at(entry: &Entry, slot: Slot, came: &mut Buffer) {
+fn add_number_at(entry: &Entry, slot: Slot, got: &mut Buffer) {
     if let Some(number) = entry.number(slot) {
-        add_capability(Kind::Number, slot, came);
-        add_number(i64::from(number), came);
+        add_capability(Kind::Number, slot, got);
+        add_number(i64::from(number), got);
     }
 }
 
-fn add_text_at(entry: &Entry, slot: Slot, came: &mut Buffer) {
+fn add_text_at(entry: &Entry, slot: Slot, got: &mut Buffer) {
     if let Some(text) = entry.text(slot) {
-        add_capability(Kind::Text, slot, came);
-        add_text(text, came);
+        add_capability(Kind::Text, slot, got);
+        add_text(text, got);
     }
 }
 
 // Adds the name of a capability, or its kind and position where it has none.
-fn add_capability(kind: Kind, slot: Slot, came: &mut Buffer) {
+fn add_capability(kind: Kind, slot: Slot, got: &mut Buffer) {
     match name_of(kind, slot) {
-        Some(name) => add_word(name, came),
+        Some(name) => add_word(name, got),
         None => {
-            add_name(&kind, came);
-            add_number(i64::from(slot.0), came);
+            add_name(&kind, got);
+            add_number(i64::from(slot.0), got);
         }
     }
 }
 
 /// Adds notes: of each its line, cause and name.
-pub fn add_notes(notes: &[Note], came: &mut Buffer) {
+pub fn add_notes(notes: &[Note], got: &mut Buffer) {
     for note in notes {
-        add_note(note, came);
+        add_note(note, got);
     }
 }
 
 /// Adds a note.
-pub fn add_note(note: &Note, came: &mut Buffer) {
-    add_number(i64::from(note.line), came);
-    add_name(&note.cause, came);
-    add_text(&note.name.0, came);
+pub fn add_note(note: &Note, got: &mut Buffer) {
+    add_number(i64::from(note.line), got);
+    add_name(&note.cause, got);
+    add_text(&note.name.0, got);
 }

@@ -9,22 +9,22 @@ use ti_caps::Bytes;
 use ti_database::{FilePath, MemoryFiles, Variables, find_in, paths};
 
 /// The line `store PATH BYTES ..`: files in place of those before.
-pub fn store(alloc: Global, store: &mut MemoryFiles, words: &mut Words<'_>, came: &mut Buffer) {
+pub fn store(alloc: Global, store: &mut MemoryFiles, words: &mut Words<'_>, got: &mut Buffer) {
     store.0.clear();
     for _ in 0..u32::MAX {
         if words.is_at_end() {
             break;
         }
-        store_file(alloc, store, words, came);
+        store_file(alloc, store, words, got);
     }
-    add_word("Ok", came);
+    add_word("Ok", got);
 }
 
-fn store_file(alloc: Global, store: &mut MemoryFiles, words: &mut Words<'_>, came: &mut Buffer) {
+fn store_file(alloc: Global, store: &mut MemoryFiles, words: &mut Words<'_>, got: &mut Buffer) {
     let path = FilePath(read_bytes(alloc, words));
     let bytes = Bytes(read_bytes(alloc, words));
     let pushed = store.0.push((path, bytes));
-    came.check(pushed.is_ok());
+    got.check(pushed.is_ok());
 }
 
 // Reads a text.
@@ -41,27 +41,23 @@ pub fn answer_of_database(
     word: &str,
     words: &mut Words<'_>,
     text: &mut Buffer,
-    came: &mut Buffer,
+    got: &mut Buffer,
 ) -> bool {
     if word != "paths" && word != "look-up" {
         return false;
     }
     words.text(text);
-    let variables = read_variables(alloc, words, came);
+    let variables = read_variables(alloc, words, got);
     if word == "paths" {
-        add_made(
-            paths(alloc, text.bytes(), &variables),
-            came,
-            |paths, came| {
-                for path in &paths.0 {
-                    add_text(&path.0, came);
-                }
-            },
-        );
+        add_made(paths(alloc, text.bytes(), &variables), got, |paths, got| {
+            for path in &paths.0 {
+                add_text(&path.0, got);
+            }
+        });
     } else {
         add_made(
             find_in(alloc, store, text.bytes(), &variables),
-            came,
+            got,
             add_entry,
         );
     }
@@ -69,7 +65,7 @@ pub fn answer_of_database(
 }
 
 // Reads the variables that are set.
-fn read_variables(alloc: Global, words: &mut Words<'_>, came: &mut Buffer) -> Variables {
+fn read_variables(alloc: Global, words: &mut Words<'_>, got: &mut Buffer) -> Variables {
     let line = *words;
     for _ in 0..u32::MAX {
         if words.is_at_end() {
@@ -78,17 +74,17 @@ fn read_variables(alloc: Global, words: &mut Words<'_>, came: &mut Buffer) -> Va
         let _variable = words.next();
     }
     Variables {
-        terminfo: variable(alloc, line, b"TERMINFO=", came),
-        home: variable(alloc, line, b"HOME=", came),
-        terminfo_dirs: variable(alloc, line, b"TERMINFO_DIRS=", came),
+        terminfo: variable(alloc, line, b"TERMINFO=", got),
+        home: variable(alloc, line, b"HOME=", got),
+        terminfo_dirs: variable(alloc, line, b"TERMINFO_DIRS=", got),
     }
 }
 
-fn variable(alloc: Global, line: Words<'_>, name: &[u8], came: &mut Buffer) -> Option<Bytes> {
+fn variable(alloc: Global, line: Words<'_>, name: &[u8], got: &mut Buffer) -> Option<Bytes> {
     let value = value_of(line, name)?;
     let mut bytes = Buffer::new(alloc);
     bytes.extend(value);
-    came.check(bytes.done().is_ok());
+    got.check(bytes.done().is_ok());
     Some(Bytes(bytes.into_bytes()))
 }
 

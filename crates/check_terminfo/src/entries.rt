@@ -16,17 +16,17 @@ pub fn answer_of_entry(
     word: &str,
     words: &mut Words<'_>,
     text: &mut Buffer,
-    came: &mut Buffer,
+    got: &mut Buffer,
 ) -> bool {
     match word {
-        "entry" => make_entry(alloc, entry, words, text, came),
+        "entry" => make_entry(alloc, entry, words, text, got),
         "shown" | "is-bundled" | "names" | "unnamed" | "print" | "flag" | "number" | "text" =>
             match entry {
-                Some(entry) => show(alloc, entry, word, words, came),
+                Some(entry) => show(alloc, entry, word, words, got),
                 None => words.fail(Trouble::Bad("no entry")),
             },
         "set-flag" | "set-number" | "set-text" => match entry {
-            Some(entry) => set(entry, word, words, text, came),
+            Some(entry) => set(entry, word, words, text, got),
             None => words.fail(Trouble::Bad("no entry")),
         },
         _ => return false,
@@ -39,38 +39,38 @@ fn make_entry(
     entry: &mut Option<Entry>,
     words: &mut Words<'_>,
     text: &mut Buffer,
-    came: &mut Buffer,
+    got: &mut Buffer,
 ) {
     words.text(text);
-    if keep(Entry::new(alloc, text.bytes()), entry, came) {
-        add_word("Ok", came);
+    if keep(Entry::new(alloc, text.bytes()), entry, got) {
+        add_word("Ok", got);
     }
 }
 
 // The lines `shown`, `is-bundled`, `names`, `unnamed`, `print`, and `flag N`, `number N` and `text N`.
-fn show(alloc: Global, entry: &Entry, word: &str, words: &mut Words<'_>, came: &mut Buffer) {
+fn show(alloc: Global, entry: &Entry, word: &str, words: &mut Words<'_>, got: &mut Buffer) {
     match word {
-        "shown" => add_entry(entry, came),
-        "is-bundled" => add_made(bundled(alloc), came, |bundled, came| {
-            add_flag(are_same(bundled, entry), came);
+        "shown" => add_entry(entry, got),
+        "is-bundled" => add_made(bundled(alloc), got, |bundled, got| {
+            add_flag(are_same(bundled, entry), got);
         }),
-        "names" => add_text(entry.names(), came),
-        "unnamed" => add_size(entry.unnamed(), came),
-        "print" => add_made(print(alloc, entry), came, |printed, came| {
-            add_text(&printed.text.0, came);
-            add_size(printed.unnamed, came);
+        "names" => add_text(entry.names(), got),
+        "unnamed" => add_size(entry.unnamed(), got),
+        "print" => add_made(print(alloc, entry), got, |printed, got| {
+            add_text(&printed.text.0, got);
+            add_size(printed.unnamed, got);
         }),
-        "flag" => add_flag(entry.flag(read_slot(words)), came),
-        "number" => add_any(entry.number(read_slot(words)), came, |number, came| {
-            add_number(i64::from(number), came);
+        "flag" => add_flag(entry.flag(read_slot(words)), got),
+        "number" => add_any(entry.number(read_slot(words)), got, |number, got| {
+            add_number(i64::from(number), got);
         }),
-        _ => add_any(entry.text(read_slot(words)), came, add_text),
+        _ => add_any(entry.text(read_slot(words)), got, add_text),
     }
 }
 
 // The lines `set-flag N yes`, `set-number N NUMBER` and `set-text N TEXT`; without a last word a capability becomes
 // absent.
-fn set(entry: &mut Entry, word: &str, words: &mut Words<'_>, text: &mut Buffer, came: &mut Buffer) {
+fn set(entry: &mut Entry, word: &str, words: &mut Words<'_>, text: &mut Buffer, got: &mut Buffer) {
     let slot = read_slot(words);
     let done = match word {
         "set-flag" => entry.set_flag(slot, words.next() == b"yes".as_slice()),
@@ -81,7 +81,7 @@ fn set(entry: &mut Entry, word: &str, words: &mut Words<'_>, text: &mut Buffer, 
             entry.set_text(slot, Some(text.bytes()))
         }
     };
-    add_done(done, came);
+    add_done(done, got);
 }
 
 // Sets a number, at most 32,767, or removes it.

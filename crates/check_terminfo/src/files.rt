@@ -20,26 +20,26 @@ pub fn answer_of_writing(
     word: &str,
     words: &mut Words<'_>,
     text: &mut Buffer,
-    came: &mut Buffer,
+    got: &mut Buffer,
 ) -> bool {
     if word != "encode" && word != "encode-named" {
         return false;
     }
     match entry {
-        Some(entry) if word == "encode" => encode(alloc, entry, file, came),
-        Some(entry) => encode_named(alloc, entry, words, text, came),
+        Some(entry) if word == "encode" => encode(alloc, entry, file, got),
+        Some(entry) => encode_named(alloc, entry, words, text, got),
         None => words.fail(Trouble::Bad("no entry")),
     }
     true
 }
 
-fn encode(alloc: Global, entry: &Entry, file: &mut Vec<u8>, came: &mut Buffer) {
+fn encode(alloc: Global, entry: &Entry, file: &mut Vec<u8>, got: &mut Buffer) {
     match ti_binary::encode(alloc, entry) {
         Ok(encoded) => {
-            add_text(&encoded.0, came);
+            add_text(&encoded.0, got);
             put(file, encoded.0);
         }
-        Err(fault) => add_refusal(&fault, came),
+        Err(fault) => add_refusal(&fault, got),
     }
 }
 
@@ -48,7 +48,7 @@ fn encode_named(
     entry: &Entry,
     words: &mut Words<'_>,
     text: &mut Buffer,
-    came: &mut Buffer,
+    got: &mut Buffer,
 ) {
     words.text(text);
     let names = text.bytes();
@@ -57,30 +57,30 @@ fn encode_named(
         return;
     }
     let encoded = ti_binary::encode_named(alloc, entry, names);
-    add_made(encoded, came, |encoded, came| add_text(&encoded.0, came));
+    add_made(encoded, got, |encoded, got| add_text(&encoded.0, got));
 }
 
 /// The line `file BYTES`.
-pub fn take_file(alloc: Global, file: &mut Vec<u8>, words: &mut Words<'_>, came: &mut Buffer) {
+pub fn take_file(alloc: Global, file: &mut Vec<u8>, words: &mut Words<'_>, got: &mut Buffer) {
     let mut taken = Buffer::new(alloc);
     words.text(&mut taken);
     put(file, taken.into_bytes());
-    add_size(file.len(), came);
+    add_size(file.len(), got);
 }
 
 /// The lines `decode-wide`, `read-entry` and `list`, which leave all as it is. Tells whether a line is one of them.
-pub fn answer_of_file(alloc: Global, file: &[u8], word: &str, came: &mut Buffer) -> bool {
+pub fn answer_of_file(alloc: Global, file: &[u8], word: &str, got: &mut Buffer) -> bool {
     match word {
-        "decode-wide" => add_made(decode_wide(alloc, file), came, |decoded, came| {
-            add_size(decoded.skipped, came);
-            add_number(i64::from(decoded.clamped), came);
-            add_entry(&decoded.entry, came);
+        "decode-wide" => add_made(decode_wide(alloc, file), got, |decoded, got| {
+            add_size(decoded.skipped, got);
+            add_number(i64::from(decoded.clamped), got);
+            add_entry(&decoded.entry, got);
         }),
-        "read-entry" => add_made(read_entry(alloc, file), came, add_entry),
-        "list" => add_made(list(alloc, file), came, |listing, came| {
-            add_text(&listing.text.0, came);
-            add_size(listing.unnamed, came);
-            add_size(listing.skipped, came);
+        "read-entry" => add_made(read_entry(alloc, file), got, add_entry),
+        "list" => add_made(list(alloc, file), got, |listing, got| {
+            add_text(&listing.text.0, got);
+            add_size(listing.unnamed, got);
+            add_size(listing.skipped, got);
         }),
         _ => return false,
     }
@@ -94,7 +94,7 @@ pub fn decode_changed(
     entry: &mut Option<Entry>,
     words: &mut Words<'_>,
     text: &mut Buffer,
-    came: &mut Buffer,
+    got: &mut Buffer,
 ) {
     text.clear();
     text.extend(file);
@@ -109,18 +109,18 @@ pub fn decode_changed(
             None => words.fail(Trouble::Bad("no such index in the file")),
         }
     }
-    add_decoded(alloc, text.bytes(), entry, came);
+    add_decoded(alloc, text.bytes(), entry, got);
 }
 
 // Adds what bytes are read as, which is the entry then.
-fn add_decoded(alloc: Global, bytes: &[u8], entry: &mut Option<Entry>, came: &mut Buffer) {
+fn add_decoded(alloc: Global, bytes: &[u8], entry: &mut Option<Entry>, got: &mut Buffer) {
     match decode(alloc, bytes) {
         Ok((decoded, rest)) => {
-            add_size(rest, came);
-            add_entry(&decoded, came);
+            add_size(rest, got);
+            add_entry(&decoded, got);
             put(entry, Some(decoded));
         }
-        Err(fault) => add_refusal(&fault, came),
+        Err(fault) => add_refusal(&fault, got),
     }
 }
 
@@ -131,14 +131,14 @@ pub fn answer_of_changes(
     word: &str,
     words: &mut Words<'_>,
     text: &mut Buffer,
-    came: &mut Buffer,
+    got: &mut Buffer,
 ) -> bool {
     let counted = match word {
         "file-cuts" | "wide-cuts" => count_truncated(alloc, file, word == "wide-cuts"),
         "file-bytes" => count_changed(alloc, file, words, text),
         _ => return false,
     };
-    add_size(counted.unwrap_or(0), came);
+    add_size(counted.unwrap_or(0), got);
     words.check(counted.and(Ok(())));
     true
 }

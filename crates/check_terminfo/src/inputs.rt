@@ -41,17 +41,17 @@ pub fn answer_of_input(
     word: &str,
     words: &mut Words<'_>,
     text: &mut Buffer,
-    came: &mut Buffer,
+    got: &mut Buffer,
 ) -> bool {
     match word {
-        "input" => read_pieces(alloc, words, came),
+        "input" => read_pieces(alloc, words, got),
         "input-of" => {
             words.text(text);
             let mut reader = text.bytes();
             add_made(
                 read_input(alloc, &mut reader),
-                came,
-                |bytes, came| add_text(bytes, came),
+                got,
+                |bytes, got| add_text(bytes, got),
             );
         }
         _ => return false,
@@ -59,20 +59,20 @@ pub fn answer_of_input(
     true
 }
 
-fn read_pieces(alloc: Global, words: &mut Words<'_>, came: &mut Buffer) {
+fn read_pieces(alloc: Global, words: &mut Words<'_>, got: &mut Buffer) {
     let mut pieces = Pieces {
         left: words.number() as usize,
         each: words.number() as usize,
         fault: read_fault(words),
     };
     let read = read_input(alloc, &mut pieces);
-    add_made(read, came, |bytes, came| {
+    add_made(read, got, |bytes, got| {
         for byte in bytes {
             if *byte != b'x' {
-                add_word("another", came);
+                add_word("another", got);
             }
         }
-        add_size(bytes.len(), came);
+        add_size(bytes.len(), got);
     });
 }
 

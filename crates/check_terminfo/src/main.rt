@@ -1,6 +1,6 @@
 //! Runs a script of calls of the terminfo libraries, each with the answer that is wanted, which it reads from the
-//! standard input. It prints how many lines agree, or the first that does not with what was wanted and what came
-//! (status 1). A call that was refused memory is made once more, after a look at what it must not have changed.
+//! standard input. It prints how many lines agree, or the first that does not with what was wanted and what was
+//! answered (status 1). A call that was refused memory is made once more, after a look at what it must not have changed.
 #![tactic(auto)]
 
 mod answers;

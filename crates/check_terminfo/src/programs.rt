@@ -14,7 +14,7 @@ pub fn answer_of_programs(
     word: &str,
     words: &mut Words<'_>,
     text: &mut Buffer,
-    came: &mut Buffer,
+    got: &mut Buffer,
 ) -> bool {
     if !matches!(word, "padding" | "read-program" | "measure") {
         return false;
@@ -22,15 +22,15 @@ pub fn answer_of_programs(
     words.text(text);
     if word == "padding" {
         let stripped = strip_padding(alloc, text.bytes());
-        add_made(stripped, came, |stripped, came| add_text(stripped, came));
+        add_made(stripped, got, |stripped, got| add_text(stripped, got));
         return true;
     }
-    add_made(Program::read(alloc, text.bytes()), came, |program, came| {
+    add_made(Program::read(alloc, text.bytes()), got, |program, got| {
         if word == "measure" {
-            add_size(program.bound(), came);
-            add_size(program.depth(), came);
+            add_size(program.bound(), got);
+            add_size(program.depth(), got);
         } else {
-            add_word("Ok", came);
+            add_word("Ok", got);
         }
     });
     true
@@ -42,7 +42,7 @@ pub fn run(
     vars: &mut Vars,
     words: &mut Words<'_>,
     text: &mut Buffer,
-    came: &mut Buffer,
+    got: &mut Buffer,
 ) {
     words.text(text);
     let mut params = [0; 9];
@@ -54,8 +54,8 @@ pub fn run(
     let read = Program::read(alloc, text.bytes());
     add_made(
         read,
-        came,
-        |program, came| add_written(program, params, vars, text, came),
+        got,
+        |program, got| add_written(program, params, vars, text, got),
     );
 }
 
@@ -65,15 +65,15 @@ fn add_written(
     params: [i32; 9],
     vars: &mut Vars,
     text: &mut Buffer,
-    came: &mut Buffer,
+    got: &mut Buffer,
 ) {
     let length = program.length(params, vars);
     text.clear();
     match program.run(params, vars, text.vector()) {
-        Ok(()) if length == Ok(text.bytes().len()) => add_text(text.bytes(), came),
+        Ok(()) if length == Ok(text.bytes().len()) => add_text(text.bytes(), got),
         Err(fault) if length == Err(fault) || fault == RunFault::NoMemory => {
-            add_refusal(&fault, came)
+            add_refusal(&fault, got)
         }
-        _ => add_word("another length", came),
+        _ => add_word("another length", got),
     }
 }

@@ -22,24 +22,24 @@ pub fn answer_of_source(
     word: &str,
     words: &mut Words<'_>,
     text: &mut Buffer,
-    came: &mut Buffer,
+    got: &mut Buffer,
 ) -> bool {
     match word {
         "source" => {
             words.text(text);
-            read_source(alloc, source, words, text, came);
+            read_source(alloc, source, words, text, got);
         }
         "chained" => {
             write_chain(alloc, words, text);
-            read_source(alloc, source, words, text, came);
+            read_source(alloc, source, words, text, got);
         }
         "source-cuts" => {
             words.text(text);
-            words.check(add_beginnings(alloc, text.bytes(), came));
+            words.check(add_beginnings(alloc, text.bytes(), got));
         }
-        "take-notes" => take_notes(source, words, came),
+        "take-notes" => take_notes(source, words, got),
         "listed" | "notes" | "resolver" | "compiler" => match source {
-            Some(source) => show(alloc, source, word, words, text, came),
+            Some(source) => show(alloc, source, word, words, text, got),
             None => words.fail(Trouble::Bad("no source")),
         },
         _ => return false,
@@ -81,27 +81,27 @@ fn read_source(
     source: &mut Option<Source>,
     words: &mut Words<'_>,
     text: &Buffer,
-    came: &mut Buffer,
+    got: &mut Buffer,
 ) {
     words.check(text.done());
-    if keep(ti_source::read(alloc, text.bytes()), source, came) {
-        add_length(source, words, came);
+    if keep(ti_source::read(alloc, text.bytes()), source, got) {
+        add_length(source, words, got);
     }
 }
 
 // Adds how many entries a source has.
-fn add_length(source: &Option<Source>, words: &mut Words<'_>, came: &mut Buffer) {
+fn add_length(source: &Option<Source>, words: &mut Words<'_>, got: &mut Buffer) {
     if let Some(source) = source {
         if source.is_empty() != (source.len() == 0) {
             words.fail(Trouble::Bad("is_empty and len differ"));
         }
-        add_size(source.len(), came);
+        add_size(source.len(), got);
     }
 }
 
 // Adds what each beginning of a source is read as, how many entries or the refusal, after the length of the first that
 // is read so.
-fn add_beginnings(alloc: Global, text: &[u8], came: &mut Buffer) -> Result<(), Trouble> {
+fn add_beginnings(alloc: Global, text: &[u8], got: &mut Buffer) -> Result<(), Trouble> {
     let mut before = Buffer::new(alloc);
     for length in 0..=text.len() {
         let mut read = Buffer::new(alloc);
@@ -115,17 +115,17 @@ fn add_beginnings(alloc: Global, text: &[u8], came: &mut Buffer) -> Result<(), T
             return Err(Trouble::NoMemory);
         }
         if !are_same(&read, &before)? {
-            add_size(length, came);
-            came.extend(read.bytes());
+            add_size(length, got);
+            got.extend(read.bytes());
             put(&mut before, read);
         }
     }
     Ok(())
 }
 
-fn take_notes(source: &mut Option<Source>, words: &mut Words<'_>, came: &mut Buffer) {
+fn take_notes(source: &mut Option<Source>, words: &mut Words<'_>, got: &mut Buffer) {
     match source.take() {
-        Some(source) => add_notes(&source.into_notes(), came),
+        Some(source) => add_notes(&source.into_notes(), got),
         None => words.fail(Trouble::Bad("no source")),
     }
 }
@@ -137,20 +137,20 @@ fn show(
     word: &str,
     words: &mut Words<'_>,
     text: &mut Buffer,
-    came: &mut Buffer,
+    got: &mut Buffer,
 ) {
     match word {
-        "listed" => add_list(source, came),
-        "notes" => add_notes(source.notes(), came),
-        "resolver" => resolve_all(alloc, source, words, text, came),
-        _ => compile_all(alloc, source, words, came),
+        "listed" => add_list(source, got),
+        "notes" => add_notes(source.notes(), got),
+        "resolver" => resolve_all(alloc, source, words, text, got),
+        _ => compile_all(alloc, source, words, got),
     }
 }
 
 /// Adds the first name of each entry.
-pub fn add_list(source: &Source, came: &mut Buffer) {
+pub fn add_list(source: &Source, got: &mut Buffer) {
     for i in 0..source.len() {
-        add_text(source.name(i), came);
+        add_text(source.name(i), got);
     }
 }
 
@@ -160,7 +160,7 @@ fn resolve_all(
     source: &Source,
     words: &mut Words<'_>,
     text: &mut Buffer,
-    came: &mut Buffer,
+    got: &mut Buffer,
 ) {
     let mut resolver = Resolver::new(source);
     for _ in 0..u32::MAX {
@@ -168,16 +168,16 @@ fn resolve_all(
             break;
         }
         words.text(text);
-        resolve_next(alloc, &mut resolver, text.bytes(), came);
+        resolve_next(alloc, &mut resolver, text.bytes(), got);
     }
 }
 
 // Adds what a name resolves to by a resolver, which gives the same where memory was refused before.
-fn resolve_next(alloc: Global, resolver: &mut Resolver<'_>, name: &[u8], came: &mut Buffer) {
-    let from = came.bytes().len();
-    add_made(resolver.resolve(alloc, name), came, add_entry);
-    if is_taken_back(from, came) {
-        add_made(resolver.resolve(alloc, name), came, add_entry);
+fn resolve_next(alloc: Global, resolver: &mut Resolver<'_>, name: &[u8], got: &mut Buffer) {
+    let from = got.bytes().len();
+    add_made(resolver.resolve(alloc, name), got, add_entry);
+    if is_taken_back(from, got) {
+        add_made(resolver.resolve(alloc, name), got, add_entry);
     }
 }
 
@@ -188,13 +188,13 @@ pub fn resolve(
     entry: &mut Option<Entry>,
     words: &mut Words<'_>,
     text: &mut Buffer,
-    came: &mut Buffer,
+    got: &mut Buffer,
 ) {
     words.text(text);
     match source {
         Some(source) => {
-            if keep(ti_source::resolve(alloc, source, text.bytes()), entry, came) {
-                add_entry_if_any(entry, came);
+            if keep(ti_source::resolve(alloc, source, text.bytes()), entry, got) {
+                add_entry_if_any(entry, got);
             }
         }
         None => words.fail(Trouble::Bad("no source")),
@@ -202,14 +202,14 @@ pub fn resolve(
 }
 
 // Compiles entries one after another by one compiler.
-fn compile_all(alloc: Global, source: &Source, words: &mut Words<'_>, came: &mut Buffer) {
+fn compile_all(alloc: Global, source: &Source, words: &mut Words<'_>, got: &mut Buffer) {
     let mut compiler = EntryCompiler::new(source);
     for _ in 0..u32::MAX {
         if words.is_at_end() {
             break;
         }
         match words.name() {
-            "next" => compile_next(alloc, &mut compiler, came),
+            "next" => compile_next(alloc, &mut compiler, got),
             "restart" => compiler.restart(),
             _ => words.fail(Trouble::Bad("no such step")),
         }
@@ -218,25 +218,25 @@ fn compile_all(alloc: Global, source: &Source, words: &mut Words<'_>, came: &mut
 
 // Adds what the next entry is compiled to. A compiler that was refused memory is where it was: it gives the same entry
 // then.
-fn compile_next(alloc: Global, compiler: &mut EntryCompiler<'_>, came: &mut Buffer) {
-    let from = came.bytes().len();
-    add_made(compiler.next_entry(alloc), came, add_next);
-    if is_taken_back(from, came) {
-        add_made(compiler.next_entry(alloc), came, add_next);
+fn compile_next(alloc: Global, compiler: &mut EntryCompiler<'_>, got: &mut Buffer) {
+    let from = got.bytes().len();
+    add_made(compiler.next_entry(alloc), got, add_next);
+    if is_taken_back(from, got) {
+        add_made(compiler.next_entry(alloc), got, add_next);
     }
 }
 
 // Adds what an entry is compiled to, its name, its paths and the bytes of its file, or `end` where there is none.
-fn add_next(compiled: &Option<CompiledEntry>, came: &mut Buffer) {
+fn add_next(compiled: &Option<CompiledEntry>, got: &mut Buffer) {
     let Some(entry) = compiled else {
-        add_word("end", came);
+        add_word("end", got);
         return;
     };
-    add_text(&entry.name.0, came);
+    add_text(&entry.name.0, got);
     for path in &entry.paths.0 {
-        add_text(&path.0, came);
+        add_text(&path.0, got);
     }
-    add_text(&entry.bytes.0, came);
+    add_text(&entry.bytes.0, got);
 }
 
 /// The lines `string TEXT`, `decimal TEXT` and `compile SOURCE`, which leave all as it is. Tells whether a line is one
@@ -246,14 +246,14 @@ pub fn answer_of_meaning(
     word: &str,
     words: &mut Words<'_>,
     text: &mut Buffer,
-    came: &mut Buffer,
+    got: &mut Buffer,
 ) -> bool {
     match word {
-        "string" => mean(alloc, [b"t,\n\tcr=", b""], words, text, came),
-        "decimal" => mean(alloc, [b"t,\n\tcols#", b","], words, text, came),
+        "string" => mean(alloc, [b"t,\n\tcr=", b""], words, text, got),
+        "decimal" => mean(alloc, [b"t,\n\tcols#", b","], words, text, got),
         "compile" => {
             words.text(text);
-            add_made(ti_compile::compile(alloc, text.bytes()), came, add_compiled);
+            add_made(ti_compile::compile(alloc, text.bytes()), got, add_compiled);
         }
         _ => return false,
     }
@@ -266,7 +266,7 @@ fn mean(
     parts: [&[u8]; 2],
     words: &mut Words<'_>,
     text: &mut Buffer,
-    came: &mut Buffer,
+    got: &mut Buffer,
 ) {
     let mut source = Buffer::new(alloc);
     words.text(text);
@@ -274,10 +274,10 @@ fn mean(
     source.extend(text.bytes());
     source.extend(parts[1]);
     words.check(source.done());
-    add_made(entry_in(alloc, source.bytes()), came, |entry, came| {
+    add_made(entry_in(alloc, source.bytes()), got, |entry, got| {
         match entry.number(Slot(0)) {
-            Some(number) => add_number(i64::from(number), came),
-            None => add_any(entry.text(Slot(2)), came, add_text),
+            Some(number) => add_number(i64::from(number), got),
+            None => add_any(entry.text(Slot(2)), got, add_text),
         }
     });
 }
@@ -288,19 +288,19 @@ fn entry_in(alloc: Global, source: &[u8]) -> Result<Entry, SourceFault> {
 }
 
 // Adds each `file PATH BYTES`, each `size NAME BYTES` and each `note LINE CAUSE NAME`.
-fn add_compiled(compiled: &Compiled, came: &mut Buffer) {
+fn add_compiled(compiled: &Compiled, got: &mut Buffer) {
     for (path, bytes) in &compiled.files.0 {
-        add_word("file", came);
-        add_text(&path.0, came);
-        add_text(&bytes.0, came);
+        add_word("file", got);
+        add_text(&path.0, got);
+        add_text(&bytes.0, got);
     }
     for (name, size) in &compiled.sizes.0 {
-        add_word("size", came);
-        add_text(&name.0, came);
-        add_size(*size, came);
+        add_word("size", got);
+        add_text(&name.0, got);
+        add_size(*size, got);
     }
     for note in &compiled.notes.0 {
-        add_word("note", came);
-        add_note(note, came);
+        add_word("note", got);
+        add_note(note, got);
     }
 }

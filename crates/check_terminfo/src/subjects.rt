@@ -99,15 +99,15 @@ impl Subject for TerminfoSubject {
         }
     }
 
-    fn answer(&mut self, words: &mut Words<'_>, came: &mut Buffer) {
+    fn answer(&mut self, words: &mut Words<'_>, got: &mut Buffer) {
         let word = words.name();
-        if !self.is_answered(word, words, came)
-            && !answer_of_values(self.alloc, word, words, &mut self.text, came)
+        if !self.is_answered(word, words, got)
+            && !answer_of_values(self.alloc, word, words, &mut self.text, got)
         {
             words.fail(Trouble::Bad("no such line"));
         }
-        if came.bytes().is_empty() {
-            add_word("none", came);
+        if got.bytes().is_empty() {
+            add_word("none", got);
         }
     }
 
@@ -128,34 +128,34 @@ impl Subject for TerminfoSubject {
 
 impl TerminfoSubject {
     // Makes the call of a line that goes on with what is there. Tells whether a line is one of them.
-    fn is_answered(&mut self, word: &str, words: &mut Words<'_>, came: &mut Buffer) -> bool {
+    fn is_answered(&mut self, word: &str, words: &mut Words<'_>, got: &mut Buffer) -> bool {
         let (alloc, text) = (self.alloc, &mut self.text);
         match word {
-            "resolve" => resolve(alloc, &self.source, &mut self.entry, words, text, came),
-            "file" => take_file(alloc, &mut self.file, words, came),
+            "resolve" => resolve(alloc, &self.source, &mut self.entry, words, text, got),
+            "file" => take_file(alloc, &mut self.file, words, got),
             "decode" | "changed" => {
-                decode_changed(alloc, &self.file, &mut self.entry, words, text, came);
+                decode_changed(alloc, &self.file, &mut self.entry, words, text, got);
             }
-            "store" => store(alloc, &mut self.store, words, came),
-            "program" => run(alloc, &mut self.vars, words, text, came),
+            "store" => store(alloc, &mut self.store, words, got),
+            "program" => run(alloc, &mut self.vars, words, text, got),
             "vars" => {
                 self.vars = Vars::new();
-                add_word("Ok", came);
+                add_word("Ok", got);
             }
-            _ => return self.is_answered_of_one(word, words, came),
+            _ => return self.is_answered_of_one(word, words, got),
         }
         true
     }
 
     // Makes the call of a line about the entry, the source, the file or the files in which names are looked up.
-    fn is_answered_of_one(&mut self, word: &str, words: &mut Words<'_>, came: &mut Buffer) -> bool {
+    fn is_answered_of_one(&mut self, word: &str, words: &mut Words<'_>, got: &mut Buffer) -> bool {
         let (alloc, text) = (self.alloc, &mut self.text);
-        answer_of_entry(alloc, &mut self.entry, word, words, text, came)
-            || answer_of_source(alloc, &mut self.source, word, words, text, came)
-            || answer_of_writing(alloc, &self.entry, &mut self.file, word, words, text, came)
-            || answer_of_file(alloc, &self.file, word, came)
-            || answer_of_changes(alloc, &self.file, word, words, text, came)
-            || answer_of_database(alloc, &self.store, word, words, text, came)
+        answer_of_entry(alloc, &mut self.entry, word, words, text, got)
+            || answer_of_source(alloc, &mut self.source, word, words, text, got)
+            || answer_of_writing(alloc, &self.entry, &mut self.file, word, words, text, got)
+            || answer_of_file(alloc, &self.file, word, got)
+            || answer_of_changes(alloc, &self.file, word, words, text, got)
+            || answer_of_database(alloc, &self.store, word, words, text, got)
     }
 }
 
@@ -165,10 +165,10 @@ fn answer_of_values(
     word: &str,
     words: &mut Words<'_>,
     text: &mut Buffer,
-    came: &mut Buffer,
+    got: &mut Buffer,
 ) -> bool {
-    answer_of_table(word, words, text, came)
-        || answer_of_meaning(alloc, word, words, text, came)
-        || answer_of_programs(alloc, word, words, text, came)
-        || answer_of_input(alloc, word, words, text, came)
+    answer_of_table(word, words, text, got)
+        || answer_of_meaning(alloc, word, words, text, got)
+        || answer_of_programs(alloc, word, words, text, got)
+        || answer_of_input(alloc, word, words, text, got)
 }

@@ -13,48 +13,48 @@ pub fn answer_of_table(
     word: &str,
     words: &mut Words<'_>,
     text: &mut Buffer,
-    came: &mut Buffer,
+    got: &mut Buffer,
 ) -> bool {
     match word {
-        "name-of" | "table" | "named" => answer_of_kind(word, words, came),
+        "name-of" | "table" | "named" => answer_of_kind(word, words, got),
         "find" | "are-names" | "first-name" => {
             words.text(text);
-            answer_of_name(word, text.bytes(), came);
+            answer_of_name(word, text.bytes(), got);
         }
         _ => return false,
     }
     true
 }
 
-fn answer_of_name(word: &str, text: &[u8], came: &mut Buffer) {
+fn answer_of_name(word: &str, text: &[u8], got: &mut Buffer) {
     match word {
-        "find" => find(text, came),
-        "are-names" => add_flag(are_names(text), came),
-        _ => add_text(first_name(text), came),
+        "find" => find(text, got),
+        "are-names" => add_flag(are_names(text), got),
+        _ => add_text(first_name(text), got),
     }
 }
 
-fn find(name: &[u8], came: &mut Buffer) {
+fn find(name: &[u8], got: &mut Buffer) {
     match find_name(name) {
         Some((kind, slot)) => {
-            add_name(&kind, came);
-            add_number(i64::from(slot.0), came);
+            add_name(&kind, got);
+            add_number(i64::from(slot.0), got);
         }
-        None => add_word("none", came),
+        None => add_word("none", got),
     }
 }
 
-fn answer_of_kind(word: &str, words: &mut Words<'_>, came: &mut Buffer) {
+fn answer_of_kind(word: &str, words: &mut Words<'_>, got: &mut Buffer) {
     let kind = read_kind(words);
     match word {
-        "name-of" => add_word(name_of(kind, read_slot(words)).unwrap_or("none"), came),
-        "table" => add_names_from(kind, read_slot(words).0, words, came),
-        _ => count_named(kind, came),
+        "name-of" => add_word(name_of(kind, read_slot(words)).unwrap_or("none"), got),
+        "table" => add_names_from(kind, read_slot(words).0, words, got),
+        _ => count_named(kind, got),
     }
 }
 
 // Adds each name that is not at its position, one after another, and then the position after the last.
-fn add_names_from(kind: Kind, first: u16, words: &mut Words<'_>, came: &mut Buffer) {
+fn add_names_from(kind: Kind, first: u16, words: &mut Words<'_>, got: &mut Buffer) {
     let mut position = first;
     for _ in 0..u16::MAX {
         if words.is_at_end() {
@@ -62,22 +62,22 @@ fn add_names_from(kind: Kind, first: u16, words: &mut Words<'_>, came: &mut Buff
         }
         let name = words.next();
         if !is_named(kind, Slot(position), name) {
-            add_text(name, came);
+            add_text(name, got);
         }
         position = position.saturating_add(1);
     }
-    add_number(i64::from(position), came);
+    add_number(i64::from(position), got);
 }
 
 // How many of the positions from 0 to 65,534 have a name.
-fn count_named(kind: Kind, came: &mut Buffer) {
+fn count_named(kind: Kind, got: &mut Buffer) {
     let mut named = 0u16;
     for position in 0..u16::MAX {
         if name_of(kind, Slot(position)).is_some() {
             named = named.saturating_add(1);
         }
     }
-    add_number(i64::from(named), came);
+    add_number(i64::from(named), got);
 }
 
 fn read_kind(words: &mut Words<'_>) -> Kind {

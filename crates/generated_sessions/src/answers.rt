@@ -9,18 +9,18 @@ use screen_sessions::{Answer, Report};
 use std::io::ErrorKind;
 
 /// Adds what a call answered: `Ok` or what it gives, an update `Ok` and the number of its bytes; or why it was refused.
-pub fn add_answer(answer: &Answer, came: &mut Buffer) {
+pub fn add_answer(answer: &Answer, got: &mut Buffer) {
     match answer {
-        Answer::Nothing => add_word("Ok", came),
-        Answer::Made(win) => add_number(i64::from(win.0), came),
-        Answer::Added(Added::Done) => add_word("Done", came),
-        Answer::Added(Added::Stayed) => add_word("Stayed", came),
-        Answer::Seen(cell) => add_cell(*cell, came),
-        Answer::Pair(row, column) => add_place(*row, *column, came),
-        Answer::Touched(touched) => add_flag(*touched, came),
-        Answer::Refused(fault) => add_name(fault, came),
-        Answer::Sent(sent) => add_well(sent.bytes, came),
-        Answer::Failed(fault) => add_fault(fault, came),
+        Answer::Nothing => add_word("Ok", got),
+        Answer::Made(win) => add_number(i64::from(win.0), got),
+        Answer::Added(Added::Done) => add_word("Done", got),
+        Answer::Added(Added::Stayed) => add_word("Stayed", got),
+        Answer::Seen(cell) => add_cell(*cell, got),
+        Answer::Pair(row, column) => add_place(*row, *column, got),
+        Answer::Touched(touched) => add_flag(*touched, got),
+        Answer::Refused(fault) => add_name(fault, got),
+        Answer::Sent(sent) => add_well(sent.bytes, got),
+        Answer::Failed(fault) => add_fault(fault, got),
     }
 }
 
@@ -74,43 +74,43 @@ pub fn begun_by(answer: &Answer) -> &[Op] {
 }
 
 // Adds that so many bytes were sent.
-fn add_well(bytes: u64, came: &mut Buffer) {
-    add_word("Ok", came);
-    add_count(bytes, came);
+fn add_well(bytes: u64, got: &mut Buffer) {
+    add_word("Ok", got);
+    add_count(bytes, got);
 }
 
 // Adds why an update ended early, how many operations it began, and how many bytes it sent.
-fn add_fault(fault: &UpdateFault, came: &mut Buffer) {
+fn add_fault(fault: &UpdateFault, got: &mut Buffer) {
     let (what, begun, sent, kind) = match fault {
         UpdateFault::NoMemory => {
-            add_word("NoMemory", came);
+            add_word("NoMemory", got);
             return;
         }
         UpdateFault::Write { begun, sent, kind } => ("Write", begun.0.len(), *sent, *kind),
         UpdateFault::Flush { begun, sent, kind } => ("Flush", begun.0.len(), *sent, *kind),
     };
-    add_failed(what, kind, came);
-    add_count(begun as u64, came);
-    add_count(sent, came);
+    add_failed(what, kind, got);
+    add_count(begun as u64, got);
+    add_count(sent, got);
 }
 
 /// Adds how many bytes a text at an end of a screen's use had, or why not all were sent, and how many.
-pub fn add_sent(sent: &Result<u64, SendFault>, came: &mut Buffer) {
+pub fn add_sent(sent: &Result<u64, SendFault>, got: &mut Buffer) {
     let (what, sent, kind) = match sent {
         Ok(bytes) => {
-            add_well(*bytes, came);
+            add_well(*bytes, got);
             return;
         }
         Err(SendFault::Write { sent, kind }) => ("Write", *sent, *kind),
         Err(SendFault::Flush { sent, kind }) => ("Flush", *sent, *kind),
     };
-    add_failed(what, kind, came);
-    add_count(sent, came);
+    add_failed(what, kind, got);
+    add_count(sent, got);
 }
 
 // Adds what failed, and the kind of its error.
-fn add_failed(what: &str, kind: ErrorKind, came: &mut Buffer) {
-    add_word(what, came);
+fn add_failed(what: &str, kind: ErrorKind, got: &mut Buffer) {
+    add_word(what, got);
     add_word(
         match kind {
             ErrorKind::BrokenPipe => "BrokenPipe",
@@ -118,22 +118,22 @@ fn add_failed(what: &str, kind: ErrorKind, came: &mut Buffer) {
             ErrorKind::Other => "Other",
             _ => "another",
         },
-        came,
+        got,
     );
 }
 
 /// Adds a count.
-pub fn add_count(count: u64, came: &mut Buffer) {
-    add_number(i64::try_from(count).unwrap_or(-1), came);
+pub fn add_count(count: u64, got: &mut Buffer) {
+    add_number(i64::try_from(count).unwrap_or(-1), got);
 }
 
 /// Adds where a cursor is.
-pub fn add_spot(spot: Spot, came: &mut Buffer) {
+pub fn add_spot(spot: Spot, got: &mut Buffer) {
     match spot {
-        Spot::At(row, column) => add_place(row, column, came),
+        Spot::At(row, column) => add_place(row, column, got),
         Spot::Margin(row) => {
-            add_word("margin", came);
-            add_number(i64::from(row), came)
+            add_word("margin", got);
+            add_number(i64::from(row), got)
         }
     }
 }

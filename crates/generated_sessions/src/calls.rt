@@ -13,7 +13,7 @@ use screen_sessions::Call;
 use std::alloc::Global;
 use ti_caps::Bytes;
 
-/// What came of a line.
+/// How a line ended.
 #[derive(Clone, Copy, PartialEq, Eq)]
 pub enum Obeyed {
     /// All is as it has to be.
@@ -25,29 +25,29 @@ pub enum Obeyed {
 }
 
 /// The calls of a screen by their names, `update`, `start` and `close` with a writer that fails as the word says, and
-/// `others TEXT`, which others write on the terminal. Adds what came.
+/// `others TEXT`, which others write on the terminal. Adds the answer.
 pub fn obey(
     alloc: Global,
     opened: &mut Recorded,
     word: &str,
     words: &mut Words<'_>,
-    came: &mut Buffer,
+    got: &mut Buffer,
 ) -> Result<Obeyed, Trouble> {
     if word == "others" {
-        others(alloc, opened, words, came);
+        others(alloc, opened, words, got);
         return Ok(Obeyed::Well);
     }
     if let Some(fails) = read_update(word, words) {
-        let is_well = opened.update(fails, came)?;
+        let is_well = opened.update(fails, got)?;
         return Ok(if is_well { Obeyed::Well } else { Obeyed::Badly });
     }
     if let Some((end, fails)) = read_end(word, words) {
-        opened.send_end(end, fails, came)?;
+        opened.send_end(end, fails, got)?;
         return Ok(Obeyed::Well);
     }
     match call_of(alloc, word, words) {
         Some(call) => {
-            opened.call(call, came)?;
+            opened.call(call, got)?;
             Ok(Obeyed::Well)
         }
         None => Ok(Obeyed::No),
@@ -55,11 +55,11 @@ pub fn obey(
 }
 
 // Feeds the terminal what others write.
-fn others(alloc: Global, opened: &mut Recorded, words: &mut Words<'_>, came: &mut Buffer) {
+fn others(alloc: Global, opened: &mut Recorded, words: &mut Words<'_>, got: &mut Buffer) {
     let mut text = Buffer::new(alloc);
     words.text(&mut text);
     let is_defined = opened.display.emulated.feed(text.bytes());
-    add_word(if is_defined { "Ok" } else { "Undefined" }, came);
+    add_word(if is_defined { "Ok" } else { "Undefined" }, got);
 }
 
 // The call of a name, with its words; `None` where the name is that of none, or of an update.

@@ -96,15 +96,15 @@ fn is_wanted(
     let count = begun.len();
     let written = write!(wanted.vector(), " {how} {count} {behind} Ok {rest} Ok 0");
     wanted.check(written.is_ok());
-    let mut came = Buffer::new(opened.alloc);
-    add_answer(failed, &mut came);
-    add_answer(next, &mut came);
-    add_answer(last, &mut came);
+    let mut got = Buffer::new(opened.alloc);
+    add_answer(failed, &mut got);
+    add_answer(next, &mut got);
+    add_answer(last, &mut got);
     let is_whole = match opened.sent.get(..start.saturating_add(end)) {
         Some(whole) => taken.starts_with(whole),
         None => false,
     };
-    let are_wanted = are_same(&wanted, &came)? && begun_by(failed) == begun && is_whole;
+    let are_wanted = are_same(&wanted, &got)? && begun_by(failed) == begun && is_whole;
     Ok(are_wanted && is_shown(opened, taken)?)
 }
 

@@ -96,7 +96,7 @@ impl Recorded {
     }
 
     /// Makes a call other than an update, and adds what it answers.
-    pub fn call(&mut self, call: Call, came: &mut Buffer) -> Result<(), Trouble> {
+    pub fn call(&mut self, call: Call, got: &mut Buffer) -> Result<(), Trouble> {
         if may_paint_all(&self.screen, &call) {
             self.display.left.forget();
         }
@@ -105,23 +105,23 @@ impl Recorded {
         if matches!(answer, Answer::Nothing) {
             self.display.plain.follow(&self.screen, &call);
         }
-        self.keep(call, &answer, came)
+        self.keep(call, &answer, got)
     }
 
     /// Updates with a writer that fails so, adds what the update answers, and tells whether all is as it has to be.
     /// Where that is Ok, the terminal has to show the plain picture, no more may be sent than the joined repaint, or
     /// than painting from scratch, and where nothing is sent or memory ran out, the writer may not be called; adds what
     /// is not so.
-    pub fn update(&mut self, fails: Fails, came: &mut Buffer) -> Result<bool, Trouble> {
+    pub fn update(&mut self, fails: Fails, got: &mut Buffer) -> Result<bool, Trouble> {
         self.device.writer = writer_that(self.alloc, fails)?;
-        let ended = self.make_update(came)?;
+        let ended = self.make_update(got)?;
         if !self.feed()? {
-            add_word("and an undefined text", came);
+            add_word("and an undefined text", got);
             return Ok(false);
         }
         match ended {
-            Ended::Well(bytes) => self.end_well(bytes, came),
-            Ended::RanOut => Ok(self.add_calls(came)),
+            Ended::Well(bytes) => self.end_well(bytes, got),
+            Ended::RanOut => Ok(self.add_calls(got)),
             Ended::Failed => {
                 self.keep_fault(fails)?;
                 self.last_ok = false;
@@ -133,19 +133,19 @@ impl Recorded {
 
     /// Starts or closes the screen with a writer that fails so, and adds what that answers. The emulated screen is fed
     /// what was sent where the entry has no text for it: others are not ECMA-48.
-    pub fn send_end(&mut self, end: End, fails: Fails, came: &mut Buffer) -> Result<(), Trouble> {
+    pub fn send_end(&mut self, end: End, fails: Fails, got: &mut Buffer) -> Result<(), Trouble> {
         self.display.left.forget();
         self.device.writer = writer_that(self.alloc, fails)?;
         let sent = match end {
             End::Start => self.screen.start(&mut self.device),
             End::Close => self.screen.close(&mut self.device),
         };
-        add_sent(&sent, came);
+        add_sent(&sent, got);
         if sent == Ok(0) {
-            let _uncalled = self.add_calls(came);
+            let _uncalled = self.add_calls(got);
         }
         if !has_ends(&self.entry) && !self.display.emulated.feed(self.device.writer.taken()) {
-            add_word("and an undefined text", came);
+            add_word("and an undefined text", got);
         }
         self.keep_sent()
     }
@@ -159,24 +159,24 @@ impl Recorded {
     }
 
     // Adds that the writer was called, where it was, and tells whether it was not.
-    fn add_calls(&self, came: &mut Buffer) -> bool {
+    fn add_calls(&self, got: &mut Buffer) -> bool {
         let is_called = self.device.writer.calls() > 0;
         if is_called {
-            add_word("and the writer was called", came);
+            add_word("and the writer was called", got);
         }
         !is_called
     }
 
     /// Makes the calls by one session with a writer that fails where those of the updates did, and adds `agrees` where
     /// its answers, its bytes and whether its last update ended well are the same.
-    pub fn add_session(&self, came: &mut Buffer) -> Result<(), Trouble> {
+    pub fn add_session(&self, got: &mut Buffer) -> Result<(), Trouble> {
         let room = Vec::with_capacity(self.alloc, self.sent.len())?;
         let mut device = Device::new(Faulty::with_faults(room, self.faults.clone()?));
         let size = Some(self.size);
         match session(self.alloc, &self.entry, size, &self.calls, &mut device) {
-            Ok(report) => return self.add_agrees(&device, &report, came),
-            Err(OpenFault::NoMemory) if device.writer.calls() == 0 => add_word("NoMemory", came),
-            Err(_) => add_word("no session", came),
+            Ok(report) => return self.add_agrees(&device, &report, got),
+            Err(OpenFault::NoMemory) if device.writer.calls() == 0 => add_word("NoMemory", got),
+            Err(_) => add_word("no session", got),
         }
         Ok(())
     }
@@ -202,25 +202,25 @@ impl Recorded {
         &self,
         device: &Device<Faulty>,
         report: &Report,
-        came: &mut Buffer,
+        got: &mut Buffer,
     ) -> Result<(), Trouble> {
         let mut answers = Buffer::new(self.alloc);
         if !add_answers(report, &mut answers) {
-            add_word("NoMemory", came);
+            add_word("NoMemory", got);
             return Ok(());
         }
         let is_same = self.has_sent(device) && report.last_ok == self.last_ok;
         let agrees = are_same(&self.answers, &answers)? && is_same;
-        add_word(if agrees { "agrees" } else { "differs" }, came);
+        add_word(if agrees { "agrees" } else { "differs" }, got);
         Ok(())
     }
 
     // Makes an update, keeps the operations that it began, and tells how it ended.
-    fn make_update(&mut self, came: &mut Buffer) -> Result<Ended, Trouble> {
+    fn make_update(&mut self, got: &mut Buffer) -> Result<Ended, Trouble> {
         let (call, answer) = self.answered(Call::Doupdate)?;
         self.last.0.clear();
         self.last.0.extend_from_slice(begun_by(&answer))?;
-        self.keep(call, &answer, came)?;
+        self.keep(call, &answer, got)?;
         Ok(end_of(&answer))
     }
 
@@ -235,8 +235,8 @@ impl Recorded {
     }
 
     // Keeps a call with its answer unless memory ran out, and adds the answer.
-    fn keep(&mut self, call: Call, answer: &Answer, came: &mut Buffer) -> Result<(), Trouble> {
-        add_answer(answer, came);
+    fn keep(&mut self, call: Call, answer: &Answer, got: &mut Buffer) -> Result<(), Trouble> {
+        add_answer(answer, got);
         if !ran_out(answer) {
             add_answer(answer, &mut self.answers);
             self.calls.push(call)?;
@@ -268,7 +268,7 @@ impl Recorded {
     }
 
     // Adds what is wrong with an update that ended well, and tells whether nothing is.
-    fn end_well(&mut self, bytes: u64, came: &mut Buffer) -> Result<bool, Trouble> {
+    fn end_well(&mut self, bytes: u64, got: &mut Buffer) -> Result<bool, Trouble> {
         let most = self.most()?;
         self.last_ok = true;
         let is_defined = self.display.left.learn(&self.display.profile, &self.last.0);
@@ -278,7 +278,7 @@ impl Recorded {
             Some("and an undefined operation")
         };
         if let Some(words) = trouble {
-            add_word(words, came);
+            add_word(words, got);
         }
         Ok(trouble.is_none())
     }

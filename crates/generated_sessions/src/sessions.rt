@@ -59,7 +59,7 @@ struct Sessions {
 /// that is marked. Some updates fail after some of their bytes. Each that is Ok has to show the plain picture and to
 /// send no more than it may, and all calls of a session, made again by `session`, answer and send the same. Adds
 /// `agrees`, where at least so many updates sent something, failed, and moved rows or characters. Where something does
-/// not agree, adds the number of the session, what came of its last line, and all its lines.
+/// not agree, adds the number of the session, the answer of its last line, and all its lines.
 ///
 /// The line `cut_sessions R C COUNT UPDATES SEED CUTS NAME ..`: the same, but that no update fails and nothing is
 /// written by others, and each update is cut as with `count_cuts`, which is at least so many cuts.
@@ -68,7 +68,7 @@ pub fn check_sessions(
     opened: &mut Option<Recorded>,
     is_cut: bool,
     words: &mut Words<'_>,
-    came: &mut Buffer,
+    got: &mut Buffer,
 ) -> Result<(), Trouble> {
     let Some(size) = read_size(words) else {
         return Ok(());
@@ -85,11 +85,11 @@ pub fn check_sessions(
     let mut sessions = Sessions::new(alloc, size, updates, is_cut, seed);
     for number in 0..count {
         if !sessions.check(opened, names)? {
-            sessions.add_trouble(number, came);
+            sessions.add_trouble(number, got);
             return Ok(());
         }
     }
-    sessions.counts.add(least, came);
+    sessions.counts.add(least, got);
     Ok(())
 }
 
@@ -104,14 +104,14 @@ impl Counts {
     }
 
     // Adds `agrees`, or how many there are of each, where these are fewer than at least wanted.
-    fn add(&self, [sent, failed, moved, cuts]: [u32; 4], came: &mut Buffer) {
+    fn add(&self, [sent, failed, moved, cuts]: [u32; 4], got: &mut Buffer) {
         let are_enough = self.sent >= sent && self.failed >= failed && self.moved >= moved;
         if are_enough && self.cuts >= cuts {
-            add_word("agrees", came);
+            add_word("agrees", got);
             return;
         }
         for count in [self.sent, self.failed, self.moved, self.cuts] {
-            add_count(u64::from(count), came);
+            add_count(u64::from(count), got);
         }
     }
 }
@@ -148,12 +148,12 @@ impl Sessions {
         }
     }
 
-    // Adds the session that does not agree, what came of its last line, and all its lines.
-    fn add_trouble(&self, number: u32, came: &mut Buffer) {
-        add_word("session", came);
-        add_number(i64::from(number), came);
-        came.extend(self.answer.bytes());
-        add_text(self.story.bytes(), came);
+    // Adds the session that does not agree, the answer of its last line, and all its lines.
+    fn add_trouble(&self, number: u32, got: &mut Buffer) {
+        add_word("session", got);
+        add_number(i64::from(number), got);
+        got.extend(self.answer.bytes());
+        add_text(self.story.bytes(), got);
     }
 
     // Checks a session on a screen of its own.
@@ -257,7 +257,7 @@ impl Sessions {
         }
     }
 
-    // Makes the line, and tells whether what came of it is as it has to be.
+    // Makes the line, and tells whether the answer is as it has to be.
     fn make(&mut self, opened: &mut Recorded) -> Result<bool, Trouble> {
         self.line.done()?;
         self.story.extend(self.line.bytes());
