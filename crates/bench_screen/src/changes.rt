@@ -24,7 +24,7 @@ pub enum Change {
     Page(u32),
     /// So many lines: the windows come in turn, and are pages of one text, of which one begins a line later.
     Moved(u32),
-    /// A letter that is typed into the middle of a line: what is behind it moves to the right.
+    /// A letter that is typed into the middle of a line: what is after it moves to the right.
     Letter,
 }
 
@@ -87,7 +87,7 @@ fn draw_character(screen: &mut Screen, done: u32) -> Result<()> {
     Ok(())
 }
 
-// Types a character behind those typed before, as an editor does: the status line is written anew.
+// Types a character after those typed before, as an editor does: the status line is written anew.
 fn draw_status(screen: &mut Screen, done: u32) -> Result<()> {
     let (rows, columns) = screen.size(FIRST)?;
     let half = columns / 2;
@@ -111,7 +111,7 @@ fn draw_long_line(alloc: Global, screen: &mut Screen, win: Win) -> Result<()> {
     draw_line(alloc, screen, win, 2, rows / 2)
 }
 
-// Types a letter behind those typed before.
+// Types a letter after those typed before.
 fn draw_letter(screen: &mut Screen, done: u32) -> Result<()> {
     let (rows, columns) = screen.size(FIRST)?;
     let half = columns / 2;

@@ -9,7 +9,7 @@ use std::alloc::Global;
 // Letters, each as often as it comes among 64 of an English text.
 const LETTERS: &[u8; 64] = b"eeeeeeeettttttaaaaaoooooiiiinnnnsssshhhhrrrrdddlllccuummwfgypbvk";
 
-// Random numbers, the same behind the same seed.
+// Random numbers, the same for the same seed.
 #[derive(Drop)]
 struct Random(u32);
 
@@ -30,7 +30,7 @@ impl Random {
     }
 }
 
-// As many words, with a blank behind each, as a width has room for.
+// As many words, with a blank after each, as a width has room for.
 fn write_line(random: &mut Random, width: u32, line: &mut Vec<u8>) -> Result<()> {
     line.clear();
     for _ in 0..width {
@@ -43,7 +43,7 @@ fn write_line(random: &mut Random, width: u32, line: &mut Vec<u8>) -> Result<()>
     Ok(())
 }
 
-// A word, whose length counts the blank behind it.
+// A word, whose length counts the blank after it.
 fn add_word(random: &mut Random, length: u32, line: &mut Vec<u8>) -> Result<()> {
     for _ in 1..length {
         line.push(LETTERS[random.next() as usize % 64])?;

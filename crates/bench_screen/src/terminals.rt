@@ -1,7 +1,7 @@
 //! Uses a terminal's parameter strings, profile and emulated screen: `terminals read|run|length cup|sgr|clear|status
 //! COUNT` reads, runs or measures a parameter string; `terminals admit|feed|place|paint|scratch|address|price bundled
 //! COUNT` makes a profile of the bundled entry, feeds the emulated screen a cursor address with a line of 79 graphic
-//! characters behind it or alone, renders the operations for one place of a screen, makes the bytes that paint a whole
+//! characters after it or alone, renders the operations for one place of a screen, makes the bytes that paint a whole
 //! one of 24 rows and 80 columns, renders a cursor address, or asks for its price. The number is made of all results.
 
 use anyhow::{Result, anyhow, bail};
@@ -73,7 +73,7 @@ fn admit_again(alloc: Global, count: u32) -> Result<usize> {
     Ok(sum)
 }
 
-// A cursor address, and graphic characters behind it.
+// A cursor address, and graphic characters after it.
 fn line(alloc: Global, characters: u8) -> Result<Vec<u8>> {
     let mut line = Vec::with_capacity(alloc, 128)?;
     line.extend_from_slice(b"\x1b[1;1H")?;
@@ -83,7 +83,7 @@ fn line(alloc: Global, characters: u8) -> Result<Vec<u8>> {
     Ok(line)
 }
 
-// Feeds an emulated screen a cursor address with so many graphic characters behind it again and again, and counts how
+// Feeds an emulated screen a cursor address with so many graphic characters after it again and again, and counts how
 // often that is undefined.
 fn feed_again(alloc: Global, characters: u8, count: u32) -> Result<usize> {
     let mut screen = EcmaScreen::new(alloc, size()?)?;

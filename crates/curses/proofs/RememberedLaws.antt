@@ -1,11 +1,9 @@
 -- What a screen remembers of its terminal goes on to hold.
-use Rattle.std.proofs.Common.{◌≡◌, ℕ, ◌+◌, leb, ltb, ◌&&◌, refl, sym, ◌∙◌, List}
+use Rattle.std.proofs.Common.{◌≡◌, ℕ, ◌+◌, ◌&&◌, sym, ◌∙◌, List}
 use Rattle.scr_term.specs.declared.operations.operation.Op.{Op}
-use Rattle.scr_term.specs.Operations.Laws.{BlankLaws}
 use Rattle.scr_term.specs.Operations.Profiles.{ProfileView, IsProfile, abilities}
-use Rattle.scr_term.specs.Operations.States.{TerminalState, blank_state}
 use Rattle.scr_cells.specs.PictureViews.{IsPicture}
-use Rattle.scr_memory.specs.Memories.{Agrees, MemoryLaws, MemoryView, all_followed, disturbed, forgotten, unknown}
+use Rattle.scr_memory.specs.Memories.{MemoryLaws, MemoryView, all_followed, disturbed, forgotten, unknown}
 use Rattle.scr_memory.specs.MemoryRuns.{MemoryRuns}
 use Rattle.scr_plan.specs.Plans.{IsPlan, UpToDateLaws}
 use Rattle.scr_plan.specs.Scratch.{Fits}

@@ -43,8 +43,7 @@ impl Screen {
     ///
     /// - NoMemory: memory ran out. Nothing was sent, and nothing changes.
     /// - Write: a write failed or accepted nothing. The first operations of the plan were begun, up to the one whose
-    ///   text
-    ///   was cut, and what was not accepted of that text is owed. The next update repaints everything.
+    ///   text was cut, and what was not accepted of that text is owed. The next update repaints everything.
     /// - Flush: everything was accepted, and the flush failed. The next update repaints everything.
     ///
     /// curs_refresh(3X) and X/Open Curses Issue 7, doupdate().

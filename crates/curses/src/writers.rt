@@ -38,7 +38,7 @@ pub trait Output {
     // The bytes that it holds, if they are known.
     ghost holds: { Self → Option (List ℕ) };
 
-    // What a write of a piece, and a flush, answer and leave behind.
+    // What a write of a piece, and a flush, answer and leave.
     ghost writes: { Self → List ℕ → WriteAnswer → Self → Type 0 } = { λ _ _ _ _. ⊤ };
 
     ghost flushes: { Self → FlushAnswer → Self → Type 0 } = { λ _ _ _. ⊤ };

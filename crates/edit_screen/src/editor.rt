@@ -184,21 +184,21 @@ impl Editor {
     }
 
     fn insert(&mut self, byte: u8) {
-        let behind = Place {
+        let after = Place {
             line: self.cursor.line,
             column: self.cursor.column.saturating_add(1),
         };
         let done = self.text.insert(self.cursor, byte);
-        self.arrive(done, behind);
+        self.arrive(done, after);
     }
 
     fn split(&mut self) {
-        let behind = Place {
+        let after = Place {
             line: self.cursor.line.saturating_add(1),
             column: 0,
         };
         let done = self.text.split(self.cursor);
-        self.arrive(done, behind);
+        self.arrive(done, after);
     }
 
     // Moves the cursor to the place after an edit, or says why there was none.
@@ -239,11 +239,11 @@ impl Editor {
 
     // Moves the cursor to the next place after it where what is looked for occurs.
     fn find(&mut self) {
-        let behind = Place {
+        let after = Place {
             line: self.cursor.line,
             column: self.cursor.column.saturating_add(1),
         };
-        match self.text.find(behind, &self.needle) {
+        match self.text.find(after, &self.needle) {
             Some(place) => self.go_to(place),
             None => self.message = Message::NotFound,
         }
@@ -277,7 +277,7 @@ impl Editor {
                 self.turn_to(top, line.saturating_add(page));
             }
             Motion::Left => self.go_to_some(self.place_before()),
-            Motion::Right => self.go_to_some(self.place_behind()),
+            Motion::Right => self.go_to_some(self.place_after()),
             Motion::LineStart => self.go_to(Place { line, column: 0 }),
             Motion::LineEnd => {
                 let column = self.line().len();
@@ -313,7 +313,7 @@ impl Editor {
     }
 
     // The place after the cursor: `None` at the end of the text.
-    fn place_behind(&self) -> Option<Place> {
+    fn place_after(&self) -> Option<Place> {
         let Place { line, column } = self.cursor;
         if column < self.line().len() {
             return Some(Place {

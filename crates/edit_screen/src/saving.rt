@@ -62,7 +62,7 @@ impl SaveFault {
     pub fn words(self) -> &'static str {
         match self {
             SaveFault::NoMemory => "out of memory",
-            SaveFault::IsThere => "there is a file of this name with .new behind it",
+            SaveFault::IsThere => "a file of this name with .new at its end is in the way",
             SaveFault::ReadOnly => "the file may not be written",
             SaveFault::BrokenLink => "the name is a link to a file that is not there",
             SaveFault::CannotCreate => "no file can be made beside it",

@@ -70,7 +70,7 @@ fn show(alloc: Global, screen: &mut Screen, out: &mut Device<Vec<u8>>) -> Result
     Ok(())
 }
 
-// A program on a screen that is opened: it starts, shows a word, and closes, whatever came of that.
+// A program on a screen that is opened: it starts, shows a word, and closes, however that ended.
 fn run(alloc: Global, screen: &mut Screen, out: &mut Device<Vec<u8>>) -> Result<()> {
     screen.start(out)?;
     let shown = show(alloc, screen, out);
@@ -87,7 +87,7 @@ fn run_on(alloc: Global, entry: &Entry, size: Size, out: &mut Device<Vec<u8>>) -
 }
 
 // Whether a terminal that was sent this has its cursor at the beginning of the last line, and no attribute on.
-fn is_plain_behind(alloc: Global, size: Size, bytes: &[u8]) -> Result<bool> {
+fn is_plain_after(alloc: Global, size: Size, bytes: &[u8]) -> Result<bool> {
     let mut terminal = EcmaScreen::new(alloc, size)?;
     terminal.feed(bytes)?;
     let last = terminal.size().rows - 1;
@@ -99,7 +99,7 @@ fn is_left_plain(alloc: Global, size: Size) -> Result<bool> {
     let entry = bundled(alloc)?;
     let mut out = Device::new(Vec::new(alloc));
     run_on(alloc, &entry, size, &mut out)?;
-    is_plain_behind(alloc, size, &out.writer)
+    is_plain_after(alloc, size, &out.writer)
 }
 
 // The text of a row, with its stars.

@@ -19,7 +19,7 @@ waiting session = session.out.writer.items
 abbrev pub writer : Session → WriterView
 writer session = record { taken = Some (waiting session); failed_puts = session.out.failed_puts; failed_finishes = session.out.failed_finishes }
 
--- The numbers of what a start or a finish, and an update came to.
+-- The numbers of how a start or a finish, and an update ended.
 abbrev pub sent_number : Result ℕ SendFault → ℕ
 sent_number (Ok count) = 0
 sent_number (Err fault) = send_number fault
@@ -28,23 +28,23 @@ abbrev pub updated_number : Result Sent UpdateFault → ℕ
 updated_number (Ok sent) = 0
 updated_number (Err fault) = update_number fault
 
--- A start of the screen came to something, and this is its number.
+-- A start of the screen ended so, and this is its number.
 pub record Starts (old new : Session) (answer : ℕ) : Type 0 where
-  pub came : Result ℕ SendFault
-  pub is : MatchResult came (IsStarted old.screen new.screen (writer old) (writer new)) (IsNotStarted old.screen new.screen (writer old) (writer new))
-  pub number : answer ≡ sent_number came
+  pub ended : Result ℕ SendFault
+  pub is : MatchResult ended (IsStarted old.screen new.screen (writer old) (writer new)) (IsNotStarted old.screen new.screen (writer old) (writer new))
+  pub number : answer ≡ sent_number ended
 
 -- A finish.
 pub record Finishes (old new : Session) (answer : ℕ) : Type 0 where
-  pub came : Result ℕ SendFault
-  pub is : MatchResult came (IsClosed old.screen new.screen (writer old) (writer new)) (IsNotClosed old.screen new.screen (writer old) (writer new))
-  pub number : answer ≡ sent_number came
+  pub ended : Result ℕ SendFault
+  pub is : MatchResult ended (IsClosed old.screen new.screen (writer old) (writer new)) (IsNotClosed old.screen new.screen (writer old) (writer new))
+  pub number : answer ≡ sent_number ended
 
 -- An update.
 pub record Updates (old new : Session) (answer : ℕ) : Type 0 where
-  pub came : Result Sent UpdateFault
-  pub is : MatchResult came (IsShown old.screen new.screen (writer old) (writer new)) (IsFailed old.screen new.screen (writer old) (writer new))
-  pub number : answer ≡ updated_number came
+  pub ended : Result Sent UpdateFault
+  pub is : MatchResult ended (IsShown old.screen new.screen (writer old) (writer new)) (IsFailed old.screen new.screen (writer old) (writer new))
+  pub number : answer ≡ updated_number ended
 
 -- How many bytes wait. Nothing changes.
 abbrev pub Waits : Session → Session → ℕ → Type 0

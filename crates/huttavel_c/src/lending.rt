@@ -1,4 +1,4 @@
-//! The session behind an address is lent.
+//! The session at an address is lent.
 ghost use Rattle.std.specs.Prelude.{◌≡◌, IsSome, Some};
 ghost use types.Logic.{sem};
 ghost use Rattle.huttavel_c.specs.Following.{held_follows};

@@ -1,5 +1,5 @@
 -- What is known after several operations. curs_refresh(3X), doupdate().
-use Rattle.std.specs.Prelude.{◌≡◌, ◌++◌, true, List, length, Some}
+use Rattle.std.specs.Prelude.{◌≡◌, ◌++◌, true, List, Some}
 use Rattle.scr_cells.specs.Grids.{IsGrid}
 use Rattle.scr_term.specs.declared.operations.operation.Op.{Op}
 use Rattle.scr_term.specs.Operations.Abilities.{Abilities}

@@ -1,4 +1,4 @@
--- Painting the places of a row, each behind its neighbour where both have one pen, leads where painting them one by one leads.
+-- Painting the places of a row, each after its neighbour where both have one pen, leads where painting them one by one leads.
 use Rattle.std.proofs.Common.{◌≡◌, ℕ, ◌+◌, ◌<◌, ◌≤◌, Bool, true, false, All, refl, sym, ◌∙◌, ap, arith, nat_lt, List, [], ◌∷◌, ◌++◌, filter, Option, Some, None, option_and_then, zero, suc, if◌then◌else◌}
 use Rattle.std.specs.List.{flat_map}
 use Rattle.std.proofs.lemmas.Bool.Decides.{nat_tests}
@@ -26,7 +26,7 @@ use Rattle.scr_memory.specs.Memories.{MemoryView}
 use Rattle.scr_plan.specs.Repaints.{brief_place, differs, joins_left}
 use Rattle.scr_plan.specs.Scratch.{PlaceIsPainted, goes, look_at, paints_place, renders}
 
--- ---- runs one behind another
+-- ---- runs one after another
 
 -- operations from one state and others from another one that lead to the same state, and then others that lead from there to the same
 pub then_same : RunLaws → (profile : ProfileView) (old other : TerminalState) (xs ys more others : List Op) → runs profile old xs ≡ runs profile other ys
@@ -42,9 +42,9 @@ then_same laws profile old other xs ys more others first second =
     by None e = refl
     by (Some next) e = second next e
 
--- ---- one place behind its neighbour
+-- ---- one place after its neighbour
 
--- what the character alone does behind a place that was painted with the same pen
+-- what the character alone does after a place that was painted with the same pen
 put_is_place : ProfilesHave → PlaceIsPainted → (profile : ProfileView) → IsProfile profile → (picture : PictureView) → IsPicture picture
     → (r c : ℕ) → r < profile.rows → suc c < profile.columns → (old : TerminalState) → IsState (abilities profile) old
     → old.spot ≡ spot_after profile.columns r c → old.pen ≡ (look_at profile picture (r, suc c)).pen
@@ -63,7 +63,7 @@ put_is_place have place_law profile p picture k r c high wide old s spot pen =
 
 -- ---- the places of a row
 
--- the last place of a part, if it differs, leaves the cursor behind it, and its pen
+-- the last place of a part, if it differs, leaves the cursor after it, and its pen
 pub behind_last : RunLaws → PlaceIsPainted → (profile : ProfileView) → IsProfile profile → (picture : PictureView) → IsPicture picture → (d : ℕ × ℕ → Bool)
     → (r m : ℕ) → r < profile.rows → m < profile.columns → d (r, m) ≡ true → (old new : TerminalState) → IsState (abilities profile) old
     → runs profile old (flat_map (paints_place profile picture) (filter d (part_places 0 (suc m) r))) ≡ Some new

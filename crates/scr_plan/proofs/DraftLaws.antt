@@ -127,7 +127,7 @@ set_on laws profile p old new op pen turns added =
     led laws profile p old new op old.spot pen added
     (λ state at with. turns state at with ∙ ap (λ spot. Some (record { grid = state.grid; spot = spot; pen = pen })) at)
 
--- operations that were counted behind the others
+-- operations that were counted after the others
 pub counted : (profile : ProfileView) (old mid new : Draft) (begun : ℕ) (more : List Op) (spot : Spot) (pen : PenView) → begun ≡ length old.ops.items → mid.ops.items ≡ old.ops.items ++ more → mid.bytes ≡ old.bytes
     → IsPaid profile mid new begun spot pen → IsAdded profile old new more spot pen
 counted profile old mid new begun more spot pen at added bytes paid =
@@ -139,7 +139,7 @@ counted profile old mid new begun more spot pen at added bytes paid =
       pen_is = paid.pen_is;
     }
 
--- ---- one behind another
+-- ---- one after another
 
 pub keeps_itself : (profile : ProfileView) (picture : PictureView) (draft : Draft) → KeepsAll profile picture draft draft
 keeps_itself profile picture draft waits paid first start right = right
@@ -233,9 +233,9 @@ put_covers laws have grids profile p picture k fits painter who row column high 
         never : {R : Type 0} → (true && not (in_part row column (column + 1) (r, c))) ≡ false → R
         never e = grind (arith, nat_tests)
 
--- ---- places are painted one behind another
+-- ---- places are painted one after another
 
--- two parts of a row, one behind the other
+-- two parts of a row, one after the other
 pub covers_joined : (profile : ProfileView) (picture : PictureView) (row from column next : ℕ) (old mid new : Draft) → from ≤ column → column ≤ next → Covers profile picture (in_part row from column) old mid
     → Covers profile picture (in_part row column next) mid new → Covers profile picture (in_part row from next) old new
 covers_joined profile picture row from column next old mid new low high one other waits paid first start right =
@@ -246,7 +246,7 @@ covers_joined profile picture row from column next old mid new low high one othe
     either place false e = refl
     either place true e = grind (arith, nat_tests)
 
--- a draft behind characters of a row from one column up to another, when they are counted
+-- a draft after characters of a row from one column up to another, when they are counted
 abbrev pub behind_them : ℕ → ℕ → ℕ → ℕ → Draft → Draft → Draft
 behind_them columns row column place old now = record {
   ops = now.ops;

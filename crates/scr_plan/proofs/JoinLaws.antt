@@ -103,7 +103,7 @@ cleared_row picture row high = record { known = each_true picture.rows row high;
 
 -- ---- one place, or places that are passed
 
--- no place is painted right behind places that do not differ
+-- no place is painted right after places that do not differ
 pub passed : (painter : Painter) (picture : PictureView) (before : Option (List LookView)) (row column next : ℕ) → column < next
     → ((c : ℕ) → column ≤ c → c < next → row_differs painter picture before (row, c) ≡ false)
     → (filter (row_differs painter picture before) (part_places column (next - column) row) ≡ []) × (pen_before painter picture before row next ≡ None)
@@ -154,7 +154,7 @@ one_more painter picture row before from column same last c low high = by (ltb c
     by true e = same c low (grind (arith, nat_tests))
     by false e = let here : c ≡ column = grind (arith, nat_tests) in ap (λ k. row_differs painter picture before (row, k)) here ∙ last
 
--- a place that does not differ, and those behind it
+-- a place that does not differ, and those after it
 pub one_and_more : (painter : Painter) (picture : PictureView) (before : Option (List LookView)) (row column next : ℕ) → row_differs painter picture before (row, column) ≡ false
     → ((c : ℕ) → column + 1 ≤ c → c < next → row_differs painter picture before (row, c) ≡ false)
     → (c : ℕ) → column ≤ c → c < next → row_differs painter picture before (row, c) ≡ false
@@ -188,7 +188,7 @@ painted_adds painter picture before row column ops new left look differs is_left
     ∙ sym (ap (λ b. ops ++ flat_map f (if b then (row, column) ∷ [] else [])) differs)
     ∙ sym (ap (λ n. ops ++ flat_map f (filter (row_differs painter picture before) (part_places column n row))) one)
 
--- what is painted of two parts, one behind another
+-- what is painted of two parts, one after another
 pub parts_painted : (painter : Painter) (picture : PictureView) (before : Option (List LookView)) (row from column next : ℕ) (old ops new : List Op) → from ≤ column → column < next
     → ops ≡ old ++ flat_map (row_paints painter picture before) (filter (row_differs painter picture before) (part_places from (column - from) row))
     → new ≡ ops ++ flat_map (row_paints painter picture before) (filter (row_differs painter picture before) (part_places column (next - column) row))

@@ -11,7 +11,6 @@ use Rattle.scr_term.specs.declared.operations.operation.Op.TheVariants.{Clear, E
 use Rattle.scr_term.specs.Operations.Laws.{RunLaws}
 use Rattle.scr_term.specs.Operations.Profiles.{ProfileView}
 use Rattle.scr_term.specs.Operations.States.{TerminalState, blank_state}
-use Rattle.scr_term.specs.Operations.Steps.{step}
 use Rattle.scr_term.specs.Operations.Texts.{all_bytes, bytes_of, has}
 use Rattle.scr_plan.proofs.JoinedLaws.{IsErasable, erasable, row_erased, row_unerased}
 use Rattle.scr_plan.proofs.PartLaws.{part_joined, row_more}
@@ -64,7 +63,7 @@ begins_less measure m profile picture memory r c = by (joins_left profile pictur
     by true = omega (arith, m.none)
     by false = omega arith
 
--- a place takes no more behind its neighbour
+-- a place takes no more after its neighbour
 brief_less : (measure : List Op → ℕ) → IsMeasure measure → (profile : ProfileView) (picture : PictureView) (memory : MemoryView) (place : ℕ × ℕ)
     → measure (brief_place profile picture memory place) ≤ measure (paints_place profile picture place)
 brief_less measure m profile picture memory place =

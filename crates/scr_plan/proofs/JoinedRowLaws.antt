@@ -24,7 +24,7 @@ use Rattle.scr_plan.proofs.PartLaws.{none_in_part, pen_refl, outside_above, outs
 use Rattle.scr_plan.proofs.PlaceLaws.{cell_of}
 use Rattle.scr_plan.proofs.PlacesLaws.{is_among}
 use Rattle.scr_plan.proofs.PlainLaws.{among_differing, pen_same}
-use Rattle.scr_plan.specs.Code.Joinings.{Continues, CountsAtMost, IsBehind, ShowsRow, counted_up, joined_at}
+use Rattle.scr_plan.specs.Code.Joinings.{Continues, CountsAtMost, IsAfter, ShowsRow, counted_up, joined_at}
 use Rattle.scr_plan.specs.Code.Painters.{is_that_pen, painter_begins, painter_look, painter_of, painter_writes, part_places, pen_before, row_differs, row_paints}
 use Rattle.scr_memory.specs.Memories.{MemoryView, is_known}
 use Rattle.scr_plan.specs.Repaints.{IsSizeOf, ShowsOutside, begins_place, brief_place, differing, differs, erased_column, is_none_left, joins_left}
@@ -32,9 +32,9 @@ use Rattle.scr_plan.specs.Scratch.{goes, look_at, places, row_places}
 use Rattle.scr_plan.specs.declared.joining.Joining.{Joining}
 use Rattle.scr_plan.specs.declared.painting.Painter.{Painter}
 
--- ---- behind a place that was painted
+-- ---- after a place that was painted
 
-pub there_already : (columns : ℕ) (joining : Joining) (row column : ℕ) (left : Option PenView) (pen : PenView) → is_that_pen left pen ≡ true → IsBehind columns joining row column left → column < columns
+pub there_already : (columns : ℕ) (joining : Joining) (row column : ℕ) (left : Option PenView) (pen : PenView) → is_that_pen left pen ≡ true → IsAfter columns joining row column left → column < columns
     → (joining.spot ≡ At row column) × (joining.pen ≡ pen)
 there_already columns joining row column None pen that behind wide = (cc)
 there_already columns joining row column (Some p) pen that behind wide = (behind.1 wide, behind.0 ∙ pen_same p pen that)
@@ -368,7 +368,7 @@ left_by painter picture before row column next more pen is_pen unlike alike =
     ∙ sym (painted painter picture before row (next - 1) (unlike (next - 1) (omega (arith, more)) (omega (arith, more))))
     ∙ ap (pen_before painter picture before row) last
 
--- where the cursor is behind them
+-- where the cursor is after them
 pub behind_by : (columns row column next : ℕ) → column < next → next < columns → spot_after columns row (next - 1) ≡ At row next
 behind_by columns row column next more wide = ap (λ b. if b then At row (next - 1 + 1) else Margin row) inside ∙ ap (At row) (omega (arith, more))
   where
@@ -377,7 +377,7 @@ behind_by columns row column next more wide = ap (λ b. if b then At row (next -
 
 -- ---- rows that were not counted
 
--- what the rows from one on add, behind those before it
+-- what the rows from one on add, after those before it
 pub rows_behind : (f : ℕ × ℕ → List Op) (d : ℕ × ℕ → Bool) (row columns k : ℕ) → (rest : List Op) × (flat_map f (filter d (places (row + k) columns)) ≡ flat_map f (filter d (places row columns)) ++ rest)
 rows_behind f d row columns zero =
     let none : row + 0 ≡ row = omega arith in

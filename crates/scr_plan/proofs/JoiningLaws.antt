@@ -49,7 +49,7 @@ counted_more laws profile ops i op bytes one inside is all so_far priced =
 
 -- ---- steps that change nothing
 
--- of operations one behind another
+-- of operations one after another
 pub idle_joined : (profile : ProfileView) (old next : TerminalState) (xs ys : List Op) → runs profile old xs ≡ Some next → without_idle profile old (xs ++ ys) ≡ without_idle profile old xs ++ without_idle profile next ys
 idle_joined profile old next [] ys run = ap (λ s. without_idle profile s ys) (same old next run)
   where
@@ -142,7 +142,7 @@ busy_becomes profile old new ops run less = record { run = run; kept_run = run; 
 
 -- ---- what a joining becomes
 
--- operations that were added behind the others: counted, and kept where that is asked for
+-- operations that were added after the others: counted, and kept where that is asked for
 pub led : RunLaws → (profile : ProfileView) → IsProfile profile → (stores : Bool) (first : List Op) (start : TerminalState) (all : List Op) (old new : Joining) (more kept : List Op) (next : TerminalState)
     → (old.keeps ≡ true → new.ops.items ≡ old.ops.items ++ kept) → new.bytes ≡ counted_up (old.bytes + price profile kept) → new.keeps ≡ old.keeps
     → (joining : IsJoining profile stores first start all old) → Becomes profile joining.now next more kept → next.spot ≡ new.spot → next.pen ≡ new.pen → IsJoining profile stores first start (all ++ more) new
@@ -280,7 +280,7 @@ pub goes_on : (profile : ProfileView) (old mid new : Joining) (xs ys : List Op) 
 goes_on profile old mid new xs ys one other stores first start all joining =
     subst (λ ops. IsJoining profile stores first start ops new) (append_assoc all xs ys) (other stores first start (all ++ xs) (one stores first start all joining))
 
--- what comes behind is not counted yet
+-- what comes after is not counted yet
 pub counts_less : RunLaws → (profile : ProfileView) (old new : Joining) (xs ys more : List Op) → Continues profile old new xs → more ≡ xs ++ ys → CountsAtMost profile old new more
 counts_less laws profile old new xs ys more goes is stores first start all joining =
     let now = goes stores first start all joining in

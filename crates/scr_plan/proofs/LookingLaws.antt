@@ -338,7 +338,7 @@ priced profile cost price is some = by (has profile EraseLine) refl (sym is ∙ 
 pub unworthy : {R : Type 0} (e : ℕ) → Some e ≡ None → R
 unworthy e h = (cc)
 
--- a place behind is not blank
+-- a place after is not blank
 pub not_blank : {R : Type 0} (b : Bool) → b ≡ true → b ≡ false → R
 not_blank b yes_it no_it = never_both b yes_it no_it
 
@@ -415,7 +415,7 @@ erased_some profile picture memory r before painter who shows from end rest wide
         ∙ ap (λ b. if b && nat_le (length (bytes_of profile EraseLine)) rest.count then Some e else None) had
         ∙ ap (λ b. if b then Some e else None) worth)
 
--- ---- places behind one another
+-- ---- places after one another
 
 -- what holds of places up to one, and of that one
 pub one_place_more : (holds : ℕ → Type 0) (from column : ℕ) → ((c : ℕ) → from ≤ c → c < column → holds c) → holds column → (c : ℕ) → from ≤ c → c < column + 1 → holds c

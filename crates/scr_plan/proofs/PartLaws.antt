@@ -52,7 +52,7 @@ none_in_part d a (suc n) r none =
     ap (λ b. if b then (r, a) ∷ filter d (part_places (a + 1) n r) else filter d (part_places (a + 1) n r)) (none a (omega arith) (omega arith))
     ∙ none_in_part d (a + 1) n r (λ c low high. none c (omega (arith, low)) (omega (arith, high)))
 
--- nothing passes in a part and behind it
+-- nothing passes in a part and after it
 pub none_more : (d : ℕ × ℕ → Bool) (a n r : ℕ) → filter d (part_places a n r) ≡ [] → d (r, a + n) ≡ false → filter d (part_places a (n + 1) r) ≡ []
 none_more d a n r none last =
     ap (filter d) (part_joined a n 1 r)

@@ -83,7 +83,7 @@ known_begun profile can memory new false there e =
     ap (λ next. is_known (stepped (abilities profile) Clear memory next)) first.1
     ∙ known_cleared (abilities profile) memory first.0 (ap (λ b. memory.known_pen || false || b) one ∙ or_true (memory.known_pen || false))
 
--- whatever is sent behind a screen that was cleared, if it is defined
+-- whatever is sent after a screen that was cleared, if it is defined
 anew_known : RunLaws → ProfilesHave → MemoryRuns → (profile : ProfileView) → IsProfile profile → (memory : MemoryView) → MayBe (abilities profile) memory
     → (new : TerminalState) (ops : List Op) → runs profile memory.state (resets profile ++ Clear ∷ [] ++ ops) ≡ Some new
     → is_known (all_followed profile (resets profile ++ Clear ∷ [] ++ ops) memory) ≡ true
@@ -92,7 +92,7 @@ anew_known laws have one profile p memory may new ops run =
     let first = run_before laws profile memory.state new begins ops run in
     known_more laws one profile p memory may new begins ops run (known_begun profile (have profile p) memory first.0 (is_there profile Sgr0) refl first.1)
 
--- from whatever state: the screen is the same behind what clears it
+-- from whatever state: the screen is the same after what clears it
 anew_agrees : RunLaws → ProfilesHave → MemoryRuns → (profile : ProfileView) → IsProfile profile → (memory : MemoryView) → MayBe (abilities profile) memory → (old new : TerminalState) → IsState (abilities profile) old
     → (ops : List Op) → runs profile old (resets profile ++ Clear ∷ [] ++ ops) ≡ Some new → Agrees (abilities profile) (all_followed profile (resets profile ++ Clear ∷ [] ++ ops) memory) new
 anew_agrees laws have one profile p memory may old new state ops run =

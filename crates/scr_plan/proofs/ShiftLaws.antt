@@ -100,7 +100,7 @@ inserted laws grids profile p row count fits had old mid new keeps here plain ad
     ∙ ap (λ b. if b then Some (shifted profile.rows profile.columns (rows_down row profile.rows count) state) else None) (inside_test row count profile.rows fits))
     had added start grid (sent_kept laws grids profile old mid keeps start grid sent)
 
--- ---- one move behind another
+-- ---- one move after another
 
 -- a move that is the same in every place is the same
 pub sent_alike : (profile : ProfileView) (f g : (ℕ → ℕ → LookView) → ℕ → ℕ → LookView) (old new : Draft)

@@ -27,7 +27,7 @@ use Rattle.scr_plan.proofs.RunChangeLaws.{not_in}
 use Rattle.scr_plan.specs.Code.Drafts.{AreUnknown, HasChangesIn, HasDiffering, HasUnsettled, HasUnsettledIn, IsAdded, IsPartly, IsRight, IsRightPlain, Keeps, KeepsAll, KeepsRuns, Knows, Leaves, RightFrom, Wipes, WipesRow, aim_of, in_runs, is_calm, or_below, or_from, or_row, row_wiped, unsettled, wiped}
 use Rattle.scr_plan.specs.Code.Joinings.{counted_up}
 use Rattle.scr_plan.specs.Code.Painters.{painter_of, painter_resets, row_differs}
-use Rattle.scr_memory.specs.Memories.{Agrees, MayBe, MemoryView, all_followed, changes_cells, clears, followed, has_one_pen, is_known, is_known_row, known_from, made_plain, moves_rows, places_spot, rows_erased, sets_pen, stepped}
+use Rattle.scr_memory.specs.Memories.{MayBe, MemoryView, all_followed, changes_cells, clears, followed, has_one_pen, is_known, is_known_row, known_from, made_plain, moves_rows, places_spot, rows_erased, sets_pen, stepped}
 use Rattle.scr_memory.specs.MemoryRuns.{MemoryRuns}
 use Rattle.scr_plan.specs.Repaints.{look_eq, look_in}
 use Rattle.scr_plan.specs.Scratch.{Fits, look_at, resets}

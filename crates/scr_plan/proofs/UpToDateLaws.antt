@@ -1,5 +1,5 @@
 -- A known row shows the picture, but for the columns that may look otherwise.
-use Rattle.std.proofs.Common.{◌≡◌, ℕ, ◌+◌, ◌<◌, ◌≤◌, ◌&&◌, leb, ltb, Bool, true, false, refl, sym, ◌∙◌, ap, subst, arith, List, get_or, length, map, replicate, zero, suc, if◌then◌else◌}
+use Rattle.std.proofs.Common.{◌≡◌, ℕ, ◌+◌, ◌<◌, ◌≤◌, ◌&&◌, leb, ltb, Bool, true, false, refl, sym, ◌∙◌, ap, arith, List, get_or, length, map, replicate, zero, suc, if◌then◌else◌}
 use Rattle.std.specs.List.{range_with_len}
 use Rattle.std.proofs.lemmas.List.FromFn.{get_or-map-range_with_len, length-map-range_with_len}
 use Rattle.std.proofs.Math.ListN.{get_or-eq_default}

@@ -48,9 +48,9 @@ pub(crate) fn blanks_end(cells: &[Cell], column: u32, end: u32) -> u32
     ensures column { column ≤ result }
     ensures end { result ≤ end }
 {
-    for behind in column..end {
-        if cells[behind as usize].byte() != b' ' {
-            return behind;
+    for place in column..end {
+        if cells[place as usize].byte() != b' ' {
+            return place;
         }
     }
     end

@@ -9,13 +9,13 @@ ghost use Rattle.scr_term.specs.declared.operations.operation.Op.TheVariants.{Er
 ghost use Rattle.scr_term.specs.declared.operations.operation.Spot.TheVariants.{At};
 ghost use Rattle.scr_term.specs.Operations.Texts.{has};
 ghost use Rattle.scr_term.specs.Operations.States.{spot_after};
-ghost use Rattle.scr_plan.specs.Code.Joinings.{Continues, IsBehind, ShowsRow, counted_up, joined_at};
+ghost use Rattle.scr_plan.specs.Code.Joinings.{Continues, IsAfter, ShowsRow, counted_up, joined_at};
 ghost use Rattle.scr_plan.specs.Code.Painters.{is_that_pen, painter_begins, painter_look, painter_of, painter_writes, part_places, pen_before, row_differs, row_paints};
 ghost use Rattle.scr_memory.specs.Memories.{MemoryView};
 ghost use Rattle.scr_plan.specs.Repaints.{differs, look_eq};
 ghost use Rattle.scr_plan.specs.Scratch.{Fits, row_places};
 
-use crate::joining::{Joining, behind};
+use crate::joining::{Joining, spot_after};
 use crate::looking::{is_shown_in, is_that_pen};
 use crate::painting::Painter;
 use scr_cells::{Cell, Look, NoMemory, Pen, Picture};
@@ -85,7 +85,7 @@ impl Joining {
         requires first { pen_before painter picture.now (option_map (λ looks. looks.now) before) row from ≡ None }
         ensures all { IfOk result (λ left. Continues profile.now self.old self.new (flat_map (row_paints painter picture.now (option_map (λ looks. looks.now) before.entry)) (filter (row_differs painter picture.now (option_map (λ looks. looks.now) before.entry)) (part_places from (end - from) row)))) }
         ensures left { IfOk result (λ left. left ≡ pen_before painter picture.now (option_map (λ looks. looks.now) before.entry) row end) }
-        ensures behind { IfOk result (λ left. IsBehind picture.now.columns self.new row end left) }
+        ensures after { IfOk result (λ left. IsAfter picture.now.columns self.new row end left) }
     {
         let mut left = None;
         let mut column = from;
@@ -121,11 +121,11 @@ impl Joining {
         requires column { column < end }
         requires end { end ≤ picture.now.columns }
         requires left { left ≡ pen_before painter picture.now (option_map (λ looks. looks.now) before) row column }
-        requires behind { IsBehind picture.now.columns self.old row column left }
+        requires after { IsAfter picture.now.columns self.old row column left }
         ensures more { IfOk result (λ next. column < next.0) }
         ensures end { IfOk result (λ next. next.0 ≤ end) }
         ensures left { IfOk result (λ next. next.1 ≡ pen_before painter picture.now (option_map (λ looks. looks.now) before.entry) row next.0) }
-        ensures behind { IfOk result (λ next. IsBehind picture.now.columns self.new row next.0 next.1) }
+        ensures after { IfOk result (λ next. IsAfter picture.now.columns self.new row next.0 next.1) }
         ensures all { IfOk result (λ next. Continues profile.now self.old self.new (flat_map (row_paints painter picture.now (option_map (λ looks. looks.now) before.entry)) (filter (row_differs painter picture.now (option_map (λ looks. looks.now) before.entry)) (part_places column (next.0 - column) row)))) }
     {
         let _size = picture.size();
@@ -171,11 +171,11 @@ impl Joining {
         requires unlike { row_differs painter picture.now (option_map (λ looks. looks.now) before) (row, column) ≡ true }
         requires pen { pen ≡ (painter_look painter picture.now (row, column)).pen }
         requires left { left ≡ pen_before painter picture.now (option_map (λ looks. looks.now) before) row column }
-        requires behind { IsBehind picture.now.columns self.old row column left }
+        requires after { IsAfter picture.now.columns self.old row column left }
         ensures more { IfOk result (λ next. column < next) }
         ensures end { IfOk result (λ next. next ≤ end) }
         ensures left { IfOk result (λ next. Some pen ≡ pen_before painter picture.now (option_map (λ looks. looks.now) before.entry) row next) }
-        ensures behind { IfOk result (λ next. IsBehind picture.now.columns self.new row next (Some pen)) }
+        ensures after { IfOk result (λ next. IsAfter picture.now.columns self.new row next (Some pen)) }
         ensures all { IfOk result (λ next. Continues profile.now self.old self.new (flat_map (row_paints painter picture.now (option_map (λ looks. looks.now) before.entry)) (filter (row_differs painter picture.now (option_map (λ looks. looks.now) before.entry)) (part_places column (next - column) row)))) }
     {
         run_laws();
@@ -195,7 +195,7 @@ impl Joining {
         ensures { self.new ≡ record self.old { bytes = counted_up (self.old.bytes + (end - column)); spot = spot_after columns row (end - 1) } }
     {
         self.bytes = self.bytes.saturating_add((end - column) as usize);
-        self.spot = behind(row, end - 1, columns);
+        self.spot = spot_after(row, end - 1, columns);
     }
 
     // Adds the character of a place, after what leads there with its pen, unless the place before
@@ -217,9 +217,9 @@ impl Joining {
         requires column { column < picture.now.columns }
         requires look { record { byte = byte; pen = pen } ≡ painter_look painter picture.now (row, column) }
         requires byte { IsCharacter byte }
-        requires behind { IsBehind picture.now.columns self.old row column left }
+        requires after { IsAfter picture.now.columns self.old row column left }
         ensures all { OnOk result (Continues profile.now self.old self.new (painter_writes painter left (row, column) (record { byte = byte; pen = pen }))) }
-        ensures behind { OnOk result (IsBehind picture.now.columns self.new row (column + 1) (Some pen)) }
+        ensures after { OnOk result (IsAfter picture.now.columns self.new row (column + 1) (Some pen)) }
     {
         self.begin_unless(painter, profile, picture, row, column, left, pen)?;
         self.put(profile, row, column, byte)
@@ -242,7 +242,7 @@ impl Joining {
         requires row { row < picture.now.rows }
         requires column { column < picture.now.columns }
         requires pen { pen ≡ (painter_look painter picture.now (row, column)).pen }
-        requires behind { IsBehind picture.now.columns self.old row column left }
+        requires after { IsAfter picture.now.columns self.old row column left }
         ensures all { OnOk result (Continues profile.now self.old self.new (if is_that_pen left pen then [] else painter_begins painter (row, column) pen)) }
         ensures spot { OnOk result (self.new.spot ≡ At row column) }
         ensures pen { OnOk result (self.new.pen ≡ pen) }
@@ -270,7 +270,7 @@ impl Joining {
         requires column { column < picture.now.columns }
         requires look { painter_look painter picture.now (row, column) ≡ blank }
         requires has { has profile.now EraseLine ≡ true }
-        requires behind { IsBehind picture.now.columns self.old row column left }
+        requires after { IsAfter picture.now.columns self.old row column left }
         ensures { OnOk result (Continues profile.now self.old self.new ((if is_that_pen left blank.pen then [] else painter_begins painter (row, column) blank.pen) ++ EraseLine ∷ [])) }
     {
         self.begin_unless(painter, profile, picture, row, column, left, Pen::plain())?;

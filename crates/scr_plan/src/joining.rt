@@ -48,7 +48,7 @@ impl Joining {
 
     // The beginning of a repaint of a terminal in the remembered state: attributes are turned off,
     // in default colours.
-    pub(crate) fn behind(
+    pub(crate) fn on_remembered(
         painter: Painter,
         profile: &Profile,
         memory: &Memory,
@@ -156,7 +156,7 @@ impl Joining {
         let size = profile.size();
         self.keep(Op::Put(byte))?;
         self.bytes = self.bytes.saturating_add(1);
-        self.spot = behind(row, column, size.columns);
+        self.spot = spot_after(row, column, size.columns);
         Ok(())
     }
 
@@ -215,7 +215,7 @@ impl Joining {
 }
 
 // The cursor's spot after a character.
-pub(crate) fn behind(row: u32, column: u32, columns: u32) -> Spot
+pub(crate) fn spot_after(row: u32, column: u32, columns: u32) -> Spot
     requires { column ≤ 1000 }
     ensures { result ≡ spot_after columns row column }
 {

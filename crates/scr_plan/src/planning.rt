@@ -353,7 +353,7 @@ fn bytes_of_joined(
     ensures { IfOk result (λ bytes. bytes ≤ counted_up (length (all_bytes profile.now (joined_of profile.now memory.now wanted.now.picture)))) }
 {
     let ops = Vec::with_capacity(alloc, FEW_OPERATIONS)?;
-    let mut joining = Joining::behind(painter, profile, memory, ops, false)?;
+    let mut joining = Joining::on_remembered(painter, profile, memory, ops, false)?;
     joining.join_changes(painter, profile, memory, wanted, by, Some(limit))?;
     Ok(joining.bytes)
 }
@@ -378,7 +378,7 @@ fn joined(
     ensures { IfOk result (λ ops. ops ≡ joined_of profile.now memory.now wanted.now.picture) }
 {
     let ops = Vec::with_capacity(alloc, room_of(wanted.size()))?;
-    let mut joining = Joining::behind(painter, profile, memory, ops, true)?;
+    let mut joining = Joining::on_remembered(painter, profile, memory, ops, true)?;
     joining.join_changes(painter, profile, memory, wanted, by, None)?;
     Ok(Ops(joining.ops))
 }

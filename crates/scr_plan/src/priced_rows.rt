@@ -72,9 +72,9 @@ impl<'a> PricedRows<'a> {
             if start >= end {
                 return price;
             }
-            let behind = painter.stretch_end(profile, picture, row, cells, Some(looks), start, end);
-            price = price.saturating_add(self.of_stretch(cells, start, behind));
-            column = behind;
+            let after = painter.stretch_end(profile, picture, row, cells, Some(looks), start, end);
+            price = price.saturating_add(self.of_stretch(cells, start, after));
+            column = after;
         }
         price
     }
@@ -109,25 +109,25 @@ impl<'a> PricedRows<'a> {
                 return price.saturating_add(self.written(begun, end));
             }
             let first = blanks_begin(cells, column, blank);
-            let behind = blanks_end(cells, blank, end);
-            let (more, next) = self.of_piece(begun, first, behind, end);
+            let after = blanks_end(cells, blank, end);
+            let (more, next) = self.of_piece(begun, first, after, end);
             price = price.saturating_add(more);
             begun = next;
-            column = behind.max(blank + 1);
+            column = after.max(blank + 1);
         }
         price.saturating_add(self.written(begun, end))
     }
 
     // The price of blanks if they are worth an erasure, and of what is written before them; and the
     // end of what is priced so far.
-    fn of_piece(&self, begun: u32, first: u32, behind: u32, end: u32) -> (u32, u32) {
-        if !is_worth_erasing(self.profile, behind.saturating_sub(first), behind < end) {
+    fn of_piece(&self, begun: u32, first: u32, after: u32, end: u32) -> (u32, u32) {
+        if !is_worth_erasing(self.profile, after.saturating_sub(first), after < end) {
             return (0, begun);
         }
         let price = self
             .written(begun, first)
-            .saturating_add(self.erased(first, behind));
-        (price, behind)
+            .saturating_add(self.erased(first, after));
+        (price, after)
     }
 
     // The price of a run that is written, unless it is empty.

@@ -70,9 +70,9 @@ impl Painter {
         ensures kept { OnOk result (KeepsRuns runs.old.items runs.new.items) }
         ensures has { OnOk result (HasDiffering self picture.now row (option_map (λ looks. looks.now) before.entry) start end runs.new.items) }
     {
-        let behind = self.stretch_end(profile, picture, row, cells, before, start, end);
-        self.add_stretch(profile, picture, row, cells, start, behind, runs)?;
-        self.add_part(profile, picture, row, cells, before, behind, end, runs)
+        let after = self.stretch_end(profile, picture, row, cells, before, start, end);
+        self.add_stretch(profile, picture, row, cells, start, after, runs)?;
+        self.add_part(profile, picture, row, cells, before, after, end, runs)
     }
 
     // Adds the runs of all places in the rows from `first` on that are not seen blank.
@@ -146,9 +146,9 @@ impl Painter {
         if start >= end {
             return Ok(end);
         }
-        let behind = self.stretch_end(profile, picture, row, cells, before, start, end);
-        self.add_stretch(profile, picture, row, cells, start, behind, runs)?;
-        Ok(behind)
+        let after = self.stretch_end(profile, picture, row, cells, before, start, end);
+        self.add_stretch(profile, picture, row, cells, start, after, runs)?;
+        Ok(after)
     }
 
     // Where a stretch that begins in a place that differs ends: after its last place that differs.
@@ -174,16 +174,16 @@ impl Painter {
     {
         let jump = profile.prices().easy_motion();
         let (_, pen) = self.seen_in(picture, cells, start);
-        let mut behind = self.unlike_end(picture, row, cells, before, start, end);
-        while behind < end {
-            let limit = end.min(behind.saturating_add(jump).saturating_add(1));
-            let next = self.next_unlike(picture, cells, before, behind, limit, pen);
+        let mut after = self.unlike_end(picture, row, cells, before, start, end);
+        while after < end {
+            let limit = end.min(after.saturating_add(jump).saturating_add(1));
+            let next = self.next_unlike(picture, cells, before, after, limit, pen);
             if next >= limit {
-                return behind;
+                return after;
             }
-            behind = self.unlike_end(picture, row, cells, before, next, end);
+            after = self.unlike_end(picture, row, cells, before, next, end);
         }
-        behind
+        after
     }
 
     // The first column from `from` on that differs, if it and all before it are seen with a pen;
@@ -264,9 +264,9 @@ fn add_pieces(
             return add_written(runs, row, begun, end);
         }
         let first = blanks_begin(cells, column, blank);
-        let behind = blanks_end(cells, blank, end);
-        begun = add_piece(profile, row, begun, first, behind, end, runs)?;
-        column = behind.max(blank + 1);
+        let after = blanks_end(cells, blank, end);
+        begun = add_piece(profile, row, begun, first, after, end, runs)?;
+        column = after.max(blank + 1);
     }
     add_written(runs, row, begun, end)
 }
@@ -278,23 +278,23 @@ fn add_piece(
     row: u32,
     begun: u32,
     column: u32,
-    behind: u32,
+    after: u32,
     end: u32,
     runs: &mut Vec<Run>,
 ) -> Result<u32, NoMemory>
     requires begun { begun ≤ column }
-    requires column { column ≤ behind }
+    requires column { column ≤ after }
     ensures more { IfOk result (λ next. begun ≤ next) }
-    ensures end { IfOk result (λ next. next ≤ behind) }
+    ensures end { IfOk result (λ next. next ≤ after) }
     ensures kept { OnOk result (KeepsRuns runs.old.items runs.new.items) }
     ensures has { IfOk result (λ next. HasPart row begun next runs.new.items) }
 {
-    if !is_worth_erasing(profile, behind - column, behind < end) {
+    if !is_worth_erasing(profile, after - column, after < end) {
         return Ok(begun);
     }
     add_written(runs, row, begun, column)?;
-    add(runs, erased(row, column, behind))?;
-    Ok(behind)
+    add(runs, erased(row, column, after))?;
+    Ok(after)
 }
 
 // Adds a run that is written with a plain pen, unless it is empty.

@@ -82,7 +82,7 @@ impl Draft {
         let begun = runs.len();
         painter.add_row(profile, picture, row, Some(looks), from, end, runs)?;
         let cursor = self.cursor();
-        let found = runs_behind(runs, begun);
+        let found = runs_after(runs, begun);
         match slide_of(painter, profile, picture, &cursor, row, looks, found, room)? {
             Some(slide) => {
                 drop_from(runs, row);
@@ -195,7 +195,7 @@ impl Draft {
 }
 
 // The runs from one with this number on.
-fn runs_behind(runs: &[Run], begun: usize) -> &[Run] {
+fn runs_after(runs: &[Run], begun: usize) -> &[Run] {
     if begun <= runs.len() {
         &runs[begun..]
     } else {

@@ -8,7 +8,7 @@ ghost use Rattle.scr_plan.specs.Code.Drafts.{Covers, IsAdded, IsPaid, KeepsAll, 
 ghost use Rattle.scr_plan.specs.Code.Painters.{painter_begins, painter_look, painter_of};
 ghost use Rattle.scr_plan.specs.Scratch.{Fits};
 
-use crate::joining::{behind, price_of, price_of_one};
+use crate::joining::{price_of, price_of_one, spot_after};
 use crate::looking::cell_in;
 use crate::painting::Painter;
 use scr_cells::{Cell, Look, NoMemory, Pen, Picture, grid_laws};
@@ -178,7 +178,7 @@ impl Draft {
                 .push_reserved(Op::Put(cell_in(cells, place).byte()));
         }
         self.bytes = self.bytes.saturating_add((end - column) as usize);
-        self.spot = behind(row, end - 1, size.columns);
+        self.spot = spot_after(row, end - 1, size.columns);
         Ok(())
     }
 

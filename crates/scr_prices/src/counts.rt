@@ -7,7 +7,7 @@ use scr_term::Op;
 impl Chooser<'_> {
     // The price of a row over a blank one: its places that are not blank, plus an easy motion if
     // there are any.
-    pub(crate) fn price_on_blanks(&self, row: u32) -> u32 {
+    pub(crate) fn price_of_row(&self, row: u32) -> u32 {
         let mut places = 0u32;
         let mut unsure = 0u32;
         let cells = self.cells(row);
@@ -25,7 +25,7 @@ impl Chooser<'_> {
         places.saturating_add(self.jump)
     }
 
-    // How many cells are seen blank, though they are none.
+    // How many cells look blank, though they are not.
     fn blanks_among(&self, cells: &[Cell]) -> u32 {
         let mut blanks = 0u32;
         for cell in cells {
@@ -80,8 +80,8 @@ impl Counts {
             .saturating_add(chooser.jump)
     }
 
-    // What the row costs over blanks.
-    pub(crate) fn price_on_blanks(self, chooser: &Chooser<'_>) -> u32 {
+    // What the places that are filled cost over blanks.
+    pub(crate) fn price_of_filled(self, chooser: &Chooser<'_>) -> u32 {
         if self.filled == 0 {
             return 0;
         }

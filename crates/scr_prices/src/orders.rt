@@ -5,7 +5,7 @@ use crate::least_motions::LeastMotions;
 use crate::links::{Links, NONE};
 use crate::nearest::Nearest;
 use crate::runs::{How, Run};
-use crate::walks::{Task, Walk};
+use crate::walks::{PricedWalk, ToPaint};
 use crate::ways::{Chooser, Cursor, Stop, Way};
 use scr_cells::{NoMemory, Pen};
 use scr_term::Spot;
@@ -31,7 +31,7 @@ pub fn cheapest_order(
     moved: bool,
 ) -> Result<Vec<Stop>, NoMemory> {
     let mut stops = Vec::with_capacity(alloc, runs.len())?;
-    let task = Task {
+    let to_paint = ToPaint {
         chooser,
         runs,
         wish: chooser.picture.wish(),
@@ -39,13 +39,13 @@ pub fn cheapest_order(
         least: LeastMotions::of(chooser.prices, chooser.jump),
     };
     let mut links = Links::new(alloc, runs)?;
-    let price_by_pens = task.by_pens(cursor, &mut links);
-    let price_by_nearness = task.by_nearness(cursor, &mut links, &mut stops, price_by_pens)?;
+    let price_by_pens = to_paint.by_pens(cursor, &mut links);
+    let price_by_nearness = to_paint.by_nearness(cursor, &mut links, &mut stops, price_by_pens)?;
     if price_by_pens < price_by_nearness {
         stops.clear();
         copy_ordered(&links, runs.len(), &mut stops)?;
     }
-    if moved && task.is_cheaper_read(cursor, price_by_pens.min(price_by_nearness)) {
+    if moved && to_paint.is_cheaper_read(cursor, price_by_pens.min(price_by_nearness)) {
         stops.clear();
         copy_numbers(runs.len(), &mut stops)?;
     }
@@ -87,10 +87,10 @@ pub(crate) fn run_at(runs: &[Run], number: u32) -> Run {
 }
 
 // The order in which the runs are read.
-impl<'a> Task<'a> {
+impl<'a> ToPaint<'a> {
     // Whether painting row by row, each row from the left, costs less than the limit.
     fn is_cheaper_read(&self, cursor: &Cursor, limit: u32) -> bool {
-        let mut walk = Walk::from(cursor);
+        let mut walk = PricedWalk::from(cursor);
         let mut number = 0u32;
         for run in self.runs {
             let way = self.chooser.way(&walk.cursor, run.row, run.start, run.pen);
@@ -105,7 +105,7 @@ impl<'a> Task<'a> {
 }
 
 // The order by nearness.
-impl<'a> Task<'a> {
+impl<'a> ToPaint<'a> {
     // The price of painting the nearest run next each time, and the runs in that order. If the
     // price is above the limit, it may be any price above it.
     fn by_nearness(
@@ -115,7 +115,7 @@ impl<'a> Task<'a> {
         stops: &mut Vec<Stop>,
         limit: u32,
     ) -> Result<u32, NoMemory> {
-        let mut walk = Walk::from(cursor);
+        let mut walk = PricedWalk::from(cursor);
         let mut from = self.first_in_or_below(cursor.row());
         let mut next_alike = NONE;
         for _ in 0..self.runs.len() {
@@ -150,7 +150,7 @@ impl<'a> Task<'a> {
 
     // The nearest of a few waiting runs: some around the place of the last one, and, of those with
     // the current pen, the next one and the first. If few runs wait, all of them are looked at.
-    fn nearest(&self, walk: &Walk, links: &Links, from: u32, next_alike: u32) -> Nearest {
+    fn nearest(&self, walk: &PricedWalk, links: &Links, from: u32, next_alike: u32) -> Nearest {
         let mut nearest = Nearest::none();
         self.look_at(walk, links, &mut nearest, from);
         if self.is_surely_nearest(walk, links, &nearest, from) {
@@ -181,7 +181,13 @@ impl<'a> Task<'a> {
     // Whether no other run can be nearer than the first that waits. This is so if the cursor is
     // after the last column, from where no row below that run's is reached with fewer bytes.
     #[inline(always)]
-    fn is_surely_nearest(&self, walk: &Walk, links: &Links, nearest: &Nearest, first: u32) -> bool {
+    fn is_surely_nearest(
+        &self,
+        walk: &PricedWalk,
+        links: &Links,
+        nearest: &Nearest,
+        first: u32,
+    ) -> bool {
         let Spot::Margin(_) = walk.cursor.spot else {
             return false;
         };
@@ -192,7 +198,7 @@ impl<'a> Task<'a> {
     // Looks at a run, if it exists: it becomes the nearest so far if it is nearer. Most runs are
     // ruled out without pricing a way.
     #[inline(always)]
-    fn look_at(&self, walk: &Walk, links: &Links, nearest: &mut Nearest, number: u32) {
+    fn look_at(&self, walk: &PricedWalk, links: &Links, nearest: &mut Nearest, number: u32) {
         if number == nearest.number {
             return;
         }
@@ -211,7 +217,7 @@ impl<'a> Task<'a> {
     #[inline(never)]
     fn compare(
         &self,
-        walk: &Walk,
+        walk: &PricedWalk,
         links: &Links,
         nearest: &mut Nearest,
         number: u32,
@@ -231,12 +237,12 @@ impl<'a> Task<'a> {
 
     // A price plus that of the turn to a run's pen.
     #[inline(always)]
-    fn with_turn(&self, price: u32, walk: &Walk, run: &Run) -> u32 {
+    fn with_turn(&self, price: u32, walk: &PricedWalk, run: &Run) -> u32 {
         price.saturating_add(self.chooser.price_of_turn(walk.cursor.pen, run.pen))
     }
 
     // The way to a run, which the other order may have found from the same run already.
-    fn way_to(&self, walk: &Walk, links: &Links, number: u32, run: &Run) -> Way {
+    fn way_to(&self, walk: &PricedWalk, links: &Links, number: u32, run: &Run) -> Way {
         match links.way_after(number, walk.last) {
             Some(way) => way,
             None => self.chooser.way(&walk.cursor, run.row, run.start, run.pen),
@@ -253,11 +259,11 @@ impl<'a> Task<'a> {
 }
 
 // The order by pens.
-impl<'a> Task<'a> {
+impl<'a> ToPaint<'a> {
     // The price of painting all runs of one pen, then those of another; the order is kept in the
     // links.
     fn by_pens(&self, cursor: &Cursor, links: &mut Links) -> u32 {
-        let mut walk = Walk::from(cursor);
+        let mut walk = PricedWalk::from(cursor);
         let chains = links.chains();
         for _ in 0..chains {
             self.paint_cheapest_chain(&mut walk, links);
@@ -268,7 +274,7 @@ impl<'a> Task<'a> {
 
     // Paints all runs of the chain with the cheapest turn, from the first; or upwards from the last
     // row if that is nearer.
-    fn paint_cheapest_chain(&self, walk: &mut Walk, links: &mut Links) {
+    fn paint_cheapest_chain(&self, walk: &mut PricedWalk, links: &mut Links) {
         let number = self.cheapest_chain(links, walk.cursor.pen);
         let chain = links.chain(number);
         links.set_chain_ordered(number);
@@ -302,7 +308,7 @@ impl<'a> Task<'a> {
     }
 
     // Paints the runs of a chain up to `last`, row by row upwards, each row from the left.
-    fn paint_upwards(&self, walk: &mut Walk, links: &mut Links, last: u32) {
+    fn paint_upwards(&self, walk: &mut PricedWalk, links: &mut Links, last: u32) {
         let mut end = last;
         for _ in 0..self.runs.len() {
             if end == NONE {
@@ -329,7 +335,7 @@ impl<'a> Task<'a> {
     }
 
     // Paints the runs of a chain from `first` to `last`, both included.
-    fn paint_part(&self, walk: &mut Walk, links: &mut Links, first: u32, last: u32) {
+    fn paint_part(&self, walk: &mut PricedWalk, links: &mut Links, first: u32, last: u32) {
         let mut number = first;
         for _ in 0..self.runs.len() {
             walk.paint(self, links, number);
@@ -341,7 +347,7 @@ impl<'a> Task<'a> {
     }
 
     // Paints the runs without a chain, by rows.
-    fn paint_others(&self, walk: &mut Walk, links: &mut Links) {
+    fn paint_others(&self, walk: &mut PricedWalk, links: &mut Links) {
         let mut number = 0u32;
         for _ in 0..self.runs.len() {
             if links.has_no_chain(number) {

@@ -224,10 +224,10 @@ impl<P: RowPrices, R: KnownRows> Blocks<'_, P, R> {
         if prices.is_shown(row, coming) {
             let counts = Counts::of(self.rows.looks(row), coming);
             let cost = i64::from(counts.price(chooser));
-            return (cost, cost - i64::from(counts.price_on_blanks(chooser)));
+            return (cost, cost - i64::from(counts.price_of_filled(chooser)));
         }
         let cost = i64::from(price_over_known(prices, self.rows, row));
-        let blank = chooser.price_on_blanks(row);
+        let blank = chooser.price_of_row(row);
         let over = if coming.is_empty() {
             0
         } else if are_blank(coming) {

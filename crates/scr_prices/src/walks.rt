@@ -9,7 +9,7 @@ use crate::ways::{Chooser, Cursor};
 // What an order is made for: the runs, by rows, where the cursor is wanted after them, and whether
 // something was moved before. If so, the next update is likely to move something too.
 #[derive(Clone, Copy)]
-pub(crate) struct Task<'a> {
+pub(crate) struct ToPaint<'a> {
     pub(crate) chooser: &'a Chooser<'a>,
     pub(crate) runs: &'a [Run],
     pub(crate) wish: Option<(u32, u32)>,
@@ -20,17 +20,17 @@ pub(crate) struct Task<'a> {
 // A priced walk over runs: where the cursor is, which run was painted last, how many were, and how
 // many bytes all took.
 #[derive(Drop)]
-pub(crate) struct Walk {
+pub(crate) struct PricedWalk {
     pub(crate) cursor: Cursor,
     pub(crate) last: u32,
     pub(crate) count: u32,
     pub(crate) price: u32,
 }
 
-impl Walk {
+impl PricedWalk {
     // No run was painted yet.
-    pub(crate) fn from(cursor: &Cursor) -> Walk {
-        Walk {
+    pub(crate) fn from(cursor: &Cursor) -> PricedWalk {
+        PricedWalk {
             cursor: *cursor,
             last: NONE,
             count: 0,
@@ -56,26 +56,30 @@ impl Walk {
     }
 
     // Paints the run with a number, as the next one of the order that is kept.
-    pub(crate) fn paint(&mut self, task: &Task<'_>, links: &mut Links, number: u32) {
+    pub(crate) fn paint(&mut self, to_paint: &ToPaint<'_>, links: &mut Links, number: u32) {
         links.set_ordered(self.count, number);
-        let run = run_at(task.runs, number);
-        let way = task.chooser.way(&self.cursor, run.row, run.start, run.pen);
+        let run = run_at(to_paint.runs, number);
+        let way = to_paint
+            .chooser
+            .way(&self.cursor, run.row, run.start, run.pen);
         links.set_way(number, self.last, way);
-        self.paint_after(task.chooser, number, &run, way.price);
+        self.paint_after(to_paint.chooser, number, &run, way.price);
     }
 
     // The price of the walk, with the way to where the cursor is wanted, and with the reset that the
     // next moves need.
-    pub(crate) fn price_to_wish(&self, task: &Task<'_>) -> u32 {
-        let turn = if task.moved {
-            task.chooser.price_of_reset(self.cursor.pen)
+    pub(crate) fn price_to_wish(&self, to_paint: &ToPaint<'_>) -> u32 {
+        let turn = if to_paint.moved {
+            to_paint.chooser.price_of_reset(self.cursor.pen)
         } else {
             0
         };
         let price = self.price.saturating_add(turn);
-        match task.wish {
+        match to_paint.wish {
             Some((row, column)) => {
-                let way = task.chooser.way(&self.cursor, row, column, self.cursor.pen);
+                let way = to_paint
+                    .chooser
+                    .way(&self.cursor, row, column, self.cursor.pen);
                 price.saturating_add(way.price)
             }
             None => price,

@@ -6,7 +6,7 @@ use Rattle.std.proofs.lemmas.Bool.Decides.{nat_tests}
 use Rattle.std.proofs.lemmas.List.{get_or-map, take_all}
 use Rattle.std.proofs.lemmas.List.Quantifiers.{position-Some}
 use Rattle.scr_windows.specs.declared.frames.Frame.{Frame}
-use Rattle.scr_windows.specs.declared.calls.moving.Shift.{Shift}
+use Rattle.scr_windows.specs.declared.calls.moving.WindowMove.{WindowMove}
 use Rattle.scr_windows.specs.DeskViews.{WindowView, DeskView, IsChild, IsDesk, window_at, no_frame, no_window}
 use Rattle.scr_windows.specs.Code.Families.{descends, family_frame, family_shifted, link_of}
 use Rattle.scr_windows.specs.Calls.Moving.{is_family, shifted, with_family_shifted}
@@ -75,11 +75,11 @@ chain_family frames i up parents l (suc most) k b h = above (λ m c d. chain_fam
         ∙ sym (child_family frames (frame_at frames i).number k m number up h has.1 e has.2 has.3.later)
 
 -- a window with another frame, or not
-reframed_if : (b : Bool) (shift : Shift) (w : WindowView) → record w { frame = cond b (shifted shift w.frame) w.frame } ≡ cond b (record w { frame = shifted shift w.frame }) w
+reframed_if : (b : Bool) (shift : WindowMove) (w : WindowView) → record w { frame = cond b (shifted shift w.frame) w.frame } ≡ cond b (record w { frame = shifted shift w.frame }) w
 reframed_if true shift w = refl
 reframed_if false shift w = refl
 
-pub family_is : (d : DeskView) (i : ℕ) (shift : Shift) → IsDesk d → i < length d.windows → record d { windows = family_shifted (window_at d i).frame.number shift d.windows } ≡ with_family_shifted d i shift
+pub family_is : (d : DeskView) (i : ℕ) (shift : WindowMove) → IsDesk d → i < length d.windows → record d { windows = family_shifted (window_at d i).frame.number shift d.windows } ≡ with_family_shifted d i shift
 family_is d i shift h l =
     let frames : List Frame = frames_of d in
     let many : length frames ≡ length d.windows = length_map frame_of d.windows in
@@ -102,7 +102,7 @@ family_is d i shift h l =
     (λ j. record d { windows = (all ∙ ap (λ n. map f (range_with_len 0 n)) few) j })
 
 -- what the code has made of the windows
-pub family_seen : (d old : DeskView) → d ≡ old → (i : ℕ) (shift : Shift) (w : WindowView) (frame : Frame) (ws : List WindowView) → IsDesk d → i < length old.windows → Reads d.windows i w → frame ≡ w.frame
+pub family_seen : (d old : DeskView) → d ≡ old → (i : ℕ) (shift : WindowMove) (w : WindowView) (frame : Frame) (ws : List WindowView) → IsDesk d → i < length old.windows → Reads d.windows i w → frame ≡ w.frame
     → ws ≡ family_shifted frame.number shift d.windows → record d { windows = ws } ≡ with_family_shifted old i shift
 family_seen d old is i shift w frame ws h l reads frame_is ws_is =
     let here : i < length d.windows = here_too d old i is l in

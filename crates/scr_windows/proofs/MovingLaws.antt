@@ -8,8 +8,8 @@ use Rattle.std.proofs.lemmas.List.{get_or-map, get_or-drop, get_or-append_right,
 use Rattle.std.proofs.lemmas.List.Elements.{All-from_get_or, All-map}
 use Rattle.scr_windows.specs.declared.surfaces.areas.Area.{Area}
 use Rattle.scr_windows.specs.declared.frames.Frame.{Frame}
-use Rattle.scr_windows.specs.declared.calls.moving.Shift.{Shift}
-use Rattle.scr_windows.specs.declared.calls.moving.Shift.TheVariants.{Screen, Surface}
+use Rattle.scr_windows.specs.declared.calls.moving.WindowMove.{WindowMove}
+use Rattle.scr_windows.specs.declared.calls.moving.WindowMove.TheVariants.{Screen, Surface}
 use Rattle.scr_windows.specs.DeskViews.{WindowView, DeskView, IsWindow, AreFrames, IsDesk, IsThere, window_at, no_window, no_frame}
 use Rattle.scr_windows.specs.Sheets.{size_on}
 use Rattle.scr_windows.specs.Code.Families.{IsNear, IsNearFrame, IsNearShift, IsShift, descends, family_frame, from_parent, family_shifted, link_of}
@@ -19,15 +19,15 @@ use Rattle.scr_windows.proofs.FamilyLaws.{frame_link, map_links}
 use Rattle.scr_windows.proofs.ShiftLaws.{Begins, FitsScreen, Stays, frames_moved, is_equal, same_columns, same_number, same_parent, same_rows, turned}
 
 -- what a shift asks for, of the frames
-shift_begins : (d : DeskView) (i : ℕ) (shift : Shift) → IsShift d i shift → Begins shift (window_at d i).frame
+shift_begins : (d : DeskView) (i : ℕ) (shift : WindowMove) → IsShift d i shift → Begins shift (window_at d i).frame
 shift_begins d i (Screen from to) h = h.1
 shift_begins d i (Surface from to) h = h.0
 
-shift_fits : (d : DeskView) (i : ℕ) (shift : Shift) → IsShift d i shift → FitsScreen d.rows d.columns shift (window_at d i).frame
+shift_fits : (d : DeskView) (i : ℕ) (shift : WindowMove) → IsShift d i shift → FitsScreen d.rows d.columns shift (window_at d i).frame
 shift_fits d i (Screen from to) h = (h.2, h.3)
 shift_fits d i (Surface from to) h = tt
 
-shift_stays : (d : DeskView) (i : ℕ) (shift : Shift) → IsShift d i shift → Stays (map frame_of d.windows) shift (window_at d i).frame
+shift_stays : (d : DeskView) (i : ℕ) (shift : WindowMove) → IsShift d i shift → Stays (map frame_of d.windows) shift (window_at d i).frame
 shift_stays d i (Screen from to) h = h.0
 shift_stays d i (Surface from to) h =
     let k : ℕ = h.1.0 in
@@ -38,7 +38,7 @@ shift_stays d i (Surface from to) h =
     (k, omega (arith, h.1.1, length_map frame_of d.windows), in'.0, in'.1, in'.2, in'.3, in'.4)
 
 -- a window with another frame of the same size
-window_turned : (w : WindowView) (b : Bool) (shift : Shift) → IsWindow w → IsWindow (record w { frame = turned b shift w.frame })
+window_turned : (w : WindowView) (b : Bool) (shift : WindowMove) → IsWindow w → IsWindow (record w { frame = turned b shift w.frame })
 window_turned w b shift h =
     let rows : (turned b shift w.frame).area.rows ≡ w.frame.area.rows = same_rows b shift w.frame in
     let columns : (turned b shift w.frame).area.columns ≡ w.frame.area.columns = same_columns b shift w.frame in
@@ -47,7 +47,7 @@ window_turned w b shift h =
       touched = h.touched ∙ sym rows;
     }
 
-pub family_is_desk : (d : DeskView) (i : ℕ) (shift : Shift) → IsDesk d → i < length d.windows → IsShift d i shift → IsDesk (record d { windows = family_shifted (window_at d i).frame.number shift d.windows })
+pub family_is_desk : (d : DeskView) (i : ℕ) (shift : WindowMove) → IsDesk d → i < length d.windows → IsShift d i shift → IsDesk (record d { windows = family_shifted (window_at d i).frame.number shift d.windows })
 family_is_desk d i shift h l s =
     let frames : List Frame = map frame_of d.windows in
     let many : length frames ≡ length d.windows = length_map frame_of d.windows in
@@ -73,7 +73,7 @@ family_is_desk d i shift h l s =
     }
 
 -- what the code knows when a window and its descendants have moved
-pub family_moved : (d old : DeskView) → d ≡ old → (i : ℕ) (shift : Shift) (w : WindowView) (frame : Frame) (ws : List WindowView) → IsDesk d → i < length old.windows → IsShift old i shift → Reads d.windows i w → frame ≡ w.frame
+pub family_moved : (d old : DeskView) → d ≡ old → (i : ℕ) (shift : WindowMove) (w : WindowView) (frame : Frame) (ws : List WindowView) → IsDesk d → i < length old.windows → IsShift old i shift → Reads d.windows i w → frame ≡ w.frame
     → ws ≡ family_shifted frame.number shift d.windows → IsDesk (record d { windows = ws })
 family_moved d old is i shift w frame ws h l s reads frame_is ws_is =
     let I : DeskView → Type 0 = λ v. IsShift v i shift in
@@ -97,7 +97,7 @@ near_window d i p = (
 pub near_windows : (d : DeskView) → IsDesk d → All (λ (w : WindowView). IsNearFrame w.frame) d.windows
 near_windows d h = All-from_get_or (λ (w : WindowView). IsNearFrame w.frame) d.windows no_window (λ k l. near_window d k (placed d k h l))
 
-pub near_shift : (d : DeskView) (i : ℕ) (shift : Shift) → IsDesk d → IsShift d i shift → IsNearShift shift
+pub near_shift : (d : DeskView) (i : ℕ) (shift : WindowMove) → IsDesk d → IsShift d i shift → IsNearShift shift
 near_shift d i (Screen from to) h s = (omega (arith, s.2, h.size.few_rows), omega (arith, s.3, h.size.few_columns))
 near_shift d i (Surface from to) h s =
     let p = placed d s.1.0 h s.1.1 in
@@ -108,17 +108,17 @@ turned_links : (g : Frame → Frame) → ((f : Frame) → (g f).number ≡ f.num
 turned_links g p q [] = refl
 turned_links g p q (w ∷ ws) = λ j. (p w.frame j, q w.frame j) ∷ turned_links g p q ws j
 
-abbrev pub turn_of : ℕ → Shift → List WindowView → Frame → Frame
+abbrev pub turn_of : ℕ → WindowMove → List WindowView → Frame → Frame
 turn_of ancestor shift ws = family_frame (map link_of ws) (length ws) ancestor shift
 
-partly_links : (ancestor : ℕ) (shift : Shift) (xs : List WindowView) (i : ℕ) → map link_of (map (reframed (turn_of ancestor shift xs)) (take i xs) ++ drop i xs) ≡ map link_of xs
+partly_links : (ancestor : ℕ) (shift : WindowMove) (xs : List WindowView) (i : ℕ) → map link_of (map (reframed (turn_of ancestor shift xs)) (take i xs) ++ drop i xs) ≡ map link_of xs
 partly_links ancestor shift xs i =
     let g : Frame → Frame = turn_of ancestor shift xs in
     let same : map link_of (map (reframed g) (take i xs)) ≡ map link_of (take i xs)
     = turned_links g (λ f. same_number (descends (map link_of xs) ancestor (length xs) f.number) shift f) (λ f. same_parent (descends (map link_of xs) ancestor (length xs) f.number) shift f) (take i xs) in
     map-append link_of (map (reframed g) (take i xs)) (drop i xs) ∙ ap (λ ls. ls ++ map link_of (drop i xs)) same ∙ sym (map-append link_of (take i xs) (drop i xs)) ∙ ap (map link_of) (take-append-drop i xs)
 
-pub family_more : (ancestor : ℕ) (shift : Shift) (xs ys : List WindowView) (i : ℕ) (first second new : WindowView) (frame : Frame) → i < length xs
+pub family_more : (ancestor : ℕ) (shift : WindowMove) (xs ys : List WindowView) (i : ℕ) (first second new : WindowView) (frame : Frame) → i < length xs
     → ys ≡ map (reframed (turn_of ancestor shift xs)) (take i xs) ++ drop i xs → frame ≡ turn_of ancestor shift ys (get_or ys i first).frame → new ≡ record (get_or ys i second) { frame = frame }
     → slice_set ys i new ≡ map (reframed (turn_of ancestor shift xs)) (take (i + 1) xs) ++ drop (i + 1) xs
 family_more ancestor shift xs ys i first second new frame l ys_is frame_is new_is =
@@ -126,7 +126,7 @@ family_more ancestor shift xs ys i first second new frame l ys_is frame_is new_i
     let many : length ys ≡ length xs = sym (length_map link_of ys) ∙ ap (λ (ls : List (ℕ × Option ℕ)). length ls) links ∙ length_map link_of xs in
     reframed_more (turn_of ancestor shift xs) xs ys i first second new frame l ys_is (frame_is ∙ (λ j. family_frame (links j) (many j) ancestor shift (get_or ys i first).frame)) new_is
 
-pub near_now : (ancestor : ℕ) (shift : Shift) (xs ys : List WindowView) (i : ℕ) (first : WindowView) → i < length xs → All (λ (w : WindowView). IsNearFrame w.frame) xs
+pub near_now : (ancestor : ℕ) (shift : WindowMove) (xs ys : List WindowView) (i : ℕ) (first : WindowView) → i < length xs → All (λ (w : WindowView). IsNearFrame w.frame) xs
     → ys ≡ map (reframed (turn_of ancestor shift xs)) (take i xs) ++ drop i xs → IsNearFrame (get_or ys i first).frame
 near_now ancestor shift xs ys i first l near ys_is =
     let front : length (map (reframed (turn_of ancestor shift xs)) (take i xs)) ≡ i = length_map (reframed (turn_of ancestor shift xs)) (take i xs) ∙ length-take-le i xs (omega arith) in
@@ -211,5 +211,5 @@ derived_fits d i k parent row column frame within frame_is parent_is at within_i
       (k, there.0, whole, omega (arith, above.0), omega (arith, above.0, above.2, own.0, rows), omega (arith, above.1), omega (arith, above.1, above.3, own.1, columns)),
     )
 
-pub length_family : (ancestor : ℕ) (shift : Shift) (ws : List WindowView) → length (family_shifted ancestor shift ws) ≡ length ws
+pub length_family : (ancestor : ℕ) (shift : WindowMove) (ws : List WindowView) → length (family_shifted ancestor shift ws) ≡ length ws
 length_family ancestor shift ws = length_map (reframed (turn_of ancestor shift ws)) ws

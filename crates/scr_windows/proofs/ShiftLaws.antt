@@ -6,8 +6,8 @@ use Rattle.std.proofs.lemmas.List.{get_or-map}
 use Rattle.std.proofs.lemmas.List.Elements.{All-from_get_or}
 use Rattle.scr_windows.specs.declared.surfaces.areas.Area.{Area}
 use Rattle.scr_windows.specs.declared.frames.Frame.{Frame}
-use Rattle.scr_windows.specs.declared.calls.moving.Shift.{Shift}
-use Rattle.scr_windows.specs.declared.calls.moving.Shift.TheVariants.{Screen, Surface}
+use Rattle.scr_windows.specs.declared.calls.moving.WindowMove.{WindowMove}
+use Rattle.scr_windows.specs.declared.calls.moving.WindowMove.TheVariants.{Screen, Surface}
 use Rattle.scr_windows.specs.DeskViews.{HasOwn, IsPlaced, IsChild, IsInsideOnScreen, AreFrames, no_frame}
 use Rattle.scr_windows.specs.Calls.Moving.{area_shifted, origin_shifted, shifted}
 use Rattle.scr_windows.specs.Code.Families.{family_frame}
@@ -15,36 +15,36 @@ use Rattle.scr_windows.proofs.DeskLaws.{length_map}
 use Rattle.scr_windows.proofs.FamilyLaws.{frame_at, Ascends, Family, HasParent, Within, child_family, family_within, frame_link, one_index}
 
 -- a frame that may have been shifted
-abbrev pub turned : Bool → Shift → Frame → Frame
+abbrev pub turned : Bool → WindowMove → Frame → Frame
 turned b shift f = cond b (shifted shift f) f
 
-pub same_number : (b : Bool) (shift : Shift) (f : Frame) → (turned b shift f).number ≡ f.number
+pub same_number : (b : Bool) (shift : WindowMove) (f : Frame) → (turned b shift f).number ≡ f.number
 same_number false shift f = refl
 same_number true (Screen from to) f = refl
 same_number true (Surface from to) f = refl
 
-pub same_parent : (b : Bool) (shift : Shift) (f : Frame) → (turned b shift f).parent ≡ f.parent
+pub same_parent : (b : Bool) (shift : WindowMove) (f : Frame) → (turned b shift f).parent ≡ f.parent
 same_parent false shift f = refl
 same_parent true (Screen from to) f = refl
 same_parent true (Surface from to) f = refl
 
-pub same_rows : (b : Bool) (shift : Shift) (f : Frame) → (turned b shift f).area.rows ≡ f.area.rows
+pub same_rows : (b : Bool) (shift : WindowMove) (f : Frame) → (turned b shift f).area.rows ≡ f.area.rows
 same_rows false shift f = refl
 same_rows true (Screen from to) f = refl
 same_rows true (Surface from to) f = refl
 
-pub same_columns : (b : Bool) (shift : Shift) (f : Frame) → (turned b shift f).area.columns ≡ f.area.columns
+pub same_columns : (b : Bool) (shift : WindowMove) (f : Frame) → (turned b shift f).area.columns ≡ f.area.columns
 same_columns false shift f = refl
 same_columns true (Screen from to) f = refl
 same_columns true (Surface from to) f = refl
 
 -- a shift begins at the window that is moved
-abbrev pub Begins : Shift → Frame → Type 0
+abbrev pub Begins : WindowMove → Frame → Type 0
 Begins (Screen from to) root = root.origin ≡ Some from
 Begins (Surface from to) root = from ≡ (root.area.top, root.area.left)
 
 -- and ends where the window is inside
-abbrev Ends : ℕ → ℕ → (ℕ → ℕ × ℕ) → Shift → Frame → Type 0
+abbrev Ends : ℕ → ℕ → (ℕ → ℕ × ℕ) → WindowMove → Frame → Type 0
 Ends rows columns sizes (Screen from to) root = (to.0 + root.area.rows ≤ rows) × (to.1 + root.area.columns ≤ columns)
 Ends rows columns sizes (Surface from to) root =
     (to.0 + root.area.rows ≤ (sizes root.surface).0) × (to.1 + root.area.columns ≤ (sizes root.surface).1)
@@ -55,7 +55,7 @@ on_screen_still : (rows columns : ℕ) (o : Option (ℕ × ℕ)) (a b : Area) (f
 on_screen_still rows columns None a b from to h k l = tt
 on_screen_still rows columns (Some p) a b from to h k l = (omega (arith, h.0, h.1), omega (arith, h.2, h.3))
 
-shifted_placed : (rows columns : ℕ) (sizes : ℕ → ℕ × ℕ) (shift : Shift) (f root : Frame) → Begins shift root → Ends rows columns sizes shift root → Within f root → IsPlaced rows columns sizes f → IsPlaced rows columns sizes (shifted shift f)
+shifted_placed : (rows columns : ℕ) (sizes : ℕ → ℕ × ℕ) (shift : WindowMove) (f root : Frame) → Begins shift root → Ends rows columns sizes shift root → Within f root → IsPlaced rows columns sizes f → IsPlaced rows columns sizes (shifted shift f)
 shifted_placed rows columns sizes (Screen from to) f root begins ends h p =
     let P : Option (ℕ × ℕ) → Type 0 = λ o. IsInsideOnScreen f.origin f.area o root.area in
     record {
@@ -91,7 +91,7 @@ inside_same None (Some p) a b c d e f g i h = h
 inside_same (Some o) None a b c d e f g i h = h
 inside_same (Some o) (Some p) a b c d e f g i h = (h.0, omega (arith, h.1, e, g), h.2, omega (arith, h.3, f, i))
 
-child_shifted : (shift : Shift) (f g root : Frame) → Begins shift root → Within g root → IsChild f g → IsChild (shifted shift f) (shifted shift g)
+child_shifted : (shift : WindowMove) (f g root : Frame) → Begins shift root → Within g root → IsChild f g → IsChild (shifted shift f) (shifted shift g)
 child_shifted (Screen from to) f g root begins h c =
     let P : Option (ℕ × ℕ) → Type 0 = λ o. IsInsideOnScreen g.origin g.area o root.area in
     record {
@@ -117,7 +117,7 @@ child_shifted (Surface from to) f g root begins h c =
     }
 
 -- the window that is moved stays in its parent, or has none
-abbrev pub Stays : List Frame → Shift → Frame → Type 0
+abbrev pub Stays : List Frame → WindowMove → Frame → Type 0
 Stays frames (Screen from to) root = root.parent ≡ None
 Stays frames (Surface from to) root =
     (k : ℕ) × (k < length frames) × (root.parent ≡ Some (get_or frames k no_frame).number)
@@ -127,7 +127,7 @@ Stays frames (Surface from to) root =
 some_same : (a b : ℕ) (o : Option ℕ) → o ≡ Some a → o ≡ Some b → a ≡ b
 some_same a b o e f = (let g : Some a ≡ Some b = sym e ∙ f in (cc))
 
-own_shifted : (frames : List Frame) (shift : Shift) (root : Frame) (m number : ℕ) → Ascends frames → Begins shift root → Stays frames shift root → root.parent ≡ Some number → m < length frames
+own_shifted : (frames : List Frame) (shift : WindowMove) (root : Frame) (m number : ℕ) → Ascends frames → Begins shift root → Stays frames shift root → root.parent ≡ Some number → m < length frames
     → (get_or frames m no_frame).number ≡ number → IsChild root (get_or frames m no_frame) → IsChild (shifted shift root) (get_or frames m no_frame)
 own_shifted frames (Screen from to) root m number up begins stays parent h is c = absurd (let e : None ≡ Some number = sym stays ∙ parent in (cc))
 own_shifted frames (Surface from to) root m number up begins stays parent h is c =
@@ -151,11 +151,11 @@ own_shifted frames (Surface from to) root m number up begins stays parent h is c
     }
 
 -- the window that is moved is on the screen afterwards, if it moves there
-abbrev pub FitsScreen : ℕ → ℕ → Shift → Frame → Type 0
+abbrev pub FitsScreen : ℕ → ℕ → WindowMove → Frame → Type 0
 FitsScreen rows columns (Screen from to) root = (to.0 + root.area.rows ≤ rows) × (to.1 + root.area.columns ≤ columns)
 FitsScreen rows columns (Surface from to) root = Unit {0}
 
-ends_of : (rows columns : ℕ) (sizes : ℕ → ℕ × ℕ) (made : ℕ) (frames : List Frame) (i : ℕ) (shift : Shift) → AreFrames rows columns sizes made frames → i < length frames
+ends_of : (rows columns : ℕ) (sizes : ℕ → ℕ × ℕ) (made : ℕ) (frames : List Frame) (i : ℕ) (shift : WindowMove) → AreFrames rows columns sizes made frames → i < length frames
     → FitsScreen rows columns shift (get_or frames i no_frame) → Stays frames shift (get_or frames i no_frame) → Ends rows columns sizes shift (get_or frames i no_frame)
 ends_of rows columns sizes made frames i (Screen from to) h l fits stays = fits
 ends_of rows columns sizes made frames i (Surface from to) h l fits stays =
@@ -178,20 +178,20 @@ or_false true h = refl
 or_false false h = h
 
 -- a subwindow that may move, of a parent that may move
-child_turned : (shift : Shift) (f g root : Frame) (own bf bg : Bool) → Begins shift root → bf ≡ (own || bg) → (bg ≡ true → Within g root) → (own ≡ true → IsChild (shifted shift f) g) → IsChild f g
+child_turned : (shift : WindowMove) (f g root : Frame) (own bf bg : Bool) → Begins shift root → bf ≡ (own || bg) → (bg ≡ true → Within g root) → (own ≡ true → IsChild (shifted shift f) g) → IsChild f g
     → IsChild (turned bf shift f) (turned bg shift g)
 child_turned shift f g root own true true begins e w alone c = child_shifted shift f g root begins (w refl) c
 child_turned shift f g root own true false begins e w alone c = alone (or_false own (sym e))
 child_turned shift f g root own false true begins e w alone c = absurd (let z : false ≡ true = e ∙ or_true own in (cc))
 child_turned shift f g root own false false begins e w alone c = c
 
-placed_turned : (rows columns : ℕ) (sizes : ℕ → ℕ × ℕ) (shift : Shift) (f root : Frame) (b : Bool) → Begins shift root → Ends rows columns sizes shift root → (b ≡ true → Within f root) → IsPlaced rows columns sizes f
+placed_turned : (rows columns : ℕ) (sizes : ℕ → ℕ × ℕ) (shift : WindowMove) (f root : Frame) (b : Bool) → Begins shift root → Ends rows columns sizes shift root → (b ≡ true → Within f root) → IsPlaced rows columns sizes f
     → IsPlaced rows columns sizes (turned b shift f)
 placed_turned rows columns sizes shift f root false begins ends w p = p
 placed_turned rows columns sizes shift f root true begins ends w p = shifted_placed rows columns sizes shift f root begins ends (w refl) p
 
 -- a window that moves is on the surface that it was on
-own_turned : (b : Bool) (shift : Shift) (f : Frame) → HasOwn f → HasOwn (turned b shift f)
+own_turned : (b : Bool) (shift : WindowMove) (f : Frame) → HasOwn f → HasOwn (turned b shift f)
 own_turned false shift f h = h
 own_turned true (Screen from to) f h = h
 own_turned true (Surface from to) f h = h
@@ -203,13 +203,13 @@ is_equal a b h = grind (arith, nat_tests)
 abbrev is_family : List Frame → ℕ → ℕ → Bool
 is_family frames i k = Family frames (frame_at frames i).number (frame_at frames k).number
 
-abbrev turn : List Frame → ℕ → Shift → Frame → Frame
+abbrev turn : List Frame → ℕ → WindowMove → Frame → Frame
 turn frames i shift = family_frame (map frame_link frames) (length frames) (frame_at frames i).number shift
 
-abbrev after : List Frame → ℕ → Shift → List Frame
+abbrev after : List Frame → ℕ → WindowMove → List Frame
 after frames i shift = map (turn frames i shift) frames
 
-pub frames_moved : (rows columns : ℕ) (sizes : ℕ → ℕ × ℕ) (made : ℕ) (frames : List Frame) (i : ℕ) (shift : Shift) → AreFrames rows columns sizes made frames → i < length frames
+pub frames_moved : (rows columns : ℕ) (sizes : ℕ → ℕ × ℕ) (made : ℕ) (frames : List Frame) (i : ℕ) (shift : WindowMove) → AreFrames rows columns sizes made frames → i < length frames
     → Begins shift (get_or frames i no_frame) → FitsScreen rows columns shift (get_or frames i no_frame) → Stays frames shift (get_or frames i no_frame)
     → AreFrames rows columns sizes made (map (family_frame (map frame_link frames) (length frames) (get_or frames i no_frame).number shift) frames)
 frames_moved rows columns sizes made frames i shift h l begins fits stays = record {

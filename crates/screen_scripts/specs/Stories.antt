@@ -39,7 +39,7 @@ pub record Stage : Type 0 where
   pub drawn : Drawn
   pub keys : ReaderView
 
--- What a command leaves behind, and the events that it causes.
+-- What a command leaves, and the events that it causes.
 pub record Outcome : Type 0 where
   pub stage : Stage
   pub events : List Event
@@ -126,13 +126,13 @@ key_refusal (Ok done) = []
 key_refusal (Err fault) = Refused (key_fault_name fault) ∷ []
 
 -- What the key reader does with input.
-abbrev pub came : Stage → ReaderView × Result (Unit {0}) KeyFault → Outcome
-came stage read = record { stage = record stage { keys = read.0 }; events = key_refusal read.1 }
+abbrev pub after_read : Stage → ReaderView × Result (Unit {0}) KeyFault → Outcome
+after_read stage read = record { stage = record stage { keys = read.0 }; events = key_refusal read.1 }
 
 -- Bytes are read one after another, even if some are refused.
-abbrev pub bytes_came : Stage → List ℕ → Outcome
-bytes_came stage [] = record { stage = stage; events = [] }
-bytes_came stage (byte ∷ bytes) = followed (came stage (byte_read stage.keys byte)) (λ next. bytes_came next bytes)
+abbrev pub after_bytes : Stage → List ℕ → Outcome
+after_bytes stage [] = record { stage = stage; events = [] }
+after_bytes stage (byte ∷ bytes) = followed (after_read stage (byte_read stage.keys byte)) (λ next. after_bytes next bytes)
 
 -- All queued keys are taken.
 abbrev pub keys_taken : Stage → Outcome
@@ -140,11 +140,11 @@ keys_taken stage = record { stage = record stage { keys = record stage.keys { qu
 
 -- Bytes are read from the keyboard, and then all keys are taken.
 abbrev pub pressed : Stage → List ℕ → Outcome
-pressed stage bytes = followed (bytes_came stage bytes) keys_taken
+pressed stage bytes = followed (after_bytes stage bytes) keys_taken
 
 -- No byte comes for a while, and then all keys are taken.
 abbrev pub idled : Stage → Outcome
-idled stage = followed (came stage (idle_read stage.keys)) keys_taken
+idled stage = followed (after_read stage (idle_read stage.keys)) keys_taken
 
 -- ---- lines
 

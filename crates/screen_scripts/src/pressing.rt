@@ -1,7 +1,7 @@
 //! The keys of a script: giving bytes of the keyboard to a screen.
 ghost use Rattle.std.specs.Prelude.{◌≡◌, ◌++◌, [], IfOk, OnOk, map};
 ghost use Rattle.scr_keys.specs.Readers.{idle_read};
-ghost use Rattle.screen_scripts.specs.Stories.{Pressed, bytes_came, came, idled, key_refusal, pressed};
+ghost use Rattle.screen_scripts.specs.Stories.{Pressed, after_bytes, after_read, idled, key_refusal, pressed};
 ghost use Rattle.screen_scripts.specs.Showing.{IsReady, Obeys, events_in, stage_of};
 
 use crate::effects::{Effects, Note};
@@ -39,8 +39,8 @@ pub fn idle(alloc: Global, screen: &mut Screen) -> Result<Effects, NoMemory>
 
 // Gives bytes to a screen one by one, and notes what is refused.
 fn read_bytes(screen: &mut Screen, bytes: &[u8], notes: &mut Vec<Note>) -> Result<(), NoMemory>
-    ensures notes { OnOk result (events_in notes.new.items ≡ events_in notes.old.items ++ (bytes_came (stage_of screen.old) bytes.now).events) }
-    ensures stage { OnOk result (stage_of screen.new ≡ (bytes_came (stage_of screen.old) bytes.now).stage) }
+    ensures notes { OnOk result (events_in notes.new.items ≡ events_in notes.old.items ++ (after_bytes (stage_of screen.old) bytes.now).events) }
+    ensures stage { OnOk result (stage_of screen.new ≡ (after_bytes (stage_of screen.old) bytes.now).stage) }
     ensures rest { OnOk result (screen.new ≡ record screen.old { keys = screen.new.keys }) }
 {
     for byte in bytes {

@@ -1,5 +1,5 @@
 -- What a call of a session does to the windows and the virtual screen.
-use Rattle.std.proofs.Common.{◌≡◌, ℕ, ◌+◌, leb, ltb, Bool, true, false, not, ◌&&◌, refl, sym, ◌∙◌, ap, subst, List, [], length, arith, Some, None, Result, Ok, Err, inl, inr, if◌then◌else◌}
+use Rattle.std.proofs.Common.{◌≡◌, ℕ, ◌+◌, leb, ltb, true, false, not, ◌&&◌, refl, sym, ◌∙◌, ap, subst, List, [], length, arith, Some, None, Result, Ok, Err, inl, inr, if◌then◌else◌}
 use Rattle.scr_term.specs.declared.operations.operation.Op.{Op}
 use Rattle.scr_term.specs.Operations.Profiles.{ProfileView, IsProfile, abilities}
 use Rattle.scr_term.specs.Operations.States.{TerminalState, IsState}

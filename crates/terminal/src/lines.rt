@@ -63,7 +63,7 @@ impl TerminalLine {
     ///
     /// Idle if nothing came while the read waited, or a signal ended it. Ended if the program is asked to end, at once
     /// if it was asked before, else if no byte came; and if the input has ended. How that is told from silence: three
-    /// empty reads in a row came back within 20 milliseconds, while a line in raw mode lets each wait for a tenth of a
+    /// empty reads in a row return within 20 milliseconds, while a line in raw mode lets each wait for a tenth of a
     /// second. So a program whose input is a file gets Idle twice first. Failed if the piece is empty, the read fails
     /// or the clock cannot be read.
     /// POSIX, read(); General Terminal Interface, 'Non-Canonical Mode Input Processing', case C.

@@ -1,5 +1,5 @@
 -- What an entry has after capabilities were set one after another.
-use Rattle.std.proofs.Common.{◌≡◌, ◌≢◌, ◌∙◌, ℕ, zero, suc, ◌+◌, ◌<◌, Bool, true, false, ◌&&◌, ◌||◌, ◌==◌, List, [], ◌∷◌, length, Option, Some, None, unwrap_or, option_map, map, replicate, get_or, set, cond, eqb, slice_index_or, nat_lt, refl, sym, ap, inl, inr, arith}
+use Rattle.std.proofs.Common.{◌≡◌, ◌≢◌, ◌∙◌, ℕ, zero, suc, ◌+◌, ◌<◌, Bool, true, false, ◌&&◌, ◌||◌, ◌==◌, List, [], ◌∷◌, length, Option, Some, None, unwrap_or, option_map, map, replicate, get_or, set, cond, eqb, nat_lt, refl, sym, ap, inl, inr, arith}
 use Rattle.std.specs.List.{list_all, list_any, AllPass}
 use Rattle.std.proofs.lemmas.List.{length-replicate, length-set, get_or-set_same, get_or-set_other}
 use Rattle.std.proofs.lemmas.List.Folds.{list_all-map}
@@ -9,7 +9,7 @@ use Rattle.ti_caps.specs.declared.table.Slot.{Slot}
 use Rattle.ti_caps.specs.Table.{or_else}
 use Rattle.ti_caps.specs.Settings.{all_set, flags_set, numbers_set, texts_set, fits_text}
 use Rattle.ti_caps.specs.Description.{Description, bare}
-use Rattle.ti_caps.specs.Bundled.{listed, bundled_names, bundled_flags, bundled_numbers, bundled_texts, IsBundled}
+use Rattle.ti_caps.specs.Bundled.{listed, bundled_names, bundled_numbers, bundled_texts, IsBundled}
 use Rattle.ti_caps.specs.declared.bundle.TheConstants.{FLAGS, NUMBERS}
 use Rattle.ti_caps.proofs.Once.{both}
 

@@ -15,9 +15,9 @@ pub(crate) fn reference_names(alloc: Global, names: &[u8]) -> Result<Vec<&[u8]>,
     let mut found = Vec::new(alloc);
     let mut rest = names;
     loop {
-        let (name, behind) = cut_name(rest);
+        let (name, after) = cut_name(rest);
         put_reference(&mut found, name)?;
-        match behind {
+        match after {
             Some(more) => rest = more,
             None => return Ok(found),
         }

@@ -17,7 +17,7 @@ shift n d p v =
     let e = mul_comm p d in
     omega (arith, a, b, c, e)
 
--- the digits at the head of a text, and their number behind n
+-- the digits at the head of a text, and their number after n
 pub record DigitsAre (n : ℕ) (text : List ℕ) (r : ℕ × List ℕ) : Type 0 where
   pub front : List ℕ
   pub are : all_digits front ≡ true

@@ -1,4 +1,4 @@
--- The reader goes through flags, digits and a precision, up to what stands behind them.
+-- The reader goes through flags, digits and a precision, up to what stands after them.
 use Rattle.std.proofs.Common.{◌≡◌, ℕ, zero, suc, ◌+◌, ◌-◌, ◌*◌, ◌^◌, ◌<◌, ◌⊎◌, inl, inr, Bool, true, false, List, [], ◌∷◌, ◌++◌, length, Option, Some, None, refl, sym, ap, subst, ◌∙◌, arith, append_assoc}
 use Rattle.std.specs.Prelude.{◌&&◌, ◌||◌, ◌==◌, eqb, nat_le}
 use Rattle.std.specs.List.{list_all}
@@ -34,7 +34,7 @@ each_digit P a b c d e f g h i j x is =
     let same : 48 + (x - 48) ≡ x = omega arith in
     subst P same (ten P a b c d e f g h i j (x - 48) (omega arith))
 
--- ---- the byte behind flags
+-- ---- the byte after flags
 
 -- a test that no digit and no point passes fails where digits and a precision, or what follows them, begin
 pub behind : (test : ℕ → Bool) (p : Option ℕ) (front point text : List ℕ) → all_digits front ≡ true → IsPrecision p point → ((x : ℕ) → is_digit x ≡ true → test x ≡ false) → test 46 ≡ false → starts test text ≡ false → starts test (front ++ (point ++ text)) ≡ false
@@ -111,7 +111,7 @@ flags_through colon f (b ∷ front) text all stop =
     let p = and_parts (is_flag colon b) (list_all (is_flag colon) front) all in
     goes_on colon f b front text (flag_cases colon b p.0) (λ g. flags_through colon g front text p.1 stop)
 
--- flags behind a `:` or none, where what follows is neither
+-- flags after a `:` or none, where what follows is neither
 no_colon : (text : List ℕ) → starts (λ x. x == 58) text ≡ false → all_flags text ≡ flags false plain text
 no_colon [] e = refl
 no_colon (b ∷ text) e = cond-false (eqb b 58) _ _ e
@@ -149,7 +149,7 @@ precision_through None point text is digit dot = ap (λ l. precision (l ++ text)
 precision_through (Some n) point text is digit dot =
     ap (λ l. precision (l ++ text)) is.1 ∙ ap (λ (r : ℕ × List ℕ). (Some r.0, r.1)) (digits_through 0 is.0 text is.2 digit) ∙ ap (λ (k : ℕ). (Some k, text)) (at_zero (10 ^ length is.0) (decimal_value is.0) ∙ sym is.3)
 
--- what may stand behind a format: the end, or a byte that goes on with none of its parts
+-- what may stand after a format: the end, or a byte that goes on with none of its parts
 pub record IsEnd (text : List ℕ) : Type 0 where
   pub flag : (colon : Bool) → starts (is_flag colon) text ≡ false
   pub colon : starts (λ x. x == 58) text ≡ false

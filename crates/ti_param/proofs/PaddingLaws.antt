@@ -20,7 +20,7 @@ leading_through (b ∷ digits) text are stop =
     let both = and_parts (is_digit b) (all_digits digits) are in
     ap (λ q. cond q (suc (leading_digits (digits ++ text))) 0) both.0 ∙ ap suc (leading_through digits text both.1 stop)
 
--- what stands behind the number, and behind its tenth
+-- what stands after the number, and after its tenth
 marks_stop : (marks rest : List ℕ) → AreMarks marks → starts is_digit (marks ++ 62 ∷ rest) ≡ false
 marks_stop marks rest none = refl
 marks_stop marks rest for_each_line = refl
@@ -110,7 +110,7 @@ parts_length digits tenth marks =
     let c = length-append marks (62 ∷ []) in
     omega (arith, a, b, c)
 
--- a padding at the beginning of a text is what is measured, whatever is behind it
+-- a padding at the beginning of a text is what is measured, whatever is after it
 pub padding_measured : (text padding rest : List ℕ) → text ≡ padding ++ rest → IsPadding padding → padding_length text ≡ length padding
 padding_measured text padding rest e p =
     ap padding_length (e ∙ ap (λ l. l ++ rest) p.whole ∙ padding_and_rest p.digits p.tenth p.marks rest)
@@ -222,7 +222,7 @@ counted_some : (digits : List ℕ) (n : ℕ) → length digits ≡ n → nat_lt 
 counted_some digits n e some h =
     let positive = ltb-true 0 n some in let none = ap length h in omega (arith, positive, none, e)
 
--- these parts, one behind another, and what is behind them
+-- these parts, one after another, and what is after them
 found_of : (text digits tenth marks rest : List ℕ) (n : ℕ) → text ≡ 36 ∷ 60 ∷ (digits ++ (tenth ++ (marks ++ 62 ∷ rest))) → all_digits digits ≡ true → digits ≢ [] → IsTenth tenth → AreMarks marks → 2 + length digits + length tenth + length marks + 1 ≡ n → Found text n
 found_of text digits tenth marks rest n whole are some is_tenth are_marks count = record {
   padding = 36 ∷ 60 ∷ (digits ++ (tenth ++ (marks ++ 62 ∷ [])));
@@ -297,7 +297,7 @@ passed_by text index result le e s =
 pub passed_all : (text : List ℕ) (index : ℕ) → length text ≡ index → Stripped (drop index text) []
 passed_all text index e = subst (λ l. Stripped l []) (sym (drop_all index text (omega (arith, e)))) ended
 
--- behind a padding with which a text begins the rest is looked at
+-- after a padding with which a text begins the rest is looked at
 behind_padding : (text other padding rest : List ℕ) → text ≡ padding ++ rest → IsPadding padding → Stripped text other → Stripped rest other
 behind_padding text other padding rest e p ended = absurd (padding_is_some padding p (sym (padding_measured [] padding rest e p)))
 behind_padding text other padding rest e p (left_out {padding = front} {rest = behind} f q s) =

@@ -45,7 +45,7 @@ parameter_seen (b ∷ text) =
     let same : b ≡ 49 + (b - 49) = omega arith in
     (37 ∷ 112 ∷ b ∷ [], (omega arith, ap (λ x. 37 ∷ 112 ∷ x ∷ []) same), refl)) (λ _. tt)
 
--- a letter behind `%P` or `%g`
+-- a letter after `%P` or `%g`
 letter_seen : (c : ℕ) (dynamic static : ℕ → Directive) (text : List ℕ) → IsCut (37 ∷ c ∷ []) → ((i : ℕ) → i < 26 → Spells (Do (dynamic i)) (37 ∷ c ∷ (97 + i) ∷ [])) → ((i : ℕ) → i < 26 → Spells (Do (static i)) (37 ∷ c ∷ (65 + i) ∷ [])) → Seen (37 ∷ c ∷ text) (letter_of dynamic static text)
 letter_seen c dynamic static [] cut low high = cut
 letter_seen c dynamic static (b ∷ text) cut small capital =

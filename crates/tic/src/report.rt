@@ -34,8 +34,8 @@ pub(crate) fn add_entry(
 ) -> Result<(), AllocError> {
     let number = place.line;
     lines.extend_from_slice(b"entry ")?;
-    let behind = format!(in alloc; ", line {number}")?;
-    add_line(place.name, behind.as_bytes(), lines)
+    let after = format!(in alloc; ", line {number}")?;
+    add_line(place.name, after.as_bytes(), lines)
 }
 
 /// Adds the lines about unknown names: first the number of fields with unknown names and the number

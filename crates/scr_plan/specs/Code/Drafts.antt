@@ -36,7 +36,7 @@ pub record Aim : Type 0 where
 abbrev pub aim_of : ProfileView → PictureView → Aim
 aim_of profile picture = record { rows = picture.rows; columns = picture.columns; look = look_at profile picture }
 
--- Behind the first ones, a draft's operations move no row, and they lead from this state to one with the draft's spot and pen, in which every
+-- After the first ones, a draft's operations move no row, and they lead from this state to one with the draft's spot and pen, in which every
 -- place that does not wait shows what is aimed at; their bytes are counted beside so many others.
 pub record IsAimed (profile : ProfileView) (aim : Aim) (paid : ℕ) (first : List Op) (start : TerminalState) (waits : ℕ × ℕ → Bool) (draft : Draft) : Type 0 where
   pub own : List Op

@@ -54,9 +54,9 @@ pub record IsCounted (profile : ProfileView) (old new : Joining) (begun : ℕ) (
   pub pen_is : new.pen ≡ pen
 
 -- after a place that was painted the cursor is in the next one, and the pen is still on
-abbrev pub IsBehind : ℕ → Joining → ℕ → ℕ → Option PenView → Type 0
-IsBehind columns joining row column None = Unit {0}
-IsBehind columns joining row column (Some pen) = (joining.pen ≡ pen) × (column < columns → joining.spot ≡ At row column)
+abbrev pub IsAfter : ℕ → Joining → ℕ → ℕ → Option PenView → Type 0
+IsAfter columns joining row column None = Unit {0}
+IsAfter columns joining row column (Some pen) = (joining.pen ≡ pen) × (column < columns → joining.spot ≡ At row column)
 
 -- a place of the joined repaint
 abbrev pub joined_at : ProfileView → PictureView → MemoryView → ℕ × ℕ → List Op

@@ -1,11 +1,10 @@
 -- How the code admits an entry: nothing that a reader has to believe.
-use Rattle.std.specs.Prelude.{ℕ, ◌≡◌, ◌+◌, ◌-◌, ◌^◌, ◌⊎◌, All, IfSome, Bool, false, min, max, List, [], ◌∷◌, Option, Some, None, Result, Ok, Err, slice_index_or, if◌then◌else◌}
+use Rattle.std.specs.Prelude.{ℕ, ◌≡◌, ◌+◌, ◌-◌, ◌^◌, ◌⊎◌, All, IfSome, Bool, false, min, max, List, [], ◌∷◌, Option, Some, None, Result, slice_index_or, if◌then◌else◌}
 use Rattle.ti_caps.specs.Description.{Description}
 use Rattle.ti_param.specs.Tree.{Tree, bound}
 use Rattle.scr_term.specs.declared.operations.capability.Capability.{Capability}
 use Rattle.scr_term.specs.declared.operations.capability.Capability.TheVariants.{Op}
 use Rattle.scr_term.specs.declared.operations.profile_faults.ProfileFault.{ProfileFault}
-use Rattle.scr_term.specs.declared.operations.profile_faults.ProfileFault.TheVariants.{NoMemory}
 use Rattle.scr_term.specs.Operations.Admission.{IsJudged, bad_fault, long_fault, missing_fault}
 use Rattle.scr_term.specs.Operations.Capabilities.{ordinal}
 use Rattle.scr_term.specs.Operations.Profiles.{IsPlanned, ProfileView}

@@ -3,7 +3,7 @@
 ghost use Rattle.std.specs.Prelude.{◌≡◌, ◌≤◌, ◌==◌, ◌<◌, IsTrue, pos, bit_and};
 ghost use Rattle.scr_term.specs.Operations.Profiles.{entering};
 ghost use Rattle.scr_term.specs.Operations.Texts.{first_piece, is_within, motion, nine, one_if_in, renditions_of, resets_colours, text, text_of_one, text_of_two};
-ghost use Rattle.scr_term.specs.Code.Sent.{piece_of};
+ghost use Rattle.scr_term.specs.Code.SentPieces.{piece_of};
 
 use crate::operations::capability::Capability;
 use crate::{Op, Profile};
@@ -13,7 +13,7 @@ use scr_cells::Attrs;
 /// A piece of what an operation sends. Only `sgr` takes more than two numbers, so it has a variant
 /// of its own to keep the type small.
 #[derive(Clone, Copy)]
-pub(crate) enum Sent {
+pub(crate) enum SentPiece {
     /// A character.
     Byte(u8),
     /// The text of a capability with two parameters; the others are 0.
@@ -25,7 +25,7 @@ pub(crate) enum Sent {
 impl Profile {
     /// The only or first piece of an operation that is within the terminal's limits.
     #[inline(always)]
-    pub(crate) fn first_piece(&self, op: Op) -> Sent
+    pub(crate) fn first_piece(&self, op: Op) -> SentPiece
         requires { IsTrue (is_within self.now op) }
         ensures { piece_of result ≡ first_piece self.now op }
     {
@@ -51,15 +51,15 @@ impl Profile {
             Op::Reset => text(Capability::Sgr0),
             Op::ExitAttributes => text(Capability::Sgr0),
             Op::Enter(attribute) => text(entering(attribute)),
-            Op::Set(attributes) => Sent::Renditions(attributes),
+            Op::Set(attributes) => SentPiece::Renditions(attributes),
             Op::Fore(colour) => text_of_one(Capability::Setaf, u32::from(colour)),
             Op::Back(colour) => text_of_one(Capability::Setab, u32::from(colour)),
-            Op::Put(byte) => Sent::Byte(byte),
+            Op::Put(byte) => SentPiece::Byte(byte),
         }
     }
 
     // The text for one place or line if the terminal has it, otherwise the one with a count.
-    fn motion(&self, one: Capability, many: Capability, count: u32) -> Sent
+    fn motion(&self, one: Capability, many: Capability, count: u32) -> SentPiece
         requires { count ≤ 500 }
         ensures { piece_of result ≡ motion self.now one many count }
     {
@@ -79,27 +79,27 @@ pub(crate) fn resets_colours(op: Op) -> bool
 }
 
 /// The text of a capability without parameters.
-pub(crate) fn text(capability: Capability) -> Sent
+pub(crate) fn text(capability: Capability) -> SentPiece
     ensures { piece_of result ≡ text capability }
 {
-    Sent::Numbers(capability, 0, 0)
+    SentPiece::Numbers(capability, 0, 0)
 }
 
 // The text of a capability with a number.
-fn text_of_one(capability: Capability, number: u32) -> Sent
+fn text_of_one(capability: Capability, number: u32) -> SentPiece
     requires { number ≤ 500 }
     ensures { piece_of result ≡ text_of_one capability number }
 {
-    Sent::Numbers(capability, number as i32, 0)
+    SentPiece::Numbers(capability, number as i32, 0)
 }
 
 // The text of a capability with two numbers.
-fn text_of_two(capability: Capability, first: u32, second: u32) -> Sent
+fn text_of_two(capability: Capability, first: u32, second: u32) -> SentPiece
     requires first { first ≤ 500 }
     requires second { second ≤ 500 }
     ensures { piece_of result ≡ text_of_two capability first second }
 {
-    Sent::Numbers(capability, first as i32, second as i32)
+    SentPiece::Numbers(capability, first as i32, second as i32)
 }
 
 /// The capability that turns on an attribute.

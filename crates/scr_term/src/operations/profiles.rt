@@ -5,12 +5,12 @@ ghost use Rattle.std.specs.Prelude.{◌≡◌, ◌≤◌, length};
 ghost use Rattle.scr_term.specs.declared.operations.capability.Capability.TheVariants.{Sgr0};
 ghost use Rattle.scr_term.specs.declared.operations.operation.Op.{Op};
 ghost use Rattle.scr_term.specs.Operations.Profiles.{IsProfile, has_colours, is_shown, is_there, shown_set};
-ghost use Rattle.scr_term.specs.Code.Sent.{piece_of};
+ghost use Rattle.scr_term.specs.Code.SentPieces.{piece_of};
 ghost use Rattle.scr_term.specs.Operations.Texts.{bytes_of, has, is_attribute, is_count, is_sendable, is_within};
 
 use crate::Op;
 use crate::operations::capability::Capability;
-use crate::operations::pieces::{Sent, entering};
+use crate::operations::pieces::{SentPiece, entering};
 use crate::operations::prices::Prices;
 use bitflags::Flags;
 use scr_cells::{Attrs, Size, is_character};
@@ -156,13 +156,13 @@ impl Profile {
 
     /// Whether the terminal has the text of a piece.
     #[inline(always)]
-    pub(crate) fn is_sendable(&self, piece: Sent) -> bool
+    pub(crate) fn is_sendable(&self, piece: SentPiece) -> bool
         ensures { result ≡ is_sendable self.now (piece_of piece) }
     {
         match piece {
-            Sent::Byte(_) => true,
-            Sent::Numbers(capability, ..) => self.is_there(capability),
-            Sent::Renditions(_) => self.is_there(Capability::Sgr),
+            SentPiece::Byte(_) => true,
+            SentPiece::Numbers(capability, ..) => self.is_there(capability),
+            SentPiece::Renditions(_) => self.is_there(Capability::Sgr),
         }
     }
 }

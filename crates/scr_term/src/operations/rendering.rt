@@ -2,12 +2,12 @@
 //! vector.
 ghost use Rattle.std.specs.Prelude.{◌≡◌, ◌+◌, ◌<◌, ◌≤◌, ◌∷◌, [], ◌++◌, ◌&&◌, IsTrue, OnOk, OnErr, Some, None, if◌then◌else◌, length, vec_len, vec_capacity};
 ghost use Rattle.scr_term.specs.Operations.Profiles.{has_colours, is_there, program_of};
-ghost use Rattle.scr_term.specs.Code.Sent.{piece_of};
+ghost use Rattle.scr_term.specs.Code.SentPieces.{piece_of};
 ghost use Rattle.scr_term.specs.declared.operations.operation.Op.TheVariants.{Move, Put};
 ghost use Rattle.scr_term.specs.Operations.Texts.{bytes_of, first_piece, has, is_sendable, nine, piece_bytes, renditions_of, resets_colours, written};
 
 use crate::operations::capability::Capability;
-use crate::operations::pieces::{Sent, renditions_of, resets_colours, text};
+use crate::operations::pieces::{SentPiece, renditions_of, resets_colours, text};
 use crate::{Op, Profile};
 use scr_cells::{Attrs, NoMemory};
 use ti_param::{RunFault, Vars, stack_is_enough, text_is_bounded};
@@ -131,7 +131,7 @@ impl Profile {
     // The only or first piece of an operation that the terminal has.
     #[inline(always)]
     #[tactic(auto, unfolding(crate::specs::Operations::Texts::has))]
-    fn first_sent(&self, op: Op) -> Sent
+    fn first_sent(&self, op: Op) -> SentPiece
         requires { IsTrue (has self.now op) }
         ensures value { piece_of result ≡ first_piece self.now op }
         ensures sendable { IsTrue (is_sendable self.now (piece_of result)) }
@@ -150,17 +150,17 @@ impl Profile {
 
     // The number of bytes of a piece.
     #[inline(always)]
-    fn piece_cost(&self, piece: Sent) -> usize
+    fn piece_cost(&self, piece: SentPiece) -> usize
         requires { IsTrue (is_sendable self.now (piece_of piece)) }
         ensures value { result ≡ length (piece_bytes self.now (piece_of piece)) }
         ensures few { result ≤ 1024 }
     {
         match piece {
-            Sent::Byte(_) => 1,
-            Sent::Numbers(capability, first, second) => {
+            SentPiece::Byte(_) => 1,
+            SentPiece::Numbers(capability, first, second) => {
                 self.numbers_cost(capability, first, second)
             }
-            Sent::Renditions(set) => self.renditions_cost(set),
+            SentPiece::Renditions(set) => self.renditions_cost(set),
         }
     }
 
@@ -198,7 +198,7 @@ impl Profile {
 
     // Appends the bytes of a piece.
     #[inline(always)]
-    fn render_piece(&self, piece: Sent, out: &mut Vec<u8>) -> Result<(), NoMemory>
+    fn render_piece(&self, piece: SentPiece, out: &mut Vec<u8>) -> Result<(), NoMemory>
         requires { IsTrue (is_sendable self.now (piece_of piece)) }
         ensures ok { OnOk result (out.new.items ≡ out.old.items ++ piece_bytes self.now (piece_of piece)) }
         ensures err { OnErr result (out.new.items ≡ out.old.items) }
@@ -206,14 +206,14 @@ impl Profile {
         ensures kept { vec_capacity out.old ≤ vec_capacity out.new }
     {
         match piece {
-            Sent::Byte(byte) => {
+            SentPiece::Byte(byte) => {
                 out.push(byte)?;
                 Ok(())
             }
-            Sent::Numbers(capability, first, second) => {
+            SentPiece::Numbers(capability, first, second) => {
                 self.render_numbers(capability, first, second, out)
             }
-            Sent::Renditions(set) => self.render_renditions(set, out),
+            SentPiece::Renditions(set) => self.render_renditions(set, out),
         }
     }
 

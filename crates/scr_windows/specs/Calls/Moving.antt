@@ -3,8 +3,8 @@ use Rattle.std.specs.Prelude.{ℕ, Bool, true, length, map, Option, None, Some, 
 use Rattle.std.specs.List.{list_any, range_with_len}
 use Rattle.scr_windows.specs.declared.surfaces.areas.Area.{Area}
 use Rattle.scr_windows.specs.declared.frames.Frame.{Frame}
-use Rattle.scr_windows.specs.declared.calls.moving.Shift.{Shift}
-use Rattle.scr_windows.specs.declared.calls.moving.Shift.TheVariants.{Screen, Surface}
+use Rattle.scr_windows.specs.declared.calls.moving.WindowMove.{WindowMove}
+use Rattle.scr_windows.specs.declared.calls.moving.WindowMove.TheVariants.{Screen, Surface}
 use Rattle.scr_windows.specs.declared.faults.WinFault.{WinFault}
 use Rattle.scr_windows.specs.declared.faults.WinFault.TheVariants.{IsPad, IsSub, OffScreen, NotInParent}
 use Rattle.scr_windows.specs.DeskViews.{DeskView, window_at}
@@ -25,7 +25,7 @@ abbrev pub area_shifted : ℕ × ℕ → ℕ × ℕ → Area → Area
 area_shifted from to area = record area { top = to.0 + (area.top - from.0); left = to.1 + (area.left - from.1) }
 
 -- A frame moved on the screen, or on its surface.
-abbrev pub shifted : Shift → Frame → Frame
+abbrev pub shifted : WindowMove → Frame → Frame
 shifted (Screen from to) frame = record frame { origin = origin_shifted from to frame.origin }
 shifted (Surface from to) frame = record frame { area = area_shifted from to frame.area }
 
@@ -34,14 +34,14 @@ abbrev pub is_family : DeskView → ℕ → ℕ → Bool
 is_family desk i k = k == i || list_any (λ above. above == i) (ancestors desk k)
 
 -- A window and its descendants move; no other window does.
-abbrev pub with_family_shifted : DeskView → ℕ → Shift → DeskView
+abbrev pub with_family_shifted : DeskView → ℕ → WindowMove → DeskView
 with_family_shifted desk i shift =
     record desk {
       windows = map (λ k. if is_family desk i k then record (window_at desk k) { frame = shifted shift (window_at desk k).frame } else window_at desk k) (range_with_len 0 (length desk.windows));
     }
 
 -- The same, and the window's own lines are touched.
-abbrev pub moved : DeskView → ℕ → Shift → DeskView
+abbrev pub moved : DeskView → ℕ → WindowMove → DeskView
 moved desk i shift =
     with_window (with_family_shifted desk i shift) i (marked 0 (window_at desk i).frame.area.rows true (window_at (with_family_shifted desk i shift) i))
 

@@ -1,13 +1,13 @@
 -- Words of private functions, which look for a window's ancestors by their numbers.
 use Rattle.std.specs.Prelude.{ℕ, Bool, false, zero, suc, ◌≡◌, ◌<◌, ◌≤◌, List, length, map, Option, None, Some, slice_index_or, ◌+◌, ◌==◌, ◌||◌, MatchOption, if◌then◌else◌}
 use Rattle.scr_windows.specs.declared.frames.Frame.{Frame}
-use Rattle.scr_windows.specs.declared.calls.moving.Shift.{Shift}
-use Rattle.scr_windows.specs.declared.calls.moving.Shift.TheVariants.{Screen, Surface}
+use Rattle.scr_windows.specs.declared.calls.moving.WindowMove.{WindowMove}
+use Rattle.scr_windows.specs.declared.calls.moving.WindowMove.TheVariants.{Screen, Surface}
 use Rattle.scr_windows.specs.DeskViews.{WindowView, DeskView, window_at}
 use Rattle.scr_windows.specs.Calls.Moving.{shifted}
 
 -- what a shift of the window at an index asks for: a window without a parent stays on the screen; a subwindow stays in its parent
-abbrev pub IsShift : DeskView → ℕ → Shift → Type 0
+abbrev pub IsShift : DeskView → ℕ → WindowMove → Type 0
 IsShift desk i (Screen from to) =
     ((window_at desk i).frame.parent ≡ None) × ((window_at desk i).frame.origin ≡ Some from) × (to.0 + (window_at desk i).frame.area.rows ≤ desk.rows) × (to.1 + (window_at desk i).frame.area.columns ≤ desk.columns)
 IsShift desk i (Surface from to) =
@@ -22,7 +22,7 @@ IsNear place = (place.0 ≤ 1000000) × (place.1 ≤ 1000000)
 abbrev pub IsNearFrame : Frame → Type 0
 IsNearFrame frame = IsNear (frame.area.top, frame.area.left) × MatchOption frame.origin (Unit {0}) IsNear
 
-abbrev pub IsNearShift : Shift → Type 0
+abbrev pub IsNearShift : WindowMove → Type 0
 IsNearShift (Screen from to) = IsNear to
 IsNearShift (Surface from to) = IsNear to
 
@@ -43,8 +43,8 @@ descends links ancestor (suc k) number =
     else descends links ancestor k number
 
 -- the frame of a window that moves if it descends from an ancestor
-abbrev pub family_frame : List (ℕ × Option ℕ) → ℕ → ℕ → Shift → Frame → Frame
+abbrev pub family_frame : List (ℕ × Option ℕ) → ℕ → ℕ → WindowMove → Frame → Frame
 family_frame links count ancestor shift frame = if descends links ancestor count frame.number then shifted shift frame else frame
 
-abbrev pub family_shifted : ℕ → Shift → List WindowView → List WindowView
+abbrev pub family_shifted : ℕ → WindowMove → List WindowView → List WindowView
 family_shifted ancestor shift windows = map (λ (w : WindowView). record w { frame = family_frame (map link_of windows) (length windows) ancestor shift w.frame }) windows

@@ -13,7 +13,7 @@ use crate::windows::Window;
 
 /// How a window and its descendants move: what is at the first place goes to the second.
 #[derive(Clone, Copy)]
-pub enum Shift {
+pub enum WindowMove {
     /// On the screen.
     Screen((u32, u32), (u32, u32)),
     /// On the surface.
@@ -40,7 +40,7 @@ impl Desk {
         {
             return Err(WinFault::OffScreen);
         }
-        self.move_family(index, Shift::Screen(origin, (row, column)));
+        self.move_family(index, WindowMove::Screen(origin, (row, column)));
         Ok(())
     }
 
@@ -67,12 +67,12 @@ impl Desk {
         }
         let from = (frame.area.top, frame.area.left);
         let to = (within.top + row, within.left + column);
-        self.move_family(index, Shift::Surface(from, to));
+        self.move_family(index, WindowMove::Surface(from, to));
         Ok(())
     }
 
     // Moves the window at an index and its descendants, and touches its lines.
-    fn move_family(&mut self, index: usize, shift: Shift)
+    fn move_family(&mut self, index: usize, shift: WindowMove)
         requires here { index < length self.old.windows }
         requires fits { IsShift self.old index shift }
         ensures { self.new ≡ moved self.old index shift }
@@ -83,7 +83,7 @@ impl Desk {
     }
 
     // Moves the window at an index and its descendants.
-    fn shift_windows(&mut self, index: usize, shift: Shift)
+    fn shift_windows(&mut self, index: usize, shift: WindowMove)
         requires here { index < length self.old.windows }
         requires fits { IsShift self.old index shift }
         ensures moved { self.new ≡ with_family_shifted self.old index shift }
@@ -102,7 +102,7 @@ fn fits(start: u32, count: u32, end: u32) -> bool
 }
 
 // Shifts the window of a number and all its descendants.
-fn shift_family(windows: &mut [Window], ancestor: u32, shift: Shift)
+fn shift_family(windows: &mut [Window], ancestor: u32, shift: WindowMove)
     requires near { All (λ (w : WindowView). IsNearFrame w.frame) windows.old }
     requires shift { IsNearShift shift }
     ensures { windows.new ≡ family_shifted ancestor shift windows.old }
@@ -115,7 +115,7 @@ fn shift_family(windows: &mut [Window], ancestor: u32, shift: Shift)
 }
 
 // The frame of a window after the window of a number and its descendants were shifted.
-fn family_frame(windows: &[Window], ancestor: u32, shift: Shift, frame: Frame) -> Frame
+fn family_frame(windows: &[Window], ancestor: u32, shift: WindowMove, frame: Frame) -> Frame
     requires near { IsNearFrame frame }
     requires shift { IsNearShift shift }
     ensures { result ≡ family_frame (map link_of windows.now) (length windows.now) ancestor shift frame }
@@ -148,15 +148,15 @@ fn descends(windows: &[Window], ancestor: u32, number: u32) -> bool
 }
 
 // A window's frame at another place of the screen or of its surface.
-fn shifted(shift: Shift, frame: Frame) -> Frame
+fn shifted(shift: WindowMove, frame: Frame) -> Frame
     requires near { IsNearFrame frame }
     requires shift { IsNearShift shift }
     ensures { result ≡ shifted shift frame }
 {
     let mut frame = frame;
     match shift {
-        Shift::Screen(from, to) => frame.origin = origin_shifted(from, to, frame.origin),
-        Shift::Surface(from, to) => frame.area = area_shifted(from, to, frame.area),
+        WindowMove::Screen(from, to) => frame.origin = origin_shifted(from, to, frame.origin),
+        WindowMove::Surface(from, to) => frame.area = area_shifted(from, to, frame.area),
     }
     frame
 }

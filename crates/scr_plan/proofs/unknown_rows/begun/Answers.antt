@@ -1,8 +1,7 @@
-use Rattle.std.proofs.Common.{All, List, ap, arith, length, refl, subst, true, ℕ, ◌++◌, ◌<◌, ◌∙◌, ◌≡◌}
+use Rattle.std.proofs.Common.{All, ap, arith, length, refl, subst, true, ℕ, ◌++◌, ◌<◌, ◌∙◌, ◌≡◌}
 use Rattle.scr_term.specs.Operations.Texts.{all_bytes, has}
 use Rattle.scr_term.specs.Operations.States.{IsState, TerminalState}
 use Rattle.scr_term.specs.Operations.Profiles.{abilities}
-use Rattle.scr_plan.specs.Code.Drafts.{IsAdded}
 use Rattle.scr_plan.specs.Code.Joinings.{counted_up}
 use Rattle.scr_plan.specs.Code.Painters.{painter_resets}
 use Rattle.scr_plan.proofs.UnknownRowLaws.{IsBegun, begun_is, begun_right, knows_begun}

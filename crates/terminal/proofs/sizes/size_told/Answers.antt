@@ -1,4 +1,3 @@
-use Rattle.std.proofs.Common.{rules}
 use Rattle.terminal.proofs.SizeLaws.{size_of_fields}
 use Rattle.terminal.proofs.sizes.size_told.Goals as goal
 

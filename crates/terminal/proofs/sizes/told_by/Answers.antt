@@ -1,5 +1,5 @@
 -- What tells something is text.
-use Rattle.std.proofs.Common.{◌≡◌, sym, subst, rules}
+use Rattle.std.proofs.Common.{◌≡◌, subst, rules}
 use Rattle.std.specs.Str.{IsUtf8}
 use Rattle.terminal.specs.Sizes.{Tells}
 use Rattle.terminal.proofs.SizeLaws.{end_in_text, tells_in_text}

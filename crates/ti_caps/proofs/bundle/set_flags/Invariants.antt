@@ -1,4 +1,4 @@
-use Rattle.std.proofs.Common.{◌≡◌, map, drop}
+use Rattle.std.proofs.Common.{◌≡◌, drop}
 use Rattle.ti_caps.specs.Settings.{flags_set}
 use Rattle.ti_caps.proofs.bundle.set_flags.Given as goal
 

@@ -22,8 +22,8 @@ returns-clause-left c =
     left_by c.args.painter c.args.picture.now (option_map (λ looks. looks.now) c.args.before) c.args.row c.args.column c.unlike_end-next.result c.unlike_end-next.ensures.more c.args.pen c.requires.pen
     (c.unlike_end-next.ensures.unlike c.requires.unlike) c.unlike_end-next.ensures.alike
 
-pub returns-clause-behind : goal.returns-clause-behind
-returns-clause-behind c =
+pub returns-clause-after : goal.returns-clause-after
+returns-clause-after c =
     let next = c.unlike_end-next.result in (
       ap (λ j. j.pen) c.count_each.ensures ∙ c.in_ok-begin_unless.ensures.pen,
       λ wide. ap (λ j. j.spot) c.count_each.ensures

@@ -1,11 +1,11 @@
 use Rattle.std.proofs.Common.{◌<◌, ◌≤◌, ◌-◌}
 use Rattle.scr_plan.proofs.painting.Painter.stretch_end.Given as goal
 
-abbrev pub invariant-loop-behind : goal.invariant-loop-behind
-invariant-loop-behind l = record {
-  more : l.start < l.behind;
-  end : l.behind ≤ l.end;
+abbrev pub invariant-loop-after : goal.invariant-loop-after
+invariant-loop-after l = record {
+  more : l.start < l.after;
+  end : l.after ≤ l.end;
 }
 
-abbrev pub decreases-loop-behind : goal.decreases-loop-behind
-decreases-loop-behind l = l.end - l.behind
+abbrev pub decreases-loop-after : goal.decreases-loop-after
+decreases-loop-after l = l.end - l.after

@@ -30,5 +30,5 @@ pub returns : goal.returns
 returns c =
     let last : c.loop-place.place ≡ c.args.end = omega (arith, c.loop-place-test.false, c.loop-place.auto.place-end (omega (arith, c.requires.column))) in
     put_counted c.args.profile.now c.args.picture.now c.args.row c.args.column c.args.end c.requires.column c.args.self.now c.loop-place.self _ refl
-    (c.saturating_add-self.ensures ∙ ap (λ n. counted_up (n + (c.args.end - c.args.column))) c.loop-place.invariant.put.bytes) (c.behind-self.ensures ∙ ap (λ n. spot_after n c.args.row (c.args.end - 1)) c.size-size.ensures.columns) refl
+    (c.saturating_add-self.ensures ∙ ap (λ n. counted_up (n + (c.args.end - c.args.column))) c.loop-place.invariant.put.bytes) (c.spot_after-self.ensures ∙ ap (λ n. spot_after n c.args.row (c.args.end - 1)) c.size-size.ensures.columns) refl
     (subst (λ n. IsPut c.args.profile.now c.args.picture.now c.args.row c.args.column n c.args.self.now c.loop-place.self) last c.loop-place.invariant.put)

@@ -1,5 +1,5 @@
 use Rattle.std.proofs.Common.{rules}
-use Rattle.scr_term.specs.Code.Sent.{piece_of}
+use Rattle.scr_term.specs.Code.SentPieces.{piece_of}
 use Rattle.scr_term.proofs.RenderingLaws.{cost_of_two, has_piece}
 use Rattle.scr_term.proofs.operations.profiles.Profile.any_cost.Goals as goal
 

@@ -1,7 +1,7 @@
 use Rattle.std.proofs.lemmas.Grind.{common_steps}
 use Rattle.std.proofs.Common.{◌≡◌, ap, arith, rules, length, vec_len}
 use Rattle.scr_term.specs.Operations.Texts.{piece_bytes}
-use Rattle.scr_term.specs.Code.Sent.{piece_of}
+use Rattle.scr_term.specs.Code.SentPieces.{piece_of}
 use Rattle.scr_term.proofs.RenderingLaws.{first_within, both_appended, room_of_two, at_refusal}
 use Rattle.scr_term.proofs.operations.profiles.Profile.render_any.Goals as goal
 

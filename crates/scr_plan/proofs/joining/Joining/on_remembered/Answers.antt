@@ -2,7 +2,7 @@ use Rattle.std.proofs.Common.{ap, arith, drop, length, length-drop, refl, rules,
 use Rattle.std.proofs.lemmas.List.{take_all}
 use Rattle.scr_plan.specs.Code.Painters.{resets_unless_plain}
 use Rattle.scr_plan.proofs.JoiningLaws.{begun_joining}
-use Rattle.scr_plan.proofs.joining.Joining.behind.Goals as goal
+use Rattle.scr_plan.proofs.joining.Joining.on_remembered.Goals as goal
 
 pub returns : goal.returns
 returns c =
