@@ -1,0 +1,36 @@
+-- The lines that are left to read, without those that are skipped.
+use Rattle.std.specs.Prelude.{◌≡◌, ℕ, List, [], ◌∷◌, Option, Some, None}
+use Rattle.std.specs.Borrow.{Bor}
+use Rattle.ti_source.specs.declared.reading.line.Line as line
+use Rattle.ti_source.specs.Reading.Field.{fields}
+use Rattle.ti_source.specs.Reading.Line.{Line, Skipped, NonAscii, Continues, Begins}
+use Rattle.ti_source.specs.Code.Seen.{seen_line}
+
+-- these lines without those that are skipped
+abbrev pub said : List (ℕ × Line) → List (ℕ × Line)
+said [] = []
+said ((n, Skipped) ∷ more) = said more
+said ((n, NonAscii) ∷ more) = (n, NonAscii) ∷ said more
+said ((n, Continues fields) ∷ more) = (n, Continues fields) ∷ said more
+said ((n, Begins names fields) ∷ more) = (n, Begins names fields) ∷ said more
+
+-- no line if there is no first one, else that one and more
+abbrev pub lines_left : Option (ℕ × line.Line) → List (ℕ × Line) → List (ℕ × Line)
+lines_left None more = []
+lines_left (Some (n, line)) more = (n, seen_line line) ∷ more
+
+-- a line of fields, if there is one, and more
+abbrev pub after_fields : Option (ℕ × Bor (List ℕ)) → List (ℕ × Line) → List (ℕ × Line)
+after_fields None more = more
+after_fields (Some (n, text)) more = (n, Continues (fields text.now)) ∷ more
+
+-- the first line does not continue an entry
+abbrev pub EndsBlock : List (ℕ × Line) → Type 0
+EndsBlock ((n, Continues fields) ∷ more) = ⊥
+EndsBlock _ = Unit {0}
+
+-- each of these lines continues an entry
+abbrev pub AreContinuing : List (ℕ × Line) → Type 0
+AreContinuing [] = Unit {0}
+AreContinuing ((n, Continues fields) ∷ more) = AreContinuing more
+AreContinuing _ = ⊥
