@@ -12,7 +12,7 @@ use Rattle.ti_source.specs.Code.Lines.{AreContinuing, EndsBlock, said}
 use Rattle.ti_source.specs.Code.OpenEntry.{OpenEntry, Adds, AddsBlock, open_entry}
 use Rattle.ti_source.specs.Result.{Fails, Gives}
 use Rattle.ti_source.proofs.MeaningLaws.{each-append}
-use Rattle.ti_source.proofs.OpenEntryLaws.{Adds-fails, Adds-then, faultless, fails-first}
+use Rattle.ti_source.proofs.OpenEntryLaws.{Adds-then, faultless, fails-first}
 
 -- ---- lines that are skipped
 

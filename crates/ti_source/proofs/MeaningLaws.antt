@@ -9,7 +9,7 @@ use Rattle.ti_caps.specs.declared.table.Kind.TheVariants.{Flag, Number, Text}
 use Rattle.ti_caps.specs.Table.{same_kind}
 use Rattle.ti_source.specs.declared.note.Note.{Note}
 use Rattle.ti_source.specs.declared.reading.statement.Statement.{Statement}
-use Rattle.ti_source.specs.Reading.Sources.{NumberedField, Meaning, Silent, Doubtful, States, Numberless, Uses, meaning, each_after, each_beside, means_one, is_given, meant_statement, statement, meant_note, note, meant_use, uses, concerns}
+use Rattle.ti_source.specs.Reading.Sources.{NumberedField, Meaning, Silent, Doubtful, States, Numberless, Uses, meaning, each_after, each_beside, means_one, is_given, meant_statement, statement, note, meant_use, uses, concerns}
 use Rattle.ti_source.specs.Code.OpenEntry.{OpenEntry, open_entry, with_meant}
 
 -- ---- lists

@@ -1,21 +1,18 @@
 -- Adding fields to an entry one after another.
-use Rattle.std.proofs.Common.{◌≡◌, ◌≢◌, ◌∙◌, ℕ, ◌≤◌, min, Bool, true, false, eqb, leb, ltb, nat_le, nat_lt, List, [], ◌∷◌, ◌++◌, length, if◌then◌else◌, Result, Ok, Err, refl, ap, sym, subst, inl, inr, append_assoc, append-nil, arith}
+use Rattle.std.proofs.Common.{◌≡◌, ◌∙◌, ℕ, min, Bool, true, false, leb, List, [], ◌∷◌, ◌++◌, Result, Ok, Err, refl, ap, sym, subst, inl, inr, append_assoc, append-nil, arith}
 use Rattle.std.specs.List.{list_any}
 use Rattle.std.proofs.lemmas.Bool.Decides.{nat_tests}
 use Rattle.ti_caps.specs.declared.table.Kind.{Kind}
 use Rattle.ti_source.specs.declared.faults.SourceFault.{SourceFault}
-use Rattle.ti_source.specs.declared.faults.SourceFault.TheVariants.{BadNumber, TooManyUses}
-use Rattle.ti_source.specs.declared.note.Cause.{Cause}
 use Rattle.ti_source.specs.declared.note.Note.{Note}
 use Rattle.ti_source.specs.declared.note.Cause.TheVariants.{Repeated, TooGreat}
 use Rattle.ti_source.specs.declared.reading.statement.FieldValue.{FieldValue}
 use Rattle.ti_source.specs.declared.reading.statement.FieldValue.TheVariants as field_value
 use Rattle.ti_source.specs.declared.reading.statement.Statement.{Statement}
-use Rattle.ti_source.specs.Reading.Field.{form_of}
-use Rattle.ti_source.specs.Reading.Sources.{Meaning, Silent, Doubtful, States, Numberless, Uses, NumberedField, concerns, each_after, each_beside, field_fault, is_given, is_great, limited, meaning, meant_fault, meant_note, meant_statement, note_on, numbered_fields, unless_faulty}
+use Rattle.ti_source.specs.Reading.Sources.{Meaning, Silent, Doubtful, States, Numberless, Uses, NumberedField, concerns, each_after, field_fault, is_given, is_great, limited, meaning, note_on, unless_faulty}
 use Rattle.ti_source.specs.Code.OpenEntry.{OpenEntry, open_entry, with_meant, Adds, AddsMeant}
 use Rattle.ti_source.specs.Code.Seen.{capped, capped_value}
-use Rattle.ti_source.specs.Result.{Becomes, Fails}
+use Rattle.ti_source.specs.Result.{Fails}
 use Rattle.ti_source.proofs.MeaningLaws.{each-append, given-all, open_entry-more}
 
 -- ---- faults

@@ -1,5 +1,5 @@
 -- The lines that are left to read, without those that are skipped.
-use Rattle.std.specs.Prelude.{◌≡◌, ℕ, List, [], ◌∷◌, Option, Some, None}
+use Rattle.std.specs.Prelude.{ℕ, List, [], ◌∷◌, Option, Some, None}
 use Rattle.std.specs.Borrow.{Bor}
 use Rattle.ti_source.specs.declared.reading.line.Line as line
 use Rattle.ti_source.specs.Reading.Field.{fields}

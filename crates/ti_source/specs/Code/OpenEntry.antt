@@ -1,5 +1,5 @@
 -- An entry that is being read.
-use Rattle.std.specs.Prelude.{◌≡◌, ℕ, List, [], ◌∷◌, ◌++◌, OnOk, Result}
+use Rattle.std.specs.Prelude.{◌≡◌, ℕ, List, ◌++◌, OnOk, Result}
 use Rattle.ti_source.specs.declared.faults.SourceFault.{SourceFault}
 use Rattle.ti_source.specs.declared.note.Note.{Note}
 use Rattle.ti_source.specs.Described.{Described}

@@ -1,5 +1,5 @@
 -- Lines, forms and meanings of the code as those of the definitions.
-use Rattle.std.specs.Prelude.{ℕ, Option, Some, None, min}
+use Rattle.std.specs.Prelude.{Option, Some, None, min}
 use Rattle.ti_source.specs.declared.reading.field.Form.{Form}
 use Rattle.ti_source.specs.declared.reading.field.Form.TheVariants.{Nothing, Plain, Numeric, Textual, Cancelled, Refers, Odd}
 use Rattle.ti_source.specs.Reading.Field as field

@@ -1,6 +1,8 @@
 //! Reading a source block by block: a line of names, and the lines of fields that continue it.
 
 ghost use Rattle.std.specs.Prelude.{◌≡◌, [], ◌∷◌, ◌++◌, Ok};
+ghost use Rattle.ti_source.specs.Reading.Field.{fields};
+ghost use Rattle.ti_source.specs.Reading.Line.{Begins};
 ghost use Rattle.ti_source.specs.Reading.Sources.{apart, names_faults, source_of, unless_faulty};
 ghost use Rattle.ti_source.specs.Code.Blocks.{ReadsBlock};
 ghost use Rattle.ti_source.specs.Code.Seen.{seen_line};
@@ -34,13 +36,6 @@ impl Model for ReadSource {
     ghost view = { λ s. record { entries = s.entries; notes = s.notes } };
 }
 
-/// The entries before, and one that is being read.
-#[derive(Drop)]
-struct Block {
-    done: Entries,
-    open_entry: OpenEntry,
-}
-
 impl ReadSource {
     fn new(alloc: Global, hasher: KeyedHasher) -> ReadSource
         ensures { result ≡ record { entries = []; notes = [] } }
@@ -59,8 +54,8 @@ impl ReadSource {
         (entries, notes)
     }
 
-    /// These entries and that of the block which begins with this line, taken by itself from the
-    /// lines that are left.
+    /// These entries and the next one: its block begins with this line, which has to be a line of
+    /// names, and goes on with the first of the lines that are left, which are taken.
     fn with_block(
         self,
         alloc: Global,
@@ -73,43 +68,58 @@ impl ReadSource {
         match line {
             Line::NonAscii => Err(SourceFault::NotAscii(number)),
             Line::Continues(_) => Err(SourceFault::FieldBeforeEntry(number)),
-            Line::Begins(names, text) => {
-                let mut block = self.begin(alloc, number, names)?;
-                block.open_entry.add_block(alloc, number, text, lines)?;
-                block.end(alloc)
-            }
+            Line::Begins(names, text) => self.with_named(alloc, number, names, text, lines),
         }
     }
 
-    /// Begins an entry with these names, which stand on the line with this number.
-    fn begin(self, alloc: Global, number: u32, names: &[u8]) -> Result<Block, SourceFault>
-        ensures { Gives result (unless_faulty (names_faults number names.now self.entries) (record { done = self.entries; open_entry = record { entry = record { names = names.now; statements = []; uses = [] }; notes = self.notes } })) }
+    fn with_named(
+        self,
+        alloc: Global,
+        number: u32,
+        names: &[u8],
+        text: &[u8],
+        lines: &mut Lines<'_>,
+    ) -> Result<ReadSource, SourceFault>
+        ensures { ReadsBlock self (number, Begins names.now (fields text.now)) lines.old result lines.new }
     {
-        let (done, notes) = self.into_parts();
+        let entry = self.new_entry(alloc, number, names)?;
+        let (entries, notes) = self.into_parts();
+        let mut open_entry = OpenEntry { entry, notes };
+        open_entry.add_block(alloc, number, text, lines)?;
+        with_last(alloc, entries, open_entry)
+    }
+
+    /// An entry without fields, whose names stand on the line with this number.
+    fn new_entry(
+        &self,
+        alloc: Global,
+        number: u32,
+        names: &[u8],
+    ) -> Result<SourceEntry, SourceFault>
+        ensures { Gives result (unless_faulty (names_faults number names.now self.now.entries) (record { names = names.now; statements = []; uses = [] })) }
+    {
         if !are_names(names) {
             return Err(SourceFault::BadNames(number));
         }
-        if done.has_any_name(names) {
+        if self.entries.has_any_name(names) {
             return Err(SourceFault::DuplicateName(number));
         }
-        let entry = SourceEntry::new(alloc, Bytes(Vec::from_slice(alloc, names)?));
-        Ok(Block {
-            done,
-            open_entry: OpenEntry { entry, notes },
-        })
+        let names = Bytes(Vec::from_slice(alloc, names)?);
+        Ok(SourceEntry::new(alloc, names))
     }
 }
 
-impl Block {
-    /// All entries, with the last one among them, and the notes.
-    fn end(self, alloc: Global) -> Result<ReadSource, SourceFault>
-        ensures { Gives result (Ok (record { entries = self.done ++ self.open_entry.entry ∷ []; notes = self.open_entry.notes })) }
-    {
-        let Block { done, open_entry } = self;
-        let OpenEntry { entry, notes } = open_entry;
-        let entries = done.with_entry(alloc, entry)?;
-        Ok(ReadSource { entries, notes })
-    }
+/// All entries, with the last one among them, and the notes.
+fn with_last(
+    alloc: Global,
+    entries: Entries,
+    open_entry: OpenEntry,
+) -> Result<ReadSource, SourceFault>
+    ensures { Gives result (Ok (record { entries = entries ++ open_entry.entry ∷ []; notes = open_entry.notes })) }
+{
+    let OpenEntry { entry, notes } = open_entry;
+    let entries = entries.with_entry(alloc, entry)?;
+    Ok(ReadSource { entries, notes })
 }
 
 /// Reads a source: its entries in order, and a note for each doubtful field, in the order of fields

@@ -1,7 +1,5 @@
-use Rattle.std.proofs.Common.{◌≡◌, ◌∙◌, ◌∷◌, Err, ap}
 use Rattle.std.proofs.lemmas.Result.{err_from_is_err_and}
 use Rattle.ti_source.specs.Reading.Sources.{source_of}
-use Rattle.ti_source.specs.Code.Lines.{lines_left}
 use Rattle.ti_source.specs.Code.Seen.{seen_line}
 use Rattle.ti_source.proofs.BlockLaws.{read-fails, read-goes, read-smaller, read-starts}
 use Rattle.ti_source.proofs.reading.reader.read_whole.Goals as goal

@@ -1,4 +1,4 @@
-use Rattle.std.proofs.Common.{◌≡◌, ◌∙◌, sym, ap}
+use Rattle.std.proofs.Common.{◌∙◌, sym, ap}
 use Rattle.ti_source.specs.Code.Seen.{seen_meaning, seen_value}
 use Rattle.ti_source.proofs.OpenEntryLaws.{states-adds}
 use Rattle.ti_source.proofs.reading.open_entry.OpenEntry.add.Goals as goal

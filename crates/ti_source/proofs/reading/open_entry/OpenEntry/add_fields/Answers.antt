@@ -1,8 +1,8 @@
-use Rattle.std.proofs.Common.{◌≡◌, ◌∙◌, ◌∷◌, [], Err, ap, option_map, refl, sym}
+use Rattle.std.proofs.Common.{◌∙◌, ◌∷◌, [], Err, ap, option_map, refl, sym}
 use Rattle.std.proofs.lemmas.Result.{err_from_is_err_and}
 use Rattle.ti_source.specs.Reading.Field.{fields, later_fields}
 use Rattle.ti_source.specs.Reading.Sources.{NumberedField, meaning, numbered_fields}
-use Rattle.ti_source.specs.Code.Seen.{capped, seen_form}
+use Rattle.ti_source.specs.Code.Seen.{seen_form}
 use Rattle.ti_source.proofs.OpenEntryLaws.{so_far-start, so_far-goes, so_far-fails, so_far-ends}
 use Rattle.ti_source.proofs.reading.open_entry.OpenEntry.add_fields.Goals as goal
 

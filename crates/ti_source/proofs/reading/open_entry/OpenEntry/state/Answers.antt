@@ -1,10 +1,9 @@
-use Rattle.std.proofs.Common.{◌≡◌, ◌∙◌, ◌++◌, true, false, Ok, rules, sym, ap, subst}
+use Rattle.std.proofs.Common.{◌≡◌, ◌∙◌, ◌++◌, true, false, Ok, rules, sym, ap}
 use Rattle.std.specs.List.{list_any}
 use Rattle.ti_source.specs.declared.note.Cause.TheVariants.{TooGreat}
-use Rattle.ti_source.specs.Reading.Sources.{States, concerns, is_given, is_great, limited, note_on}
-use Rattle.ti_source.specs.Code.OpenEntry.{OpenEntry, with_meant}
+use Rattle.ti_source.specs.Reading.Sources.{concerns, is_given, is_great, limited, note_on}
+use Rattle.ti_source.specs.Code.OpenEntry.{OpenEntry}
 use Rattle.ti_source.specs.Code.Seen.{seen_value}
-use Rattle.ti_source.specs.Result.{Becomes}
 use Rattle.ti_source.proofs.OpenEntryLaws.{great-adds, great-capped, limited-capped, repeated-adds, stated-is, value-adds, with_value}
 use Rattle.ti_source.proofs.reading.open_entry.OpenEntry.state.Goals as goal
 
