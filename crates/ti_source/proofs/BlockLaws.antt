@@ -8,7 +8,7 @@ use Rattle.ti_source.specs.declared.faults.SourceFault.TheVariants.{FieldBeforeE
 use Rattle.ti_source.specs.Reading.Line.{Line, Skipped, NonAscii, Continues, Begins}
 use Rattle.ti_source.specs.Reading.Sources.{NumberedField, Whole, WrittenEntry, each_after, each_beside, field_fault, described, notes_on, names_faults, numbered_fields, continuing, written_entries, continued_faults, begun_faults, line_faults, source_lines, source_of, unless_faulty, whole_of}
 use Rattle.ti_source.specs.Code.Blocks.{IsBlock, IsBetween, ReadsBlock, source_after}
-use Rattle.ti_source.specs.Code.Lines.{AreContinuing, EndsBlock, said}
+use Rattle.ti_source.specs.Code.Lines.{AreContinuing, EndsBlock, unskipped}
 use Rattle.ti_source.specs.Code.OpenEntry.{OpenEntry, Adds, AddsBlock, open_entry}
 use Rattle.ti_source.specs.Result.{Fails, Gives}
 use Rattle.ti_source.proofs.MeaningLaws.{each-append}
@@ -16,46 +16,46 @@ use Rattle.ti_source.proofs.OpenEntryLaws.{Adds-then, faultless, fails-first}
 
 -- ---- lines that are skipped
 
-said-continuing : (ls : List (ℕ × Line)) → continuing (said ls) ≡ continuing ls
-said-continuing [] = refl
-said-continuing ((k, Skipped) ∷ ls) = said-continuing ls
-said-continuing ((k, NonAscii) ∷ ls) = said-continuing ls
-said-continuing ((k, Continues fs) ∷ ls) = ap (λ r. numbered_fields k fs ++ r) (said-continuing ls)
-said-continuing ((k, Begins names fs) ∷ ls) = refl
+unskipped-continuing : (ls : List (ℕ × Line)) → continuing (unskipped ls) ≡ continuing ls
+unskipped-continuing [] = refl
+unskipped-continuing ((k, Skipped) ∷ ls) = unskipped-continuing ls
+unskipped-continuing ((k, NonAscii) ∷ ls) = unskipped-continuing ls
+unskipped-continuing ((k, Continues fs) ∷ ls) = ap (λ r. numbered_fields k fs ++ r) (unskipped-continuing ls)
+unskipped-continuing ((k, Begins names fs) ∷ ls) = refl
 
-said-entries : (ls : List (ℕ × Line)) → written_entries (said ls) ≡ written_entries ls
-said-entries [] = refl
-said-entries ((k, Skipped) ∷ ls) = said-entries ls
-said-entries ((k, NonAscii) ∷ ls) = said-entries ls
-said-entries ((k, Continues fs) ∷ ls) = said-entries ls
-said-entries ((k, Begins names fs) ∷ ls) =
-    λ i. (record { names = names; fields = numbered_fields k fs ++ said-continuing ls i }) ∷ said-entries ls i
+unskipped-entries : (ls : List (ℕ × Line)) → written_entries (unskipped ls) ≡ written_entries ls
+unskipped-entries [] = refl
+unskipped-entries ((k, Skipped) ∷ ls) = unskipped-entries ls
+unskipped-entries ((k, NonAscii) ∷ ls) = unskipped-entries ls
+unskipped-entries ((k, Continues fs) ∷ ls) = unskipped-entries ls
+unskipped-entries ((k, Begins names fs) ∷ ls) =
+    λ i. (record { names = names; fields = numbered_fields k fs ++ unskipped-continuing ls i }) ∷ unskipped-entries ls i
 
-said-append : (ls ks : List (ℕ × Line)) → said (ls ++ ks) ≡ said ls ++ said ks
-said-append [] ks = refl
-said-append ((k, Skipped) ∷ ls) ks = said-append ls ks
-said-append ((k, NonAscii) ∷ ls) ks = ap (λ r. (k, NonAscii) ∷ r) (said-append ls ks)
-said-append ((k, Continues fs) ∷ ls) ks = ap (λ r. (k, Continues fs) ∷ r) (said-append ls ks)
-said-append ((k, Begins names fs) ∷ ls) ks = ap (λ r. (k, Begins names fs) ∷ r) (said-append ls ks)
+unskipped-append : (ls ks : List (ℕ × Line)) → unskipped (ls ++ ks) ≡ unskipped ls ++ unskipped ks
+unskipped-append [] ks = refl
+unskipped-append ((k, Skipped) ∷ ls) ks = unskipped-append ls ks
+unskipped-append ((k, NonAscii) ∷ ls) ks = ap (λ r. (k, NonAscii) ∷ r) (unskipped-append ls ks)
+unskipped-append ((k, Continues fs) ∷ ls) ks = ap (λ r. (k, Continues fs) ∷ r) (unskipped-append ls ks)
+unskipped-append ((k, Begins names fs) ∷ ls) ks = ap (λ r. (k, Begins names fs) ∷ r) (unskipped-append ls ks)
 
-said-faults : (before ls : List (ℕ × Line)) → each_after line_faults (said before) (said ls) ≡ each_after line_faults before ls
+unskipped-faults : (before ls : List (ℕ × Line)) → each_after line_faults (unskipped before) (unskipped ls) ≡ each_after line_faults before ls
 unfolding line_faults
-said-faults before [] = refl
-said-faults before ((k, Skipped) ∷ ls) =
-    ap (λ b. each_after line_faults b (said ls)) (sym (append-nil (said before)) ∙ sym (said-append before ((k, Skipped) ∷ []))) ∙ said-faults (before ++ (k, Skipped) ∷ []) ls
-said-faults before ((k, NonAscii) ∷ ls) =
-    ap (λ r. NotAscii k ∷ r) (ap (λ b. each_after line_faults b (said ls)) (sym (said-append before ((k, NonAscii) ∷ []))) ∙ said-faults (before ++ (k, NonAscii) ∷ []) ls)
-said-faults before ((k, Continues fs) ∷ ls) =
-    ap (λ ws. continued_faults k fs ws ++ each_after line_faults (said before ++ (k, Continues fs) ∷ []) (said ls)) (said-entries before)
-    ∙ ap (λ r. continued_faults k fs (written_entries before) ++ r) (ap (λ b. each_after line_faults b (said ls)) (sym (said-append before ((k, Continues fs) ∷ []))) ∙ said-faults (before ++ (k, Continues fs) ∷ []) ls)
-said-faults before ((k, Begins names fs) ∷ ls) =
-    ap (λ ws. begun_faults k names fs ws ++ each_after line_faults (said before ++ (k, Begins names fs) ∷ []) (said ls)) (said-entries before)
-    ∙ ap (λ r. begun_faults k names fs (written_entries before) ++ r) (ap (λ b. each_after line_faults b (said ls)) (sym (said-append before ((k, Begins names fs) ∷ []))) ∙ said-faults (before ++ (k, Begins names fs) ∷ []) ls)
+unskipped-faults before [] = refl
+unskipped-faults before ((k, Skipped) ∷ ls) =
+    ap (λ b. each_after line_faults b (unskipped ls)) (sym (append-nil (unskipped before)) ∙ sym (unskipped-append before ((k, Skipped) ∷ []))) ∙ unskipped-faults (before ++ (k, Skipped) ∷ []) ls
+unskipped-faults before ((k, NonAscii) ∷ ls) =
+    ap (λ r. NotAscii k ∷ r) (ap (λ b. each_after line_faults b (unskipped ls)) (sym (unskipped-append before ((k, NonAscii) ∷ []))) ∙ unskipped-faults (before ++ (k, NonAscii) ∷ []) ls)
+unskipped-faults before ((k, Continues fs) ∷ ls) =
+    ap (λ ws. continued_faults k fs ws ++ each_after line_faults (unskipped before ++ (k, Continues fs) ∷ []) (unskipped ls)) (unskipped-entries before)
+    ∙ ap (λ r. continued_faults k fs (written_entries before) ++ r) (ap (λ b. each_after line_faults b (unskipped ls)) (sym (unskipped-append before ((k, Continues fs) ∷ []))) ∙ unskipped-faults (before ++ (k, Continues fs) ∷ []) ls)
+unskipped-faults before ((k, Begins names fs) ∷ ls) =
+    ap (λ ws. begun_faults k names fs ws ++ each_after line_faults (unskipped before ++ (k, Begins names fs) ∷ []) (unskipped ls)) (unskipped-entries before)
+    ∙ ap (λ r. begun_faults k names fs (written_entries before) ++ r) (ap (λ b. each_after line_faults b (unskipped ls)) (sym (unskipped-append before ((k, Begins names fs) ∷ []))) ∙ unskipped-faults (before ++ (k, Begins names fs) ∷ []) ls)
 
 -- they add nothing
-pub said-all : (ls : List (ℕ × Line)) → source_after [] (said ls) ≡ source_after [] ls
-said-all ls =
-    (λ i. unless_faulty (said-faults [] ls i) (record { entries = map described (said-entries ls i); notes = flat_map notes_on (said-entries ls i) }))
+pub unskipped-all : (ls : List (ℕ × Line)) → source_after [] (unskipped ls) ≡ source_after [] ls
+unskipped-all ls =
+    (λ i. unless_faulty (unskipped-faults [] ls i) (record { entries = map described (unskipped-entries ls i); notes = flat_map notes_on (unskipped-entries ls i) }))
 
 -- ---- a block
 
@@ -88,21 +88,28 @@ entries-are before n names fields taken are =
     entries-block before n names fields taken
     ∙ ap (λ ws. written_entries before ++ (record { names = names; fields = numbered_fields n fields ++ continuing taken }) ∷ ws) (no-entries taken are)
 
-pub continuing-more : (taken : List (ℕ × Line)) (k : ℕ) (fs : List (List ℕ)) → AreContinuing taken → continuing (taken ++ (k, Continues fs) ∷ []) ≡ continuing taken ++ numbered_fields k fs
-continuing-more [] k fs are = append-nil (numbered_fields k fs)
-continuing-more ((j, Skipped) ∷ ls) k fs are = absurd are
-continuing-more ((j, NonAscii) ∷ ls) k fs are = absurd are
-continuing-more ((j, Continues gs) ∷ ls) k fs are =
-    ap (λ r. numbered_fields j gs ++ r) (continuing-more ls k fs are) ∙ sym (append_assoc (numbered_fields j gs) (continuing ls) (numbered_fields k fs))
-continuing-more ((j, Begins names gs) ∷ ls) k fs are = absurd are
+pub are-both : (xs ys : List (ℕ × Line)) → AreContinuing xs → AreContinuing ys → AreContinuing (xs ++ ys)
+are-both [] ys a b = b
+are-both ((k, Skipped) ∷ xs) ys a b = absurd a
+are-both ((k, NonAscii) ∷ xs) ys a b = absurd a
+are-both ((k, Continues gs) ∷ xs) ys a b = are-both xs ys a b
+are-both ((k, Begins names gs) ∷ xs) ys a b = absurd a
 
--- a line more that continues
-pub are-more : (taken : List (ℕ × Line)) (k : ℕ) (fs : List (List ℕ)) → AreContinuing taken → AreContinuing (taken ++ (k, Continues fs) ∷ [])
-are-more [] k fs are = tt
-are-more ((j, Skipped) ∷ ls) k fs are = absurd are
-are-more ((j, NonAscii) ∷ ls) k fs are = absurd are
-are-more ((j, Continues gs) ∷ ls) k fs are = are-more ls k fs are
-are-more ((j, Begins names gs) ∷ ls) k fs are = absurd are
+pub continuing-both : (xs ys : List (ℕ × Line)) → AreContinuing xs → continuing (xs ++ ys) ≡ continuing xs ++ continuing ys
+continuing-both [] ys a = refl
+continuing-both ((k, Skipped) ∷ xs) ys a = absurd a
+continuing-both ((k, NonAscii) ∷ xs) ys a = absurd a
+continuing-both ((k, Continues gs) ∷ xs) ys a =
+    ap (λ r. numbered_fields k gs ++ r) (continuing-both xs ys a) ∙ sym (append_assoc (numbered_fields k gs) (continuing xs) (continuing ys))
+continuing-both ((k, Begins names gs) ∷ xs) ys a = absurd a
+
+-- a line more
+are-more : (taken : List (ℕ × Line)) (k : ℕ) (fs : List (List ℕ)) → AreContinuing taken → AreContinuing (taken ++ (k, Continues fs) ∷ [])
+are-more taken k fs are = are-both taken ((k, Continues fs) ∷ []) are tt
+
+continuing-more : (taken : List (ℕ × Line)) (k : ℕ) (fs : List (List ℕ)) → AreContinuing taken → continuing (taken ++ (k, Continues fs) ∷ []) ≡ continuing taken ++ numbered_fields k fs
+continuing-more taken k fs are =
+    continuing-both taken ((k, Continues fs) ∷ []) are ∙ ap (λ r. continuing taken ++ r) (append-nil (numbered_fields k fs))
 
 last-faults : (n : ℕ) (fields : List (List ℕ)) (ws : List WrittenEntry) (w : WrittenEntry) → continued_faults n fields (ws ++ w ∷ []) ≡ each_after field_fault w.fields (numbered_fields n fields)
 last-faults n fields [] w = refl
@@ -284,10 +291,10 @@ pub record ReadSoFar (wanted : Result Whole SourceFault) (source : Whole) (lines
   pub between : IsBetween before lines
   pub gives : source_after before lines ≡ wanted
 
-pub read-starts : (bytes : List ℕ) (source : Whole) (lines : List (ℕ × Line)) → source ≡ whole_of [] → lines ≡ said (source_lines bytes) → ReadSoFar (source_of bytes) source lines
+pub read-starts : (bytes : List ℕ) (source : Whole) (lines : List (ℕ × Line)) → source ≡ whole_of [] → lines ≡ unskipped (source_lines bytes) → ReadSoFar (source_of bytes) source lines
 unfolding source_of
 read-starts bytes source lines none all =
-    record { before = []; is = none; between = inl refl; gives = ap (source_after []) all ∙ said-all (source_lines bytes) }
+    record { before = []; is = none; between = inl refl; gives = ap (source_after []) all ∙ unskipped-all (source_lines bytes) }
 
 pub read-goes : (wanted : Result Whole SourceFault) (source next : Whole) (lines rest left : List (ℕ × Line)) (line : ℕ × Line) → ReadSoFar wanted source lines → lines ≡ line ∷ rest → ReadsBlock source line rest (Ok next) left → ReadSoFar wanted next left
 read-goes wanted source next lines rest left line h first reads =

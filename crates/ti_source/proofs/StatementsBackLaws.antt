@@ -13,6 +13,7 @@ use Rattle.ti_source.specs.Printing.Print.{field_line, lines_from}
 use Rattle.ti_source.specs.Reading.Sources as source
 use Rattle.ti_source.specs.Reading.Sources.{NumberedField, concerns, continuing, each_after, each_beside, field_fault, is_given, meaning, meant_use, next_line, note, numbered, numbered_fields, uses}
 use Rattle.ti_source.specs.Code.Lines.{AreContinuing}
+use Rattle.ti_source.proofs.BlockLaws.{are-both, continuing-both}
 use Rattle.ti_source.proofs.MeaningLaws.{each-append, given-all}
 use Rattle.ti_source.proofs.TableBytesLaws.{both, is_graphic}
 use Rattle.ti_source.proofs.LinesBackLaws.{ended, lines-ended, no_feed}
@@ -83,21 +84,6 @@ pub record Goes (n : ℕ) (text rest : List ℕ) (fs : List NumberedField) (ss :
   pub are : AreContinuing taken
   pub cut : numbered n (lines text) ≡ taken ++ numbered line (lines rest)
   pub holds : Holds (fs ++ continuing taken) ss
-
-are-both : (xs ys : List (ℕ × Line)) → AreContinuing xs → AreContinuing ys → AreContinuing (xs ++ ys)
-are-both [] ys a b = b
-are-both ((k, Skipped) ∷ xs) ys a b = absurd a
-are-both ((k, NonAscii) ∷ xs) ys a b = absurd a
-are-both ((k, Continues gs) ∷ xs) ys a b = are-both xs ys a b
-are-both ((k, Begins names gs) ∷ xs) ys a b = absurd a
-
-continuing-both : (xs ys : List (ℕ × Line)) → AreContinuing xs → continuing (xs ++ ys) ≡ continuing xs ++ continuing ys
-continuing-both [] ys a = refl
-continuing-both ((k, Skipped) ∷ xs) ys a = absurd a
-continuing-both ((k, NonAscii) ∷ xs) ys a = absurd a
-continuing-both ((k, Continues gs) ∷ xs) ys a =
-    ap (λ r. numbered_fields k gs ++ r) (continuing-both xs ys a) ∙ sym (append_assoc (numbered_fields k gs) (continuing xs) (continuing ys))
-continuing-both ((k, Begins names gs) ∷ xs) ys a = absurd a
 
 pub Goes-none : (n : ℕ) (text rest : List ℕ) (fs : List NumberedField) (ss : List Statement) → text ≡ rest → Holds fs ss → Goes n text rest fs ss
 Goes-none n text rest fs ss same h = record {

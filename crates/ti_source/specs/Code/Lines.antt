@@ -7,12 +7,12 @@ use Rattle.ti_source.specs.Reading.Line.{Line, Skipped, NonAscii, Continues, Beg
 use Rattle.ti_source.specs.Code.Seen.{seen_line}
 
 -- these lines without those that are skipped
-abbrev pub said : List (ℕ × Line) → List (ℕ × Line)
-said [] = []
-said ((n, Skipped) ∷ more) = said more
-said ((n, NonAscii) ∷ more) = (n, NonAscii) ∷ said more
-said ((n, Continues fields) ∷ more) = (n, Continues fields) ∷ said more
-said ((n, Begins names fields) ∷ more) = (n, Begins names fields) ∷ said more
+abbrev pub unskipped : List (ℕ × Line) → List (ℕ × Line)
+unskipped [] = []
+unskipped ((n, Skipped) ∷ more) = unskipped more
+unskipped ((n, NonAscii) ∷ more) = (n, NonAscii) ∷ unskipped more
+unskipped ((n, Continues fields) ∷ more) = (n, Continues fields) ∷ unskipped more
+unskipped ((n, Begins names fields) ∷ more) = (n, Begins names fields) ∷ unskipped more
 
 -- no line if there is no first one, else that one and more
 abbrev pub lines_left : Option (ℕ × line.Line) → List (ℕ × Line) → List (ℕ × Line)

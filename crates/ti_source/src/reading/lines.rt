@@ -2,7 +2,7 @@
 
 ghost use Rattle.std.specs.Prelude.{◌≡◌, IfNone};
 ghost use Rattle.ti_source.specs.Reading.Sources.{numbered, source_lines};
-ghost use Rattle.ti_source.specs.Code.Lines.{EndsBlock, after_fields, lines_left, said};
+ghost use Rattle.ti_source.specs.Code.Lines.{EndsBlock, after_fields, lines_left, unskipped};
 
 use crate::reading::line::{Line, line_of};
 use bstr::ByteSlice;
@@ -23,20 +23,20 @@ impl<'a> Model for Lines<'a> {
     ghost use Rattle.std.specs.Prelude.{ℕ, List};
     ghost use Rattle.ti_source.specs.Reading.Line as spec;
     ghost use Rattle.ti_source.specs.Reading.Sources.{numbered};
-    ghost use Rattle.ti_source.specs.Code.Lines.{lines_left, said};
+    ghost use Rattle.ti_source.specs.Code.Lines.{lines_left, unskipped};
 
     ghost Value = { List (ℕ × spec.Line) };
 
-    ghost view = { λ l. lines_left l.first (said (numbered l.number l.rest)) };
+    ghost view = { λ l. lines_left l.first (unskipped (numbered l.number l.rest)) };
 }
 
 impl<'a> Lines<'a> {
     pub(crate) fn new(bytes: &'a [u8]) -> Lines<'a>
-        ensures { result ≡ said (source_lines bytes.now) }
+        ensures { result ≡ unskipped (source_lines bytes.now) }
     {
         let mut number = 1;
         let mut rest = bytes.lines();
-        let first = next_said(&mut number, &mut rest);
+        let first = next_unskipped(&mut number, &mut rest);
         Lines {
             first,
             number,
@@ -49,7 +49,7 @@ impl<'a> Lines<'a> {
         ensures { self.old ≡ lines_left result self.new }
     {
         let line = self.first?;
-        self.first = next_said(&mut self.number, &mut self.rest);
+        self.first = next_unskipped(&mut self.number, &mut self.rest);
         Some(line)
     }
 
@@ -60,7 +60,7 @@ impl<'a> Lines<'a> {
     {
         match self.first {
             Some((number, Line::Continues(text))) => {
-                self.first = next_said(&mut self.number, &mut self.rest);
+                self.first = next_unskipped(&mut self.number, &mut self.rest);
                 Some((number, text))
             }
             _ => None,
@@ -69,8 +69,8 @@ impl<'a> Lines<'a> {
 }
 
 /// Takes lines until one is not skipped: that line and its number.
-fn next_said<'a>(number: &mut u32, rest: &mut bstr::Lines<'a>) -> Option<(u32, Line<'a>)>
-    ensures { said (numbered number.old rest.old) ≡ lines_left result (said (numbered number.new rest.new)) }
+fn next_unskipped<'a>(number: &mut u32, rest: &mut bstr::Lines<'a>) -> Option<(u32, Line<'a>)>
+    ensures { unskipped (numbered number.old rest.old) ≡ lines_left result (unskipped (numbered number.new rest.new)) }
 {
     while let Some(bytes) = rest.next() {
         let here = *number;
