@@ -8,7 +8,7 @@ use Rattle.ti_source.specs.declared.faults.SourceFault.TheVariants.{FieldBeforeE
 use Rattle.ti_source.specs.Reading.Line.{Line, Skipped, NonAscii, Continues, Begins}
 use Rattle.ti_source.specs.Reading.Sources.{NumberedField, Whole, WrittenEntry, each_after, each_beside, field_fault, described, notes_on, names_faults, numbered_fields, continuing, written_entries, continued_faults, begun_faults, line_faults, source_lines, source_of, unless_faulty, whole_of}
 use Rattle.ti_source.specs.Code.Blocks.{IsBlock, IsBetween, ReadsBlock, source_after}
-use Rattle.ti_source.specs.Code.Lines.{AreContinuing, EndsBlock, unskipped}
+use Rattle.ti_source.specs.Code.Lines.{EndsBlock, lines_of_fields, unskipped}
 use Rattle.ti_source.specs.Code.OpenEntry.{OpenEntry, Adds, AddsBlock, open_entry}
 use Rattle.ti_source.specs.Result.{Fails, Gives}
 use Rattle.ti_source.proofs.MeaningLaws.{each-append}
@@ -74,42 +74,29 @@ entries-block ((k, Continues fs) ∷ ls) n names fields more = entries-block ls 
 entries-block ((k, Begins others fs) ∷ ls) n names fields more =
     λ i. (record { names = others; fields = numbered_fields k fs ++ continuing-block ls n names fields more i }) ∷ entries-block ls n names fields more i
 
-no-entries : (ls : List (ℕ × Line)) → AreContinuing ls → written_entries ls ≡ []
-no-entries [] are = refl
-no-entries ((k, Skipped) ∷ ls) are = absurd are
-no-entries ((k, NonAscii) ∷ ls) are = absurd are
-no-entries ((k, Continues fs) ∷ ls) are = no-entries ls are
-no-entries ((k, Begins names fs) ∷ ls) are = absurd are
+no-entries : (taken : List (ℕ × List (List ℕ))) → written_entries (lines_of_fields taken) ≡ []
+no-entries [] = refl
+no-entries (t ∷ ts) = no-entries ts
 
 -- the entries of lines and a block
-pub entries-are : (before : List (ℕ × Line)) (n : ℕ) (names : List ℕ) (fields : List (List ℕ)) (taken : List (ℕ × Line)) → AreContinuing taken →
-    written_entries (before ++ (n, Begins names fields) ∷ taken) ≡ written_entries before ++ (record { names = names; fields = numbered_fields n fields ++ continuing taken }) ∷ []
-entries-are before n names fields taken are =
-    entries-block before n names fields taken
-    ∙ ap (λ ws. written_entries before ++ (record { names = names; fields = numbered_fields n fields ++ continuing taken }) ∷ ws) (no-entries taken are)
+entries-are : (before : List (ℕ × Line)) (n : ℕ) (names : List ℕ) (fields : List (List ℕ)) (taken : List (ℕ × List (List ℕ))) →
+    written_entries (before ++ (n, Begins names fields) ∷ lines_of_fields taken) ≡ written_entries before ++ (record { names = names; fields = numbered_fields n fields ++ continuing (lines_of_fields taken) }) ∷ []
+entries-are before n names fields taken =
+    entries-block before n names fields (lines_of_fields taken)
+    ∙ ap (λ ws. written_entries before ++ (record { names = names; fields = numbered_fields n fields ++ continuing (lines_of_fields taken) }) ∷ ws) (no-entries taken)
 
-pub are-both : (xs ys : List (ℕ × Line)) → AreContinuing xs → AreContinuing ys → AreContinuing (xs ++ ys)
-are-both [] ys a b = b
-are-both ((k, Skipped) ∷ xs) ys a b = absurd a
-are-both ((k, NonAscii) ∷ xs) ys a b = absurd a
-are-both ((k, Continues gs) ∷ xs) ys a b = are-both xs ys a b
-are-both ((k, Begins names gs) ∷ xs) ys a b = absurd a
+pub lines-both : (xs ys : List (ℕ × List (List ℕ))) → lines_of_fields (xs ++ ys) ≡ lines_of_fields xs ++ lines_of_fields ys
+lines-both xs ys = map-append (λ t. (t.0, Continues t.1)) xs ys
 
-pub continuing-both : (xs ys : List (ℕ × Line)) → AreContinuing xs → continuing (xs ++ ys) ≡ continuing xs ++ continuing ys
-continuing-both [] ys a = refl
-continuing-both ((k, Skipped) ∷ xs) ys a = absurd a
-continuing-both ((k, NonAscii) ∷ xs) ys a = absurd a
-continuing-both ((k, Continues gs) ∷ xs) ys a =
-    ap (λ r. numbered_fields k gs ++ r) (continuing-both xs ys a) ∙ sym (append_assoc (numbered_fields k gs) (continuing xs) (continuing ys))
-continuing-both ((k, Begins names gs) ∷ xs) ys a = absurd a
+pub continuing-both : (xs ys : List (ℕ × List (List ℕ))) → continuing (lines_of_fields (xs ++ ys)) ≡ continuing (lines_of_fields xs) ++ continuing (lines_of_fields ys)
+continuing-both [] ys = refl
+continuing-both (x ∷ xs) ys =
+    ap (λ r. numbered_fields x.0 x.1 ++ r) (continuing-both xs ys) ∙ sym (append_assoc (numbered_fields x.0 x.1) (continuing (lines_of_fields xs)) (continuing (lines_of_fields ys)))
 
 -- a line more
-are-more : (taken : List (ℕ × Line)) (k : ℕ) (fs : List (List ℕ)) → AreContinuing taken → AreContinuing (taken ++ (k, Continues fs) ∷ [])
-are-more taken k fs are = are-both taken ((k, Continues fs) ∷ []) are tt
-
-continuing-more : (taken : List (ℕ × Line)) (k : ℕ) (fs : List (List ℕ)) → AreContinuing taken → continuing (taken ++ (k, Continues fs) ∷ []) ≡ continuing taken ++ numbered_fields k fs
-continuing-more taken k fs are =
-    continuing-both taken ((k, Continues fs) ∷ []) are ∙ ap (λ r. continuing taken ++ r) (append-nil (numbered_fields k fs))
+continuing-more : (taken : List (ℕ × List (List ℕ))) (k : ℕ) (fs : List (List ℕ)) → continuing (lines_of_fields (taken ++ (k, fs) ∷ [])) ≡ continuing (lines_of_fields taken) ++ numbered_fields k fs
+continuing-more taken k fs =
+    continuing-both taken ((k, fs) ∷ []) ∙ ap (λ r. continuing (lines_of_fields taken) ++ r) (append-nil (numbered_fields k fs))
 
 last-faults : (n : ℕ) (fields : List (List ℕ)) (ws : List WrittenEntry) (w : WrittenEntry) → continued_faults n fields (ws ++ w ∷ []) ≡ each_after field_fault w.fields (numbered_fields n fields)
 last-faults n fields [] w = refl
@@ -117,49 +104,51 @@ last-faults n fields (v ∷ []) w = refl
 last-faults n fields (v ∷ u ∷ ws) w = last-faults n fields (u ∷ ws) w
 
 -- the faults of lines that continue an entry with these fields
-continued-are : (before : List (ℕ × Line)) (n : ℕ) (names : List ℕ) (fields : List (List ℕ)) (read taken : List (ℕ × Line)) → AreContinuing read → AreContinuing taken →
-    each_after line_faults (before ++ (n, Begins names fields) ∷ read) taken ≡ each_after field_fault (numbered_fields n fields ++ continuing read) (continuing taken)
+continued-are : (before : List (ℕ × Line)) (n : ℕ) (names : List ℕ) (fields : List (List ℕ)) (read taken : List (ℕ × List (List ℕ))) →
+    each_after line_faults (before ++ (n, Begins names fields) ∷ lines_of_fields read) (lines_of_fields taken) ≡ each_after field_fault (numbered_fields n fields ++ continuing (lines_of_fields read)) (continuing (lines_of_fields taken))
 unfolding line_faults
-continued-are before n names fields read [] are others = refl
-continued-are before n names fields read ((k, Skipped) ∷ ls) are others = absurd others
-continued-are before n names fields read ((k, NonAscii) ∷ ls) are others = absurd others
-continued-are before n names fields read ((k, Continues fs) ∷ ls) are others =
-    let xs = numbered_fields n fields in
-    let ys = numbered_fields k fs in
-    let here : continued_faults k fs (written_entries (before ++ (n, Begins names fields) ∷ read)) ≡ each_after field_fault (xs ++ continuing read) ys =
-    ap (continued_faults k fs) (entries-are before n names fields read are) ∙ last-faults k fs (written_entries before) (record { names = names; fields = xs ++ continuing read }) in
-    let later : each_after line_faults ((before ++ (n, Begins names fields) ∷ read) ++ (k, Continues fs) ∷ []) ls ≡ each_after field_fault ((xs ++ continuing read) ++ ys) (continuing ls) =
-    ap (λ b. each_after line_faults b ls) (append_assoc before ((n, Begins names fields) ∷ read) ((k, Continues fs) ∷ []))
-    ∙ continued-are before n names fields (read ++ (k, Continues fs) ∷ []) ls (are-more read k fs are) others
-    ∙ ap (λ r. each_after field_fault r (continuing ls)) (ap (λ r. xs ++ r) (continuing-more read k fs are) ∙ sym (append_assoc xs (continuing read) ys)) in
-    (λ i. here i ++ later i) ∙ sym (each-append field_fault (xs ++ continuing read) ys (continuing ls))
-continued-are before n names fields read ((k, Begins others-names fs) ∷ ls) are others = absurd others
+continued-are before n names fields read [] = refl
+continued-are before n names fields read (t ∷ ts) =
+    let ls = lines_of_fields ts in
+    let xs = numbered_fields n fields ++ continuing (lines_of_fields read) in
+    let ys = numbered_fields t.0 t.1 in
+    let block : List (ℕ × Line) → List (ℕ × Line) = λ more. before ++ (n, Begins names fields) ∷ more in
+    let here : continued_faults t.0 t.1 (written_entries (block (lines_of_fields read))) ≡ each_after field_fault xs ys =
+    ap (continued_faults t.0 t.1) (entries-are before n names fields read) ∙ last-faults t.0 t.1 (written_entries before) (record { names = names; fields = xs }) in
+    let later : each_after line_faults (block (lines_of_fields read) ++ (t.0, Continues t.1) ∷ []) ls ≡ each_after field_fault (xs ++ ys) (continuing ls) =
+    ap (λ b. each_after line_faults b ls) (append_assoc before ((n, Begins names fields) ∷ lines_of_fields read) ((t.0, Continues t.1) ∷ []) ∙ ap block (sym (lines-both read (t ∷ []))))
+    ∙ continued-are before n names fields (read ++ t ∷ []) ts
+    ∙ ap (λ r. each_after field_fault r (continuing ls)) (ap (λ r. numbered_fields n fields ++ r) (continuing-more read t.0 t.1) ∙ sym (append_assoc (numbered_fields n fields) (continuing (lines_of_fields read)) ys)) in
+    (λ i. here i ++ later i) ∙ sym (each-append field_fault xs ys (continuing ls))
 
--- the faults of a block: those of its names, and those of its fields
-faults-are : (before : List (ℕ × Line)) (n : ℕ) (names : List ℕ) (fields : List (List ℕ)) (taken : List (ℕ × Line)) → AreContinuing taken →
-    each_after line_faults before ((n, Begins names fields) ∷ taken) ≡ names_faults n names (map described (written_entries before)) ++ each_beside field_fault (numbered_fields n fields ++ continuing taken)
+-- the faults of a block: that of its names, and those of its fields
+faults-are : (before : List (ℕ × Line)) (n : ℕ) (names : List ℕ) (fields : List (List ℕ)) (taken : List (ℕ × List (List ℕ))) →
+    each_after line_faults before ((n, Begins names fields) ∷ lines_of_fields taken) ≡ names_faults n names (map described (written_entries before)) ++ each_beside field_fault (numbered_fields n fields ++ continuing (lines_of_fields taken))
 unfolding line_faults
-faults-are before n names fields taken are =
+faults-are before n names fields taken =
     let xs = numbered_fields n fields in
+    let ys = continuing (lines_of_fields taken) in
     let of_names = names_faults n names (map described (written_entries before)) in
-    ap (λ r. (of_names ++ each_beside field_fault xs) ++ r) (continued-are before n names fields [] taken tt are ∙ ap (λ r. each_after field_fault r (continuing taken)) (append-nil xs))
-    ∙ append_assoc of_names (each_beside field_fault xs) (each_after field_fault xs (continuing taken))
-    ∙ ap (λ r. of_names ++ r) (sym (each-append field_fault [] xs (continuing taken)))
+    ap (λ r. (of_names ++ each_beside field_fault xs) ++ r) (continued-are before n names fields [] taken ∙ ap (λ r. each_after field_fault r ys) (append-nil xs))
+    ∙ append_assoc of_names (each_beside field_fault xs) (each_after field_fault xs ys)
+    ∙ ap (λ r. of_names ++ r) (sym (each-append field_fault [] xs ys))
 
 -- what a block adds
-pub block-is : (before : List (ℕ × Line)) (n : ℕ) (names : List ℕ) (fields : List (List ℕ)) (taken : List (ℕ × Line)) → AreContinuing taken →
-    source_after before ((n, Begins names fields) ∷ taken)
-    ≡ unless_faulty (names_faults n names (map described (written_entries before)) ++ each_beside field_fault (numbered_fields n fields ++ continuing taken))
-    (record { entries = map described (written_entries before) ++ described (record { names = names; fields = numbered_fields n fields ++ continuing taken }) ∷ []; notes = flat_map notes_on (written_entries before) ++ notes_on (record { names = names; fields = numbered_fields n fields ++ continuing taken }) })
-block-is before n names fields taken are =
-    let w : WrittenEntry = record { names = names; fields = numbered_fields n fields ++ continuing taken } in
+pub block-is : (before : List (ℕ × Line)) (n : ℕ) (names : List ℕ) (fields : List (List ℕ)) (taken : List (ℕ × List (List ℕ))) (all : List NumberedField) → all ≡ numbered_fields n fields ++ continuing (lines_of_fields taken) →
+    source_after before ((n, Begins names fields) ∷ lines_of_fields taken)
+    ≡ unless_faulty (names_faults n names (map described (written_entries before)) ++ each_beside field_fault all)
+    (record { entries = map described (written_entries before) ++ described (record { names = names; fields = all }) ∷ []; notes = flat_map notes_on (written_entries before) ++ notes_on (record { names = names; fields = all }) })
+block-is before n names fields taken all is =
+    let w : WrittenEntry = record { names = names; fields = all } in
     let ws = written_entries before in
-    let all : written_entries (before ++ (n, Begins names fields) ∷ taken) ≡ ws ++ w ∷ [] = entries-are before n names fields taken are in
-    let entries : map described (written_entries (before ++ (n, Begins names fields) ∷ taken)) ≡ map described ws ++ described w ∷ [] =
-    ap (map described) all ∙ map-append described ws (w ∷ []) in
-    let notes : flat_map notes_on (written_entries (before ++ (n, Begins names fields) ∷ taken)) ≡ flat_map notes_on ws ++ notes_on w =
-    ap (flat_map notes_on) all ∙ flat_map-append notes_on ws (w ∷ []) ∙ ap (λ r. flat_map notes_on ws ++ r) (append-nil (notes_on w)) in
-    λ i. unless_faulty (faults-are before n names fields taken are i) (record { entries = entries i; notes = notes i })
+    let ls = before ++ (n, Begins names fields) ∷ lines_of_fields taken in
+    let whole : written_entries ls ≡ ws ++ w ∷ [] =
+    entries-are before n names fields taken ∙ ap (λ r. ws ++ (record { names = names; fields = r }) ∷ []) (sym is) in
+    let entries : map described (written_entries ls) ≡ map described ws ++ described w ∷ [] = ap (map described) whole ∙ map-append described ws (w ∷ []) in
+    let notes : flat_map notes_on (written_entries ls) ≡ flat_map notes_on ws ++ notes_on w =
+    ap (flat_map notes_on) whole ∙ flat_map-append notes_on ws (w ∷ []) ∙ ap (λ r. flat_map notes_on ws ++ r) (append-nil (notes_on w)) in
+    let faults = faults-are before n names fields taken ∙ ap (λ r. names_faults n names (map described ws) ++ each_beside field_fault r) (sym is) in
+    λ i. unless_faulty (faults i) (record { entries = entries i; notes = notes i })
 
 -- ---- one block after another
 
@@ -186,42 +175,41 @@ before_entry-is before n fields none = rw none refl
 
 -- some lines of the block were taken, and their fields added
 pub record BlockSoFar (fields : List NumberedField) (old : OpenEntry) (lines : List (ℕ × Line)) (now : OpenEntry) (left : List (ℕ × Line)) : Type 0 where
-  pub taken : List (ℕ × Line)
-  pub are : AreContinuing taken
-  pub cut : lines ≡ taken ++ left
-  pub adds : Adds (fields ++ continuing taken) old (Ok (tt {0})) now
+  pub taken : List (ℕ × List (List ℕ))
+  pub cut : lines ≡ lines_of_fields taken ++ left
+  pub adds : Adds (fields ++ continuing (lines_of_fields taken)) old (Ok (tt {0})) now
 
 pub block-starts : (fields : List NumberedField) (old now : OpenEntry) (lines : List (ℕ × Line)) → Adds fields old (Ok (tt {0})) now → BlockSoFar fields old lines now lines
 block-starts fields old now lines adds =
     let P : List NumberedField → Type 0 = λ xs. Adds xs old (Ok (tt {0})) now in
-    record { taken = []; are = tt; cut = refl; adds = subst P (sym (append-nil fields)) adds }
+    record { taken = []; cut = refl; adds = subst P (sym (append-nil fields)) adds }
+
+-- one line more
+next-cut : (taken : List (ℕ × List (List ℕ))) (lines left rest : List (ℕ × Line)) (n : ℕ) (gs : List (List ℕ)) → lines ≡ lines_of_fields taken ++ left → left ≡ (n, Continues gs) ∷ rest → lines ≡ lines_of_fields (taken ++ (n, gs) ∷ []) ++ rest
+next-cut taken lines left rest n gs cut first =
+    cut ∙ ap (λ r. lines_of_fields taken ++ r) first ∙ sym (append_assoc (lines_of_fields taken) ((n, Continues gs) ∷ []) rest) ∙ ap (λ r. r ++ rest) (sym (lines-both taken ((n, gs) ∷ [])))
+
+next-adds : (fields : List NumberedField) (taken : List (ℕ × List (List ℕ))) (n : ℕ) (gs : List (List ℕ)) (old mid new : OpenEntry) (r : Result (Unit {0}) SourceFault) → Adds (fields ++ continuing (lines_of_fields taken)) old (Ok (tt {0})) mid → Adds (numbered_fields n gs) mid r new → Adds (fields ++ continuing (lines_of_fields (taken ++ (n, gs) ∷ []))) old r new
+next-adds fields taken n gs old mid new r one two =
+    let P : List NumberedField → Type 0 = λ xs. Adds xs old r new in
+    subst P (append_assoc fields (continuing (lines_of_fields taken)) (numbered_fields n gs) ∙ ap (λ q. fields ++ q) (sym (continuing-more taken n gs)))
+    (Adds-then (tt {0}) (fields ++ continuing (lines_of_fields taken)) (numbered_fields n gs) old mid new r one two)
 
 pub block-goes : (fields : List NumberedField) (old mid new : OpenEntry) (lines left rest : List (ℕ × Line)) (n : ℕ) (gs : List (List ℕ)) → BlockSoFar fields old lines mid left → left ≡ (n, Continues gs) ∷ rest → Adds (numbered_fields n gs) mid (Ok (tt {0})) new → BlockSoFar fields old lines new rest
 block-goes fields old mid new lines left rest n gs h first adds =
-    let P : List NumberedField → Type 0 = λ xs. Adds xs old (Ok (tt {0})) new in
-    record {
-      taken = h.taken ++ (n, Continues gs) ∷ [];
-      are = are-more h.taken n gs h.are;
-      cut = h.cut ∙ ap (λ r. h.taken ++ r) first ∙ sym (append_assoc h.taken ((n, Continues gs) ∷ []) rest);
-      adds = subst P (append_assoc fields (continuing h.taken) (numbered_fields n gs) ∙ ap (λ r. fields ++ r) (sym (continuing-more h.taken n gs h.are)))
-          (Adds-then (tt {0}) (fields ++ continuing h.taken) (numbered_fields n gs) old mid new (Ok (tt {0})) h.adds adds);
-    }
+    record { taken = h.taken ++ (n, gs) ∷ []; cut = next-cut h.taken lines left rest n gs h.cut first; adds = next-adds fields h.taken n gs old mid new (Ok (tt {0})) h.adds adds }
 
 not-ok : (r : Result (Unit {0}) SourceFault) (e : SourceFault) (P : Type 0) → r ≡ Err e → OnOk r P
 not-ok (Ok d) e P failed = cc
 not-ok (Err f) e P failed = tt
 
 pub block-fails : (fields : List NumberedField) (old mid new : OpenEntry) (lines left rest : List (ℕ × Line)) (n : ℕ) (gs : List (List ℕ)) (r : Result (Unit {0}) SourceFault) (e : SourceFault) → BlockSoFar fields old lines mid left → left ≡ (n, Continues gs) ∷ rest → r ≡ Err e → Adds (numbered_fields n gs) mid r new → AddsBlock fields old lines r new rest
-block-fails fields old mid new lines left rest n gs r e h first failed adds =
-    let P : List NumberedField → Type 0 = λ xs. Adds xs old r new in
-    record {
-      taken = h.taken ++ (n, Continues gs) ∷ [];
-      are = are-more h.taken n gs h.are;
-      cut = h.cut ∙ ap (λ r. h.taken ++ r) first ∙ sym (append_assoc h.taken ((n, Continues gs) ∷ []) rest);
-      adds = subst P (append_assoc fields (continuing h.taken) (numbered_fields n gs) ∙ ap (λ r. fields ++ r) (sym (continuing-more h.taken n gs h.are)))
-          (Adds-then (tt {0}) (fields ++ continuing h.taken) (numbered_fields n gs) old mid new r h.adds adds);
-      ends = not-ok r e (EndsBlock rest) failed;
-    }
+block-fails fields old mid new lines left rest n gs r e h first failed adds = record {
+  taken = h.taken ++ (n, gs) ∷ [];
+  cut = next-cut h.taken lines left rest n gs h.cut first;
+  adds = next-adds fields h.taken n gs old mid new r h.adds adds;
+  ends = not-ok r e (EndsBlock rest) failed;
+}
 
 -- ---- a block that is read
 
@@ -241,7 +229,7 @@ names-fail {A} before lines n names fields source x answer e is failed fails =
     record {
       taken = [];
       cut = refl;
-      gives = rw (failed, block-is before n names fields [] tt) (fails-first e (names_faults n names (map described (written_entries before))) _ x _ own);
+      gives = rw (failed, block-is before n names fields [] _ refl) (fails-first e (names_faults n names (map described (written_entries before))) _ x _ own);
       ends = rw failed tt;
     }
 
@@ -252,13 +240,13 @@ begun-is before names source old is same =
 
 pub fields-fail : (before lines left : List (ℕ × Line)) (n : ℕ) (names : List ℕ) (fields : List (List ℕ)) (old new : OpenEntry) (r : Result (Unit {0}) SourceFault) (answer : Result Whole SourceFault) (e : SourceFault) → names_faults n names (map described (written_entries before)) ≡ [] → old ≡ open_entry names (flat_map notes_on (written_entries before)) [] → r ≡ Err e → answer ≡ Err e → AddsBlock (numbered_fields n fields) old lines r new left → IsBlock before (n, Begins names fields) lines answer left
 fields-fail before lines left n names fields old new r answer e none is failed answered h =
-    let all = numbered_fields n fields ++ continuing h.taken in
+    let all = numbered_fields n fields ++ continuing (lines_of_fields h.taken) in
     let fails : Fails e (unless_faulty (each_beside field_fault all) (open_entry names (flat_map notes_on (written_entries before)) all)) =
     rw failed at (h.adds names (flat_map notes_on (written_entries before)) [] is) in
     record {
-      taken = h.taken;
+      taken = lines_of_fields h.taken;
       cut = h.cut;
-      gives = rw (answered, block-is before n names fields h.taken h.are, none) (fails-any e (each_beside field_fault all) _ _ fails);
+      gives = rw (answered, block-is before n names fields h.taken all refl, none) (fails-any e (each_beside field_fault all) _ _ fails);
       ends = rw answered tt;
     }
   where
@@ -269,14 +257,14 @@ fields-fail before lines left n names fields old new r answer e none is failed a
 
 pub block-read : (before lines left : List (ℕ × Line)) (n : ℕ) (names : List ℕ) (fields : List (List ℕ)) (source : Whole) (old new : OpenEntry) (answer : Result Whole SourceFault) → source ≡ whole_of before → names_faults n names (map described (written_entries before)) ≡ [] → old ≡ open_entry names (flat_map notes_on (written_entries before)) [] → AddsBlock (numbered_fields n fields) old lines (Ok (tt {0})) new left → Gives answer (Ok (record { entries = source.entries ++ new.entry ∷ []; notes = new.notes })) → IsBlock before (n, Begins names fields) lines answer left
 block-read before lines left n names fields source old new answer from none is h gives =
-    let all = numbered_fields n fields ++ continuing h.taken in
+    let all = numbered_fields n fields ++ continuing (lines_of_fields h.taken) in
     let ws = written_entries before in
     let p = faultless (each_beside field_fault all) (open_entry names (flat_map notes_on ws) all) new (h.adds names (flat_map notes_on ws) [] is) in
     let faults : (names_faults n names (map described ws) ++ each_beside field_fault all) ≡ [] = rw (none, p.0) refl in
-    let same : source_after before ((n, Begins names fields) ∷ h.taken) ≡ Ok (record { entries = source.entries ++ new.entry ∷ []; notes = new.notes }) =
-    block-is before n names fields h.taken h.are
+    let same : source_after before ((n, Begins names fields) ∷ lines_of_fields h.taken) ≡ Ok (record { entries = source.entries ++ new.entry ∷ []; notes = new.notes }) =
+    block-is before n names fields h.taken all refl
     ∙ (λ i. unless_faulty (faults i) (record { entries = (sym from i).entries ++ (p.1 i).entry ∷ []; notes = (p.1 i).notes })) in
-    record { taken = h.taken; cut = h.cut; gives = subst (Gives answer) (sym same) gives; ends = on-ok answer (EndsBlock left) h.ends }
+    record { taken = lines_of_fields h.taken; cut = h.cut; gives = subst (Gives answer) (sym same) gives; ends = on-ok answer (EndsBlock left) h.ends }
   where
     on-ok : (r : Result Whole SourceFault) (P : Type 0) → P → OnOk r P
     on-ok (Ok x) P k = k

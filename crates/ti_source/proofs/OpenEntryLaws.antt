@@ -54,44 +54,21 @@ Adds-one x old new r adds names ns before is =
     ap (with_meant before x.line (meaning x.form)) is ∙ open_entry-more names ns before x in
     rw (append-nil (field_fault before x), ← all) (adds names ns before is)
 
--- ---- what a field means
+-- ---- a field about a capability
 
 abbrev put : List ℕ → List Statement → List (List ℕ) → List Note → OpenEntry
 put names ss us ns = record { entry = record { names = names; statements = ss; uses = us }; notes = ns }
 
-pub silent-adds : (before : List NumberedField) (line : ℕ) (e : OpenEntry) → with_meant before line Silent e ≡ e
-silent-adds before line e =
-    λ i. put e.entry.names (append-nil e.entry.statements i) (append-nil e.entry.uses i) (append-nil e.notes i)
-
-pub note-adds : (ss : List Statement) (us : List (List ℕ)) (e : OpenEntry) (more : List Note) → ss ≡ [] → us ≡ [] → put e.entry.names (e.entry.statements ++ ss) (e.entry.uses ++ us) (e.notes ++ more) ≡ record e { notes = e.notes ++ more }
-note-adds ss us e more s u =
-    rw (s, u) (λ i. put e.entry.names (append-nil e.entry.statements i) (append-nil e.entry.uses i) (e.notes ++ more))
-
-pub use-adds : (before : List NumberedField) (line : ℕ) (other : List ℕ) (e : OpenEntry) → with_meant before line (Uses other) e ≡ record e { entry = record e.entry { uses = e.entry.uses ++ other ∷ [] } }
-use-adds before line other e =
-    λ i. put e.entry.names (append-nil e.entry.statements i) (e.entry.uses ++ other ∷ []) (append-nil e.notes i)
-
--- ---- a field about a capability
-
-pub limited-capped : (what : FieldValue) → limited (capped_value what) ≡ limited what
-limited-capped field_value.Present = refl
-limited-capped (field_value.Number n) = by (leb n 32767) refl
+-- a number that is too great is so by any amount
+pub capped-same : (what : FieldValue) → (limited (capped_value what) ≡ limited what) × (is_great (capped_value what) ≡ is_great what)
+capped-same field_value.Present = (refl, refl)
+capped-same (field_value.Number n) = by (leb n 32767) refl
   where
-    by : (t : Bool) → leb n 32767 ≡ t → limited (field_value.Number (min n 32768)) ≡ limited (field_value.Number n)
-    by true e = let same : min n 32768 ≡ n = grind (arith, nat_tests) in ap (λ k. limited (field_value.Number k)) same
-    by false e = let same : min n 32768 ≡ 32768 = grind (arith, nat_tests) in rw (same, e) refl
-limited-capped (field_value.Text text) = refl
-limited-capped field_value.Cancelled = refl
-
-pub great-capped : (what : FieldValue) → is_great (capped_value what) ≡ is_great what
-great-capped field_value.Present = refl
-great-capped (field_value.Number n) = by (leb n 32767) refl
-  where
-    by : (t : Bool) → leb n 32767 ≡ t → is_great (field_value.Number (min n 32768)) ≡ is_great (field_value.Number n)
-    by true e = let same : min n 32768 ≡ n = grind (arith, nat_tests) in ap (λ k. is_great (field_value.Number k)) same
-    by false e = let same : min n 32768 ≡ 32768 = grind (arith, nat_tests) in rw (same, e) refl
-great-capped (field_value.Text text) = refl
-great-capped field_value.Cancelled = refl
+    by : (t : Bool) → leb n 32767 ≡ t → (limited (field_value.Number (min n 32768)) ≡ limited (field_value.Number n)) × (is_great (field_value.Number (min n 32768)) ≡ is_great (field_value.Number n))
+    by true e = let same : min n 32768 ≡ n = grind (arith, nat_tests) in rw same (refl, refl)
+    by false e = let same : min n 32768 ≡ 32768 = grind (arith, nat_tests) in rw (same, e) (refl, refl)
+capped-same (field_value.Text text) = (refl, refl)
+capped-same field_value.Cancelled = (refl, refl)
 
 -- the capability is stated exactly if it is given
 pub stated-is : (names : List ℕ) (ns : List Note) (before : List NumberedField) (old : OpenEntry) (kind : Kind) (slot : ℕ) → old ≡ open_entry names ns before → list_any (concerns kind slot) old.entry.statements ≡ is_given kind slot before

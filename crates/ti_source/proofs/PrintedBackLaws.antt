@@ -17,7 +17,7 @@ use Rattle.ti_source.specs.Resolving.Named.{found_from, has_name}
 use Rattle.ti_source.specs.Printing.Print.{flag_line, lines_from, number_line, text_line, named_only, printed}
 use Rattle.ti_source.specs.Reading.Sources.{concerns, continuing, each_beside, field_fault, meaning, names_faults, numbered, numbered_fields, source_lines, source_of, unless_faulty}
 use Rattle.ti_source.specs.Code.Blocks.{source_after}
-use Rattle.ti_source.specs.Code.Lines.{AreContinuing}
+use Rattle.ti_source.specs.Code.Lines.{lines_of_fields}
 use Rattle.ti_source.specs.Resolving.Uses.{Resolved, more, nothing}
 use Rattle.ti_source.specs.Printing.ReadBack.{ReadsBack}
 use Rattle.ti_source.proofs.BytesLaws.{has-texts}
@@ -192,10 +192,9 @@ entry_of d = record { names = d.names; statements = all_statements d; uses = [] 
 
 -- the printed text is one block
 record IsOneBlock (d : Description) : Type 0 where
-  taken : List (ℕ × Line)
-  are : AreContinuing taken
-  cut : source_lines (printed d) ≡ (1, Begins d.names ([] ∷ [])) ∷ taken
-  holds : Holds (numbered_fields 1 ([] ∷ []) ++ continuing taken) (all_statements d)
+  taken : List (ℕ × List (List ℕ))
+  cut : source_lines (printed d) ≡ (1, Begins d.names ([] ∷ [])) ∷ lines_of_fields taken
+  holds : Holds (numbered_fields 1 ([] ∷ []) ++ continuing (lines_of_fields taken)) (all_statements d)
 
 holds-nothing : Holds (numbered_fields 1 ([] ∷ [])) []
 unfolding meaning
@@ -224,14 +223,13 @@ is-one-block table d is =
     let after_numbers = texts_of d ++ [] in
     let after_flags = numbers_of d ++ after_numbers in
     let first = goes-on table Flag fs 2 0 xs [] after_flags (flags-fit d.flags) (λ j le. refl) holds-nothing in
-    let second = goes-on table Number ns first.line 0 (xs ++ continuing first.taken) flags after_numbers (numbers-fit d.numbers is.small) (λ j le. of-other-kind Flag Number 0 j fs refl) first.holds in
-    let third = goes-on table Text ts second.line 0 ((xs ++ continuing first.taken) ++ continuing second.taken) (flags ++ numbers) [] (texts-fit d.texts (has-texts d is)) (λ j le. list_any-append (concerns Text j) flags numbers ∙ rw (of-other-kind Flag Text 0 j fs refl, of-other-kind Number Text 0 j ns refl) refl) second.holds in
-    let later = Goes-then first.line after_flags after_numbers [] (xs ++ continuing first.taken) (flags ++ numbers) ((flags ++ numbers) ++ texts) second third in
+    let second = goes-on table Number ns first.line 0 (xs ++ continuing (lines_of_fields first.taken)) flags after_numbers (numbers-fit d.numbers is.small) (λ j le. of-other-kind Flag Number 0 j fs refl) first.holds in
+    let third = goes-on table Text ts second.line 0 ((xs ++ continuing (lines_of_fields first.taken)) ++ continuing (lines_of_fields second.taken)) (flags ++ numbers) [] (texts-fit d.texts (has-texts d is)) (λ j le. list_any-append (concerns Text j) flags numbers ∙ rw (of-other-kind Flag Text 0 j fs refl, of-other-kind Number Text 0 j ns refl) refl) second.holds in
+    let later = Goes-then first.line after_flags after_numbers [] (xs ++ continuing (lines_of_fields first.taken)) (flags ++ numbers) ((flags ++ numbers) ++ texts) second third in
     let all = Goes-then 2 (flags_of d ++ after_flags) after_flags [] xs flags ((flags ++ numbers) ++ texts) first later in
     record {
       taken = all.taken;
-      are = all.are;
-      cut = cut-block (printed d) d.names (flags_of d ++ after_flags) all.taken all.line is.named (printed-is d) all.cut;
+      cut = cut-block (printed d) d.names (flags_of d ++ after_flags) (lines_of_fields all.taken) all.line is.named (printed-is d) all.cut;
       holds = all.holds;
     }
 
@@ -239,10 +237,10 @@ read : AreFound → (d : Description) → IsDescription d → source_of (printed
 unfolding source_of
 read table d is =
     let block = is-one-block table d is in
-    let fields = numbered_fields 1 ([] ∷ []) ++ continuing block.taken in
+    let fields = numbered_fields 1 ([] ∷ []) ++ continuing (lines_of_fields block.taken) in
     let names : names_faults 1 d.names [] ≡ [] = rw (is.named, none-taken (alternatives d.names)) refl in
     let faults : (names_faults 1 d.names [] ++ each_beside field_fault fields) ≡ [] = rw (names, block.holds.faults) refl in
-    ap (source_after []) block.cut ∙ block-is [] 1 d.names ([] ∷ []) block.taken block.are
+    ap (source_after []) block.cut ∙ block-is [] 1 d.names ([] ∷ []) block.taken fields refl
     ∙ (λ i. unless_faulty (faults i) (record { entries = (record { names = d.names; statements = block.holds.statements i; uses = block.holds.uses i }) ∷ []; notes = block.holds.notes i }))
 
 first-part : (p : ℕ → Bool) (bs : List ℕ) → (further : List (List ℕ)) × (slice_split p bs ≡ before_first p bs ∷ further)

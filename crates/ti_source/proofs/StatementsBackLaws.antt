@@ -12,8 +12,8 @@ use Rattle.ti_source.specs.Reading.Line.{Line, Skipped, NonAscii, Continues, Beg
 use Rattle.ti_source.specs.Printing.Print.{field_line, lines_from}
 use Rattle.ti_source.specs.Reading.Sources as source
 use Rattle.ti_source.specs.Reading.Sources.{NumberedField, concerns, continuing, each_after, each_beside, field_fault, is_given, meaning, meant_use, next_line, note, numbered, numbered_fields, uses}
-use Rattle.ti_source.specs.Code.Lines.{AreContinuing}
-use Rattle.ti_source.proofs.BlockLaws.{are-both, continuing-both}
+use Rattle.ti_source.specs.Code.Lines.{lines_of_fields}
+use Rattle.ti_source.proofs.BlockLaws.{continuing-both, lines-both}
 use Rattle.ti_source.proofs.MeaningLaws.{each-append, given-all}
 use Rattle.ti_source.proofs.TableBytesLaws.{both, is_graphic}
 use Rattle.ti_source.proofs.LinesBackLaws.{ended, lines-ended, no_feed}
@@ -80,34 +80,30 @@ no-feeds (b ∷ bs) e =
 -- statements
 pub record Goes (n : ℕ) (text rest : List ℕ) (fs : List NumberedField) (ss : List Statement) : Type 0 where
   pub line : ℕ
-  pub taken : List (ℕ × Line)
-  pub are : AreContinuing taken
-  pub cut : numbered n (lines text) ≡ taken ++ numbered line (lines rest)
-  pub holds : Holds (fs ++ continuing taken) ss
+  pub taken : List (ℕ × List (List ℕ))
+  pub cut : numbered n (lines text) ≡ lines_of_fields taken ++ numbered line (lines rest)
+  pub holds : Holds (fs ++ continuing (lines_of_fields taken)) ss
 
 pub Goes-none : (n : ℕ) (text rest : List ℕ) (fs : List NumberedField) (ss : List Statement) → text ≡ rest → Holds fs ss → Goes n text rest fs ss
 Goes-none n text rest fs ss same h = record {
   line = n;
   taken = [];
-  are = tt;
   cut = ap (λ x. numbered n (lines x)) same;
   holds = subst (λ x. Holds x ss) (sym (append-nil fs)) h;
 }
 
-pub Goes-then : (n : ℕ) (text mid rest : List ℕ) (fs : List NumberedField) (ss st : List Statement) (one : Goes n text mid fs ss) → Goes one.line mid rest (fs ++ continuing one.taken) st → Goes n text rest fs st
+pub Goes-then : (n : ℕ) (text mid rest : List ℕ) (fs : List NumberedField) (ss st : List Statement) (one : Goes n text mid fs ss) → Goes one.line mid rest (fs ++ continuing (lines_of_fields one.taken)) st → Goes n text rest fs st
 Goes-then n text mid rest fs ss st one two = record {
   line = two.line;
   taken = one.taken ++ two.taken;
-  are = are-both one.taken two.taken one.are two.are;
-  cut = one.cut ∙ ap (λ x. one.taken ++ x) two.cut ∙ sym (append_assoc one.taken two.taken (numbered two.line (lines rest)));
-  holds = subst (λ x. Holds x st) (append_assoc fs (continuing one.taken) (continuing two.taken) ∙ ap (λ x. fs ++ x) (sym (continuing-both one.taken two.taken one.are))) two.holds;
+  cut = one.cut ∙ ap (λ x. lines_of_fields one.taken ++ x) two.cut ∙ sym (append_assoc (lines_of_fields one.taken) (lines_of_fields two.taken) (numbered two.line (lines rest))) ∙ ap (λ x. x ++ numbered two.line (lines rest)) (sym (lines-both one.taken two.taken));
+  holds = subst (λ x. Holds x st) (append_assoc fs (continuing (lines_of_fields one.taken)) (continuing (lines_of_fields two.taken)) ∙ ap (λ x. fs ++ x) (sym (continuing-both one.taken two.taken))) two.holds;
 }
 
 Goes-line : (n : ℕ) (v rest : List ℕ) (fs : List NumberedField) (ss : List Statement) → IsValue v → list_all no_feed (9 ∷ v) ≡ true → Holds (fs ++ numbered_fields n ((9 ∷ v) ∷ [] ∷ [])) ss → Goes n (ended (9 ∷ v) rest) rest fs ss
 Goes-line n v rest fs ss is plain h = record {
   line = next_line n;
-  taken = (n, Continues ((9 ∷ v) ∷ [] ∷ [])) ∷ [];
-  are = tt;
+  taken = (n, (9 ∷ v) ∷ [] ∷ []) ∷ [];
   cut = ap (numbered n) (lines-ended (9 ∷ v) rest plain) ∙ ap (λ l. (n, l) ∷ numbered (next_line n) (lines rest)) (line-of-value v is);
   holds = subst (λ x. Holds (fs ++ x) ss) (sym (append-nil (numbered_fields n ((9 ∷ v) ∷ [] ∷ [])))) h;
 }
@@ -150,7 +146,7 @@ goes-on table kind (o ∷ os) n k fs ss rest fits fresh h =
     let added = named_statement kind k name o in
     let more = lines_from (value_line kind) (suc k) os in
     let first = one table n k kind o name fs ss (more ++ rest) refl fits.0 (fresh k (omega arith)) h in
-    let others = goes-on table kind os first.line (suc k) (fs ++ continuing first.taken) (ss ++ added) rest fits.1 (still-fresh kind k name o ss fresh) first.holds in
+    let others = goes-on table kind os first.line (suc k) (fs ++ continuing (lines_of_fields first.taken)) (ss ++ added) rest fits.1 (still-fresh kind k name o ss fresh) first.holds in
     let both-are = Goes-then n (value_line kind k o ++ (more ++ rest)) (more ++ rest) rest fs (ss ++ added) ((ss ++ added) ++ statements_from kind (suc k) os) first others in
     subst (λ x. Goes n x rest fs (ss ++ (added ++ statements_from kind (suc k) os))) (sym (append_assoc (value_line kind k o) more rest))
     (subst (λ x. Goes n (value_line kind k o ++ (more ++ rest)) rest fs x) (append_assoc ss added (statements_from kind (suc k) os)) both-are)

@@ -1,5 +1,5 @@
 -- The lines that are left to read, without those that are skipped.
-use Rattle.std.specs.Prelude.{ℕ, List, [], ◌∷◌, Option, Some, None}
+use Rattle.std.specs.Prelude.{ℕ, List, [], ◌∷◌, Option, Some, None, map}
 use Rattle.std.specs.Borrow.{Bor}
 use Rattle.ti_source.specs.declared.reading.line.Line as line
 use Rattle.ti_source.specs.Reading.Field.{fields}
@@ -29,8 +29,6 @@ abbrev pub EndsBlock : List (ℕ × Line) → Type 0
 EndsBlock ((n, Continues fields) ∷ more) = ⊥
 EndsBlock _ = Unit {0}
 
--- each of these lines continues an entry
-abbrev pub AreContinuing : List (ℕ × Line) → Type 0
-AreContinuing [] = Unit {0}
-AreContinuing ((n, Continues fields) ∷ more) = AreContinuing more
-AreContinuing _ = ⊥
+-- lines of fields by their numbers: each continues an entry
+abbrev pub lines_of_fields : List (ℕ × List (List ℕ)) → List (ℕ × Line)
+lines_of_fields taken = map (λ t. (t.0, Continues t.1)) taken

@@ -5,7 +5,7 @@ use Rattle.ti_source.specs.declared.note.Note.{Note}
 use Rattle.ti_source.specs.Described.{Described}
 use Rattle.ti_source.specs.Reading.Sources.{Meaning, NumberedField, continuing, each_after, each_beside, described, field_fault, meant_fault, meant_note, meant_statement, meant_use, note, unless_faulty}
 use Rattle.ti_source.specs.Reading.Line.{Line}
-use Rattle.ti_source.specs.Code.Lines.{AreContinuing, EndsBlock}
+use Rattle.ti_source.specs.Code.Lines.{EndsBlock, lines_of_fields}
 use Rattle.ti_source.specs.Result.{Becomes}
 
 -- An entry that is being read, and all notes so far.
@@ -43,8 +43,7 @@ AddsMeant line m old result new =
 
 -- These fields and those of lines that continue the entry are added. What follows these lines does not continue it.
 pub record AddsBlock {Done : Type 0} (fields : List NumberedField) (old : OpenEntry) (lines : List (ℕ × Line)) (result : Result Done SourceFault) (new : OpenEntry) (left : List (ℕ × Line)) : Type 0 where
-  pub taken : List (ℕ × Line)
-  pub are : AreContinuing taken
-  pub cut : lines ≡ taken ++ left
-  pub adds : Adds (fields ++ continuing taken) old result new
+  pub taken : List (ℕ × List (List ℕ))
+  pub cut : lines ≡ lines_of_fields taken ++ left
+  pub adds : Adds (fields ++ continuing (lines_of_fields taken)) old result new
   pub ends : OnOk result (EndsBlock left)

@@ -54,13 +54,29 @@ pub(crate) fn begins_blank(bytes: &[u8]) -> bool
 fn are_blank(bytes: &[u8]) -> bool
     ensures { result ≡ list_all is_blank bytes.now }
 {
-    bytes.iter().all(|b| is_blank(*b))
+    for b in bytes {
+        if !is_blank(*b) {
+            return false;
+        }
+    }
+    true
+}
+
+fn is_ascii(b: u8) -> bool
+    ensures { result ≡ is_ascii b }
+{
+    1 <= b && b < 128
 }
 
 fn are_ascii(bytes: &[u8]) -> bool
     ensures { result ≡ list_all is_ascii bytes.now }
 {
-    bytes.iter().all(|b| 1 <= *b && *b < 128)
+    for b in bytes {
+        if !is_ascii(*b) {
+            return false;
+        }
+    }
+    true
 }
 
 /// The names of a line, and what follows their comma.

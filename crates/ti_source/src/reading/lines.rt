@@ -12,7 +12,7 @@ use std::marker::Model;
 /// the count stops at 4,294,967,295.
 #[derive(Drop)]
 pub(crate) struct Lines<'a> {
-    /// The first of them, unless none is left, with its number.
+    /// The first of them and its number, unless none is left.
     first: Option<(u32, Line<'a>)>,
     /// The number of the first line of `rest`.
     number: u32,

@@ -10,7 +10,7 @@ use crate::reading::field::Form;
 use crate::reading::number::number;
 use ti_caps::{Kind, Slot, find_name};
 
-/// What a field gives its capability, as it is written: a text is not decoded yet, and a number
+/// What a field says of its capability, as it is written: a text is not decoded yet, and each number
 /// above 32,767 is 32,768.
 #[derive(Clone, Copy)]
 pub(crate) enum WrittenValue<'a> {
@@ -27,11 +27,11 @@ pub(crate) enum Meaning<'a> {
     Silent,
     /// Nothing, since its name is doubtful.
     Doubtful(Cause, &'a [u8]),
-    /// That a capability, which has the field's name, has a value or is cancelled.
+    /// The capability of this name has a value, or is cancelled.
     States(&'a [u8], Kind, Slot, WrittenValue<'a>),
-    /// A number that is none.
+    /// What follows `#` is not a number.
     Numberless,
-    /// That the entry uses another.
+    /// The entry uses another one.
     Uses(&'a [u8]),
 }
 

@@ -54,8 +54,8 @@ impl ReadSource {
         (entries, notes)
     }
 
-    /// These entries and the next one: its block begins with this line, which has to be a line of
-    /// names, and goes on with the first of the lines that are left, which are taken.
+    /// These entries and one more: that of the block that begins with this line, which has to be a
+    /// line of names. The lines that continue it are taken from those that are left.
     fn with_block(
         self,
         alloc: Global,
@@ -72,6 +72,7 @@ impl ReadSource {
         }
     }
 
+    /// The same, for a line of names.
     fn with_named(
         self,
         alloc: Global,
