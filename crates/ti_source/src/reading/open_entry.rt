@@ -63,12 +63,7 @@ impl OpenEntry {
     }
 
     /// Adds the fields of a text, which is part of the line with this number.
-    pub(crate) fn add_fields(
-        &mut self,
-        alloc: Global,
-        line: u32,
-        text: &[u8],
-    ) -> Result<(), SourceFault>
+    fn add_fields(&mut self, alloc: Global, line: u32, text: &[u8]) -> Result<(), SourceFault>
         ensures { Adds (numbered_fields line (fields text.now)) self.old result self.new }
     {
         let mut rest = text;
