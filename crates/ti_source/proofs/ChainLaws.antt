@@ -109,8 +109,8 @@ next-of : (entries : List Described) (p : Option ℕ) (first : List (Option ℕ)
 next-of entries p first [] e = cc
 next-of entries p first (u ∷ us) e =
     let here : index_of entries u ≡ p = cc in
-    let behind : map (index_of entries) us ≡ first = cc in
-    record { name = u; rest = us; all = refl; index = here; others = behind }
+    let further : map (index_of entries) us ≡ first = cc in
+    record { name = u; rest = us; all = refl; index = here; others = further }
 
 -- what was visited first resolves
 pub awaited-done : (entries : List Described) (tasks : List Task) (first : List (Option ℕ)) (p : Option ℕ) (d : Description) → ResolvedAt entries p d → Awaited entries (p ∷ first) tasks → Awaited entries first tasks
@@ -118,12 +118,12 @@ awaited-done entries [] first p d r h = tt
 awaited-done entries (Visit q ∷ tasks) first p d r h = awaited-done entries tasks (first ++ q ∷ []) p d r h
 awaited-done entries (Leave i ∷ tasks) first p d r h =
     let a = h.0 in
-    let next = next-of entries p first a.behind a.awaited in (
+    let next = next-of entries p first a.further a.awaited in (
       record {
         entry = a.entry;
         at = a.at;
         before = a.before ++ next.name ∷ [];
-        behind = next.rest;
+        further = next.rest;
         uses = a.uses ∙ ap (λ us. a.before ++ us) next.all ∙ sym (append_assoc a.before (next.name ∷ []) next.rest);
         used = a.used ++ d ∷ [];
         resolved = resolve-append a.resolved (r next.name next.index);
@@ -142,7 +142,7 @@ awaited-visits entries (u ∷ us) first rest h =
 pub awaited-entered : (entries : List Described) (i : ℕ) (d : Described) (tasks : List Task) → slice_get entries i ≡ Some d → list_any (λ j. eqb j i) (leaves tasks) ≡ false → Awaited entries (Some i ∷ []) tasks → Awaited entries [] (visits entries d.uses ++ Leave i ∷ tasks)
 awaited-entered entries i d tasks at off h =
     awaited-visits entries d.uses [] (Leave i ∷ tasks) (
-      record { entry = d; at = at; before = []; behind = d.uses; uses = refl; used = []; resolved = nothing; awaited = refl; once = off },
+      record { entry = d; at = at; before = []; further = d.uses; uses = refl; used = []; resolved = nothing; awaited = refl; once = off },
       h,
     )
 
@@ -150,7 +150,7 @@ awaited-entered entries i d tasks at off h =
 
 fault-above : (entries : List Described) (first : List (Option ℕ)) (p : Option ℕ) (i : ℕ) (tasks : List Task) (fault : SourceFault) → Awaits entries (p ∷ first) i tasks → FaultAt entries (i ∷ leaves tasks) p fault → FaultAt entries (leaves tasks) (Some i) fault
 fault-above entries first p i tasks fault a h name index =
-    let next = next-of entries p first a.behind a.awaited in
+    let next = next-of entries p first a.further a.awaited in
     let here = fault-more entries (i ∷ leaves tasks) next.name next.rest fault (h next.name next.index) in
     let all = later-all a.resolved here in
     let uses : a.before ++ next.name ∷ next.rest ≡ a.entry.uses = ap (λ us. a.before ++ us) (sym next.all) ∙ sym a.uses in
@@ -251,7 +251,7 @@ with-off fault (k ∷ is) ms i off =
 pub open-unknown : (m : Mark) → m ≡ Open → is_some (steps_of (Some m)) ≡ true → ⊥
 open-unknown m is h = let bad : is_some (steps_of (Some Open)) ≡ true = ap (λ x. is_some (steps_of (Some x))) (sym is) ∙ h in cc
 
--- a walk that came to a fault, once the entries on the chain are marked with it
+-- a walk that met a fault, once the entries on the chain are marked with it
 pub ready-again : (entries : List Described) (marks after : List Mark) (kept : List (List Statement)) (p : Option ℕ) (tasks : List Task) (fault : SourceFault) → IsWalk entries marks kept (Visit p ∷ tasks) → FaultAt entries (leaves tasks) p fault → after ≡ with_fault fault (leaves tasks) marks → IsWalk entries after kept []
 ready-again entries marks after kept p tasks fault w h is =
     let through = fault-through entries tasks [] p fault w.awaited h in

@@ -32,12 +32,12 @@ cut-first a e = let comma = no-comma a e in rw comma refl
 
 -- ---- the fields of a line are those that are read
 
-field-first : {field : List ℕ} → IsField field → (behind : List ℕ) (part : List ℕ) (others : List (List ℕ)) → fields behind ≡ part ∷ others → fields (field ++ behind) ≡ (field ++ part) ∷ others
-field-first cutting.nothing behind part others e = e
-field-first (cutting.byte {b = b} {bytes = bs} n ne is) behind part others e =
-    byte-first b (bs ++ behind) n ne ∙ ap (onto_first b) (field-first is behind part others e)
-field-first (cutting.pair {a = a} {b = b} {bytes = bs} y is) behind part others e =
-    pair-first a b (bs ++ behind) y ∙ ap (λ ps. onto_first a (onto_first b ps)) (field-first is behind part others e)
+field-first : {field : List ℕ} → IsField field → (further : List ℕ) (part : List ℕ) (others : List (List ℕ)) → fields further ≡ part ∷ others → fields (field ++ further) ≡ (field ++ part) ∷ others
+field-first cutting.nothing further part others e = e
+field-first (cutting.byte {b = b} {bytes = bs} n ne is) further part others e =
+    byte-first b (bs ++ further) n ne ∙ ap (onto_first b) (field-first is further part others e)
+field-first (cutting.pair {a = a} {b = b} {bytes = bs} y is) further part others e =
+    pair-first a b (bs ++ further) y ∙ ap (λ ps. onto_first a (onto_first b ps)) (field-first is further part others e)
 
 cut-is : {bytes : List ℕ} {parts : List (List ℕ)} → AreFields bytes parts → parts ≡ fields bytes
 cut-is (more {field = f} {rest = rest} {others = others} is r) =
@@ -59,16 +59,16 @@ with-pair a b e (last is) = last (cutting.pair e is)
 with-pair a b e (cut c is y) = cut c (cutting.pair e is) y
 
 step : (b : ℕ) (bs : List ℕ) (s t : Bool) → eqb b 44 ≡ s → takes_next b ≡ t → AreFields bs (fields bs) → ((a : ℕ) (cs : List ℕ) → bs ≡ a ∷ cs → AreFields cs (fields cs)) → AreFields (b ∷ bs) (fields (b ∷ bs))
-step b bs true t is e here behind =
+step b bs true t is e here further =
     subst (λ x. AreFields (x ∷ bs) (fields (x ∷ bs))) (sym (eqb-true b 44 is)) (more cutting.nothing here)
-step b bs false false is e here behind =
+step b bs false false is e here further =
     subst (AreFields (b ∷ bs)) (sym (byte-first b bs e (unlike b 44 is))) (with-byte b e (unlike b 44 is) here)
-step b [] false true is e here behind =
+step b [] false true is e here further =
     subst (AreFields (b ∷ [])) (sym (cut-first b e)) (cut b cutting.nothing e)
-step b (a ∷ cs) false true is e here behind =
-    subst (AreFields (b ∷ a ∷ cs)) (sym (pair-first b a cs e)) (with-pair b a e (behind a cs refl))
+step b (a ∷ cs) false true is e here further =
+    subst (AreFields (b ∷ a ∷ cs)) (sym (pair-first b a cs e)) (with-pair b a e (further a cs refl))
 
--- the fields of a text and of what is behind its first byte
+-- the fields of a text and of what follows its first byte
 both : (bs : List ℕ) → AreFields bs (fields bs) × ((a : ℕ) (cs : List ℕ) → bs ≡ a ∷ cs → AreFields cs (fields cs))
 both [] = (last cutting.nothing, λ a cs e. cc)
 both (b ∷ bs) = put (both bs)

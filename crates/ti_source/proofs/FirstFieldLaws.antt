@@ -65,23 +65,23 @@ at-set xs i j x d lt = by (eqb i j) refl
     by false e = get_or-set_other xs i j x d (λ p. let q : eqb i j ≡ true = eq-eqb i j (sym p) in cc)
 
 -- a field that has no place is in no index
-pub without-ordinal : (fields behind : List Statement) (index : List (Option ℕ)) (s : Statement) → positions_of s.kind ≤ s.slot.0 → Indexes fields behind index → Indexes fields (s ∷ behind) index
-without-ordinal fields behind index s far is kind slot small = by (same_kind s.kind kind && eqb s.slot.0 slot) refl
+pub without-ordinal : (fields further : List Statement) (index : List (Option ℕ)) (s : Statement) → positions_of s.kind ≤ s.slot.0 → Indexes fields further index → Indexes fields (s ∷ further) index
+without-ordinal fields further index s far is kind slot small = by (same_kind s.kind kind && eqb s.slot.0 slot) refl
   where
-    by : (t : Bool) → (same_kind s.kind kind && eqb s.slot.0 slot) ≡ t → field_at fields (slice_index_or index (ordinal kind slot) None) ≡ first_of kind slot (s ∷ behind)
+    by : (t : Bool) → (same_kind s.kind kind && eqb s.slot.0 slot) ≡ t → field_at fields (slice_index_or index (ordinal kind slot) None) ≡ first_of kind slot (s ∷ further)
     by false e = rw e (is kind slot small)
     by true e = let near = same-room kind s.kind slot s.slot.0 e small in absurd (omega arith)
 
-pub with-ordinal : (fields behind : List Statement) (index : List (Option ℕ)) (s : Statement) (i : ℕ) → length index ≡ 640 → ordinal s.kind s.slot.0 < 640 → s.slot.0 < positions_of s.kind → slice_get fields i ≡ Some s → Indexes fields behind index → Indexes fields (s ∷ behind) (set index (ordinal s.kind s.slot.0) (Some i))
-with-ordinal fields behind index s i long inside near at is kind slot small = by (same_kind s.kind kind && eqb s.slot.0 slot) refl
+pub with-ordinal : (fields further : List Statement) (index : List (Option ℕ)) (s : Statement) (i : ℕ) → length index ≡ 640 → ordinal s.kind s.slot.0 < 640 → s.slot.0 < positions_of s.kind → slice_get fields i ≡ Some s → Indexes fields further index → Indexes fields (s ∷ further) (set index (ordinal s.kind s.slot.0) (Some i))
+with-ordinal fields further index s i long inside near at is kind slot small = by (same_kind s.kind kind && eqb s.slot.0 slot) refl
   where
-    by : (t : Bool) → (same_kind s.kind kind && eqb s.slot.0 slot) ≡ t → field_at fields (slice_index_or (set index (ordinal s.kind s.slot.0) (Some i)) (ordinal kind slot) None) ≡ first_of kind slot (s ∷ behind)
+    by : (t : Bool) → (same_kind s.kind kind && eqb s.slot.0 slot) ≡ t → field_at fields (slice_index_or (set index (ordinal s.kind s.slot.0) (Some i)) (ordinal kind slot) None) ≡ first_of kind slot (s ∷ further)
     by true e =
         let here : eqb (ordinal s.kind s.slot.0) (ordinal kind slot) ≡ true = eq-eqb _ _ (sym (same-ordinal kind s.kind slot s.slot.0 e)) in
         rw (e, at-set index (ordinal s.kind s.slot.0) (ordinal kind slot) (Some i) None (omega arith), here, at) refl
     by false e = elsewhere (eqb (ordinal s.kind s.slot.0) (ordinal kind slot)) refl
       where
-        elsewhere : (u : Bool) → eqb (ordinal s.kind s.slot.0) (ordinal kind slot) ≡ u → field_at fields (slice_index_or (set index (ordinal s.kind s.slot.0) (Some i)) (ordinal kind slot) None) ≡ first_of kind slot (s ∷ behind)
+        elsewhere : (u : Bool) → eqb (ordinal s.kind s.slot.0) (ordinal kind slot) ≡ u → field_at fields (slice_index_or (set index (ordinal s.kind s.slot.0) (Some i)) (ordinal kind slot) None) ≡ first_of kind slot (s ∷ further)
         elsewhere false f = rw (e, at-set index (ordinal s.kind s.slot.0) (ordinal kind slot) (Some i) None (omega arith), f) (is kind slot small)
         elsewhere true f =
             let own = ordinal-own kind s.kind slot s.slot.0 small near (sym (eqb-true (ordinal s.kind s.slot.0) (ordinal kind slot) f)) in

@@ -1,5 +1,5 @@
--- The form of a printed field, and what it adds to an entry.
-use Rattle.std.proofs.Common.{◌≡◌, ◌∙◌, ℕ, zero, suc, ◌+◌, ◌-◌, ◌≤◌, ◌<◌, Bool, true, false, not, ◌&&◌, eqb, leb, List, [], ◌∷◌, ◌++◌, take, drop, reverse, length, get_or, Some, Ok, refl, ap, sym, arith, inl, inr}
+-- The form of a printed field, and what it means.
+use Rattle.std.proofs.Common.{◌≡◌, ◌∙◌, ℕ, zero, suc, ◌+◌, ◌-◌, ◌≤◌, ◌<◌, Bool, true, false, not, ◌&&◌, eqb, leb, List, [], ◌∷◌, ◌++◌, take, drop, reverse, length, get_or, Some, refl, ap, sym, arith, inl, inr}
 use Rattle.std.specs.Fmt.{decimal}
 use Rattle.std.specs.List.{list_all, prefix_len}
 use Rattle.std.specs.Str.{bytes_eq}
@@ -14,7 +14,7 @@ use Rattle.ti_source.specs.declared.reading.statement.FieldValue.{FieldValue}
 use Rattle.ti_source.specs.declared.reading.statement.FieldValue.TheVariants as field_value
 use Rattle.ti_source.specs.Reading.Escape.{printed_text, IsText}
 use Rattle.ti_source.specs.Reading.Field.{form_of, form_of_trimmed, form_by, is_blank, ends_name, name_length, without_lead, without_trail}
-use Rattle.ti_source.specs.Code.Steps.{OpenEntry, with_form, with_statement, is_stated}
+use Rattle.ti_source.specs.Reading.Sources.{States, is_great, limited, meaning}
 use Rattle.ti_source.proofs.EscapesBackLaws.{decoded-printed_text}
 use Rattle.ti_source.proofs.NumbersBackLaws.{number-decimal}
 use Rattle.ti_source.proofs.TableBytesLaws.{both, begins_letter, is_graphic, is_letter, is_written, name-is-written}
@@ -60,7 +60,7 @@ trail-value w e =
     let none : prefix_len is_blank (reverse w) ≡ 0 = no-last-blanks w e in
     ap (λ k. take (length w - k) w) none ∙ ap (λ k. take k w) (none-less (length w)) ∙ take-whole w
 
--- what stands behind a name: nothing, or a byte that ends it
+-- what follows a name: nothing, or a byte that ends it
 abbrev pub ends_here : List ℕ → Bool
 ends_here [] = true
 ends_here (b ∷ bs) = ends_name b
@@ -117,7 +117,7 @@ form-of-value : (w : List ℕ) → list_all is_graphic w ≡ true → form_of (9
 form-of-value w e =
     ap (λ x. form_of_trimmed (without_trail x) x) (lead-value w e) ∙ ap (λ x. form_of_trimmed x w) (trail-value w e)
 
--- what is written behind a name
+-- what is written after a name
 abbrev pub value_of : FieldValue → List ℕ
 value_of field_value.Present = []
 value_of (field_value.Number n) = 35 ∷ decimal n
@@ -131,7 +131,7 @@ Fits Number (field_value.Number n) = n ≤ 32767
 Fits Text (field_value.Text text) = IsText text
 Fits _ _ = ⊥
 
--- the name and what is written behind it
+-- the name and what is written after it
 record IsField (name value : List ℕ) : Type 0 where
   whole : IsValue (name ++ value)
   form : form_of (9 ∷ (name ++ value)) ≡ form_by name value (drop 1 value)
@@ -172,24 +172,30 @@ not-use name w =
     not-true true h = cc
     not-true false h = refl
 
--- what such a field adds
-adds : (kind : Kind) (slot n : ℕ) (s : FieldValue) (name : List ℕ) (f : OpenEntry) → Fits kind s → is_written name ≡ true → capability_of name ≡ Some (kind, slot) → is_stated kind slot f ≡ false → with_form n (form_by name (value_of s) (drop 1 (value_of s))) f ≡ Ok (with_statement kind slot s f)
-unfolding with_form
-adds Flag slot n field_value.Present name f h w found fresh = rw (found, fresh) refl
-adds Number slot n (field_value.Number v) name f h w found fresh =
-    let small : leb v 32767 ≡ true = grind (arith, nat_tests) in
-    rw (found, number-decimal v (omega arith), fresh, small) refl
-adds Text slot n (field_value.Text text) name f h w found fresh =
-    rw (not-use name w, found, fresh, decoded-printed_text text h) refl
-adds Flag slot n (field_value.Number v) name f h w found fresh = absurd h
-adds Flag slot n (field_value.Text t) name f h w found fresh = absurd h
-adds Flag slot n field_value.Cancelled name f h w found fresh = absurd h
-adds Number slot n field_value.Present name f h w found fresh = absurd h
-adds Number slot n (field_value.Text t) name f h w found fresh = absurd h
-adds Number slot n field_value.Cancelled name f h w found fresh = absurd h
-adds Text slot n field_value.Present name f h w found fresh = absurd h
-adds Text slot n (field_value.Number v) name f h w found fresh = absurd h
-adds Text slot n field_value.Cancelled name f h w found fresh = absurd h
+-- what such a field means
+means : (kind : Kind) (slot : ℕ) (s : FieldValue) (name : List ℕ) → Fits kind s → is_written name ≡ true → capability_of name ≡ Some (kind, slot) → meaning (form_by name (value_of s) (drop 1 (value_of s))) ≡ States name kind slot s
+unfolding meaning
+means Flag slot field_value.Present name h w found = rw found refl
+means Number slot (field_value.Number v) name h w found = rw (found, number-decimal v (omega arith)) refl
+means Text slot (field_value.Text text) name h w found = rw (not-use name w, found, decoded-printed_text text h) refl
+means Flag slot (field_value.Number v) name h w found = absurd h
+means Flag slot (field_value.Text t) name h w found = absurd h
+means Flag slot field_value.Cancelled name h w found = absurd h
+means Number slot field_value.Present name h w found = absurd h
+means Number slot (field_value.Text t) name h w found = absurd h
+means Number slot field_value.Cancelled name h w found = absurd h
+means Text slot field_value.Present name h w found = absurd h
+means Text slot (field_value.Number v) name h w found = absurd h
+means Text slot field_value.Cancelled name h w found = absurd h
+
+-- no number of these is too great
+kept : (kind : Kind) (s : FieldValue) → Fits kind s → (limited s ≡ s) × (is_great s ≡ false)
+kept kind field_value.Present h = (refl, refl)
+kept Number (field_value.Number v) h = let small : leb v 32767 ≡ true = grind (arith, nat_tests) in rw small (refl, refl)
+kept Flag (field_value.Number v) h = absurd h
+kept Text (field_value.Number v) h = absurd h
+kept kind (field_value.Text text) h = (refl, refl)
+kept kind field_value.Cancelled h = (refl, refl)
 
 -- a name of the capability table is found as its capability
 abbrev pub AreFound : Type 0
@@ -198,13 +204,18 @@ AreFound = (kind : Kind) (position : ℕ) (name : List ℕ) → name_at kind pos
 -- the field of a capability with a name
 pub record IsPrinted (kind : Kind) (slot : ℕ) (s : FieldValue) (name : List ℕ) : Type 0 where
   pub value : IsValue (name ++ value_of s)
-  pub adds : (n : ℕ) (f : OpenEntry) → is_stated kind slot f ≡ false → with_form n (form_of (9 ∷ (name ++ value_of s))) f ≡ Ok (with_statement kind slot s f)
+  pub means : meaning (form_of (9 ∷ (name ++ value_of s))) ≡ States name kind slot s
+  pub kept : limited s ≡ s
+  pub small : is_great s ≡ false
 
 pub is-printed : AreFound → (kind : Kind) (slot : ℕ) (s : FieldValue) (name : List ℕ) → name_at kind slot ≡ Some name → Fits kind s → IsPrinted kind slot s name
 is-printed table kind slot s name at h =
     let w = name-is-written kind slot name at in
     let field = field-of name (value_of s) w (value-ends s) (value-is-value kind s h) in
+    let good = kept kind s h in
     record {
       value = field.whole;
-      adds = λ n f fresh. ap (λ x. with_form n x f) field.form ∙ adds kind slot n s name f h w (table kind slot name at) fresh;
+      means = ap meaning field.form ∙ means kind slot s name h w (table kind slot name at);
+      kept = good.0;
+      small = good.1;
     }

@@ -1,4 +1,4 @@
--- The fields of an entry and behind them those of the resolved entries that it uses.
+-- The fields of an entry, and after them those of the resolved entries that it uses.
 use Rattle.std.proofs.Common.{◌≡◌, ◌∙◌, ℕ, ◌<◌, Bool, true, false, List, [], ◌∷◌, ◌++◌, Option, Some, None, is_some, slice_get, map, refl, ap, sym, subst, append_assoc, append-nil}
 use Rattle.ti_caps.specs.declared.table.Kind.{Kind}
 use Rattle.ti_caps.specs.declared.table.Kind.TheVariants.{Flag, Number, Text}

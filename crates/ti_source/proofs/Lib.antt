@@ -31,11 +31,11 @@ pub mod LaidLaws
 pub mod MarkLaws
 pub mod PrintLaws
 pub mod PrintedBackLaws
-pub mod ReadingLaws
 pub mod SpellingLaws
 pub mod FirstFieldLaws
 pub mod StatementsBackLaws
-pub mod StepLaws
+pub mod BlockLaws
+pub mod OpenEntryLaws
 pub mod TableBytesLaws
 pub mod TaskLaws
 pub mod WalkLaws

@@ -95,9 +95,9 @@ three None p true true c = refl
 pub named-more : (x : Option ℕ) (n : List ℕ) (ns : List (List ℕ)) (index : ℕ) (q : List ℕ) → or_else (or_else x (named (n ∷ []) index q)) (named ns index q) ≡ or_else x (named (n ∷ ns) index q)
 named-more x n ns index q = three x index (has_no_blank q) (bytes_eq q n) (list_any (bytes_eq q) ns)
 
-pub names-go : (all behind : List (List ℕ)) (n : List ℕ) (index : ℕ) (old now new whole : List ℕ → Option ℕ) → all ≡ n ∷ behind → ((q : List ℕ) → or_else (now q) (named all index q) ≡ whole q) → ((q : List ℕ) → new q ≡ or_else (now q) (named (n ∷ []) index q)) → (q : List ℕ) → or_else (new q) (named behind index q) ≡ whole q
-names-go all behind n index old now new whole cut before step q =
-    ap (λ x. or_else x (named behind index q)) (step q) ∙ named-more (now q) n behind index q ∙ ap (λ ns. or_else (now q) (named ns index q)) (sym cut) ∙ before q
+pub names-go : (all further : List (List ℕ)) (n : List ℕ) (index : ℕ) (old now new whole : List ℕ → Option ℕ) → all ≡ n ∷ further → ((q : List ℕ) → or_else (now q) (named all index q) ≡ whole q) → ((q : List ℕ) → new q ≡ or_else (now q) (named (n ∷ []) index q)) → (q : List ℕ) → or_else (new q) (named further index q) ≡ whole q
+names-go all further n index old now new whole cut before step q =
+    ap (λ x. or_else x (named further index q)) (step q) ∙ named-more (now q) n further index q ∙ ap (λ ns. or_else (now q) (named ns index q)) (sym cut) ∙ before q
 
 pub names-end : (all : List (List ℕ)) (n : List ℕ) (index : ℕ) (now new whole : List ℕ → Option ℕ) → all ≡ n ∷ [] → ((q : List ℕ) → or_else (now q) (named all index q) ≡ whole q) → ((q : List ℕ) → new q ≡ or_else (now q) (named (n ∷ []) index q)) → (q : List ℕ) → new q ≡ whole q
 names-end all n index now new whole cut before step q =

@@ -28,8 +28,8 @@ first-of : {entries : List Described} {name : List ℕ} {names ns : List (List �
 first-of nothing p = cc
 first-of {entries} {name} {names} (more {name = n} {names = ms} {found = found} {used = used} {ds = es} {d = d} finds uses is rest) p =
     let named : n ≡ name = cc in
-    let behind : ms ≡ names = cc in
-    record { found = found; used = used; rest = es; finds = ap (λ x. found_from 0 x entries) (sym named) ∙ finds; uses = uses; others = subst (λ x. Resolve entries x es) behind rest; all = ap (λ x. x ∷ es) is }
+    let further : ms ≡ names = cc in
+    record { found = found; used = used; rest = es; finds = ap (λ x. found_from 0 x entries) (sym named) ∙ finds; uses = uses; others = subst (λ x. Resolve entries x es) further rest; all = ap (λ x. x ∷ es) is }
 
 none-of : {entries : List Described} {ns : List (List ℕ)} {ds : List Description} → Resolve entries ns ds → ns ≡ [] → ds ≡ []
 none-of nothing p = refl
@@ -66,8 +66,8 @@ head-of : {entries : List Described} {size : ℕ} {name : List ℕ} {names ns : 
 head-of none p = cc
 head-of {entries} {size} {name} {names} (some {name = n} {names = ms} {found = found} {a = a} {b = b} finds uses rest) p =
     let named : n ≡ name = cc in
-    let behind : ms ≡ names = cc in
-    record { found = found; a = a; b = b; finds = ap (λ x. found_from 0 x entries) (sym named) ∙ finds; uses = uses; others = subst (λ x. Sized entries b x) behind rest; all = refl }
+    let further : ms ≡ names = cc in
+    record { found = found; a = a; b = b; finds = ap (λ x. found_from 0 x entries) (sym named) ∙ finds; uses = uses; others = subst (λ x. Sized entries b x) further rest; all = refl }
 
 empty-of : {entries : List Described} {size : ℕ} {ns : List (List ℕ)} → Sized entries size ns → ns ≡ [] → size ≡ 0
 empty-of none p = refl
@@ -177,8 +177,8 @@ fault-of {entries} {chain} {name} {names} (below {name = n} {found = found} e of
     is_below found (ap (λ x. found_from 0 x entries) (sym named) ∙ e) off is
 fault-of {entries} {chain} {name} {names} {fault = fault} (later {name = n} {names = ms} {d = d} resolved is) p =
     let named : n ≡ name = cc in
-    let behind : ms ≡ names = cc in
-    is_later d (subst (λ x. Resolved entries x d) named resolved) (subst (λ x. Fault entries chain x fault) behind is)
+    let further : ms ≡ names = cc in
+    is_later d (subst (λ x. Resolved entries x d) named resolved) (subst (λ x. Fault entries chain x fault) further is)
 
 -- the first of resolved names
 found-first : {entries : List Described} {name : List ℕ} {d : Description} → Resolved entries name d → (found : ℕ × Described) × (n : ℕ) × (found_from 0 name entries ≡ Some found) × Sized entries n found.1.uses

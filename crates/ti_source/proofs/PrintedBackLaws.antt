@@ -15,18 +15,18 @@ use Rattle.ti_source.specs.Reading.Field.{fields, is_blank}
 use Rattle.ti_source.specs.Reading.Line.{Line, Skipped, NonAscii, Begins, begins_blank, begins_hash, is_ascii, is_comma, line_of, lines}
 use Rattle.ti_source.specs.Resolving.Named.{found_from, has_name}
 use Rattle.ti_source.specs.Printing.Print.{flag_line, lines_from, number_line, text_line, named_only, printed}
-use Rattle.ti_source.specs.Reading.Sources.{concerns}
-use Rattle.ti_source.specs.Code.Steps.{ReaderState, read_through, whole, with_fields, with_form, with_line, with_lines}
+use Rattle.ti_source.specs.Reading.Sources.{concerns, continuing, each_beside, field_fault, meaning, names_faults, numbered, numbered_fields, source_lines, source_of, unless_faulty}
+use Rattle.ti_source.specs.Code.Blocks.{source_after}
+use Rattle.ti_source.specs.Code.Lines.{lines_of_fields}
 use Rattle.ti_source.specs.Resolving.Uses.{Resolved, more, nothing}
-use Rattle.ti_source.specs.Result.{◌>>=◌}
 use Rattle.ti_source.specs.Printing.ReadBack.{ReadsBack}
 use Rattle.ti_source.proofs.BytesLaws.{has-texts}
 use Rattle.ti_source.proofs.TableBytesLaws.{both}
-use Rattle.ti_source.proofs.LinesBackLaws.{ended, no-lines, no_feed}
+use Rattle.ti_source.proofs.LinesBackLaws.{ended, lines-ended, no-lines, no_feed}
 use Rattle.ti_source.proofs.FieldsBackLaws.{not-all-blank}
 use Rattle.ti_source.proofs.FormsBackLaws.{AreFound, Fits, drop-one-more, one-first, one-more, take-front}
-use Rattle.ti_source.proofs.StepLaws.{read-through}
-use Rattle.ti_source.proofs.StatementsBackLaws.{AllFit, Goes-line, goes-on, of-other-kind, reading, value_line, statements_from}
+use Rattle.ti_source.proofs.BlockLaws.{block-is}
+use Rattle.ti_source.proofs.StatementsBackLaws.{AllFit, Goes-then, Holds, goes-on, of-other-kind, value_line, statements_from}
 use Rattle.ti_source.specs.Code.FirstFields.{flag_value, number_value, text_value}
 use Rattle.ti_source.proofs.MergedBackLaws.{all_statements, merged-back}
 
@@ -125,15 +125,6 @@ none-taken : (names : List (List ℕ)) → list_any (λ name. false) names ≡ f
 none-taken [] = refl
 none-taken (n ∷ ns) = none-taken ns
 
-abbrev start : ReaderState
-start = record { done = []; current = None; notes = [] }
-
-names-begin : (names : List ℕ) → are_names names ≡ true → with_line 1 (line_of (names ++ 44 ∷ [])) start ≡ Ok (reading names [])
-unfolding with_line with_fields with_form
-names-begin names e =
-    let begun : with_line 1 (Begins names ([] ∷ [])) start ≡ Ok (reading names []) = rw (e, none-taken (alternatives names)) refl in
-    ap (λ l. with_line 1 l start) (names-line names e) ∙ begun
-
 same-lines : {A : Type 0} → (kind : Kind) (line : ℕ → A → List ℕ) (h : A → Option FieldValue) → ((k : ℕ) (x : A) → line k x ≡ value_line kind k (h x)) → (k : ℕ) (xs : List A) → lines_from line k xs ≡ lines_from (value_line kind) k (map h xs)
 same-lines kind line h each k [] = refl
 same-lines kind line h each k (x ∷ xs) =
@@ -199,33 +190,64 @@ printed-is d =
 abbrev entry_of : Description → Described
 entry_of d = record { names = d.names; statements = all_statements d; uses = [] }
 
-at-end : (n : ℕ) (s : ReaderState) → with_lines n (lines []) s ≡ Ok s
-unfolding with_lines
-at-end n s = ap (λ ls. with_lines n ls s) no-lines
+-- the printed text is one block
+record IsOneBlock (d : Description) : Type 0 where
+  taken : List (ℕ × List (List ℕ))
+  cut : source_lines (printed d) ≡ (1, Begins d.names ([] ∷ [])) ∷ lines_of_fields taken
+  holds : Holds (numbered_fields 1 ([] ∷ []) ++ continuing (lines_of_fields taken)) (all_statements d)
 
-lines-read : AreFound → (d : Description) → IsDescription d → with_lines 1 (lines (printed d)) start ≡ Ok (reading d.names (all_statements d))
-lines-read table d is =
+holds-nothing : Holds (numbered_fields 1 ([] ∷ [])) []
+unfolding meaning
+holds-nothing = record { statements = refl; notes = refl; faults = refl; uses = refl }
+
+-- a line of names and others, which are cut to their end
+cut-block : (text names rest : List ℕ) (taken : List (ℕ × Line)) (n : ℕ) → are_names names ≡ true → text ≡ ended names rest → numbered 2 (lines rest) ≡ taken ++ numbered n (lines []) → source_lines text ≡ (1, Begins names ([] ∷ [])) ∷ taken
+cut-block text names rest taken n good is cut =
+    let begin : Line → List (ℕ × Line) = λ l. (1, l) ∷ numbered 2 (lines rest) in
+    let here : source_lines text ≡ begin (line_of (names ++ 44 ∷ [])) =
+    ap source_lines is ∙ ap (numbered 1) (lines-ended names rest (all-no_feed names (names-are names good).letters)) in
+    let none : (taken ++ numbered n (lines [])) ≡ taken = ap (λ ls. taken ++ numbered n ls) no-lines ∙ append-nil taken in
+    let all : numbered 2 (lines rest) ≡ taken = cut ∙ none in
+    let named : begin (line_of (names ++ 44 ∷ [])) ≡ begin (Begins names ([] ∷ [])) = ap begin (names-line names good) in
+    here ∙ named ∙ ap (λ ls. (1, Begins names ([] ∷ [])) ∷ ls) all
+
+is-one-block : AreFound → (d : Description) → IsDescription d → IsOneBlock d
+is-one-block table d is =
     let fs = map flag_value d.flags in
     let ns = map number_value d.numbers in
     let ts = map text_value d.texts in
     let flags = statements_from Flag 0 fs in
     let numbers = statements_from Number 0 ns in
-    let names = names-are d.names is.named in
-    let first = Goes-line 1 d.names (flags_of d ++ (numbers_of d ++ (texts_of d ++ []))) start (reading d.names []) (all-no_feed d.names names.letters) (names-begin d.names is.named) in
-    let second = goes-on table Flag fs first.line 0 d.names [] (numbers_of d ++ (texts_of d ++ [])) (flags-fit d.flags) (λ j le. refl) in
-    let third = goes-on table Number ns second.line 0 d.names flags (texts_of d ++ []) (numbers-fit d.numbers is.small) (λ j le. of-other-kind Flag Number 0 j fs refl) in
-    let fourth = goes-on table Text ts third.line 0 d.names (flags ++ numbers) [] (texts-fit d.texts (has-texts d is)) (λ j le. list_any-append (concerns Text j) flags numbers ∙ rw (of-other-kind Flag Text 0 j fs refl, of-other-kind Number Text 0 j ns refl) refl) in
-    ap (λ x. with_lines 1 (lines x) start) (printed-is d) ∙ first.goes ∙ second.goes ∙ third.goes ∙ fourth.goes ∙ at-end fourth.line (reading d.names (all_statements d))
+    let texts = statements_from Text 0 ts in
+    let xs = numbered_fields 1 ([] ∷ []) in
+    let after_numbers = texts_of d ++ [] in
+    let after_flags = numbers_of d ++ after_numbers in
+    let first = goes-on table Flag fs 2 0 xs [] after_flags (flags-fit d.flags) (λ j le. refl) holds-nothing in
+    let second = goes-on table Number ns first.line 0 (xs ++ continuing (lines_of_fields first.taken)) flags after_numbers (numbers-fit d.numbers is.small) (λ j le. of-other-kind Flag Number 0 j fs refl) first.holds in
+    let third = goes-on table Text ts second.line 0 ((xs ++ continuing (lines_of_fields first.taken)) ++ continuing (lines_of_fields second.taken)) (flags ++ numbers) [] (texts-fit d.texts (has-texts d is)) (λ j le. list_any-append (concerns Text j) flags numbers ∙ rw (of-other-kind Flag Text 0 j fs refl, of-other-kind Number Text 0 j ns refl) refl) second.holds in
+    let later = Goes-then first.line after_flags after_numbers [] (xs ++ continuing (lines_of_fields first.taken)) (flags ++ numbers) ((flags ++ numbers) ++ texts) second third in
+    let all = Goes-then 2 (flags_of d ++ after_flags) after_flags [] xs flags ((flags ++ numbers) ++ texts) first later in
+    record {
+      taken = all.taken;
+      cut = cut-block (printed d) d.names (flags_of d ++ after_flags) (lines_of_fields all.taken) all.line is.named (printed-is d) all.cut;
+      holds = all.holds;
+    }
 
-lines-through : AreFound → (d : Description) → IsDescription d → read_through (printed d) ≡ Ok (record { entries = entry_of d ∷ []; notes = [] })
-unfolding read_through
-lines-through table d is = ap (λ r. r >>= whole) (lines-read table d is)
+read : AreFound → (d : Description) → IsDescription d → source_of (printed d) ≡ Ok (record { entries = entry_of d ∷ []; notes = [] })
+unfolding source_of
+read table d is =
+    let block = is-one-block table d is in
+    let fields = numbered_fields 1 ([] ∷ []) ++ continuing (lines_of_fields block.taken) in
+    let names : names_faults 1 d.names [] ≡ [] = rw (is.named, none-taken (alternatives d.names)) refl in
+    let faults : (names_faults 1 d.names [] ++ each_beside field_fault fields) ≡ [] = rw (names, block.holds.faults) refl in
+    ap (source_after []) block.cut ∙ block-is [] 1 d.names ([] ∷ []) block.taken fields refl
+    ∙ (λ i. unless_faulty (faults i) (record { entries = (record { names = d.names; statements = block.holds.statements i; uses = block.holds.uses i }) ∷ []; notes = block.holds.notes i }))
 
-first-part : (p : ℕ → Bool) (bs : List ℕ) → (behind : List (List ℕ)) × (slice_split p bs ≡ before_first p bs ∷ behind)
+first-part : (p : ℕ → Bool) (bs : List ℕ) → (further : List (List ℕ)) × (slice_split p bs ≡ before_first p bs ∷ further)
 first-part p [] = ([], refl)
 first-part p (b ∷ bs) = by (p b) refl (first-part p bs)
   where
-    by : (t : Bool) → p b ≡ t → (behind : List (List ℕ)) × (slice_split p bs ≡ before_first p bs ∷ behind) → (behind : List (List ℕ)) × (slice_split p (b ∷ bs) ≡ before_first p (b ∷ bs) ∷ behind)
+    by : (t : Bool) → p b ≡ t → (further : List (List ℕ)) × (slice_split p bs ≡ before_first p bs ∷ further) → (further : List (List ℕ)) × (slice_split p (b ∷ bs) ≡ before_first p (b ∷ bs) ∷ further)
     by true e rest = (slice_split p bs, rw e refl)
     by false e rest =
         let n = prefix_len (λ x. not (p x)) bs in
@@ -251,4 +273,4 @@ resolves d e =
     more found nothing (sym (merged-back d)) nothing
 
 pub reads-back : AreFound → (d : Description) → IsDescription d → ReadsBack d
-reads-back table d is = (entry_of d, sym (read-through (printed d)) ∙ lines-through table d is, resolves d is.named)
+reads-back table d is = (entry_of d, read table d is, resolves d is.named)

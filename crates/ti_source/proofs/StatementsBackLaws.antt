@@ -1,20 +1,23 @@
--- The lines of a printed text add the statements of what has a name, one after another.
-use Rattle.std.proofs.Common.{◌≡◌, ◌∙◌, ℕ, suc, ◌≤◌, ◌<◌, Bool, true, false, ◌&&◌, ◌||◌, eqb, List, [], ◌∷◌, ◌++◌, Option, Some, None, IfSome, Ok, refl, ap, sym, append_assoc, append-nil, arith}
+-- The lines of a printed text have the statements of what has a name, one after another.
+use Rattle.std.proofs.Common.{◌≡◌, ◌∙◌, ℕ, suc, ◌≤◌, ◌<◌, Bool, true, false, ◌&&◌, ◌||◌, eqb, List, [], ◌∷◌, ◌++◌, Option, Some, None, IfSome, refl, ap, sym, subst, append_assoc, append-nil, arith}
 use Rattle.std.specs.List.{list_all, list_any}
 use Rattle.std.proofs.lemmas.Bool.Decides.{nat_tests}
+use Rattle.std.proofs.lemmas.Grind.{flat_map-append}
 use Rattle.std.proofs.lemmas.List.Folds.{list_any-append}
 use Rattle.ti_caps.specs.declared.table.Kind.{Kind}
 use Rattle.ti_caps.specs.Table.{name_at, same_kind}
 use Rattle.ti_source.specs.declared.reading.statement.FieldValue.{FieldValue}
 use Rattle.ti_source.specs.declared.reading.statement.Statement.{Statement}
-use Rattle.ti_source.specs.Reading.Line.{line_of, lines}
+use Rattle.ti_source.specs.Reading.Line.{Line, Skipped, NonAscii, Continues, Begins, lines}
 use Rattle.ti_source.specs.Printing.Print.{field_line, lines_from}
-use Rattle.ti_source.specs.Reading.Sources.{concerns, next_line}
-use Rattle.ti_source.specs.Code.Steps.{OpenEntry, ReaderState, with_fields, with_form, with_line, with_lines, with_statement}
-use Rattle.ti_source.specs.Reading.Field.{form_of}
+use Rattle.ti_source.specs.Reading.Sources as source
+use Rattle.ti_source.specs.Reading.Sources.{NumberedField, concerns, continuing, each_after, each_beside, field_fault, is_given, meaning, meant_use, next_line, note, numbered, numbered_fields, uses}
+use Rattle.ti_source.specs.Code.Lines.{lines_of_fields}
+use Rattle.ti_source.proofs.BlockLaws.{continuing-both, lines-both}
+use Rattle.ti_source.proofs.MeaningLaws.{each-append, given-all}
 use Rattle.ti_source.proofs.TableBytesLaws.{both, is_graphic}
 use Rattle.ti_source.proofs.LinesBackLaws.{ended, lines-ended, no_feed}
-use Rattle.ti_source.proofs.FieldsBackLaws.{line-of-value}
+use Rattle.ti_source.proofs.FieldsBackLaws.{IsValue, line-of-value}
 use Rattle.ti_source.proofs.FormsBackLaws.{AreFound, Fits, IsPrinted, is-printed, value_of}
 
 abbrev pub statement : Kind → ℕ → FieldValue → Statement
@@ -41,16 +44,28 @@ abbrev pub AllFit : Kind → List (Option FieldValue) → Type 0
 AllFit kind [] = Unit {0}
 AllFit kind (o ∷ os) = IfSome o (Fits kind) × AllFit kind os
 
--- an entry that is being read
-abbrev pub reading : List ℕ → List Statement → ReaderState
-reading names ss = record { done = []; current = Some (record { names = names; statements = ss; uses = [] }); notes = [] }
+-- fields without a fault or a note, of which these are the statements
+pub record Holds (fs : List NumberedField) (ss : List Statement) : Type 0 where
+  pub statements : each_beside source.statement fs ≡ ss
+  pub notes : each_beside note fs ≡ []
+  pub faults : each_beside field_fault fs ≡ []
+  pub uses : uses fs ≡ []
 
-one-line : (n slot : ℕ) (kind : Kind) (s : FieldValue) (name names : List ℕ) (ss : List Statement) → IsPrinted kind slot s name → list_any (concerns kind slot) ss ≡ false → with_line n (line_of (9 ∷ ((name ++ value_of s) ++ 44 ∷ []))) (reading names ss) ≡ Ok (reading names (ss ++ statement kind slot s ∷ []))
-unfolding with_line with_fields with_form
-one-line n slot kind s name names ss is fresh =
-    let f : OpenEntry = record { entry = record { names = names; statements = ss; uses = [] }; notes = [] } in
-    let adds : with_form n (form_of (9 ∷ (name ++ value_of s))) f ≡ Ok (with_statement kind slot s f) = is.adds n f fresh in
-    rw (line-of-value (name ++ value_of s) is.value, adds) refl
+one-line : (n slot : ℕ) (kind : Kind) (s : FieldValue) (name : List ℕ) (fs : List NumberedField) (ss : List Statement) → IsPrinted kind slot s name → list_any (concerns kind slot) ss ≡ false → Holds fs ss → Holds (fs ++ numbered_fields n ((9 ∷ (name ++ value_of s)) ∷ [] ∷ [])) (ss ++ statement kind slot s ∷ [])
+unfolding meaning
+one-line n slot kind s name fs ss is fresh h =
+    let xs = numbered_fields n ((9 ∷ (name ++ value_of s)) ∷ [] ∷ []) in
+    let given : is_given kind slot fs ≡ false = sym (given-all kind slot fs) ∙ ap (list_any (concerns kind slot)) h.statements ∙ fresh in
+    let statements : each_after source.statement fs xs ≡ statement kind slot s ∷ [] = rw (is.means, given, is.kept) refl in
+    let notes : each_after note fs xs ≡ [] = rw (is.means, given, is.small) refl in
+    let faults : each_after field_fault fs xs ≡ [] = rw is.means refl in
+    let own : uses xs ≡ [] = rw is.means refl in
+    record {
+      statements = each-append source.statement [] fs xs ∙ (λ i. h.statements i ++ statements i);
+      notes = each-append note [] fs xs ∙ (λ i. h.notes i ++ notes i);
+      faults = each-append field_fault [] fs xs ∙ (λ i. h.faults i ++ faults i);
+      uses = flat_map-append (λ f. meant_use (meaning f.form)) fs xs ∙ (λ i. h.uses i ++ own i);
+    }
 
 graphic-no_feed : (b : ℕ) → is_graphic b ≡ true → no_feed b ≡ true
 graphic-no_feed b e = grind (arith, nat_tests)
@@ -61,34 +76,50 @@ no-feeds (b ∷ bs) e =
     let parts = both (is_graphic b) (list_all is_graphic bs) e in
     rw (graphic-no_feed b parts.0) (no-feeds bs parts.1)
 
--- reading goes on at the rest of a text, and has come to another state
-pub record Goes (n : ℕ) (text : List ℕ) (s : ReaderState) (rest : List ℕ) (t : ReaderState) : Type 0 where
+-- lines of a text are taken, each of which continues an entry; the fields of the entry and of these lines have these
+-- statements
+pub record Goes (n : ℕ) (text rest : List ℕ) (fs : List NumberedField) (ss : List Statement) : Type 0 where
   pub line : ℕ
-  pub goes : with_lines n (lines text) s ≡ with_lines line (lines rest) t
+  pub taken : List (ℕ × List (List ℕ))
+  pub cut : numbered n (lines text) ≡ lines_of_fields taken ++ numbered line (lines rest)
+  pub holds : Holds (fs ++ continuing (lines_of_fields taken)) ss
 
-pub Goes-line : (n : ℕ) (body rest : List ℕ) (s t : ReaderState) → list_all no_feed body ≡ true → with_line n (line_of (body ++ 44 ∷ [])) s ≡ Ok t → Goes n (ended body rest) s rest t
-unfolding with_lines
-Goes-line n body rest s t plain is =
-    let one : with_lines n ((body ++ 44 ∷ []) ∷ lines rest) s ≡ with_lines (next_line n) (lines rest) t = rw is refl in
-    record { line = next_line n; goes = ap (λ ls. with_lines n ls s) (lines-ended body rest plain) ∙ one }
+pub Goes-none : (n : ℕ) (text rest : List ℕ) (fs : List NumberedField) (ss : List Statement) → text ≡ rest → Holds fs ss → Goes n text rest fs ss
+Goes-none n text rest fs ss same h = record {
+  line = n;
+  taken = [];
+  cut = ap (λ x. numbered n (lines x)) same;
+  holds = subst (λ x. Holds x ss) (sym (append-nil fs)) h;
+}
+
+pub Goes-then : (n : ℕ) (text mid rest : List ℕ) (fs : List NumberedField) (ss st : List Statement) (one : Goes n text mid fs ss) → Goes one.line mid rest (fs ++ continuing (lines_of_fields one.taken)) st → Goes n text rest fs st
+Goes-then n text mid rest fs ss st one two = record {
+  line = two.line;
+  taken = one.taken ++ two.taken;
+  cut = one.cut ∙ ap (λ x. lines_of_fields one.taken ++ x) two.cut ∙ sym (append_assoc (lines_of_fields one.taken) (lines_of_fields two.taken) (numbered two.line (lines rest))) ∙ ap (λ x. x ++ numbered two.line (lines rest)) (sym (lines-both one.taken two.taken));
+  holds = subst (λ x. Holds x st) (append_assoc fs (continuing (lines_of_fields one.taken)) (continuing (lines_of_fields two.taken)) ∙ ap (λ x. fs ++ x) (sym (continuing-both one.taken two.taken))) two.holds;
+}
+
+Goes-line : (n : ℕ) (v rest : List ℕ) (fs : List NumberedField) (ss : List Statement) → IsValue v → list_all no_feed (9 ∷ v) ≡ true → Holds (fs ++ numbered_fields n ((9 ∷ v) ∷ [] ∷ [])) ss → Goes n (ended (9 ∷ v) rest) rest fs ss
+Goes-line n v rest fs ss is plain h = record {
+  line = next_line n;
+  taken = (n, (9 ∷ v) ∷ [] ∷ []) ∷ [];
+  cut = ap (numbered n) (lines-ended (9 ∷ v) rest plain) ∙ ap (λ l. (n, l) ∷ numbered (next_line n) (lines rest)) (line-of-value v is);
+  holds = subst (λ x. Holds (fs ++ x) ss) (sym (append-nil (numbered_fields n ((9 ∷ v) ∷ [] ∷ [])))) h;
+}
 
 field-ended : (name value rest : List ℕ) → field_line (Some name) value ++ rest ≡ ended (9 ∷ (name ++ value)) rest
 field-ended name value rest =
     ap (λ xs. 9 ∷ xs) (append_assoc name (value ++ 44 ∷ 10 ∷ []) rest ∙ ap (λ xs. name ++ xs) (append_assoc value (44 ∷ 10 ∷ []) rest) ∙ sym (append_assoc name value (44 ∷ 10 ∷ rest)))
 
-same-state : (n : ℕ) (text rest : List ℕ) (names : List ℕ) (ss added : List Statement) → text ≡ rest → added ≡ [] → Goes n text (reading names ss) rest (reading names (ss ++ added))
-same-state n text rest names ss added same none =
-    record { line = n; goes = ap (λ x. with_lines n (lines x) (reading names ss)) same ∙ ap (λ x. with_lines n (lines rest) (reading names x)) (sym (append-nil ss) ∙ ap (λ x. ss ++ x) (sym none)) }
-
-one : AreFound → (n k : ℕ) (kind : Kind) (o : Option FieldValue) (name : Option (List ℕ)) (names : List ℕ) (ss : List Statement) (rest : List ℕ) → name_at kind k ≡ name → IfSome o (Fits kind) → list_any (concerns kind k) ss ≡ false → Goes n (value_text name o ++ rest) (reading names ss) rest (reading names (ss ++ named_statement kind k name o))
-one table n k kind None None names ss rest at fits fresh = same-state n rest rest names ss [] refl refl
-one table n k kind None (Some name) names ss rest at fits fresh = same-state n rest rest names ss [] refl refl
-one table n k kind (Some s) None names ss rest at fits fresh = same-state n rest rest names ss [] refl refl
-one table n k kind (Some s) (Some name) names ss rest at fits fresh =
+one : AreFound → (n k : ℕ) (kind : Kind) (o : Option FieldValue) (name : Option (List ℕ)) (fs : List NumberedField) (ss : List Statement) (rest : List ℕ) → name_at kind k ≡ name → IfSome o (Fits kind) → list_any (concerns kind k) ss ≡ false → Holds fs ss → Goes n (value_text name o ++ rest) rest fs (ss ++ named_statement kind k name o)
+one table n k kind None None fs ss rest at fits fresh h = Goes-none n rest rest fs (ss ++ []) refl (subst (Holds fs) (sym (append-nil ss)) h)
+one table n k kind None (Some name) fs ss rest at fits fresh h = Goes-none n rest rest fs (ss ++ []) refl (subst (Holds fs) (sym (append-nil ss)) h)
+one table n k kind (Some s) None fs ss rest at fits fresh h = Goes-none n rest rest fs (ss ++ []) refl (subst (Holds fs) (sym (append-nil ss)) h)
+one table n k kind (Some s) (Some name) fs ss rest at fits fresh h =
     let is = is-printed table kind k s name at fits in
-    let body = 9 ∷ (name ++ value_of s) in
-    let goes = Goes-line n body rest (reading names ss) (reading names (ss ++ statement kind k s ∷ [])) (no-feeds (name ++ value_of s) is.value.graphic) (one-line n k kind s name names ss is fresh) in
-    record { line = goes.line; goes = ap (λ x. with_lines n (lines x) (reading names ss)) (field-ended name (value_of s) rest) ∙ goes.goes }
+    let goes = Goes-line n (name ++ value_of s) rest fs (ss ++ statement kind k s ∷ []) is.value (no-feeds (name ++ value_of s) is.value.graphic) (one-line n k kind s name fs ss is fresh h) in
+    subst (λ x. Goes n x rest fs (ss ++ statement kind k s ∷ [])) (sym (field-ended name (value_of s) rest)) goes
 
 other-index : (kind : Kind) (k j : ℕ) (name : Option (List ℕ)) (o : Option FieldValue) → k < j → list_any (concerns kind j) (named_statement kind k name o) ≡ false
 other-index kind k j None o lt = refl
@@ -108,19 +139,17 @@ still-fresh kind k name o ss fresh j le =
     list_any-append (concerns kind j) ss (named_statement kind k name o) ∙ rw (fresh j (omega arith), other-index kind k j name o (omega arith)) refl
 
 -- the lines of one kind
-pub goes-on : AreFound → (kind : Kind) (os : List (Option FieldValue)) (n k : ℕ) (names : List ℕ) (ss : List Statement) (rest : List ℕ) → AllFit kind os → IsFresh kind k ss → Goes n (lines_from (value_line kind) k os ++ rest) (reading names ss) rest (reading names (ss ++ statements_from kind k os))
-goes-on table kind [] n k names ss rest fits fresh = same-state n rest rest names ss [] refl refl
-goes-on table kind (o ∷ os) n k names ss rest fits fresh =
+pub goes-on : AreFound → (kind : Kind) (os : List (Option FieldValue)) (n k : ℕ) (fs : List NumberedField) (ss : List Statement) (rest : List ℕ) → AllFit kind os → IsFresh kind k ss → Holds fs ss → Goes n (lines_from (value_line kind) k os ++ rest) rest fs (ss ++ statements_from kind k os)
+goes-on table kind [] n k fs ss rest fits fresh h = Goes-none n rest rest fs (ss ++ []) refl (subst (Holds fs) (sym (append-nil ss)) h)
+goes-on table kind (o ∷ os) n k fs ss rest fits fresh h =
     let name = name_at kind k in
     let added = named_statement kind k name o in
     let more = lines_from (value_line kind) (suc k) os in
-    let first = one table n k kind o name names ss (more ++ rest) refl fits.0 (fresh k (omega arith)) in
-    let others = goes-on table kind os first.line (suc k) names (ss ++ added) rest fits.1 (still-fresh kind k name o ss fresh) in
-    record {
-      line = others.line;
-      goes = ap (λ x. with_lines n (lines x) (reading names ss)) (append_assoc (value_line kind k o) more rest) ∙ first.goes ∙ others.goes
-          ∙ ap (λ x. with_lines others.line (lines rest) (reading names x)) (append_assoc ss added (statements_from kind (suc k) os));
-    }
+    let first = one table n k kind o name fs ss (more ++ rest) refl fits.0 (fresh k (omega arith)) h in
+    let others = goes-on table kind os first.line (suc k) (fs ++ continuing (lines_of_fields first.taken)) (ss ++ added) rest fits.1 (still-fresh kind k name o ss fresh) first.holds in
+    let both-are = Goes-then n (value_line kind k o ++ (more ++ rest)) (more ++ rest) rest fs (ss ++ added) ((ss ++ added) ++ statements_from kind (suc k) os) first others in
+    subst (λ x. Goes n x rest fs (ss ++ (added ++ statements_from kind (suc k) os))) (sym (append_assoc (value_line kind k o) more rest))
+    (subst (λ x. Goes n (value_line kind k o ++ (more ++ rest)) rest fs x) (append_assoc ss added (statements_from kind (suc k) os)) both-are)
 
 -- the statements of one kind speak of no other
 pub of-other-kind : (kind other : Kind) (k j : ℕ) (os : List (Option FieldValue)) → same_kind kind other ≡ false → list_any (concerns other j) (statements_from kind k os) ≡ false

@@ -69,9 +69,9 @@ within-cons marks after first firsts q sub p (inl k) = elim (sub p (inl k)) [ in
 within-cons marks after first firsts q sub p (inr (inl e)) = inr (inl e)
 within-cons marks after first firsts q sub p (inr (inr a)) = elim (sub p (inr a)) [ inl x ↦ inl x | inr x ↦ inr (inr x) ]
 
-pub within-behind : (marks : List Mark) (first : List (Option ℕ)) (q p : Option ℕ) → Within marks first p → Within marks (q ∷ first) p
-within-behind marks first q p (inl k) = inl k
-within-behind marks first q p (inr a) = inr (inr a)
+pub within-further : (marks : List Mark) (first : List (Option ℕ)) (q p : Option ℕ) → Within marks first p → Within marks (q ∷ first) p
+within-further marks first q p (inl k) = inl k
+within-further marks first q p (inr a) = inr (inr a)
 
 all-mono : (marks after : List Mark) (first firsts : List (Option ℕ)) → ((p : Option ℕ) → Within marks first p → Within after firsts p) → (ps : List (Option ℕ)) → AllWithin marks first ps → AllWithin after firsts ps
 all-mono marks after first firsts sub [] h = tt
@@ -97,13 +97,13 @@ held-visits entries marks [] first rest k = k first (λ p w. elim w [ inl a ↦ 
 held-visits entries marks (u ∷ us) first rest k =
     held-visits entries marks us (index_of entries u ∷ first) rest (λ firsts sub. k firsts (λ p w. elim w [
       | inl a ↦ elim a [ inl e ↦ sub p (inr (inr (inl e))) | inr b ↦ sub p (inl b) ]
-      | inr x ↦ sub p (inr (within-behind marks first (index_of entries u) p x))
+      | inr x ↦ sub p (inr (within-further marks first (index_of entries u) p x))
     ]))
 
 pub indices-visits : (marks : List Mark) (entries : List Described) (us : List (List ℕ)) (rest : List Task) (p : Option ℕ) → Within marks (indices rest) p → Within marks (indices (visits entries us ++ rest)) p
 indices-visits marks entries [] rest p h = h
 indices-visits marks entries (u ∷ us) rest p h =
-    within-behind marks (indices (visits entries us ++ rest)) (index_of entries u) p (indices-visits marks entries us rest p h)
+    within-further marks (indices (visits entries us ++ rest)) (index_of entries u) p (indices-visits marks entries us rest p h)
 
 -- ---- names, places and what they resolve to
 

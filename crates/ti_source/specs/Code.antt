@@ -8,7 +8,9 @@ pub mod Notes
 pub mod Parts
 pub mod Plain
 pub mod Seen
+pub mod Blocks
+pub mod Lines
+pub mod OpenEntry
 pub mod FirstFields
 pub mod Leading
-pub mod Steps
 pub mod Walk

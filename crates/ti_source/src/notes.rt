@@ -4,6 +4,7 @@ ghost use Rattle.std.specs.Prelude.{◌≡◌, ◌≤◌, ◌<◌, ◌+◌, ◌-
 ghost use Rattle.ti_source.specs.Code.Notes.{start_of};
 
 use crate::note::{Cause, Note};
+use crate::parts::{end_after, part};
 use std::alloc::{AllocError, Global};
 use std::marker::Model;
 use ti_caps::Bytes;
@@ -118,14 +119,6 @@ impl Notes {
     }
 }
 
-fn part(names: &[u8], start: usize, end: usize) -> &[u8]
-    requires order { start ≤ end }
-    requires inside { end ≤ length names.now }
-    ensures { result.now ≡ take (end - start) (drop start names.now) }
-{
-    &names[start..end]
-}
-
 /// Where the name of the note at index `i` begins.
 fn start_of(places: &[NotePlace], i: usize) -> usize
     requires { i < length places.now }
@@ -135,15 +128,4 @@ fn start_of(places: &[NotePlace], i: usize) -> usize
         return 0;
     }
     places[i - 1].end as usize
-}
-
-/// Where a name of `count` bytes ends. An end has 32 bits; one past that is refused as if memory
-/// had run out.
-fn end_after(start: usize, count: usize) -> Result<u32, AllocError>
-    ensures { IfOk result (λ end. end ≡ start + count) }
-{
-    match u32::try_from(start.saturating_add(count)) {
-        Ok(end) => Ok(end),
-        Err(_) => Err(AllocError),
-    }
 }

@@ -69,7 +69,8 @@ impl<T: Drop> Parts<T> {
     }
 }
 
-fn part<T>(items: &[T], start: usize, end: usize) -> &[T]
+/// The elements from `start` to `end`.
+pub(crate) fn part<T>(items: &[T], start: usize, end: usize) -> &[T]
     requires order { start ≤ end }
     requires inside { end ≤ length items.now }
     ensures { result.now ≡ take (end - start) (drop start items.now) }
@@ -88,7 +89,9 @@ fn start_at(ends: &[u32], i: usize) -> usize
     ends[i - 1] as usize
 }
 
-fn end_after(start: usize, count: usize) -> Result<u32, AllocError>
+/// Where a list of `count` elements ends. An end has 32 bits; one past that is refused as if memory
+/// had run out.
+pub(crate) fn end_after(start: usize, count: usize) -> Result<u32, AllocError>
     ensures { IfOk result (λ end. end ≡ start + count) }
 {
     match u32::try_from(start.saturating_add(count)) {

@@ -6,6 +6,8 @@ pub(crate) mod escape;
 pub(crate) mod field;
 pub(crate) mod keyed_hasher;
 pub(crate) mod line;
+pub(crate) mod lines;
+pub(crate) mod meaning;
 pub(crate) mod number;
 pub(crate) mod open_entry;
 pub(crate) mod reader;

@@ -7,4 +7,4 @@ use Rattle.ti_source.specs.Code.Walk.{of_fields}
 
 -- an entry of some fields becomes that of one more before them
 abbrev pub IsLaid : Statement → Description → Description → Type 0
-IsLaid field old new = (names : List ℕ) (behind : List Statement) → old ≡ merged (of_fields names behind) [] → new ≡ merged (of_fields names (field ∷ behind)) []
+IsLaid field old new = (names : List ℕ) (further : List Statement) → old ≡ merged (of_fields names further) [] → new ≡ merged (of_fields names (field ∷ further)) []

@@ -189,11 +189,11 @@ pub record Awaits (entries : List Described) (first : List (Option ℕ)) (i : �
   pub entry : Described
   pub at : slice_get entries i ≡ Some entry
   pub before : List (List ℕ)
-  pub behind : List (List ℕ)
-  pub uses : entry.uses ≡ before ++ behind
+  pub further : List (List ℕ)
+  pub uses : entry.uses ≡ before ++ further
   pub used : List Description
   pub resolved : Resolve entries before used
-  pub awaited : map (index_of entries) behind ≡ first
+  pub awaited : map (index_of entries) further ≡ first
   pub once : list_any (λ j. j == i) (leaves tasks) ≡ false
 
 -- each entry that is left later awaits the visits before it, and the entry that is left before it

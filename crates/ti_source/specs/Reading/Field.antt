@@ -67,6 +67,6 @@ abbrev pub form_of : List ℕ → Form
 form_of field = form_of_trimmed (without_trail (without_lead field)) (without_lead field)
 
 -- The fields after the comma that follows the first one.
-abbrev pub fields_behind : Option (List ℕ) → List (List ℕ)
-fields_behind None = []
-fields_behind (Some bytes) = fields bytes
+abbrev pub later_fields : Option (List ℕ) → List (List ℕ)
+later_fields None = []
+later_fields (Some bytes) = fields bytes

@@ -196,12 +196,15 @@ continued_faults n fields [] = FieldBeforeEntry n ∷ []
 continued_faults n fields (w ∷ []) = each_after field_fault w.fields (numbered_fields n fields)
 continued_faults n fields (w ∷ v ∷ ws) = continued_faults n fields (v ∷ ws)
 
--- The faults of a line that begins an entry after these.
+-- The error of the names on a line, given the entries before it, if there is one.
+abbrev pub names_faults : ℕ → List ℕ → List Described → List SourceFault
+names_faults n names entries =
+    if are_names names then (if is_taken names entries then DuplicateName n ∷ [] else []) else BadNames n ∷ []
+
+-- The errors of a line that begins an entry after these: that of its names, then those of its fields.
 abbrev pub begun_faults : ℕ → List ℕ → List (List ℕ) → List WrittenEntry → List SourceFault
 begun_faults n names fields ws =
-    if are_names names
-    then (if is_taken names (map described ws) then DuplicateName n ∷ [] else each_beside field_fault (numbered_fields n fields))
-    else BadNames n ∷ []
+    names_faults n names (map described ws) ++ each_beside field_fault (numbered_fields n fields)
 
 -- The faults of a line, given the lines before it, from left to right.
 unfoldable pub line_faults : List (ℕ × Line) → ℕ × Line → List SourceFault

@@ -103,11 +103,11 @@ impl Entries {
     {
         let mut rest = names;
         loop {
-            let (name, behind) = cut_name(rest);
+            let (name, after) = cut_name(rest);
             if self.has_name(name) {
                 return true;
             }
-            match behind {
+            match after {
                 Some(more) => rest = more,
                 None => return false,
             }
@@ -172,9 +172,9 @@ fn put_names(
 {
     let mut rest = names;
     loop {
-        let (name, behind) = cut_name(rest);
+        let (name, after) = cut_name(rest);
         put_name(alloc, indices, name, index)?;
-        match behind {
+        match after {
             Some(more) => rest = more,
             None => return Ok(()),
         }

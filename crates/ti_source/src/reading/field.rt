@@ -2,7 +2,7 @@
 
 ghost use Rattle.std.specs.Prelude.{◌≡◌, ◌≤◌, ◌<◌, ◌+◌, ◌∷◌, IfSome, ◌&&◌, ◌==◌, not, length, take, drop, option_map};
 ghost use Rattle.ti_source.specs.Reading.Cutting.{AreCut};
-ghost use Rattle.ti_source.specs.Reading.Field.{ends_name, fields, fields_behind, form_by, form_of, is_blank, name_length, takes_next, without_lead, without_trail};
+ghost use Rattle.ti_source.specs.Reading.Field.{ends_name, fields, later_fields, form_by, form_of, is_blank, name_length, takes_next, without_lead, without_trail};
 ghost use Rattle.ti_source.specs.Code.Plain.{is_inner};
 ghost use Rattle.ti_source.specs.Code.Seen.{seen_form};
 
@@ -19,7 +19,7 @@ pub(crate) enum Form<'a> {
 
 /// The first field of a text, and what follows its comma if there is one.
 pub(crate) fn split_field(bytes: &[u8]) -> (&[u8], Option<&[u8]>)
-    ensures cut { fields bytes.now ≡ result.0.now ∷ fields_behind (option_map (λ s. s.now) result.1) }
+    ensures cut { fields bytes.now ≡ result.0.now ∷ later_fields (option_map (λ s. s.now) result.1) }
     ensures shorter { IfSome result.1 (λ rest. length rest.now < length bytes.now) }
 {
     let mut taken = false;

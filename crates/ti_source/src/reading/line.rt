@@ -4,33 +4,33 @@ ghost use Rattle.std.specs.Prelude.{◌≡◌};
 ghost use Rattle.std.specs.List.{after_first, before_first, list_all};
 ghost use Rattle.ti_source.specs.Reading.Field.{is_blank};
 ghost use Rattle.ti_source.specs.Reading.Line.{begins_blank, begins_hash, is_ascii, is_comma, line_of};
-ghost use Rattle.ti_source.specs.Code.Seen.{seen_line};
+ghost use Rattle.ti_source.specs.Code.Seen.{seen_or_skipped};
 
 use crate::reading::field::is_blank;
 
-/// A line by its kind; its fields are not split yet.
+/// A line that is not skipped, by its kind; its fields are not split yet.
+#[derive(Clone, Copy)]
 pub(crate) enum Line<'a> {
-    Skipped,
     NonAscii,
     Continues(&'a [u8]),
     Begins(&'a [u8], &'a [u8]),
 }
 
-/// The kind of a line.
-pub(crate) fn line_of(bytes: &[u8]) -> Line<'_>
-    ensures { seen_line result ≡ line_of bytes.now }
+/// The kind of a line; `None` for a comment and a blank line, which are skipped.
+pub(crate) fn line_of(bytes: &[u8]) -> Option<Line<'_>>
+    ensures { seen_or_skipped result ≡ line_of bytes.now }
 {
     if begins_hash(bytes) || are_blank(bytes) {
-        return Line::Skipped;
+        return None;
     }
     if !are_ascii(bytes) {
-        return Line::NonAscii;
+        return Some(Line::NonAscii);
     }
     if begins_blank(bytes) {
-        return Line::Continues(bytes);
+        return Some(Line::Continues(bytes));
     }
     let (names, rest) = split_names(bytes);
-    Line::Begins(names, rest)
+    Some(Line::Begins(names, rest))
 }
 
 pub(crate) fn begins_hash(bytes: &[u8]) -> bool
@@ -54,13 +54,29 @@ pub(crate) fn begins_blank(bytes: &[u8]) -> bool
 fn are_blank(bytes: &[u8]) -> bool
     ensures { result ≡ list_all is_blank bytes.now }
 {
-    bytes.iter().all(|b| is_blank(*b))
+    for b in bytes {
+        if !is_blank(*b) {
+            return false;
+        }
+    }
+    true
+}
+
+fn is_ascii(b: u8) -> bool
+    ensures { result ≡ is_ascii b }
+{
+    1 <= b && b < 128
 }
 
 fn are_ascii(bytes: &[u8]) -> bool
     ensures { result ≡ list_all is_ascii bytes.now }
 {
-    bytes.iter().all(|b| 1 <= *b && *b < 128)
+    for b in bytes {
+        if !is_ascii(*b) {
+            return false;
+        }
+    }
+    true
 }
 
 /// The names of a line, and what follows their comma.

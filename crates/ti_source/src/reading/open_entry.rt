@@ -1,29 +1,34 @@
-//! An entry that is being read, with its notes.
+//! An entry that is being read, with the notes so far.
 
-ghost use Rattle.std.specs.Prelude.{ℕ, ◌≡◌, ◌≤◌, Ok, Some, min};
-ghost use Rattle.ti_caps.specs.Table.{capability_of};
-ghost use Rattle.ti_source.specs.Reading.Number as value;
-ghost use Rattle.ti_source.specs.Code.Steps.{cancelled, noted, numeric, plain, referring, stated, textual, valued, with_fields, with_form, with_number, with_statement};
-ghost use Rattle.ti_source.specs.Reading.Field.{fields};
-ghost use Rattle.ti_source.specs.Result.{Becomes};
+ghost use Rattle.std.specs.Prelude.{ℕ, List, ◌≡◌, ◌∷◌, [], ◌++◌, Ok, IfOk, length, nat_le, nat_lt, if◌then◌else◌};
+ghost use Rattle.ti_source.specs.declared.faults.SourceFault.TheVariants.{TooManyUses};
+ghost use Rattle.ti_source.specs.declared.reading.statement.FieldValue as stated;
 ghost use Rattle.ti_source.specs.Described.{IsGood};
-ghost use Rattle.ti_source.specs.Code.Seen.{seen_form};
+ghost use Rattle.ti_source.specs.Reading.Field as field;
+ghost use Rattle.ti_source.specs.Reading.Field.{fields};
+ghost use Rattle.ti_source.specs.Reading.Sources as source;
+ghost use Rattle.ti_source.specs.Reading.Sources.{continuing, is_great, limited, meaning, note_on, numbered_fields, unless_faulty};
+ghost use Rattle.ti_source.specs.Code.Lines.{EndsBlock};
+ghost use Rattle.ti_source.specs.Code.OpenEntry.{Adds, AddsBlock, AddsMeant};
+ghost use Rattle.ti_source.specs.Code.Seen.{capped, capped_value, seen_meaning, seen_value};
+ghost use Rattle.ti_source.specs.Result.{Becomes};
 
 use crate::faults::SourceFault;
 use crate::note::Cause;
 use crate::notes::Notes;
 use crate::reading::escape::decode;
-use crate::reading::field::{Form, form_of, split_field};
-use crate::reading::number::number;
+use crate::reading::field::{form_of, split_field};
+use crate::reading::lines::Lines;
+use crate::reading::meaning::{Meaning, WrittenValue, meaning_of};
 use crate::reading::statement::{FieldValue, SourceEntry};
-use std::alloc::Global;
+use std::alloc::{AllocError, Global};
 use std::marker::Model;
-use ti_caps::{Bytes, Kind, MOST_NUMBER, Slot, find_name};
+use ti_caps::{Bytes, Kind, MOST_NUMBER, Slot};
 
 /// The most uses that an entry may have.
 const USES: usize = 32;
 
-/// An entry that is being read, and the notes so far.
+/// An entry that is being read, and the notes on it and on those before it.
 #[derive(Drop)]
 pub(crate) struct OpenEntry {
     pub(crate) entry: SourceEntry,
@@ -31,7 +36,7 @@ pub(crate) struct OpenEntry {
 }
 
 impl Model for OpenEntry {
-    ghost use Rattle.ti_source.specs.Code.Steps.{OpenEntry};
+    ghost use Rattle.ti_source.specs.Code.OpenEntry.{OpenEntry};
 
     ghost Value = { OpenEntry };
 
@@ -39,166 +44,98 @@ impl Model for OpenEntry {
 }
 
 impl OpenEntry {
-    /// Adds the fields of a text, which is part of the line with this number.
-    pub(crate) fn with_fields(
+    /// Adds the fields of a text, which is part of the line with this number, and those of the lines
+    /// that continue it.
+    pub(crate) fn add_block(
         &mut self,
         alloc: Global,
         line: u32,
         text: &[u8],
+        lines: &mut Lines<'_>,
     ) -> Result<(), SourceFault>
-        ensures { Becomes result (with_fields line (fields text.now) self.old) self.new }
+        ensures { AddsBlock (numbered_fields line (fields text.now)) self.old lines.old result self.new lines.new }
+    {
+        self.add_fields(alloc, line, text)?;
+        while let Some((number, more)) = lines.next_fields() {
+            self.add_fields(alloc, number, more)?;
+        }
+        Ok(())
+    }
+
+    /// Adds the fields of a text, which is part of the line with this number.
+    fn add_fields(&mut self, alloc: Global, line: u32, text: &[u8]) -> Result<(), SourceFault>
+        ensures { Adds (numbered_fields line (fields text.now)) self.old result self.new }
     {
         let mut rest = text;
         loop {
-            let (field, behind) = split_field(rest);
-            self.with_form(alloc, line, form_of(field))?;
-            match behind {
+            let (field, after) = split_field(rest);
+            self.add(alloc, line, meaning_of(form_of(field)))?;
+            match after {
                 Some(more) => rest = more,
                 None => return Ok(()),
             }
         }
     }
 
-    fn noted(&mut self, line: u32, cause: Cause, name: &[u8]) -> Result<(), SourceFault>
-        ensures { Becomes result (Ok (noted line cause name.now self.old)) self.new }
+    /// Adds a field by what it means: the first one about a capability counts.
+    fn add(&mut self, alloc: Global, line: u32, meaning: Meaning<'_>) -> Result<(), SourceFault>
+        ensures { (m : source.Meaning) → seen_meaning meaning.entry ≡ capped m → AddsMeant line m self.old result self.new }
+    {
+        match meaning {
+            Meaning::Silent => Ok(()),
+            Meaning::Doubtful(cause, name) => self.note(line, cause, name),
+            Meaning::States(name, kind, slot, value) => {
+                self.state(alloc, line, name, kind, slot, value)
+            }
+            Meaning::Numberless => Err(SourceFault::BadNumber(line)),
+            Meaning::Uses(other) => self.add_use(alloc, other),
+        }
+    }
+
+    fn note(&mut self, line: u32, cause: Cause, name: &[u8]) -> Result<(), SourceFault>
+        ensures { Becomes result (Ok (record self.old { notes = self.old.notes ++ note_on line cause name.now })) self.new }
     {
         self.notes.push(line, cause, name)?;
         Ok(())
     }
 
-    fn with_statement(
-        &mut self,
-        kind: Kind,
-        slot: Slot,
-        field_value: FieldValue,
-    ) -> Result<(), SourceFault>
-        requires { IsGood field_value }
-        ensures { Becomes result (Ok (with_statement kind slot.0 field_value self.old)) self.new }
-    {
-        self.entry.put_statement(kind, slot, field_value)
-    }
-
-    fn stated(
+    /// Adds a field that gives a capability a value, unless an earlier one is about it.
+    fn state(
         &mut self,
         alloc: Global,
         line: u32,
         name: &[u8],
         kind: Kind,
         slot: Slot,
-        field_value: FieldValue,
+        value: WrittenValue<'_>,
     ) -> Result<(), SourceFault>
-        requires { IsGood field_value }
-        ensures { Becomes result (Ok (stated line name.now kind slot.0 field_value self.old)) self.new }
+        ensures { (what : stated.FieldValue) → seen_value value.entry ≡ capped_value what → AddsMeant line (source.States name.now kind slot.0 what) self.old result self.new }
     {
         if self.entry.is_stated(kind, slot) {
-            return self.noted(line, Cause::Repeated, name);
+            return self.note(line, Cause::Repeated, name);
         }
-        self.with_statement(kind, slot, field_value)
+        self.put_value(alloc, kind, slot, value)?;
+        if is_great(value) {
+            return self.note(line, Cause::TooGreat, name);
+        }
+        Ok(())
     }
 
-    fn with_number(
+    fn put_value(
         &mut self,
         alloc: Global,
-        line: u32,
-        name: &[u8],
+        kind: Kind,
         slot: Slot,
-        value: u32,
+        value: WrittenValue<'_>,
     ) -> Result<(), SourceFault>
-        requires { value ≤ 32768 }
-        ensures { (n : ℕ) → value ≡ min n 32768 → Becomes result (Ok (with_number line name.now slot.0 n self.old)) self.new }
+        ensures { Becomes result (Ok (record self.old { entry = record self.old.entry { statements = self.old.entry.statements ++ (record { kind = kind; slot = slot; field_value = limited (seen_value value.entry) }) ∷ [] } })) self.new }
     {
-        if self.entry.is_stated(Kind::Number, slot) {
-            return self.noted(line, Cause::Repeated, name);
-        }
-        if value <= u32::from(MOST_NUMBER) {
-            return self.with_statement(Kind::Number, slot, FieldValue::Number(value as u16));
-        }
-        self.with_statement(Kind::Number, slot, FieldValue::Number(MOST_NUMBER))?;
-        self.noted(line, Cause::TooGreat, name)
+        let value = limited(alloc, value)?;
+        self.entry.put_statement(kind, slot, value)
     }
 
-    fn plain(&mut self, alloc: Global, line: u32, name: &[u8]) -> Result<(), SourceFault>
-        ensures { Becomes result (Ok (plain line name.now (capability_of name.now) self.old)) self.new }
-    {
-        match find_name(name) {
-            None => self.noted(line, Cause::Unknown, name),
-            Some((Kind::Flag, slot)) => self.stated(
-                alloc,
-                line,
-                name,
-                Kind::Flag,
-                slot,
-                FieldValue::Present,
-            ),
-            Some(_) => self.noted(line, Cause::WrongKind, name),
-        }
-    }
-
-    fn textual(
-        &mut self,
-        alloc: Global,
-        line: u32,
-        name: &[u8],
-        text: &[u8],
-    ) -> Result<(), SourceFault>
-        ensures { Becomes result (Ok (textual line name.now text.now (capability_of name.now) self.old)) self.new }
-    {
-        match find_name(name) {
-            None => self.noted(line, Cause::Unknown, name),
-            Some((Kind::Text, slot)) => {
-                if self.entry.is_stated(Kind::Text, slot) {
-                    return self.noted(line, Cause::Repeated, name);
-                }
-                let text = decode(alloc, text)?;
-                self.with_statement(Kind::Text, slot, FieldValue::Text(text))
-            }
-            Some(_) => self.noted(line, Cause::WrongKind, name),
-        }
-    }
-
-    fn cancelled(&mut self, alloc: Global, line: u32, name: &[u8]) -> Result<(), SourceFault>
-        ensures { Becomes result (Ok (cancelled line name.now (capability_of name.now) self.old)) self.new }
-    {
-        match find_name(name) {
-            None => self.noted(line, Cause::Unknown, name),
-            Some((kind, slot)) => self.stated(alloc, line, name, kind, slot, FieldValue::Cancelled),
-        }
-    }
-
-    fn valued(
-        &mut self,
-        alloc: Global,
-        line: u32,
-        name: &[u8],
-        slot: Slot,
-        text: &[u8],
-    ) -> Result<(), SourceFault>
-        ensures { Becomes result (valued line name.now slot.0 (value.number text.now) self.old) self.new }
-    {
-        match number(text) {
-            None => Err(SourceFault::BadNumber(line)),
-            Some(value) => self.with_number(alloc, line, name, slot, value),
-        }
-    }
-
-    fn numeric(
-        &mut self,
-        alloc: Global,
-        line: u32,
-        name: &[u8],
-        text: &[u8],
-    ) -> Result<(), SourceFault>
-        ensures { Becomes result (numeric line name.now text.now (capability_of name.now) self.old) self.new }
-    {
-        match find_name(name) {
-            None => self.noted(line, Cause::Unknown, name),
-            Some((Kind::Number, slot)) => self.valued(alloc, line, name, slot, text),
-            Some(_) => self.noted(line, Cause::WrongKind, name),
-        }
-    }
-
-    fn referring(&mut self, alloc: Global, other: &[u8]) -> Result<(), SourceFault>
-        ensures { Becomes result (referring other.now self.old) self.new }
+    fn add_use(&mut self, alloc: Global, other: &[u8]) -> Result<(), SourceFault>
+        ensures { Becomes result (unless_faulty (if nat_lt (length self.old.entry.uses) 32 then [] else TooManyUses ∷ []) (record self.old { entry = record self.old.entry { uses = self.old.entry.uses ++ other.now ∷ [] } })) self.new }
     {
         if self.entry.uses().len() >= USES {
             return Err(SourceFault::TooManyUses);
@@ -206,19 +143,36 @@ impl OpenEntry {
         let other = Bytes(Vec::from_slice(alloc, other)?);
         self.entry.put_use(other)
     }
+}
 
-    #[tactic(auto, unfolding(crate::specs::Code::Steps::with_form))]
-    fn with_form(&mut self, alloc: Global, line: u32, form: Form<'_>) -> Result<(), SourceFault>
-        ensures { Becomes result (with_form line (seen_form form.entry) self.old) self.new }
-    {
-        match form {
-            Form::Nothing => Ok(()),
-            Form::Plain(name) => self.plain(alloc, line, name),
-            Form::Numeric(name, value) => self.numeric(alloc, line, name, value),
-            Form::Textual(name, text) => self.textual(alloc, line, name, text),
-            Form::Cancelled(name) => self.cancelled(alloc, line, name),
-            Form::Refers(other) => self.referring(alloc, other),
-            Form::Odd(name) => self.noted(line, Cause::Unknown, name),
-        }
+/// The value that a capability gets: a number above 32,767 is 32,767.
+fn limited(alloc: Global, value: WrittenValue<'_>) -> Result<FieldValue, AllocError>
+    ensures value { IfOk result (λ kept. kept ≡ limited (seen_value value.entry)) }
+    ensures good { IfOk result IsGood }
+{
+    match value {
+        WrittenValue::Present => Ok(FieldValue::Present),
+        WrittenValue::Number(number) => Ok(FieldValue::Number(limited_number(number))),
+        WrittenValue::Text(text) => Ok(FieldValue::Text(decode(alloc, text)?)),
+        WrittenValue::Cancelled => Ok(FieldValue::Cancelled),
+    }
+}
+
+fn limited_number(number: u32) -> u16
+    ensures { result ≡ (if nat_le number 32767 then number else 32767) }
+{
+    if number <= u32::from(MOST_NUMBER) {
+        return number as u16;
+    }
+    MOST_NUMBER
+}
+
+/// Whether it is a number above 32,767.
+fn is_great(value: WrittenValue<'_>) -> bool
+    ensures { result ≡ is_great (seen_value value.entry) }
+{
+    match value {
+        WrittenValue::Number(number) => number > u32::from(MOST_NUMBER),
+        _ => false,
     }
 }

@@ -50,7 +50,7 @@ fn no_places(alloc: Global, count: usize) -> Result<Vec<Option<usize>>, AllocErr
 fn put(index: &mut [Option<usize>], fields: &Fields<'_>, i: usize)
     requires there { i < length fields.now }
     requires long { length index.now ≡ 640 }
-    requires behind { Indexes fields.now (drop (i + 1) fields.now) index.now }
+    requires further { Indexes fields.now (drop (i + 1) fields.now) index.now }
     ensures long { length index.new ≡ 640 }
     ensures with { Indexes fields.now (drop i fields.now) index.new }
 {

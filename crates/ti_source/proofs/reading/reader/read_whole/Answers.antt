@@ -1,38 +1,22 @@
-use Rattle.std.proofs.Common.{◌≡◌, ◌∙◌, [], ◌∷◌, Ok, None, sym, ap, rules, refl}
 use Rattle.std.proofs.lemmas.Result.{err_from_is_err_and}
-use Rattle.ti_source.specs.Reading.Line.{lines}
-use Rattle.ti_source.specs.Code.Steps.{ReaderState, read_through, with_lines, whole}
+use Rattle.ti_source.specs.Reading.Sources.{source_of}
 use Rattle.ti_source.specs.Code.Seen.{seen_line}
-use Rattle.ti_source.proofs.ReadingLaws.{Fails-bind, lines-fail, lines-go, lines-end}
-use Rattle.ti_source.proofs.StepLaws.{read-through}
+use Rattle.ti_source.proofs.BlockLaws.{read-fails, read-goes, read-smaller, read-starts}
 use Rattle.ti_source.proofs.reading.reader.read_whole.Goals as goal
 
-abbrev start : ReaderState
-start = record { done = []; current = None; notes = [] }
+pub loop-number-init : goal.loop-number-init
+loop-number-init c =
+    read-starts c.args.bytes.now c.new-source.result c.new-lines.result c.new-source.ensures c.new-lines.ensures
 
-pub loop-line-init : goal.loop-line-init
-loop-line-init c =
-    rw (c.into_iter-line-iterator.ensures.into_iter_gives, c.lines-line-items.ensures.value, c.new-state.ensures) refl
+pub loop-number-smaller : goal.loop-number-smaller
+loop-number-smaller c =
+    read-smaller (source_of c.args.bytes.now) _ c.loop-number.source c.loop-number.lines c.next.new.self c.with_block.new.lines (c.in-Some.number, seen_line c.in-Some.line) c.loop-number.invariant c.in-Some.ensures c.with_block.ensures
 
-pub returns-in_err-with_line : goal.returns-in_err-with_line
-unfolding read_through
-returns-in_err-with_line c =
+pub loop-number-preserved : goal.loop-number-preserved
+loop-number-preserved c =
+    read-goes (source_of c.args.bytes.now) c.loop-number.source c.in_ok-source.source c.loop-number.lines c.next.new.self c.with_block.new.lines (c.in-Some.number, seen_line c.in-Some.line) c.loop-number.invariant c.in-Some.ensures c.in_ok-source.ensures
+
+pub returns-in_err-source : goal.returns-in_err-source
+returns-in_err-source c =
     let p = err_from_is_err_and c.from_residual.result c.from_residual.ensures.1 in
-    let first : c.loop-line.line-iterator ≡ c.in-Some.line.now ∷ c.next.new.self = search rules in
-    let same = sym (ap (λ ls. with_lines c.loop-line.number ls c.loop-line.state) first) ∙ c.loop-line.invariant in
-    rw (p.1, p.2, ← read-through c.args.bytes.now) (Fails-bind c.in_err-with_line.field-0.0 (with_lines 1 (lines c.args.bytes.now) start) whole
-    (lines-fail c.loop-line.number c.in-Some.line.now c.next.new.self (seen_line c.line_of.result) c.loop-line.state c.in_err-with_line.field-0.0 _ c.line_of.ensures same c.in_err-with_line.ensures))
-
-pub loop-line-preserved : goal.loop-line-preserved
-loop-line-preserved c =
-    let first : c.loop-line.line-iterator ≡ c.in-Some.line.now ∷ c.next.new.self = search rules in
-    let same = sym (ap (λ ls. with_lines c.loop-line.number ls c.loop-line.state) first) ∙ c.loop-line.invariant in
-    rw c.saturating_add-number.ensures (lines-go c.loop-line.number c.in-Some.line.now c.next.new.self (seen_line c.line_of.result) c.loop-line.state c.with_line.new.self _ c.line_of.ensures same c.in_ok-with_line.ensures)
-
-pub returns : goal.returns
-unfolding read_through
-returns c =
-    let none : c.loop-line.line-iterator ≡ [] = search rules in
-    let same = sym (ap (λ ls. with_lines c.loop-line.number ls c.loop-line.state) none) ∙ c.loop-line.invariant in
-    let all : with_lines 1 (lines c.args.bytes.now) start ≡ Ok c.loop-line.state = lines-end c.loop-line.number c.loop-line.state _ same in
-    rw (← read-through c.args.bytes.now) (rw all c.close.ensures)
+    rw (p.1, p.2) (read-fails (source_of c.args.bytes.now) c.loop-number.source c.loop-number.lines c.next.new.self c.with_block.new.lines (c.in-Some.number, seen_line c.in-Some.line) c.in_err-source.field-0.0 c.loop-number.invariant c.in-Some.ensures c.in_err-source.ensures)

@@ -6,7 +6,7 @@ pub loop-left-init : goal.loop-left-init
 loop-left-init c = record {
   inside = omega arith;
   long = long-index c.in_ok-index.index.items c.in_ok-index.ensures;
-  behind = rw c.len-left.ensures (nothing-indexed c.args.fields.now c.in_ok-index.index.items c.in_ok-index.ensures);
+  further = rw c.len-left.ensures (nothing-indexed c.args.fields.now c.in_ok-index.index.items c.in_ok-index.ensures);
 }
 
 pub loop-left-smaller : goal.loop-left-smaller

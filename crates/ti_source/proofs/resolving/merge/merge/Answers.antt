@@ -6,7 +6,7 @@ use Rattle.ti_source.proofs.resolving.merge.merge.Goals as goal
 pub loop-left-init : goal.loop-left-init
 loop-left-init c = record {
   inside = omega arith;
-  behind = none-laid c.args.names.now c.args.fields.now c.in-Ok.bare c.len-left.result c.in-Ok.ensures.ok c.len-left.ensures;
+  further = none-laid c.args.names.now c.args.fields.now c.in-Ok.bare c.len-left.result c.in-Ok.ensures.ok c.len-left.ensures;
 }
 
 pub loop-left-preserved : goal.loop-left-preserved
@@ -15,5 +15,5 @@ loop-left-preserved c =
     let back : c.loop-left.left - 1 + 1 ≡ c.loop-left.left = omega arith in
     record {
       inside = omega arith;
-      behind = rw (drop-at fields (c.loop-left.left - 1) c.at.result.now c.at.ensures.value, back) (c.in_ok-lay.ensures.ok c.args.names.now (drop c.loop-left.left fields) c.loop-left.invariant.behind);
+      further = rw (drop-at fields (c.loop-left.left - 1) c.at.result.now c.at.ensures.value, back) (c.in_ok-lay.ensures.ok c.args.names.now (drop c.loop-left.left fields) c.loop-left.invariant.further);
     }

@@ -3,8 +3,8 @@ use Rattle.ti_source.specs.Reading.Sources.{is_taken}
 use Rattle.ti_source.proofs.reading.entries.Entries.has_any_name.Given as goal
 
 -- the names that are left give the answer
-abbrev pub invariant-loop-behind : goal.invariant-loop-behind
-invariant-loop-behind l = is_taken l.rest l.fn.self ≡ is_taken l.names l.fn.self
+abbrev pub invariant-loop-after : goal.invariant-loop-after
+invariant-loop-after l = is_taken l.rest l.fn.self ≡ is_taken l.names l.fn.self
 
-abbrev pub decreases-loop-behind : goal.decreases-loop-behind
-decreases-loop-behind l = length l.rest
+abbrev pub decreases-loop-after : goal.decreases-loop-after
+decreases-loop-after l = length l.rest
