@@ -129,12 +129,7 @@ fn send_operation<W: Counted>(
 
 // Sends the text of any operation by way of the buffer. It is apart, so that the loop over characters stays short.
 #[inline(never)]
-fn send_rendered<W: Counted>(
-    profile: &Profile,
-    op: Op,
-    waiting: &mut Vec<u8>,
-    out: &mut W,
-) -> Taken
+fn send_rendered<W: Counted>(profile: &Profile, op: Op, waiting: &mut Vec<u8>, out: &mut W) -> Taken
     requires has { has profile.now op ≡ true }
     requires nothing { waiting.old.items ≡ [] }
     requires room { length (bytes_of profile.now op) ≤ vec_capacity waiting.old }
