@@ -4,7 +4,7 @@ use crate::buffers::Buffer;
 use crate::texts::{write_byte, write_text};
 use crate::troubles::Trouble;
 use crate::words::Words;
-use scr_cells::{Attrs, Cell, Look, Size};
+use scr_cells::{Attrs, Cell, Look};
 use std::fmt::Debug;
 use std::io::Write;
 
@@ -67,6 +67,11 @@ pub fn add_place(row: u32, column: u32, got: &mut Buffer) {
     add_number(i64::from(column), got);
 }
 
+/// Adds a row and a column, or two counts, if there are any, or `none`.
+pub fn add_any_place(place: Option<(u32, u32)>, got: &mut Buffer) {
+    add_any(place, got, |(row, column), got| add_place(row, column, got));
+}
+
 /// Adds `Ok`, or the name of the refusal.
 pub fn add_done<F: Debug + Drop>(done: Result<(), F>, got: &mut Buffer) {
     add_made(done, got, |_, got| add_word("Ok", got));
@@ -96,10 +101,16 @@ pub fn add_look(look: Look, got: &mut Buffer) {
     }
 }
 
-/// Reads what a cell is made of: a byte, attributes, and a colour pair if there is one more word.
-pub fn read_parts(words: &mut Words<'_>) -> (u8, Attrs, u32) {
+/// Reads a cell: a byte, attributes, and a colour pair if there is one more word.
+pub fn read_cell(words: &mut Words<'_>) -> Cell {
     let (byte, attrs) = (words.byte(), Attrs(words.byte()));
-    (byte, attrs, words.number_if_any())
+    match Cell::paired(byte, attrs, words.number_if_any()) {
+        Some(cell) => cell,
+        None => {
+            words.fail(Trouble::Bad("no cell"));
+            Cell::blank()
+        }
+    }
 }
 
 /// Adds a colour, or `-` for the default one.
@@ -126,15 +137,6 @@ pub fn add_text_shown(looks: &[Look], got: &mut Buffer) {
         write_byte(look.byte(), got);
     }
     got.push(b'"');
-}
-
-/// Reads a size of a screen.
-pub fn read_size(words: &mut Words<'_>) -> Option<Size> {
-    let size = Size::new(words.number(), words.number());
-    if size.is_none() {
-        words.fail(Trouble::Bad("no size"));
-    }
-    size
 }
 
 /// Adds the words that are wanted, each in the one form in which answers are written; `text` is room for a text.

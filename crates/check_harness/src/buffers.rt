@@ -2,6 +2,7 @@
 
 use crate::troubles::Trouble;
 use std::alloc::Global;
+use std::mem::replace;
 
 /// Bytes that are written one after the other: an answer in words, or all that can be seen of a state. Where memory
 /// runs out some are left out, which `done` tells, so that those who write need not ask each time.
@@ -23,6 +24,13 @@ impl Buffer {
     /// What is written.
     pub fn bytes(&self) -> &[u8] {
         &self.bytes
+    }
+
+    /// This buffer without what is written, so that its room is used again; another takes its place.
+    pub fn take(&mut self, alloc: Global) -> Buffer {
+        let mut taken = replace(self, Buffer::new(alloc));
+        taken.clear();
+        taken
     }
 
     /// What is written, as a vector.

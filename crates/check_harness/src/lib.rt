@@ -5,7 +5,6 @@
 pub mod answers;
 pub mod buffers;
 pub mod checking;
-pub mod dumps;
 pub mod random;
 pub mod texts;
 pub mod troubles;

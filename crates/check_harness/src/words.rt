@@ -3,6 +3,48 @@
 use crate::buffers::Buffer;
 use crate::texts::read_text;
 use crate::troubles::Trouble;
+use scr_cells::Size;
+use std::alloc::Global;
+
+/// A call that a line makes, and its answer.
+#[derive(Drop)]
+pub struct Line<'a> {
+    /// What allocates.
+    pub alloc: Global,
+    /// The name of the call.
+    pub name: &'a str,
+    /// The words after it.
+    pub words: Words<'a>,
+    /// What it answers, in words.
+    pub got: Buffer,
+}
+
+impl<'a> Line<'a> {
+    /// A call whose name is the next word. Its answer is put into a buffer that may be used again.
+    pub fn new(alloc: Global, words: Words<'a>, got: Buffer) -> Line<'a> {
+        let mut words = words;
+        let name = words.name();
+        Line {
+            alloc,
+            name,
+            words,
+            got,
+        }
+    }
+
+    /// The next word as a text.
+    pub fn text(&mut self) -> Buffer {
+        let mut text = Buffer::new(self.alloc);
+        self.words.text(&mut text);
+        text
+    }
+
+    /// Answers that memory ran out, where all is as before.
+    pub fn refuse(&mut self) {
+        self.words.skip();
+        self.got.extend(b" NoMemory");
+    }
+}
 
 /// What is left of a line, and the first trouble with the words that were read. A word that is not of the kind that is
 /// read counts as 0, and those who read words need not ask each time.
@@ -64,6 +106,16 @@ impl<'a> Words<'a> {
         matches!(self.peek(), b"" | b"=")
     }
 
+    /// Leaves out the words before what is wanted of the line.
+    pub fn skip(&mut self) {
+        for _ in 0..self.rest.len() {
+            if self.is_at_end() {
+                break;
+            }
+            let _word = self.next();
+        }
+    }
+
     /// The next word as a number with a sign.
     pub fn integer(&mut self) -> i64 {
         match self.name().parse::<i64>() {
@@ -84,6 +136,11 @@ impl<'a> Words<'a> {
                 0
             }
         }
+    }
+
+    /// The next two words as the rows and columns of a screen.
+    pub fn size(&mut self) -> Result<Size, Trouble> {
+        Size::new(self.number(), self.number()).ok_or(Trouble::Bad("no size"))
     }
 
     /// The next word as a number if one comes before a `=`, else 0.

@@ -1,54 +1,29 @@
 //! Lines about an emulated screen.
 
-use crate::terminals::{add_at, add_colours, keep};
-use check_harness::answers::{
-    add_flag, add_made, add_number, add_place, add_text, add_word, read_size,
-};
+use crate::subjects::Subjects;
+use crate::terminals::{add_at, add_colours, add_size};
+use check_harness::answers::{add_flag, add_number, add_text, add_word};
 use check_harness::buffers::{Buffer, are_same};
 use check_harness::troubles::Trouble;
-use check_harness::words::Words;
-use generated_sessions::add_spot;
-use scr_cells::{Look, NoMemory, Size};
+use check_harness::words::Line;
+use generated_sessions::{add_defined, add_spot};
+use scr_cells::{Look, Size};
 use scr_terminal::EcmaScreen;
 use screen_scripts::print_screen;
-use std::alloc::Global;
 
-/// The lines `screen R C`, `feed TEXT`, `after TEXT` and `undefined_after TEXT TEXT`, and those that ask. Tells whether
-/// a line is one of them.
-pub fn answer_of_ecma(
-    alloc: Global,
-    screen: &mut Option<EcmaScreen>,
-    word: &str,
-    words: &mut Words<'_>,
-    got: &mut Buffer,
-) -> bool {
-    if word == "screen" {
-        if let Some(size) = read_size(words) {
-            keep(EcmaScreen::new(alloc, size), screen, got);
-        }
-        return true;
+/// The lines `feed TEXT`, `after TEXT` and `undefined_after TEXT TEXT`, and those that ask. Tells whether a line is one
+/// of them.
+pub fn answer_of_ecma(subjects: &mut Subjects, line: &mut Line<'_>) -> Result<bool, Trouble> {
+    let Some(screen) = &mut subjects.ecma else {
+        return Ok(false);
+    };
+    match line.name {
+        "feed" => feed(screen, line),
+        "after" => add_after(screen.size(), line)?,
+        "undefined_after" => add_undefined_after(screen.size(), line)?,
+        _ => return ask(screen, line),
     }
-    match screen {
-        Some(screen) => answer_of_made(alloc, screen, word, words, got),
-        None => false,
-    }
-}
-
-// The lines about a screen that there is.
-fn answer_of_made(
-    alloc: Global,
-    screen: &mut EcmaScreen,
-    word: &str,
-    words: &mut Words<'_>,
-    got: &mut Buffer,
-) -> bool {
-    match word {
-        "feed" => feed(alloc, screen, words, got),
-        "after" => add_after(alloc, screen.size(), words, got),
-        "undefined_after" => add_undefined_after(alloc, screen.size(), words, got),
-        _ => return ask(alloc, screen, word, words, got),
-    }
-    true
+    Ok(true)
 }
 
 /// Adds the lines of a screen, the attributes that are on, the colours that are set where one is not the default, and
@@ -71,31 +46,29 @@ pub fn print_state(screen: &EcmaScreen, text: &mut Buffer) {
 
 // The lines `screen_size`, `shown R C`, `spot`, `rendition`, `colours`, `marked`, how many places show something,
 // `printed` and `state`.
-fn ask(
-    alloc: Global,
-    screen: &EcmaScreen,
-    word: &str,
-    words: &mut Words<'_>,
-    got: &mut Buffer,
-) -> bool {
-    match word {
-        "screen_size" => {
-            let size = screen.size();
-            add_place(size.rows, size.columns, got)
-        }
-        "shown" => {
-            let (row, column) = (words.number(), words.number());
-            words.check(add_at(row_of(screen, row), column, got))
-        }
+fn ask(screen: &EcmaScreen, line: &mut Line<'_>) -> Result<bool, Trouble> {
+    let (words, got) = (&mut line.words, &mut line.got);
+    match line.name {
+        "screen_size" => add_size(screen.size(), got),
+        "shown" => add_at(row_of(screen, words.number()), words.number(), got)?,
         "spot" => add_spot(screen.spot(), got),
         "rendition" => add_number(i64::from(screen.rendition().0), got),
         "colours" => add_colours(screen.colours(), got),
         "marked" => add_number(i64::from(marked(screen)), got),
-        "printed" => add_printed(alloc, screen, got),
-        "state" => add_state(alloc, screen, got),
-        _ => return false,
+        "printed" => {
+            let mut text = Vec::new(line.alloc);
+            print_screen(screen, &mut text)?;
+            add_text(&text, got);
+        }
+        "state" => {
+            let mut text = Buffer::new(line.alloc);
+            print_state(screen, &mut text);
+            add_text(text.bytes(), got);
+            text.done()?;
+        }
+        _ => return Ok(false),
     }
-    true
+    Ok(true)
 }
 
 // The looks of a row, none where there is no such row.
@@ -107,64 +80,43 @@ fn row_of(screen: &EcmaScreen, row: u32) -> &[Look] {
     }
 }
 
-fn add_printed(alloc: Global, screen: &EcmaScreen, got: &mut Buffer) {
-    let mut text = Vec::new(alloc);
-    let printed = print_screen(screen, &mut text);
-    add_made(printed, got, |_, got| add_text(&text, got));
-}
-
-fn add_state(alloc: Global, screen: &EcmaScreen, got: &mut Buffer) {
-    let mut text = Buffer::new(alloc);
-    print_state(screen, &mut text);
-    add_text(text.bytes(), got);
-    got.check(text.done().is_ok());
-}
-
 // Feeds a text, and adds whether it is defined and whether the screen waits for more.
-fn feed(alloc: Global, screen: &mut EcmaScreen, words: &mut Words<'_>, got: &mut Buffer) {
-    let mut text = Buffer::new(alloc);
-    words.text(&mut text);
+fn feed(screen: &mut EcmaScreen, line: &mut Line<'_>) {
+    let text = line.text();
     let fed = screen.feed(text.bytes());
-    add_word(if fed.is_ok() { "Ok" } else { "Undefined" }, got);
+    add_defined(fed.is_ok(), &mut line.got);
     if screen.waiting() {
-        add_word("waiting", got);
+        add_word("waiting", &mut line.got);
     }
 }
 
-// Adds the state of a blank screen of the same size after a text.
-fn add_after(alloc: Global, size: Size, words: &mut Words<'_>, got: &mut Buffer) {
-    let mut text = Buffer::new(alloc);
-    words.text(&mut text);
-    match EcmaScreen::new(alloc, size) {
-        Ok(mut screen) => {
-            let fed = screen.feed(text.bytes());
-            text.clear();
-            print_state(&screen, &mut text);
-            if fed.is_err() {
-                text.extend(b"undefined\n");
-            }
-            add_text(text.bytes(), got);
-            got.check(text.done().is_ok());
-        }
-        Err(NoMemory) => add_word("NoMemory", got),
+// Adds the state of a blank screen of this size after a text.
+fn add_after(size: Size, line: &mut Line<'_>) -> Result<(), Trouble> {
+    let mut text = line.text();
+    let mut screen = EcmaScreen::new(line.alloc, size)?;
+    let fed = screen.feed(text.bytes());
+    text.clear();
+    print_state(&screen, &mut text);
+    if fed.is_err() {
+        text.extend(b"undefined\n");
     }
+    add_text(text.bytes(), &mut line.got);
+    text.done()
 }
 
-// Whether a text that is fed to a blank screen of the same size after another, which is defined, is undefined, and the
+// Adds whether a text that is fed to a blank screen of this size after another, which is defined, is undefined, and the
 // screen then stays as it was.
-fn add_undefined_after(alloc: Global, size: Size, words: &mut Words<'_>, got: &mut Buffer) {
-    let mut head = Buffer::new(alloc);
-    let mut tail = Buffer::new(alloc);
-    words.text(&mut head);
-    words.text(&mut tail);
-    match EcmaScreen::new(alloc, size) {
-        Ok(mut screen) => {
-            let stays = stays_after(alloc, &mut screen, head.bytes(), tail.bytes());
-            add_flag(stays.unwrap_or(false), got);
-            words.check(stays.and(Ok(())));
-        }
-        Err(NoMemory) => add_word("NoMemory", got),
-    }
+fn add_undefined_after(size: Size, line: &mut Line<'_>) -> Result<(), Trouble> {
+    let (head, tail) = (line.text(), line.text());
+    let (mut before, mut after) = (Buffer::new(line.alloc), Buffer::new(line.alloc));
+    let mut screen = EcmaScreen::new(line.alloc, size)?;
+    let first = screen.feed(head.bytes());
+    print_state(&screen, &mut before);
+    let second = screen.feed(tail.bytes());
+    print_state(&screen, &mut after);
+    let stays = are_same(&before, &after)?;
+    add_flag(stays && first.is_ok() && second.is_err(), &mut line.got);
+    Ok(())
 }
 
 // How many places show something other than a blank without attributes, in default colours.
@@ -178,21 +130,4 @@ fn marked(screen: &EcmaScreen) -> u32 {
         }
     }
     count
-}
-
-// Whether the second text is undefined after the first, and the screen stays as it was before it.
-fn stays_after(
-    alloc: Global,
-    screen: &mut EcmaScreen,
-    head: &[u8],
-    tail: &[u8],
-) -> Result<bool, Trouble> {
-    let mut before = Buffer::new(alloc);
-    let mut after = Buffer::new(alloc);
-    let first = screen.feed(head);
-    print_state(screen, &mut before);
-    let second = screen.feed(tail);
-    print_state(screen, &mut after);
-    let same = are_same(&before, &after);
-    same.map(|same| same && first.is_ok() && second.is_err())
 }

@@ -1,10 +1,10 @@
 //! Lines about keys, which are read from a reader by itself, or from a screen.
 
+use crate::subjects::{Subjects, keep};
 use check_harness::answers::{add_number, add_word};
 use check_harness::buffers::Buffer;
-use check_harness::checking::put;
 use check_harness::troubles::Trouble;
-use check_harness::words::Words;
+use check_harness::words::Line;
 use curses::{OpenFault, Screen};
 use scr_cells::Size;
 use scr_keys::{Key, KeyFault, KeyReader, KeyTable};
@@ -43,57 +43,36 @@ impl Keyboard {
     }
 }
 
-/// Two keyboards of an entry's keys.
-#[derive(Drop)]
-pub struct Keyboards {
-    /// That which the lines are about.
-    pub used: Option<Keyboard>,
-    /// One that was opened beside it, and is not used.
-    pub beside: Option<Keyboard>,
-}
-
 /// The lines `reader` and `screen`, which open a keyboard, and `beside reader` and `beside screen`, which open one
 /// beside it; and `byte BYTE`, `bytes TEXT`, `idle`, and `keys`, which takes all keys that wait, or has `none`. Tells
 /// whether a line is one of them.
-pub fn answer_of_keys(
-    alloc: Global,
-    entry: &Option<Entry>,
-    keyboards: &mut Keyboards,
-    word: &str,
-    words: &mut Words<'_>,
-    got: &mut Buffer,
-) -> bool {
-    match (word, entry) {
-        ("reader" | "screen", Some(entry)) => open(alloc, entry, word, &mut keyboards.used, got),
-        ("beside", Some(entry)) => {
-            open(alloc, entry, words.name(), &mut keyboards.beside, got);
+pub fn answer_of_keys(subjects: &mut Subjects, line: &mut Line<'_>) -> Result<bool, Trouble> {
+    match (line.name, &subjects.entry) {
+        ("reader" | "screen", Some(entry)) => {
+            open(entry, line.name, &mut subjects.keyboard, line);
         }
-        _ => match &mut keyboards.used {
-            Some(keyboard) => return answer_of_keyboard(alloc, keyboard, word, words, got),
-            None => return false,
+        ("beside", Some(entry)) => {
+            let name = line.words.name();
+            open(entry, name, &mut subjects.beside, line);
+        }
+        _ => match &mut subjects.keyboard {
+            Some(keyboard) => return Ok(answer_of_keyboard(keyboard, line)),
+            None => return Ok(false),
         },
     }
-    true
+    Ok(true)
 }
 
 // Opens a keyboard in place of another, by the word `reader`, or on a screen. A function that owns a keyboard takes
 // long to prove, so there is this one alone.
-fn open(
-    alloc: Global,
-    entry: &Entry,
-    word: &str,
-    keyboard: &mut Option<Keyboard>,
-    got: &mut Buffer,
-) {
-    let opened = match word {
-        "reader" => open_reader(alloc, entry),
-        _ => open_screen(alloc, entry),
+fn open(entry: &Entry, name: &str, keyboard: &mut Option<Keyboard>, line: &mut Line<'_>) {
+    let opened = match name {
+        "reader" => open_reader(line.alloc, entry),
+        _ => open_screen(line.alloc, entry),
     };
+    let got = &mut line.got;
     match opened {
-        Ok(opened) => {
-            put(keyboard, Some(opened));
-            add_word("Ok", got);
-        }
+        Ok(opened) => keep(opened, keyboard, got),
         Err(OpenFault::Profile(_)) => add_word("Refused Profile", got),
         Err(OpenFault::KeyTooLong(slot)) => add_done(Err(KeyFault::KeyTooLong(slot)), got),
         Err(OpenFault::NoMemory) => add_done(Err(KeyFault::NoMemory), got),
@@ -112,22 +91,15 @@ fn open_screen(alloc: Global, entry: &Entry) -> Result<Keyboard, OpenFault> {
     Ok(Keyboard::Screen(Screen::open(alloc, entry, Size::new(2, 5))?))
 }
 
-fn answer_of_keyboard(
-    alloc: Global,
-    keyboard: &mut Keyboard,
-    word: &str,
-    words: &mut Words<'_>,
-    got: &mut Buffer,
-) -> bool {
-    match word {
-        "byte" => add_done(keyboard.take(Some(words.byte())), got),
+fn answer_of_keyboard(keyboard: &mut Keyboard, line: &mut Line<'_>) -> bool {
+    match line.name {
+        "byte" => add_done(keyboard.take(Some(line.words.byte())), &mut line.got),
         "bytes" => {
-            let mut text = Buffer::new(alloc);
-            words.text(&mut text);
-            add_done(give(keyboard, text.bytes()), got);
+            let text = line.text();
+            add_done(give(keyboard, text.bytes()), &mut line.got);
         }
-        "idle" => add_done(keyboard.take(None), got),
-        "keys" => add_keys(keyboard, got),
+        "idle" => add_done(keyboard.take(None), &mut line.got),
+        "keys" => add_keys(keyboard, &mut line.got),
         _ => return false,
     }
     true

@@ -23,8 +23,8 @@ mod windows;
 
 use check_harness::checking::check_input;
 use std::process::ExitCode;
-use subjects::ScreenSubject;
+use subjects::Subjects;
 
 fn main(rt: HostRuntime) -> ExitCode {
-    check_input::<ScreenSubject>(&rt)
+    check_input::<Subjects>(&rt)
 }

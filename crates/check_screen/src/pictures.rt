@@ -1,92 +1,63 @@
 //! Lines about a picture.
 
-use crate::terminals::keep;
+use crate::subjects::Subjects;
+use crate::terminals::add_size;
 use check_harness::answers::{
-    add_any, add_cell, add_place, add_text_of, add_word, read_parts, read_size,
+    add_any, add_any_place, add_cell, add_place, add_text_of, add_word, read_cell,
 };
 use check_harness::buffers::Buffer;
-use check_harness::dumps::{dump_cells, dump_place};
 use check_harness::troubles::Trouble;
-use check_harness::words::Words;
+use check_harness::words::{Line, Words};
 use scr_cells::{Cell, Picture};
-use std::alloc::Global;
 
-/// The lines `picture R C`, `put R C B A P`, `put_row R C B A P`, `fill R C E B A P`, `wish R C`, `wish none`, and
-/// `set_pair P F G`, where a foreground and a background are set; and those that ask. `put_row` puts a blank after the
-/// cell, `fill` puts a cell in the columns from C up to E. Tells whether a line is one of them.
-pub fn answer_of_picture(
-    alloc: Global,
-    picture: &mut Option<Picture>,
-    word: &str,
-    words: &mut Words<'_>,
-    got: &mut Buffer,
-) -> bool {
-    if word == "picture" {
-        if let Some(size) = read_size(words) {
-            keep(Picture::new(alloc, size), picture, got);
-        }
-        return true;
+/// The lines `put R C B A P`, `put_row R C B A P`, `fill R C E B A P`, `wish R C`, `wish none`, and `set_pair P F G`,
+/// where a foreground and a background are set; and those that ask. `put_row` puts a blank after the cell, `fill` puts
+/// a cell in the columns from C up to E. Tells whether a line is one of them.
+pub fn answer_of_picture(subjects: &mut Subjects, line: &mut Line<'_>) -> Result<bool, Trouble> {
+    let Some(picture) = &mut subjects.picture else {
+        return Ok(false);
+    };
+    match line.name {
+        "put" | "put_row" | "fill" => put(picture, line.name, &mut line.words)?,
+        "wish" => wish(picture, &mut line.words)?,
+        "set_pair" => set_pair(picture, &mut line.words)?,
+        _ => return add_seen(picture, line),
     }
-    match picture {
-        Some(picture) => change(picture, word, words, got) || add_seen(picture, word, words, got),
-        None => false,
-    }
+    add_word("Ok", &mut line.got);
+    Ok(true)
 }
 
 /// The lines `wished`, `picture_size`, `picture_rows`, `picture_at R C` and `pair P`. Tells whether a line is one of
 /// them.
-pub fn add_seen(picture: &Picture, word: &str, words: &mut Words<'_>, got: &mut Buffer) -> bool {
-    match word {
+pub fn add_seen(picture: &Picture, line: &mut Line<'_>) -> Result<bool, Trouble> {
+    let (words, got) = (&mut line.words, &mut line.got);
+    match line.name {
         "wished" => add_wish(picture, got),
-        "picture_size" => {
-            let size = picture.size();
-            add_place(size.rows, size.columns, got)
-        }
+        "picture_size" => add_size(picture.size(), got),
         "picture_rows" => {
             for row in 0..picture.size().rows {
                 add_text_of(row_of(picture, row), got);
             }
         }
-        "picture_at" => {
-            let (row, column) = (words.number(), words.number());
-            match row_of(picture, row).get(column as usize) {
-                Some(cell) => add_cell(*cell, got),
-                None => words.fail(Trouble::Bad("no place of the picture")),
-            }
-        }
+        "picture_at" => match row_of(picture, words.number()).get(words.number() as usize) {
+            Some(cell) => add_cell(*cell, got),
+            None => return Err(Trouble::Bad("no place of the picture")),
+        },
         "pair" => add_any(picture.pair(words.number()), got, |(fore, back), got| {
             add_place(u32::from(fore), u32::from(back), got);
         }),
-        _ => return false,
+        _ => return Ok(false),
     }
-    true
+    Ok(true)
 }
 
-/// The picture, which a line asks for.
-pub fn ready(picture: &Option<Picture>) -> Result<&Picture, Trouble> {
-    picture.as_ref().ok_or(Trouble::Bad("no picture"))
-}
-
-// The cells of a row, none where there is no such row.
-fn row_of(picture: &Picture, row: u32) -> &[Cell] {
+/// The cells of a row, none where there is no such row.
+pub fn row_of(picture: &Picture, row: u32) -> &[Cell] {
     if row < picture.size().rows {
         picture.row(row)
     } else {
         &[]
     }
-}
-
-// The lines that change a picture.
-fn change(picture: &mut Picture, word: &str, words: &mut Words<'_>, got: &mut Buffer) -> bool {
-    let done = match word {
-        "put" | "put_row" | "fill" => put(picture, word, words),
-        "wish" => wish(picture, words),
-        "set_pair" => set_pair(picture, words),
-        _ => return false,
-    };
-    words.check(done);
-    add_word("Ok", got);
-    true
 }
 
 // A cell, by itself, with a blank after it as a run, or in each column of a part of a row.
@@ -96,10 +67,7 @@ fn put(picture: &mut Picture, word: &str, words: &mut Words<'_>) -> Result<(), T
         "fill" => words.number(),
         _ => column.saturating_add(1),
     };
-    let (byte, attrs, pair) = read_parts(words);
-    let Some(cell) = Cell::paired(byte, attrs, pair) else {
-        return Err(Trouble::Bad("no cell"));
-    };
+    let cell = read_cell(words);
     if word == "put_row" {
         return put_row(picture, row, column, cell);
     }
@@ -149,23 +117,5 @@ fn set_pair(picture: &mut Picture, words: &mut Words<'_>) -> Result<(), Trouble>
 
 /// Adds where the cursor is wanted.
 pub fn add_wish(picture: &Picture, got: &mut Buffer) {
-    add_any(
-        picture.wish(),
-        got,
-        |(row, column), got| add_place(row, column, got),
-    );
-}
-
-/// Adds its cells, its pairs and its wish.
-pub fn dump_picture(picture: &Picture, bytes: &mut Buffer) {
-    for row in 0..picture.size().rows {
-        dump_cells(row_of(picture, row), bytes);
-    }
-    for pair in 1..64 {
-        let (foreground, background) = picture.pair(pair).unwrap_or((0, 0));
-        bytes.extend(&[foreground, background]);
-    }
-    if let Some((row, column)) = picture.wish() {
-        dump_place(row, column, bytes);
-    }
+    add_any_place(picture.wish(), got);
 }

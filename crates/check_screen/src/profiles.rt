@@ -2,126 +2,70 @@
 
 use crate::entries::add_profile_fault;
 use crate::operations::read_op;
-use check_harness::answers::{
-    add_any, add_flag, add_made, add_number, add_place, add_text, add_word, read_size,
-};
-use check_harness::buffers::Buffer;
+use crate::subjects::{Subjects, keep, ready};
+use crate::terminals::add_size;
+use check_harness::answers::{add_any, add_flag, add_number, add_text, add_word};
 use check_harness::troubles::Trouble;
-use check_harness::words::Words;
+use check_harness::words::Line;
 use generated_sessions::add_count;
-use scr_term::{Op, Profile, ProfileFault};
-use std::alloc::Global;
-use ti_caps::Entry;
+use scr_term::{Profile, ProfileFault};
 
-/// The lines `profile R C`, `admit` and `admit R C`, which make a profile, and `profile_size`, `shows`,
-/// `shows_colours`, `longest`, `has OP`, `cost OP` and `render OP`. Tells whether a line is one of them.
-pub fn answer_of_profile(
-    alloc: Global,
-    entry: &Option<Entry>,
-    profile: &mut Option<Profile>,
-    word: &str,
-    words: &mut Words<'_>,
-    got: &mut Buffer,
-) -> bool {
-    match word {
-        "profile" => {
-            if let Some(size) = read_size(words) {
-                add_admission(Profile::ecma48(alloc, size), profile, got);
-            }
-        }
-        "admit" => admit(alloc, entry, profile, words, got),
-        _ => match profile {
-            Some(profile) => return answer_of_made(alloc, profile, word, words, got),
-            None => return false,
+/// The lines `profile R C`, `admit` and `admit R C`, which make a profile, and those that say what it tells. Tells
+/// whether a line is one of them.
+pub fn answer_of_profile(subjects: &mut Subjects, line: &mut Line<'_>) -> Result<bool, Trouble> {
+    let made = match line.name {
+        "profile" => Profile::ecma48(line.alloc, line.words.size()?),
+        "admit" => admit(subjects, line)?,
+        _ => match &subjects.profile {
+            Some(profile) => return answer_of_made(profile, line),
+            None => return Ok(false),
         },
+    };
+    match made {
+        Ok(made) => keep(made, &mut subjects.profile, &mut line.got),
+        Err(fault) => add_profile_fault(fault, &mut line.got),
     }
-    true
+    Ok(true)
 }
 
-// The lines that say what a profile tells.
-fn answer_of_made(
-    alloc: Global,
-    profile: &Profile,
-    word: &str,
-    words: &mut Words<'_>,
-    got: &mut Buffer,
-) -> bool {
-    match word {
-        "profile_size" => {
-            let size = profile.size();
-            add_place(size.rows, size.columns, got)
-        }
+// The profile of an entry, of its own size or of the one that a line has.
+fn admit(
+    subjects: &Subjects,
+    line: &mut Line<'_>,
+) -> Result<Result<Profile, ProfileFault>, Trouble> {
+    let size = if line.words.is_at_end() {
+        None
+    } else {
+        Some(line.words.size()?)
+    };
+    let entry = ready(&subjects.entry, "no entry")?;
+    Ok(Profile::admit(line.alloc, entry, size))
+}
+
+// The lines `profile_size`, `shows`, `shows_colours`, `longest`, `has OP`, `cost OP` and `render OP`, which has `none`
+// where the terminal has no such operation.
+fn answer_of_made(profile: &Profile, line: &mut Line<'_>) -> Result<bool, Trouble> {
+    let (words, got) = (&mut line.words, &mut line.got);
+    match line.name {
+        "profile_size" => add_size(profile.size(), got),
         "shows" => add_number(i64::from(profile.shows().0), got),
         "shows_colours" => add_flag(profile.colours(), got),
         "longest" => add_count(profile.longest() as u64, got),
-        "has" | "cost" | "render" => match read_op(words) {
-            Some(op) => add_of_op(alloc, profile, word, op, got),
-            None => {}
-        },
-        _ => return false,
-    }
-    true
-}
-
-// Adds what a profile tells of an operation.
-fn add_of_op(alloc: Global, profile: &Profile, word: &str, op: Op, got: &mut Buffer) {
-    match word {
-        "has" => add_flag(profile.has(op), got),
-        "cost" => add_any(
-            profile.cost(op),
-            got,
-            |cost, got| add_count(cost as u64, got),
-        ),
-        _ => add_rendered(alloc, profile, op, got),
-    }
-}
-
-// Adds the bytes of an operation, or `none` where the terminal has no such operation.
-fn add_rendered(alloc: Global, profile: &Profile, op: Op, got: &mut Buffer) {
-    if !profile.has(op) {
-        add_word("none", got);
-        return;
-    }
-    let mut bytes = Vec::new(alloc);
-    let done = profile.render(op, &mut bytes);
-    add_made(done, got, |_, got| add_text(&bytes, got));
-}
-
-// Makes a profile of an entry, of its own size or of the one that a line has.
-fn admit(
-    alloc: Global,
-    entry: &Option<Entry>,
-    profile: &mut Option<Profile>,
-    words: &mut Words<'_>,
-    got: &mut Buffer,
-) {
-    let size = if words.is_at_end() {
-        None
-    } else {
-        read_size(words)
-    };
-    match entry {
-        Some(entry) => add_admission(Profile::admit(alloc, entry, size), profile, got),
-        None => words.fail(Trouble::Bad("no entry")),
-    }
-}
-
-// Keeps a profile, or adds why there is none.
-fn add_admission(
-    admitted: Result<Profile, ProfileFault>,
-    profile: &mut Option<Profile>,
-    got: &mut Buffer,
-) {
-    match admitted {
-        Ok(made) => {
-            *profile = Some(made);
-            add_word("Ok", got)
+        "has" => add_flag(profile.has(read_op(words)?), got),
+        "cost" => add_any(profile.cost(read_op(words)?), got, |cost, got| {
+            add_count(cost as u64, got);
+        }),
+        "render" => {
+            let op = read_op(words)?;
+            if profile.has(op) {
+                let mut bytes = Vec::new(line.alloc);
+                profile.render(op, &mut bytes)?;
+                add_text(&bytes, got);
+            } else {
+                add_word("none", got);
+            }
         }
-        Err(fault) => add_profile_fault(fault, got),
+        _ => return Ok(false),
     }
-}
-
-/// The profile, which a line asks for.
-pub fn ready(profile: &Option<Profile>) -> Result<&Profile, Trouble> {
-    profile.as_ref().ok_or(Trouble::Bad("no profile"))
+    Ok(true)
 }

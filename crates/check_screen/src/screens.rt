@@ -2,49 +2,33 @@
 
 use crate::changed::check_changed;
 use crate::shown::answer_of_shown;
+use crate::subjects::Subjects;
 use crate::windows::answer_of_windows;
-use check_harness::answers::{add_name, add_word, read_size};
+use check_harness::answers::{add_name, add_word};
 use check_harness::buffers::Buffer;
 use check_harness::troubles::Trouble;
-use check_harness::words::Words;
+use check_harness::words::{Line, Words};
 use curses::{Device, OpenFault, Screen};
 use generated_sessions::{
-    MOVING, Obeyed, Recorded, add_count, check_sessions, count_cuts, obey, read_entry,
+    MOVING, Recorded, add_count, check_sessions, count_cuts, obey, read_entry,
 };
 use scr_cells::Size;
-use screen_sessions::session;
+use scr_windows::Win;
+use screen_sessions::{Call, session};
 use std::alloc::Global;
-use ti_caps::Entry;
-
-/// Screens with their terminals.
-#[derive(Drop)]
-pub struct Screens {
-    /// That which the lines are about.
-    pub opened: Option<Recorded>,
-    /// That of the sessions that are made up.
-    pub made_up: Option<Recorded>,
-}
+use ti_caps::{Bytes, Entry};
 
 /// Makes the call of a line about a screen, and adds what it answers.
-pub fn answer_of_screen(
-    alloc: Global,
-    screens: &mut Screens,
-    word: &str,
-    words: &mut Words<'_>,
-    got: &mut Buffer,
-) -> Result<(), Trouble> {
-    match word {
-        "screen" => open(alloc, &mut screens.opened, words, got),
-        "moving" => open_moving(alloc, &mut screens.opened, words, got),
-        "drawn" => open_drawn(alloc, &mut screens.opened, words, got),
-        "sessions" | "cut_sessions" => {
-            let is_cut = word == "cut_sessions";
-            check_sessions(alloc, &mut screens.made_up, is_cut, words, got)
-        }
-        "changed" => check_changed(alloc, words, got),
-        "refusal" => add_refusal(alloc, words, got),
-        _ => match &mut screens.opened {
-            Some(opened) => answer_of_opened(alloc, opened, word, words, got),
+pub fn answer_of_screen(subjects: &mut Subjects, line: &mut Line<'_>) -> Result<(), Trouble> {
+    match line.name {
+        "screen" => open(&mut subjects.opened, None, line),
+        "moving" => open(&mut subjects.opened, Some(MOVING), line),
+        "drawn" => open_drawn(&mut subjects.opened, line),
+        "sessions" | "cut_sessions" => check_sessions(&mut subjects.made_up, line),
+        "changed" => check_changed(line),
+        "refusal" => add_refusal(line),
+        _ => match &mut subjects.opened {
+            Some(opened) => answer_of_opened(opened, line),
             None => Err(Trouble::Bad("no screen")),
         },
     }
@@ -52,48 +36,26 @@ pub fn answer_of_screen(
 
 // The line `screen R C NAME ..`, which opens a screen of so many rows and columns on the bundled entry without the
 // texts and flags of these names; a number's name has its value after it, and that of a text that is another has this
-// text.
-fn open(
-    alloc: Global,
+// text. The names may be given: the line `moving R C` opens one on the bundled entry with texts that insert and delete
+// lines and characters.
+fn open<'a>(
     opened: &mut Option<Recorded>,
-    words: &mut Words<'_>,
-    got: &mut Buffer,
+    given: Option<&'a str>,
+    line: &mut Line<'a>,
 ) -> Result<(), Trouble> {
-    match read_size(words) {
-        Some(size) => open_on(alloc, size, opened, words, got),
-        None => Ok(()),
-    }
-}
-
-// The line `moving R C`, which opens one on the bundled entry with texts that insert and delete lines and characters.
-fn open_moving(
-    alloc: Global,
-    opened: &mut Option<Recorded>,
-    words: &mut Words<'_>,
-    got: &mut Buffer,
-) -> Result<(), Trouble> {
-    match read_size(words) {
-        Some(size) => {
-            let mut names = Words::new(MOVING.as_bytes());
-            open_on(alloc, size, opened, &mut names, got)
-        }
-        None => Ok(()),
-    }
-}
-
-// Opens a screen on the entry that words tell.
-fn open_on(
-    alloc: Global,
-    size: Size,
-    opened: &mut Option<Recorded>,
-    names: &mut Words<'_>,
-    got: &mut Buffer,
-) -> Result<(), Trouble> {
-    let refusal = match read_entry(alloc, names) {
-        Some(entry) => Recorded::open_into(alloc, entry, size, opened)?,
+    let size = line.words.size()?;
+    let mut names = match given {
+        Some(names) => Words::new(names.as_bytes()),
+        None => line.words,
+    };
+    let refusal = match read_entry(line.alloc, &mut names) {
+        Some(entry) => Recorded::open_into(line.alloc, entry, size, opened)?,
         None => Some(OpenFault::NoMemory),
     };
-    add_refused(refusal, got);
+    add_refused(refusal, &mut line.got);
+    if given.is_none() {
+        line.words = names;
+    }
     names.done()
 }
 
@@ -106,41 +68,22 @@ fn add_refused(refusal: Option<OpenFault>, got: &mut Buffer) {
 
 // The line `drawn R C TEXT`, which opens a screen of so many rows and columns on the bundled entry, with a text in its
 // first window, whose lines are untouched then and whose cursor is in the first place.
-fn open_drawn(
-    alloc: Global,
-    opened: &mut Option<Recorded>,
-    words: &mut Words<'_>,
-    got: &mut Buffer,
-) -> Result<(), Trouble> {
-    let Some(size) = read_size(words) else {
-        return Ok(());
-    };
-    let mut line = Buffer::new(alloc);
-    line.extend(b"0 ");
-    line.extend(words.next());
-    line.done()?;
-    open_on(alloc, size, opened, &mut Words::new(b""), got)?;
+fn open_drawn(opened: &mut Option<Recorded>, line: &mut Line<'_>) -> Result<(), Trouble> {
+    open(opened, Some(""), line)?;
+    let text = line.text();
+    text.done()?;
     match opened {
-        Some(opened) if got.bytes() == b" Ok".as_slice() => draw(alloc, opened, line.bytes(), got),
+        Some(opened) if line.got.bytes() == b" Ok".as_slice() => {
+            draw(opened, Bytes(text.into_bytes()), &mut line.got)
+        }
         _ => Ok(()),
     }
 }
 
-fn draw(
-    alloc: Global,
-    opened: &mut Recorded,
-    text: &[u8],
-    got: &mut Buffer,
-) -> Result<(), Trouble> {
-    for (word, rest) in [
-        ("add_text", text),
-        ("move_cursor", b"0 0 0"),
-        ("untouch", b"0"),
-    ] {
-        let mut words = Words::new(rest);
-        let _obeyed = obey(alloc, opened, word, &mut words, got)?;
-        words.done()?;
-    }
+fn draw(opened: &mut Recorded, text: Bytes, got: &mut Buffer) -> Result<(), Trouble> {
+    opened.call(Call::AddText(Win(0), text), got)?;
+    opened.call(Call::MoveCursor(Win(0), 0, 0), got)?;
+    opened.call(Call::Untouch(Win(0)), got)?;
     got.clear();
     add_word("Ok", got);
     Ok(())
@@ -148,13 +91,11 @@ fn draw(
 
 // The line `refusal R C NAME ..`: opens a screen and makes a session without calls, and adds why both are refused, `Ok`
 // where neither is, or `differs`. Nothing may be written then.
-fn add_refusal(alloc: Global, words: &mut Words<'_>, got: &mut Buffer) -> Result<(), Trouble> {
-    let Some(size) = read_size(words) else {
-        return Ok(());
-    };
-    match read_entry(alloc, words) {
-        Some(entry) => add_both(alloc, &entry, size, got),
-        None => add_word("NoMemory", got),
+fn add_refusal(line: &mut Line<'_>) -> Result<(), Trouble> {
+    let size = line.words.size()?;
+    match read_entry(line.alloc, &mut line.words) {
+        Some(entry) => add_both(line.alloc, &entry, size, &mut line.got),
+        None => line.refuse(),
     }
     Ok(())
 }
@@ -172,70 +113,34 @@ fn add_both(alloc: Global, entry: &Entry, size: Size, got: &mut Buffer) {
     }
 }
 
-// Makes the call of a line about a screen that is open.
-fn answer_of_opened(
-    alloc: Global,
-    opened: &mut Recorded,
-    word: &str,
-    words: &mut Words<'_>,
-    got: &mut Buffer,
-) -> Result<(), Trouble> {
-    match word {
-        "session" => opened.add_session(got),
-        "cuts" => {
-            add_count(count_cuts(opened)? as u64, got);
-            Ok(())
-        }
-        "update_within" => update_within(alloc, opened, words, got),
-        "all" => call_listed(alloc, opened, words, got),
-        _ => call(alloc, opened, word, words, got),
+// The lines about a screen that is open. `all CALL` is a call or an update that is made by a list of it alone.
+fn answer_of_opened(opened: &mut Recorded, line: &mut Line<'_>) -> Result<(), Trouble> {
+    opened.is_listed = line.name == "all";
+    if opened.is_listed {
+        line.name = line.words.name();
     }
-}
-
-// Makes a call or an update, or adds what is shown.
-fn call(
-    alloc: Global,
-    opened: &mut Recorded,
-    word: &str,
-    words: &mut Words<'_>,
-    got: &mut Buffer,
-) -> Result<(), Trouble> {
-    if obey(alloc, opened, word, words, got)? == Obeyed::No
-        && !answer_of_shown(opened, word, words, got)
-        && !answer_of_windows(&opened.screen, word, words, got)
-    {
-        return Err(Trouble::Bad("no such call"));
+    match line.name {
+        "session" => opened.add_session(&mut line.got)?,
+        "cuts" => add_count(count_cuts(opened)?.0 as u64, &mut line.got),
+        "update_within" => update_within(opened, line)?,
+        _ => {
+            if !obey(opened, line)?
+                && !answer_of_shown(opened, line)?
+                && !answer_of_windows(&opened.screen, line)?
+            {
+                return Err(Trouble::Bad("no such call"));
+            }
+        }
     }
     Ok(())
 }
 
-// The line `all CALL`, where the call or the update is made by a list of it alone.
-fn call_listed(
-    alloc: Global,
-    opened: &mut Recorded,
-    words: &mut Words<'_>,
-    got: &mut Buffer,
-) -> Result<(), Trouble> {
-    let word = words.name();
-    opened.is_listed = true;
-    let done = match word {
-        "update_within" => update_within(alloc, opened, words, got),
-        _ => call(alloc, opened, word, words, got),
-    };
-    opened.is_listed = false;
-    done
-}
-
 // The line `update_within N`, an update that answers `Ok` alone where it ends well and sends at most N bytes.
-fn update_within(
-    alloc: Global,
-    opened: &mut Recorded,
-    words: &mut Words<'_>,
-    got: &mut Buffer,
-) -> Result<(), Trouble> {
-    let most = words.number() as usize;
-    let is_well = obey(alloc, opened, "update", words, got)? == Obeyed::Well;
-    if is_well && got.bytes().starts_with(b" Ok ") && opened.last_sent().len() <= most {
+fn update_within(opened: &mut Recorded, line: &mut Line<'_>) -> Result<(), Trouble> {
+    let (most, got) = (line.words.number() as usize, &mut line.got);
+    opened.update(None, got)?;
+    let is_within = got.bytes().starts_with(b" Ok ") && opened.last_sent().len() <= most;
+    if is_within && opened.trouble.is_none() {
         got.clear();
         add_word("Ok", got);
     }

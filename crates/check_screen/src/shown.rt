@@ -2,56 +2,44 @@
 
 use crate::pictures::{add_seen, add_wish};
 use crate::terminals::add_at;
-use check_harness::answers::{add_name, add_number, add_text, add_text_shown, add_word};
+use check_harness::answers::{add_name, add_text, add_text_shown, add_word};
 use check_harness::buffers::Buffer;
 use check_harness::texts::write_byte;
 use check_harness::troubles::Trouble;
-use check_harness::words::Words;
-use generated_sessions::{Recorded, add_spot};
+use check_harness::words::Line;
+use generated_sessions::{Recorded, add_count, add_spot};
 use scr_term::Op;
 
 /// The lines `shown_rows`, `shown_cursor`, `shown R C` about the emulated screen, `picture_rows`, `picture_at R C` and
 /// `wish` about the picture, `most`, how many bytes the next update may send, `sent`, what the last one sent,
 /// `first_sent N`, the first N bytes of that, and `begun`, the operations that the last update began. Tells whether a
 /// line is one of them.
-pub fn answer_of_shown(
-    opened: &Recorded,
-    word: &str,
-    words: &mut Words<'_>,
-    got: &mut Buffer,
-) -> bool {
-    let (emulated, picture) = (&opened.display.emulated, opened.screen.picture());
-    match word {
+pub fn answer_of_shown(opened: &Recorded, line: &mut Line<'_>) -> Result<bool, Trouble> {
+    let (emulated, picture) = (&opened.emulated, opened.screen.picture());
+    let (words, got) = (&mut line.words, &mut line.got);
+    match line.name {
         "shown_rows" => {
             for row in 0..emulated.size().rows {
                 add_text_shown(emulated.row(row), got);
             }
         }
         "shown_cursor" => add_spot(emulated.spot(), got),
-        "shown" => {
-            let (row, column) = (words.number(), words.number());
-            words.check(add_at(emulated.row(row), column, got))
-        }
-        "picture_rows" | "picture_at" => return add_seen(picture, word, words, got),
+        "shown" => add_at(emulated.row(words.number()), words.number(), got)?,
+        "picture_rows" | "picture_at" => return add_seen(picture, line),
         "wish" => add_wish(picture, got),
-        "most" => words.check(add_most(opened, got)),
+        "most" => match opened.most()? {
+            Some(bytes) => add_count(bytes as u64, got),
+            None => add_word("unknown", got),
+        },
         "sent" => add_text(opened.last_sent(), got),
         "first_sent" => {
             let (count, sent) = (words.number() as usize, opened.last_sent());
             add_text(sent.get(..count).unwrap_or(sent), got)
         }
         "begun" => add_begun(opened.last_begun(), got),
-        _ => return false,
+        _ => return Ok(false),
     }
-    true
-}
-
-fn add_most(opened: &Recorded, got: &mut Buffer) -> Result<(), Trouble> {
-    match opened.most()? {
-        Some(bytes) => add_number(i64::try_from(bytes).unwrap_or(-1), got),
-        None => add_word("unknown", got),
-    }
-    Ok(())
+    Ok(true)
 }
 
 // Adds operations, with characters one after another as a text, or `none`.

@@ -1,14 +1,14 @@
 //! What the lines of a script work on. A line `about WHAT` begins anew with nothing, and says what those after it are
 //! about: `values`, `keys`, `texts`, `terminals` or `screens`.
 
-use crate::dumps::{dump_entry, dump_profile, dump_screen};
+use crate::dumps::{dump_entry, dump_picture, dump_screen};
 use crate::ecma_screens::{answer_of_ecma, print_state};
 use crate::entries::answer_of_entry;
-use crate::keys::{Keyboards, answer_of_keys};
-use crate::pictures::{answer_of_picture, dump_picture};
+use crate::keys::{Keyboard, answer_of_keys};
+use crate::pictures::answer_of_picture;
 use crate::profiles::answer_of_profile;
-use crate::repaints::{Scene, answer_of_repaint};
-use crate::screens::{Screens, answer_of_screen};
+use crate::repaints::answer_of_repaint;
+use crate::screens::answer_of_screen;
 use crate::scripts::answer_of_script;
 use crate::terminals::{answer_of_memory, answer_of_terminal, dump_memory, dump_terminal};
 use crate::texts::{answer_of_text, dump_text};
@@ -17,8 +17,9 @@ use check_harness::answers::add_word;
 use check_harness::buffers::Buffer;
 use check_harness::checking::{Subject, put};
 use check_harness::troubles::Trouble;
-use check_harness::words::Words;
+use check_harness::words::{Line, Words};
 use edit_text::Text;
+use generated_sessions::Recorded;
 use scr_cells::Picture;
 use scr_memory::Memory;
 use scr_term::Profile;
@@ -36,74 +37,44 @@ enum About {
     Screens,
 }
 
-/// The state of a script.
+/// What lines work on.
 #[derive(Drop)]
-pub struct ScreenSubject {
+pub struct Subjects {
     alloc: Global,
     about: About,
-    entry: Option<Entry>,
-    keyboards: Keyboards,
-    text: Option<Text>,
-    terminals: Terminals,
-    screens: Screens,
+    pub entry: Option<Entry>,
+    pub keyboard: Option<Keyboard>,
+    // A keyboard that was opened beside that, and is not used.
+    pub beside: Option<Keyboard>,
+    pub text: Option<Text>,
+    pub profile: Option<Profile>,
+    pub terminal: Option<Terminal>,
+    pub memory: Option<Memory>,
+    pub picture: Option<Picture>,
+    pub ecma: Option<EcmaScreen>,
+    // A screen with its terminal, and that of the sessions that are made up.
+    pub opened: Option<Recorded>,
+    pub made_up: Option<Recorded>,
 }
 
-// What lines about terminals work on.
-#[derive(Drop)]
-struct Terminals {
-    profile: Option<Profile>,
-    terminal: Option<Terminal>,
-    memory: Option<Memory>,
-    picture: Option<Picture>,
-    screen: Option<EcmaScreen>,
-}
-
-impl Subject for ScreenSubject {
-    fn new(alloc: Global) -> ScreenSubject {
-        ScreenSubject {
-            alloc,
-            about: About::Values,
-            entry: None,
-            keyboards: Keyboards {
-                used: None,
-                beside: None,
-            },
-            text: None,
-            terminals: Terminals::none(),
-            screens: Screens {
-                opened: None,
-                made_up: None,
-            },
-        }
+impl Subject for Subjects {
+    fn new(alloc: Global) -> Subjects {
+        Subjects::none(alloc, About::Values)
     }
 
     fn answer(&mut self, words: &mut Words<'_>, got: &mut Buffer) {
-        let (alloc, word) = (self.alloc, words.name());
-        let entry = &mut self.entry;
-        let is_call = match self.about {
-            _ if word == "about" => {
-                self.begin(words, got);
-                true
-            }
-            About::Values => answer_of_values(alloc, word, words, got),
-            About::Keys => {
-                answer_of_entry(alloc, entry, word, words, got)
-                    || answer_of_keys(alloc, entry, &mut self.keyboards, word, words, got)
-            }
-            About::Texts => answer_of_text(alloc, &mut self.text, word, words, got),
-            About::Terminals => {
-                answer_of_entry(alloc, entry, word, words, got)
-                    || self.terminals.answer(alloc, entry, word, words, got)
-            }
-            About::Screens => {
-                let done = answer_of_screen(alloc, &mut self.screens, word, words, got);
-                words.check(done);
-                true
-            }
-        };
-        if !is_call {
-            words.fail(Trouble::Bad("no such call, or nothing that it is about"));
+        let mut line = Line::new(self.alloc, *words, got.take(self.alloc));
+        match self.is_answered(&mut line) {
+            Ok(true) => {}
+            Ok(false) => line
+                .words
+                .fail(Trouble::Bad("no such call, or nothing that it is about")),
+            // What was to be made was refused memory, and all is as before. Lines on screens tell that themselves.
+            Err(Trouble::NoMemory) if !matches!(self.about, About::Screens) => line.refuse(),
+            Err(trouble) => line.words.fail(trouble),
         }
+        *words = line.words;
+        *got = line.got;
     }
 
     fn dump(&self, bytes: &mut Buffer) {
@@ -112,87 +83,6 @@ impl Subject for ScreenSubject {
         }
         if let Some(text) = &self.text {
             dump_text(text, bytes);
-        }
-        self.terminals.dump(bytes);
-        if let Some(opened) = &self.screens.opened {
-            dump_screen(opened, bytes);
-        }
-    }
-}
-
-impl ScreenSubject {
-    // The line `about WHAT`: nothing is there yet for the lines after it.
-    fn begin(&mut self, words: &mut Words<'_>, got: &mut Buffer) {
-        self.about = match words.name() {
-            "values" => About::Values,
-            "keys" => About::Keys,
-            "texts" => About::Texts,
-            "terminals" => About::Terminals,
-            "screens" => About::Screens,
-            _ => {
-                words.fail(Trouble::Bad("no such kind of lines"));
-                About::Values
-            }
-        };
-        put(&mut self.entry, None);
-        put(&mut self.keyboards.used, None);
-        put(&mut self.keyboards.beside, None);
-        put(&mut self.text, None);
-        put(&mut self.terminals, Terminals::none());
-        put(&mut self.screens.opened, None);
-        add_word("Ok", got);
-    }
-}
-
-impl Terminals {
-    fn none() -> Terminals {
-        Terminals {
-            profile: None,
-            terminal: None,
-            memory: None,
-            picture: None,
-            screen: None,
-        }
-    }
-
-    // Makes the call of a line, and tells whether it is one.
-    fn answer(
-        &mut self,
-        alloc: Global,
-        entry: &Option<Entry>,
-        word: &str,
-        words: &mut Words<'_>,
-        got: &mut Buffer,
-    ) -> bool {
-        let (profile, terminal, screen) = (&mut self.profile, &mut self.terminal, &mut self.screen);
-        answer_of_profile(alloc, entry, profile, word, words, got)
-            || answer_of_terminal(alloc, terminal, profile, word, words, got)
-            || answer_of_memory(alloc, &mut self.memory, profile, word, words, got)
-            || answer_of_picture(alloc, &mut self.picture, word, words, got)
-            || answer_of_ecma(alloc, screen, word, words, got)
-            || answer_of_script(alloc, screen, word, words, got)
-            || self.answer_of_repaint(alloc, word, words, got)
-    }
-
-    fn answer_of_repaint(
-        &mut self,
-        alloc: Global,
-        word: &str,
-        words: &mut Words<'_>,
-        got: &mut Buffer,
-    ) -> bool {
-        let scene = Scene {
-            profile: &self.profile,
-            picture: &self.picture,
-            memory: &self.memory,
-        };
-        let (terminal, screen) = (&mut self.terminal, &mut self.screen);
-        answer_of_repaint(alloc, &scene, terminal, screen, word, words, got)
-    }
-
-    fn dump(&self, bytes: &mut Buffer) {
-        if let Some(profile) = &self.profile {
-            dump_profile(profile, bytes);
         }
         if let Some(terminal) = &self.terminal {
             dump_terminal(terminal, bytes);
@@ -203,8 +93,107 @@ impl Terminals {
         if let Some(picture) = &self.picture {
             dump_picture(picture, bytes);
         }
-        if let Some(screen) = &self.screen {
+        if let Some(screen) = &self.ecma {
             print_state(screen, bytes);
         }
+        if let Some(opened) = &self.opened {
+            dump_screen(opened, bytes);
+        }
     }
+}
+
+impl Subjects {
+    fn none(alloc: Global, about: About) -> Subjects {
+        Subjects {
+            alloc,
+            about,
+            entry: None,
+            keyboard: None,
+            beside: None,
+            text: None,
+            profile: None,
+            terminal: None,
+            memory: None,
+            picture: None,
+            ecma: None,
+            opened: None,
+            made_up: None,
+        }
+    }
+
+    // Makes the call of a line, and tells whether it is one.
+    fn is_answered(&mut self, line: &mut Line<'_>) -> Result<bool, Trouble> {
+        if line.name == "about" {
+            return self.begin(line);
+        }
+        match self.about {
+            About::Values => answer_of_values(line),
+            About::Keys => Ok(answer_of_entry(self, line)? || answer_of_keys(self, line)?),
+            About::Texts => answer_of_text(self, line),
+            About::Terminals => self.answer_of_terminals(line),
+            About::Screens => answer_of_screen(self, line).and(Ok(true)),
+        }
+    }
+
+    fn answer_of_terminals(&mut self, line: &mut Line<'_>) -> Result<bool, Trouble> {
+        Ok(
+            answer_of_entry(self, line)?
+                || answer_of_profile(self, line)?
+                || self.make_sized(line)?
+                || answer_of_terminal(self, line)?
+                || answer_of_memory(self, line)?
+                || answer_of_picture(self, line)?
+                || answer_of_ecma(self, line)?
+                || answer_of_script(self, line)?
+                || answer_of_repaint(self, line)?,
+        )
+    }
+
+    // The lines `terminal R C`, `memory R C`, a terminal of this size of which nothing is known, `picture R C` and
+    // `screen R C`, an emulated screen. Tells whether a line is one of them.
+    fn make_sized(&mut self, line: &mut Line<'_>) -> Result<bool, Trouble> {
+        let (alloc, words, got) = (line.alloc, &mut line.words, &mut line.got);
+        match line.name {
+            "terminal" => keep(
+                Terminal::new(alloc, words.size()?)?,
+                &mut self.terminal,
+                got,
+            ),
+            "memory" => keep(
+                Memory::unknown(alloc, words.size()?)?,
+                &mut self.memory,
+                got,
+            ),
+            "picture" => keep(Picture::new(alloc, words.size()?)?, &mut self.picture, got),
+            "screen" => keep(EcmaScreen::new(alloc, words.size()?)?, &mut self.ecma, got),
+            _ => return Ok(false),
+        }
+        Ok(true)
+    }
+
+    // The line `about WHAT`: nothing is there yet for the lines after it.
+    fn begin(&mut self, line: &mut Line<'_>) -> Result<bool, Trouble> {
+        let about = match line.words.name() {
+            "values" => About::Values,
+            "keys" => About::Keys,
+            "texts" => About::Texts,
+            "terminals" => About::Terminals,
+            "screens" => About::Screens,
+            _ => return Err(Trouble::Bad("no such kind of lines")),
+        };
+        put(self, Subjects::none(line.alloc, about));
+        add_word("Ok", &mut line.got);
+        Ok(true)
+    }
+}
+
+/// Keeps what was made.
+pub fn keep<T: Drop>(made: T, place: &mut Option<T>, got: &mut Buffer) {
+    *place = Some(made);
+    add_word("Ok", got);
+}
+
+/// What a line works on, which has to be there.
+pub fn ready<'a, T>(there: &'a Option<T>, lacking: &'static str) -> Result<&'a T, Trouble> {
+    there.as_ref().ok_or(Trouble::Bad(lacking))
 }

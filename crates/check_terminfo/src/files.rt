@@ -187,21 +187,28 @@ fn count_changed(
     Ok(count)
 }
 
-// Whether bytes are refused, or read and written as a file that is read and written as itself.
+// Whether bytes are refused when they are read, or are read and written as a file that is read and written as itself.
 fn is_sound(alloc: Global, bytes: &[u8]) -> Result<bool, Trouble> {
-    match written(alloc, bytes) {
-        Ok(file) => match written(alloc, &file.0) {
-            Ok(again) => Ok(again.0 == file.0),
-            Err(TicFault::NoMemory) => Err(Trouble::NoMemory),
-            Err(_) => Ok(false),
-        },
-        Err(TicFault::NoMemory) => Err(Trouble::NoMemory),
+    match decode(alloc, bytes) {
+        Ok((entry, _)) => is_kept(alloc, &entry),
+        Err(BinFault::NoMemory) => Err(Trouble::NoMemory),
         Err(_) => Ok(true),
     }
 }
 
-// The file that is written of what is read of bytes.
-fn written(alloc: Global, bytes: &[u8]) -> Result<Bytes, TicFault> {
-    let (entry, _) = decode(alloc, bytes)?;
-    Ok(ti_binary::encode(alloc, &entry)?)
+// Whether an entry is written as a file that is read and written as itself.
+fn is_kept(alloc: Global, entry: &Entry) -> Result<bool, Trouble> {
+    match written_twice(alloc, entry) {
+        Ok((file, again)) => Ok(again.0 == file.0),
+        Err(TicFault::NoMemory) => Err(Trouble::NoMemory),
+        Err(_) => Ok(false),
+    }
+}
+
+// The file of an entry, and the file of what is read of it.
+fn written_twice(alloc: Global, entry: &Entry) -> Result<(Bytes, Bytes), TicFault> {
+    let file = ti_binary::encode(alloc, entry)?;
+    let (again, _) = decode(alloc, &file.0)?;
+    let other = ti_binary::encode(alloc, &again)?;
+    Ok((file, other))
 }

@@ -7,35 +7,30 @@ use check_harness::buffers::{Buffer, are_same};
 use check_harness::troubles::Trouble;
 use curses::{Device, OpenFault, UpdateFault};
 use scr_term::{Op, Profile};
-use screen_sessions::{Answer, Call, Faulty, Report, WriterFailure, session};
+use screen_sessions::{Answer, Call, Faulty, Report, WriterFailure};
 use std::io::{ErrorKind, Write};
 
-/// In how many ways the last update of a screen can be cut: after each number of its bytes, by an error and by a write
-/// that accepts nothing, and at its flush; in none if it sent nothing.
-pub fn cuts_of(opened: &Recorded) -> usize {
-    match opened.last_sent().len() {
-        0 => 0,
-        bytes => bytes.saturating_mul(2).saturating_add(1),
-    }
-}
-
-/// Cuts the last update of a screen in each of these ways, up to the first that does not agree, and gives how many
-/// agree; all updates up to it ended well. Each cut is made in a session that makes all calls anew, and two updates
+/// Cuts the last update of a screen after each number of its bytes, by an error and by a write that accepts nothing, and
+/// at its flush, up to the first cut that does not agree; gives how many agree and how many there are, none if nothing
+/// was sent. All updates up to it ended well. Each cut is made in a session that makes all calls anew, and two updates
 /// after them. The error has to tell what was begun and how much was sent, and what was begun has to be sent to its
 /// end; the next update is Ok, and then a terminal shows the plain picture; the last is Ok and sends nothing.
 ///
 /// Refused if memory runs out.
-pub fn count_cuts(opened: &mut Recorded) -> Result<usize, Trouble> {
+pub fn count_cuts(opened: &mut Recorded) -> Result<(usize, usize), Trouble> {
+    let all = match opened.last_sent().len() {
+        0 => 0,
+        bytes => bytes.saturating_mul(2).saturating_add(1),
+    };
     let count = opened.calls.len();
     opened.calls.push(Call::Doupdate)?;
     opened.calls.push(Call::Doupdate)?;
-    let agreeing = count_agreeing(opened);
+    let agreeing = count_agreeing(opened, all);
     opened.calls.truncate(count);
-    agreeing
+    Ok((agreeing?, all))
 }
 
-fn count_agreeing(opened: &Recorded) -> Result<usize, Trouble> {
-    let all = cuts_of(opened);
+fn count_agreeing(opened: &Recorded, all: usize) -> Result<usize, Trouble> {
     for number in 0..all {
         if !agrees(opened, number)? {
             return Ok(number);
@@ -46,29 +41,19 @@ fn count_agreeing(opened: &Recorded) -> Result<usize, Trouble> {
 
 // Makes a cut: number 0 and 1 before the first byte, and so on.
 fn agrees(opened: &Recorded, number: usize) -> Result<bool, Trouble> {
-    let (behind, update) = (number / 2, opened.last_sent().len());
-    let (failure, how) = if behind >= update {
+    let (after, update) = (number / 2, opened.last_sent().len());
+    let (failure, how) = if after >= update {
         (WriterFailure::Flush, "Flush Other")
     } else if number % 2 == 0 {
         (WriterFailure::Error, "Write Other")
     } else {
         (WriterFailure::Zero, "Write WriteZero")
     };
-    let limit = opened
-        .sent
-        .len()
-        .saturating_sub(update)
-        .saturating_add(behind);
+    let start = opened.sent.len().saturating_sub(update);
+    let limit = start.saturating_add(after);
     let mut device = Device::new(Faulty::new(opened.alloc, limit, failure, 1));
-    let size = Some(opened.size);
-    match session(
-        opened.alloc,
-        &opened.entry,
-        size,
-        &opened.calls,
-        &mut device,
-    ) {
-        Ok(report) => is_wanted(opened, how, behind, &report, device.writer.taken()),
+    match opened.call_again(&mut device) {
+        Ok(report) => is_wanted(opened, how, after, &report, device.writer.taken()),
         Err(OpenFault::NoMemory) => Err(Trouble::NoMemory),
         Err(_) => Err(Trouble::Bad("no session")),
     }
@@ -79,55 +64,48 @@ fn agrees(opened: &Recorded, number: usize) -> Result<bool, Trouble> {
 fn is_wanted(
     opened: &Recorded,
     how: &str,
-    behind: usize,
+    after: usize,
     report: &Report,
     taken: &[u8],
 ) -> Result<bool, Trouble> {
-    for answer in &report.answers.0 {
-        refuse_shortage(answer)?;
+    if report.answers.0.iter().any(lacked_memory) {
+        return Err(Trouble::NoMemory);
     }
     let [.., failed, next, last] = report.answers.0.as_slice() else {
         return Ok(false);
     };
-    let (begun, end) = begun_at(&opened.display.profile, opened.last_begun(), behind);
+    let (begun, end) = begun_at(&opened.profile, opened.last_begun(), after);
     let start = opened.sent.len().saturating_sub(opened.last_sent().len());
-    let rest = taken.len().saturating_sub(start.saturating_add(behind));
+    let rest = taken.len().saturating_sub(start.saturating_add(after));
     let mut wanted = Buffer::new(opened.alloc);
     let count = begun.len();
-    let written = write!(wanted.vector(), " {how} {count} {behind} Ok {rest} Ok 0");
+    let written = write!(wanted.vector(), " {how} {count} {after} Ok {rest} Ok 0");
     wanted.check(written.is_ok());
     let mut got = Buffer::new(opened.alloc);
-    add_answer(failed, &mut got);
-    add_answer(next, &mut got);
-    add_answer(last, &mut got);
-    let is_whole = match opened.sent.get(..start.saturating_add(end)) {
-        Some(whole) => taken.starts_with(whole),
-        None => false,
-    };
+    for answer in [failed, next, last] {
+        add_answer(answer, &mut got);
+    }
+    let whole = opened.sent.get(..start.saturating_add(end));
+    let is_whole = whole.is_some_and(|whole| taken.starts_with(whole));
     let are_wanted = are_same(&wanted, &got)? && begun_by(failed) == begun && is_whole;
     Ok(are_wanted && is_shown(opened, taken)?)
 }
 
-// Refuses an answer that says that memory ran out, here or in the writer.
-fn refuse_shortage(answer: &Answer) -> Result<(), Trouble> {
-    let is_full = match answer {
+// Whether memory ran out in a call, or in the writer.
+fn lacked_memory(answer: &Answer) -> bool {
+    match answer {
         Answer::Failed(UpdateFault::Write { kind, .. }) => *kind == ErrorKind::OutOfMemory,
-        _ => false,
-    };
-    if is_full || ran_out(answer) {
-        Err(Trouble::NoMemory)
-    } else {
-        Ok(())
+        _ => ran_out(answer),
     }
 }
 
 // The operations up to the one whose text has the byte after so many, and how many bytes they have; all where there is
 // no such byte.
-fn begun_at<'a>(profile: &Profile, ops: &'a [Op], behind: usize) -> (&'a [Op], usize) {
+fn begun_at<'a>(profile: &Profile, ops: &'a [Op], after: usize) -> (&'a [Op], usize) {
     let mut end: usize = 0;
     for (place, op) in ops.iter().enumerate() {
         end = end.saturating_add(profile.cost(*op).unwrap_or(0));
-        if behind < end {
+        if after < end {
             return (ops.get(..place.saturating_add(1)).unwrap_or(ops), end);
         }
     }
@@ -136,7 +114,6 @@ fn begun_at<'a>(profile: &Profile, ops: &'a [Op], behind: usize) -> (&'a [Op], u
 
 // Whether a blank terminal that is fed what the writer accepted shows the plain picture.
 fn is_shown(opened: &Recorded, taken: &[u8]) -> Result<bool, Trouble> {
-    let display = &opened.display;
-    let mut emulated = Emulated::new(opened.alloc, &opened.entry, opened.size)?;
-    Ok(emulated.feed(taken) && display.plain.is_shown(&emulated, &display.profile))
+    let mut emulated = Emulated::new(opened.alloc, &opened.profile)?;
+    Ok(emulated.feed(taken) && opened.plain.is_shown(&emulated, &opened.profile))
 }

@@ -1,88 +1,78 @@
-//! The terminal of an entry, emulated: by the bytes that it is sent, or by the operations.
+//! The terminal of an entry, emulated: by the operations of its updates, and by the bytes that it is sent.
 
+use check_harness::troubles::Trouble;
 use scr_cells::{Attrs, Look, NoMemory, Size};
 use scr_term::{Op, Profile, Spot};
 use scr_terminal::{EcmaScreen, Terminal};
 use std::alloc::Global;
-use ti_caps::{Entry, Slot, slots};
-
-// The texts that insert and delete lines and characters.
-static MOVING_SLOTS: [Slot; 7] = [
-    slots::IL1,
-    slots::IL,
-    slots::DL1,
-    slots::DL,
-    slots::ICH,
-    slots::DCH1,
-    slots::DCH,
-];
 
 /// An emulated terminal.
 #[derive(Drop)]
-pub enum Emulated {
-    /// It reads the bytes that it is sent, which are ECMA-48.
-    Bytes(EcmaScreen),
-    /// It executes the operations that an update began: where the entry has texts that insert and delete lines and
-    /// characters, which the emulated ECMA-48 terminal does not know.
-    Operations(Terminal),
+pub struct Emulated {
+    /// It executes the operations that updates begin.
+    pub(crate) terminal: Terminal,
+    // It reads the bytes that are sent, where these are ECMA-48, and what it shows counts then. It does not know the
+    // texts that insert and delete lines and characters: a terminal that has one of them is the other alone.
+    screen: Option<EcmaScreen>,
 }
 
 impl Emulated {
-    /// A blank terminal of an entry.
-    pub fn new(alloc: Global, entry: &Entry, size: Size) -> Result<Emulated, NoMemory> {
-        if MOVING_SLOTS.iter().any(|slot| entry.text(*slot).is_some()) {
-            Ok(Emulated::Operations(Terminal::new(alloc, size)?))
+    /// A blank terminal.
+    pub fn new(alloc: Global, profile: &Profile) -> Result<Emulated, NoMemory> {
+        let terminal = Terminal::new(alloc, profile.size())?;
+        let screen = if can_move(profile) {
+            None
         } else {
-            Ok(Emulated::Bytes(EcmaScreen::new(alloc, size)?))
-        }
+            Some(EcmaScreen::new(alloc, profile.size())?)
+        };
+        Ok(Emulated { terminal, screen })
     }
 
-    /// Reads bytes, and tells whether they are defined. One that executes operations reads none.
+    /// Reads bytes, and tells whether they are defined. One that reads none wants none.
     pub fn feed(&mut self, bytes: &[u8]) -> bool {
-        match self {
-            Emulated::Bytes(screen) => screen.feed(bytes).is_ok(),
-            Emulated::Operations(_) => bytes.is_empty(),
+        match &mut self.screen {
+            Some(screen) => screen.feed(bytes).is_ok(),
+            None => bytes.is_empty(),
         }
     }
 
-    /// Reads the bytes of an update, or executes its operations, and tells whether all are defined.
+    /// Executes the operations of an update and reads its bytes, and tells whether all are defined.
     pub fn take(&mut self, profile: &Profile, bytes: &[u8], ops: &[Op]) -> bool {
-        match self {
-            Emulated::Bytes(screen) => screen.feed(bytes).is_ok(),
-            Emulated::Operations(terminal) => are_stepped(terminal, profile, ops),
+        for op in ops {
+            if !matches!(step_on(&mut self.terminal, profile, *op), Ok(true)) {
+                return false;
+            }
         }
+        self.screen.is_none() || self.feed(bytes)
     }
 
     /// The number of rows and columns.
     pub fn size(&self) -> Size {
-        match self {
-            Emulated::Bytes(screen) => screen.size(),
-            Emulated::Operations(terminal) => terminal.size(),
-        }
+        self.terminal.size()
     }
 
     /// The looks of a row; none where there is no such row.
     pub fn row(&self, row: u32) -> &[Look] {
-        match self {
-            Emulated::Bytes(screen) if row < screen.size().rows => screen.row(row),
-            Emulated::Operations(terminal) if row < terminal.size().rows => terminal.row(row),
+        match &self.screen {
+            Some(screen) if row < screen.size().rows => screen.row(row),
+            None if row < self.terminal.size().rows => self.terminal.row(row),
             _ => &[],
         }
     }
 
     /// Where the cursor is.
     pub fn spot(&self) -> Spot {
-        match self {
-            Emulated::Bytes(screen) => screen.spot(),
-            Emulated::Operations(terminal) => terminal.spot(),
+        match &self.screen {
+            Some(screen) => screen.spot(),
+            None => self.terminal.spot(),
         }
     }
 
     /// Whether others may write on it: it reads bytes, and waits for the rest of none.
     pub fn is_free(&self) -> bool {
-        match self {
-            Emulated::Bytes(screen) => !screen.waiting(),
-            Emulated::Operations(_) => false,
+        match &self.screen {
+            Some(screen) => !screen.waiting(),
+            None => false,
         }
     }
 
@@ -90,30 +80,27 @@ impl Emulated {
     /// of the bundled entry is SGR 7).
     pub fn seen(&self, wanted: u8) -> u8 {
         let standout = Attrs::STANDOUT.0;
-        match self {
-            Emulated::Bytes(_) if wanted & standout != 0 => {
-                wanted & !standout | Attrs::REVERSE.0
-            }
-            _ => wanted,
+        if self.screen.is_some() && wanted & standout != 0 {
+            wanted & !standout | Attrs::REVERSE.0
+        } else {
+            wanted
         }
     }
 }
 
-/// Executes operations on a terminal, and tells whether all are defined.
-pub fn are_stepped(terminal: &mut Terminal, profile: &Profile, ops: &[Op]) -> bool {
-    for op in ops {
-        if step_on(terminal, profile, *op) != Some(true) {
-            return false;
-        }
-    }
-    true
+// Whether a terminal can insert or delete lines or characters.
+fn can_move(profile: &Profile) -> bool {
+    profile.has(Op::InsertLines(1))
+        || profile.has(Op::DeleteLines(1))
+        || profile.has(Op::InsertChars(1))
+        || profile.has(Op::DeleteChars(1))
 }
 
-/// Executes an operation on a terminal, and tells whether it is defined; `None` where the profile has another size.
-pub fn step_on(terminal: &mut Terminal, profile: &Profile, op: Op) -> Option<bool> {
+/// Executes an operation on a terminal, and tells whether it is defined.
+pub fn step_on(terminal: &mut Terminal, profile: &Profile, op: Op) -> Result<bool, Trouble> {
     let (size, other) = (terminal.size(), profile.size());
     if size.rows != other.rows || size.columns != other.columns {
-        return None;
+        return Err(Trouble::Bad("the profile has another size"));
     }
-    Some(terminal.step(profile, op).is_ok())
+    Ok(terminal.step(profile, op).is_ok())
 }

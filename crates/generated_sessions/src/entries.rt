@@ -11,38 +11,24 @@ pub static MOVING: &str =
     "il1 \"\\e[L\" il \"\\e[%p1%dL\" dl1 \"\\e[M\" dl \"\\e[%p1%dM\" ich \"\\e[%p1%d@\" \
     dch1 \"\\e[P\" dch \"\\e[%p1%dP\"";
 
-// How many names a line has at most.
-const MOST: usize = 64;
-
 /// The bundled entry without the flags and the texts that a line names, up to its `=`, and with the numbers that it
 /// names and gives; a text that follows its name is used in place of the bundled one. `None` where the library
 /// was refused memory.
 pub fn read_entry(alloc: Global, words: &mut Words<'_>) -> Option<Entry> {
-    let entry = match bundled(alloc) {
-        Ok(mut entry) => change_all(alloc, &mut entry, words).then_some(entry),
-        Err(_) => None,
-    };
-    // What is wanted of the line comes after the names that are left.
-    for _ in 0..MOST {
-        if words.is_at_end() {
-            break;
-        }
-        let _name = words.next();
-    }
+    let entry = changed_bundled(alloc, words).ok();
+    words.skip();
     entry
 }
 
-// Changes an entry as a line says, and tells whether there was memory for it.
-fn change_all(alloc: Global, entry: &mut Entry, words: &mut Words<'_>) -> bool {
-    for _ in 0..MOST {
+fn changed_bundled(alloc: Global, words: &mut Words<'_>) -> Result<Entry, CapFault> {
+    let mut entry = bundled(alloc)?;
+    for _ in 0..u32::MAX {
         if words.is_at_end() {
-            return true;
+            break;
         }
-        if change_capability(alloc, entry, words).is_err() {
-            return false;
-        }
+        change_capability(alloc, &mut entry, words)?;
     }
-    true
+    Ok(entry)
 }
 
 /// Has an entry no flag of the name that follows, or the text or the number that comes after the name, or no text.
@@ -53,28 +39,18 @@ pub fn change_capability(
 ) -> Result<(), CapFault> {
     match find_name(words.next()) {
         Some((Kind::Flag, slot)) => entry.set_flag(slot, false),
-        Some((Kind::Text, slot)) => set_text(alloc, entry, slot, words),
+        Some((Kind::Text, slot)) if words.peek().starts_with(b"\"") => {
+            let mut text = Buffer::new(alloc);
+            words.text(&mut text);
+            entry.set_text(slot, Some(text.bytes()))
+        }
+        Some((Kind::Text, slot)) => entry.set_text(slot, None),
         Some((Kind::Number, slot)) => set_number(entry, slot, words),
         None => {
             words.fail(Trouble::Bad("no such capability"));
             Ok(())
         }
     }
-}
-
-// Sets the text that follows in quotation marks, or none.
-fn set_text(
-    alloc: Global,
-    entry: &mut Entry,
-    slot: Slot,
-    words: &mut Words<'_>,
-) -> Result<(), CapFault> {
-    if !words.peek().starts_with(b"\"") {
-        return entry.set_text(slot, None);
-    }
-    let mut text = Buffer::new(alloc);
-    words.text(&mut text);
-    entry.set_text(slot, Some(text.bytes()))
 }
 
 fn set_number(entry: &mut Entry, slot: Slot, words: &mut Words<'_>) -> Result<(), CapFault> {

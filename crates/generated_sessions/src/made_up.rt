@@ -91,9 +91,18 @@ static WORDS: [&[u8]; 8] = [
 
 /// Adds a line that is made up.
 pub fn add_line(alloc: Global, screen: &Screen, random: &mut Random, line: &mut Buffer) {
-    let count = count_of(&LINES);
-    let made = line_at(&LINES, random.below(count));
-    add_arguments(alloc, screen, made, random, line);
+    let mut count: u32 = 0;
+    for (_, often) in &LINES {
+        count = count.saturating_add(*often);
+    }
+    let mut left = random.below(count);
+    for (made, often) in &LINES {
+        if left < *often {
+            add_words(alloc, screen, made, random, line);
+            return;
+        }
+        left = left.saturating_sub(*often);
+    }
 }
 
 /// Adds a copy of a window to the virtual screen, most often of the first.
@@ -104,43 +113,23 @@ pub fn add_taking(alloc: Global, screen: &Screen, random: &mut Random, line: &mu
         2 => "pad_noutrefresh 2 0 N T L E E",
         _ => "noutrefresh 0",
     };
-    add_arguments(alloc, screen, taking, random, line);
+    add_words(alloc, screen, taking, random, line);
 }
 
-// How many lines there are in a table, each as often as it says.
-fn count_of(lines: &[(&'static str, u32)]) -> u32 {
-    let mut count = 0u32;
-    for (_, often) in lines {
-        count = count.saturating_add(*often);
-    }
-    count
-}
-
-// The line in a place of a table that has each as often as it says.
-fn line_at(lines: &[(&'static str, u32)], place: u32) -> &'static str {
-    let mut left = place;
-    for (line, often) in lines {
-        if left < *often {
-            return line;
-        }
-        left = left.saturating_sub(*often);
-    }
-    "erase 0"
-}
-
-// Adds a line with arguments for its letters.
-fn add_arguments(
-    alloc: Global,
-    screen: &Screen,
-    line: &str,
-    random: &mut Random,
-    made: &mut Buffer,
-) {
-    let mut about = About::new(alloc, screen, random);
+// Adds the words of a line, with arguments for its letters.
+fn add_words(alloc: Global, screen: &Screen, line: &str, random: &mut Random, made: &mut Buffer) {
+    let win = next_window(screen, random);
+    let mut about = About {
+        screen,
+        win,
+        size: screen.size(win).unwrap_or((4, 9)),
+        numbers: (0, 0),
+    };
     for word in line.split(' ') {
-        if !about.add_argument(word, random, made) {
-            about.keep(word);
-            add_word(word, made);
+        match word {
+            "S" => add_number(i64::from(random.signed()), made),
+            "X" | "Z" => add_bytes(alloc, word, random, made),
+            _ => about.add_word(word, random, made),
         }
     }
 }
@@ -148,7 +137,6 @@ fn add_arguments(
 // What a call is about: a window of a screen and its size; and the last two numbers that were made up.
 #[derive(Drop)]
 struct About<'a> {
-    alloc: Global,
     screen: &'a Screen,
     win: Win,
     size: (u32, u32),
@@ -156,44 +144,21 @@ struct About<'a> {
 }
 
 impl<'a> About<'a> {
-    // A window that is there, most often, and often one of the last four.
-    fn new(alloc: Global, screen: &'a Screen, random: &mut Random) -> About<'a> {
-        let win = next_window(screen, random);
-        About {
-            alloc,
-            screen,
-            win,
-            size: screen.size(win).unwrap_or((4, 9)),
-            numbers: (0, 0),
-        }
-    }
-
-    // Keeps a window that a line names.
-    fn keep(&mut self, word: &str) {
-        let win = match word {
-            "0" => Win(0),
-            "1" => Win(1),
-            "2" => Win(2),
-            _ => return,
-        };
-        self.win = win;
-        self.size = self.screen.size(win).unwrap_or((4, 9));
-    }
-
-    // Adds the argument that a letter stands for, and tells whether the word is one.
-    fn add_argument(&mut self, word: &str, random: &mut Random, made: &mut Buffer) -> bool {
-        match word {
-            "S" => add_number(i64::from(random.signed()), made),
-            "X" | "Z" => add_bytes(self.alloc, word, random, made),
-            _ => match self.number(word, random) {
-                Some(number) => {
-                    self.numbers = (self.numbers.1, number);
-                    add_number(i64::from(number), made)
+    // Adds the number that a letter stands for, or a word, which may be the number of a window.
+    fn add_word(&mut self, word: &str, random: &mut Random, made: &mut Buffer) {
+        match self.number(word, random) {
+            Some(number) => {
+                self.numbers = (self.numbers.1, number);
+                add_number(i64::from(number), made);
+            }
+            None => {
+                if let Ok(number) = word.parse::<u32>() {
+                    self.win = Win(number);
+                    self.size = self.screen.size(self.win).unwrap_or((4, 9));
                 }
-                None => return false,
-            },
+                add_word(word, made);
+            }
         }
-        true
     }
 
     // The number that a letter stands for.

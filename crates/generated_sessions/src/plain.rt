@@ -19,9 +19,9 @@ pub struct Plain {
     size: Size,
     places: Vec<Place>,
     // The foreground and the background of each colour pair.
-    pairs: Vec<(u8, u8)>,
+    pairs: Vec<(u32, u32)>,
     wish: Option<(u32, u32)>,
-    // Which lines of the window that is copied next are touched.
+    // Which lines of the window that is copied next are touched. All of a pad are copied.
     touched: Vec<bool>,
 }
 
@@ -34,8 +34,6 @@ struct Part {
     left: u32,
     rows: u32,
     columns: u32,
-    // Whether untouched lines are copied, too.
-    is_whole: bool,
 }
 
 impl Plain {
@@ -53,10 +51,10 @@ impl Plain {
 
     /// Keeps which lines the next call copies.
     pub fn prepare(&mut self, screen: &Screen, call: &Call) -> Result<(), Trouble> {
+        self.touched.clear();
         if let Call::Noutrefresh(win) = call
             && let Ok(window) = screen.window(*win)
         {
-            self.touched.clear();
             let (rows, _) = window.size();
             for row in 0..rows {
                 self.touched.push(is_touched(&window, row))?;
@@ -69,7 +67,9 @@ impl Plain {
     pub fn follow(&mut self, screen: &Screen, call: &Call) {
         match call {
             Call::SetPair(pair, foreground, background) => {
-                self.set_pair(*pair, *foreground, *background);
+                if let Some(there) = self.pairs.get_mut(*pair as usize) {
+                    *there = (*foreground, *background);
+                }
             }
             Call::Noutrefresh(win) => {
                 if let Some(part) = window_part(screen, *win) {
@@ -84,19 +84,10 @@ impl Plain {
                     left: *left,
                     rows: bottom.saturating_sub(*top).saturating_add(1),
                     columns: right.saturating_sub(*left).saturating_add(1),
-                    is_whole: true,
                 };
                 self.take(screen, *win, part);
             }
             _ => {}
-        }
-    }
-
-    fn set_pair(&mut self, pair: u32, foreground: u32, background: u32) {
-        let foreground = u8::try_from(foreground).unwrap_or(0);
-        let background = u8::try_from(background).unwrap_or(0);
-        if let Some(there) = self.pairs.get_mut(pair as usize) {
-            *there = (foreground, background);
         }
     }
 
@@ -107,7 +98,7 @@ impl Plain {
         };
         for row in 0..part.rows {
             let line = part.row.saturating_add(row);
-            if part.is_whole || self.was_touched(line) {
+            if self.touched.get(line as usize) != Some(&false) {
                 self.take_line(line_of(&window, line), part, row);
             }
         }
@@ -118,25 +109,22 @@ impl Plain {
         };
     }
 
-    // Whether a line of the window that is copied was touched.
-    fn was_touched(&self, line: u32) -> bool {
-        self.touched.get(line as usize).copied().unwrap_or(false)
-    }
-
     fn take_line(&mut self, line: &[Cell], part: Part, row: u32) {
         let cells = line
             .iter()
             .skip(part.column as usize)
             .take(part.columns as usize);
-        for (column, cell) in cells.enumerate() {
-            let column = (part.left as usize).saturating_add(column);
-            let first = (part.top.saturating_add(row) as usize).saturating_mul(
-                self.size.columns as usize,
-            );
-            if let Some(place) = self.places.get_mut(first.saturating_add(column)) {
-                *place = (cell.byte(), cell.attrs().0, cell.pair());
-            }
+        let first = self.place_of(part.top.saturating_add(row), part.left);
+        for (place, cell) in self.places.iter_mut().skip(first).zip(cells) {
+            *place = (cell.byte(), cell.attrs().0, cell.pair());
         }
+    }
+
+    // The place of a row and a column in the list of all.
+    fn place_of(&self, row: u32, column: u32) -> usize {
+        (row as usize)
+            .saturating_mul(self.size.columns as usize)
+            .saturating_add(column as usize)
     }
 
     /// Whether a terminal shows it, with the cursor where it is wished.
@@ -157,21 +145,20 @@ impl Plain {
     }
 
     fn is_row_shown(&self, emulated: &Emulated, profile: &Profile, row: u32) -> bool {
-        let columns = self.size.columns as usize;
-        let first = (row as usize).saturating_mul(columns);
         let looks = emulated.row(row);
-        for (look, place) in looks.iter().zip(self.places.iter().skip(first)) {
+        let places = self.places.iter().skip(self.place_of(row, 0));
+        for (look, place) in looks.iter().zip(places) {
             if !self.is_seen(emulated, profile, *look, *place) {
                 return false;
             }
         }
-        looks.len() == columns
+        looks.len() == self.size.columns as usize
     }
 
     // Whether a look is what a terminal with these operations shows of a place.
     fn is_seen(&self, emulated: &Emulated, profile: &Profile, look: Look, place: Place) -> bool {
         let (byte, attrs, pair) = place;
-        let colours = match self.pairs.get(pair as usize) {
+        let (foreground, background) = match self.pairs.get(pair as usize) {
             Some((foreground, background)) if pair > 0 && profile.colours() => {
                 (Some(*foreground), Some(*background))
             }
@@ -179,7 +166,8 @@ impl Plain {
         };
         look.byte() == byte
             && look.attrs().0 == emulated.seen(attrs & profile.shows().0)
-            && (look.foreground(), look.background()) == colours
+            && look.foreground().map(u32::from) == foreground
+            && look.background().map(u32::from) == background
     }
 }
 
@@ -209,7 +197,6 @@ fn window_part(screen: &Screen, win: Win) -> Option<Part> {
         left,
         rows,
         columns,
-        is_whole: false,
     })
 }
 

@@ -1,10 +1,10 @@
 //! A screen whose calls and answers are kept, and the emulated terminal that its updates are sent to.
 
-use crate::answers::{Ended, add_answer, add_answers, add_sent, begun_by, end_of, ran_out};
-use crate::bounds::Left;
+use crate::answers::{add_answer, add_sent, begun_by, ran_out};
 use crate::emulated::Emulated;
 use crate::plain::Plain;
-use crate::writers::{End, Fails, writer_that};
+use crate::repaints::{bytes_of, joined_on, scratch_on};
+use crate::writers::writer_that;
 use check_harness::answers::add_word;
 use check_harness::buffers::{Buffer, are_same};
 use check_harness::checking::put;
@@ -18,29 +18,30 @@ use screen_sessions::{
 use std::alloc::Global;
 use ti_caps::{Entry, slots};
 
-/// A terminal, what it has to show, and what the last update left there.
-#[derive(Drop)]
-pub struct Display {
-    /// The terminal's operations.
-    pub profile: Profile,
-    /// What the terminal shows.
-    pub emulated: Emulated,
-    // What it has to show after an update that ends well.
-    pub(crate) plain: Plain,
-    // What the last update left there.
-    left: Left,
+// What the next update may send.
+#[derive(Clone, Copy)]
+enum Allowed {
+    // What is owed, and what paints the screen anew.
+    Owed,
+    // What paints the screen anew.
+    Anew,
+    // Only what differs.
+    Differing,
 }
 
 /// A screen, its terminal, and what was called, answered and sent since it was opened.
 #[derive(Drop)]
 pub struct Recorded {
     pub(crate) alloc: Global,
-    pub(crate) size: Size,
-    pub(crate) entry: Entry,
+    entry: Entry,
     /// The screen.
     pub screen: Screen,
-    /// The terminal.
-    pub display: Display,
+    /// The terminal's operations.
+    pub profile: Profile,
+    /// What the terminal shows.
+    pub emulated: Emulated,
+    // What it has to show after an update that ends well.
+    pub(crate) plain: Plain,
     // Each update has a writer of its own. The device counts the failures of all.
     device: Device<Faulty>,
     pub(crate) calls: Vec<Call>,
@@ -48,12 +49,14 @@ pub struct Recorded {
     // All bytes that the writers accepted, and where they failed, after how many of these.
     pub(crate) sent: Vec<u8>,
     faults: Vec<WriterFault>,
-    // Whether the last update ended well.
+    // Whether the last update ended well, the operations that it began, and what the next one may send.
     last_ok: bool,
+    last: Ops,
+    allowed: Allowed,
+    /// What is wrong with the last update, if anything is.
+    pub trouble: Option<&'static str>,
     /// Whether each call is made by a list of it alone.
     pub is_listed: bool,
-    // The operations of the last update.
-    last: Ops,
 }
 
 impl Recorded {
@@ -65,89 +68,130 @@ impl Recorded {
         size: Size,
         opened: &mut Option<Recorded>,
     ) -> Result<Option<OpenFault>, Trouble> {
-        match open_display(alloc, &entry, size)? {
-            Ok(display) => Ok(add_screen(alloc, entry, size, display, opened)),
-            Err(fault) => Ok(Some(fault)),
-        }
-    }
-
-    fn begun(
-        alloc: Global,
-        entry: Entry,
-        size: Size,
-        display: Display,
-        screen: Screen,
-    ) -> Recorded {
-        Recorded {
+        let profile = match Profile::admit(alloc, &entry, Some(size)) {
+            Ok(profile) => profile,
+            Err(ProfileFault::NoMemory) => return Ok(Some(OpenFault::NoMemory)),
+            Err(fault) => return Ok(Some(OpenFault::Profile(fault))),
+        };
+        let (emulated, plain) = (Emulated::new(alloc, &profile)?, Plain::blank(alloc, size)?);
+        let screen = match Screen::open(alloc, &entry, Some(size)) {
+            Ok(screen) => screen,
+            Err(fault) => return Ok(Some(fault)),
+        };
+        let recorded = Recorded {
             alloc,
-            size,
             entry,
             screen,
-            display,
+            profile,
+            emulated,
+            plain,
             device: Device::new(Faulty::new(alloc, 0, WriterFailure::Error, 0)),
             calls: Vec::new(alloc),
             answers: Buffer::new(alloc),
             sent: Vec::new(alloc),
             faults: Vec::new(alloc),
             last_ok: false,
-            is_listed: false,
             last: Ops(Vec::new(alloc)),
-        }
+            allowed: Allowed::Anew,
+            trouble: None,
+            is_listed: false,
+        };
+        put(opened, Some(recorded));
+        Ok(None)
     }
 
     /// Makes a call other than an update, and adds what it answers.
     pub fn call(&mut self, call: Call, got: &mut Buffer) -> Result<(), Trouble> {
         if may_paint_all(&self.screen, &call) {
-            self.display.left.forget();
+            self.paint_all();
         }
-        self.display.plain.prepare(&self.screen, &call)?;
-        let (call, answer) = self.answered(call)?;
-        if matches!(answer, Answer::Nothing) {
-            self.display.plain.follow(&self.screen, &call);
+        self.plain.prepare(&self.screen, &call)?;
+        self.calls.push(call)?;
+        let answer = self.make_last(got)?;
+        if matches!(answer, Answer::Nothing)
+            && let Some(call) = self.calls.last()
+        {
+            self.plain.follow(&self.screen, call);
         }
-        self.keep(call, &answer, got)
+        Ok(())
     }
 
-    /// Updates with a writer that fails so, adds what the update answers, and tells whether all is as it has to be.
-    /// Where that is Ok, the terminal has to show the plain picture, no more may be sent than the joined repaint, or
-    /// than painting from scratch, and where nothing is sent or memory ran out, the writer may not be called; adds what
-    /// is not so.
-    pub fn update(&mut self, fails: Fails, got: &mut Buffer) -> Result<bool, Trouble> {
+    /// Updates with a writer that fails so, and adds what the update answers, and what is wrong, if anything is. Where
+    /// the answer is Ok, the terminal has to show the plain picture, and where nothing is sent or memory ran out, the
+    /// writer may not be called.
+    pub fn update(&mut self, fails: Option<WriterFault>, got: &mut Buffer) -> Result<(), Trouble> {
         self.device.writer = writer_that(self.alloc, fails)?;
-        let ended = self.make_update(got)?;
-        if !self.feed()? {
-            add_word("and an undefined text", got);
-            return Ok(false);
+        self.calls.push(Call::Doupdate)?;
+        let answer = self.make_last(got)?;
+        self.last.0.clear();
+        self.last.0.extend_from_slice(begun_by(&answer))?;
+        self.sent.extend_from_slice(self.device.writer.taken())?;
+        self.trouble = self.trouble_after(&answer);
+        if let Some(words) = self.trouble {
+            add_word(words, got);
         }
-        match ended {
-            Ended::Well(bytes) => self.end_well(bytes, got),
-            Ended::RanOut => Ok(self.add_calls(got)),
-            Ended::Failed => {
-                self.keep_fault(fails)?;
-                self.last_ok = false;
-                self.display.left.owe();
-                Ok(true)
+        match &answer {
+            Answer::Sent(_) => {
+                self.last_ok = true;
+                self.allowed = Allowed::Differing;
             }
+            answer if ran_out(answer) => {}
+            _ => {
+                self.last_ok = false;
+                self.allowed = Allowed::Owed;
+                // A session's writer fails there, too.
+                if let Some(fault) = fails {
+                    let limit = self.sent.len();
+                    self.faults.push(WriterFault { limit, ..fault })?;
+                }
+            }
+        }
+        Ok(())
+    }
+
+    // Gives the terminal what an update sent that answered so, and tells what is wrong, if anything is.
+    fn trouble_after(&mut self, answer: &Answer) -> Option<&'static str> {
+        let (writer, is_ok) = (&self.device.writer, matches!(answer, Answer::Sent(_)));
+        let is_silent = ran_out(answer) || is_ok && writer.taken().is_empty();
+        if !self
+            .emulated
+            .take(&self.profile, writer.taken(), &self.last.0)
+        {
+            Some("and an undefined text or operation")
+        } else if is_ok && !self.plain.is_shown(&self.emulated, &self.profile) {
+            Some("and the terminal shows something else")
+        } else if is_silent && writer.calls() > 0 {
+            Some("and the writer was called")
+        } else {
+            None
         }
     }
 
     /// Starts or closes the screen with a writer that fails so, and adds what that answers. The emulated screen is fed
     /// what was sent where the entry has no text for it: others are not ECMA-48.
-    pub fn send_end(&mut self, end: End, fails: Fails, got: &mut Buffer) -> Result<(), Trouble> {
-        self.display.left.forget();
+    pub fn send_end(
+        &mut self,
+        is_start: bool,
+        fails: Option<WriterFault>,
+        got: &mut Buffer,
+    ) -> Result<(), Trouble> {
+        self.paint_all();
         self.device.writer = writer_that(self.alloc, fails)?;
-        let sent = match end {
-            End::Start => self.screen.start(&mut self.device),
-            End::Close => self.screen.close(&mut self.device),
+        let sent = if is_start {
+            self.screen.start(&mut self.device)
+        } else {
+            self.screen.close(&mut self.device)
         };
         add_sent(&sent, got);
-        if sent == Ok(0) {
-            let _uncalled = self.add_calls(got);
+        if sent == Ok(0) && self.device.writer.calls() > 0 {
+            add_word("and the writer was called", got);
         }
-        if !has_ends(&self.entry) && !self.display.emulated.feed(self.device.writer.taken()) {
+        let taken = self.device.writer.taken();
+        if !has_ends(&self.entry) && !self.emulated.feed(taken) {
             add_word("and an undefined text", got);
         }
-        self.keep_sent()
+        self.sent.extend_from_slice(taken)?;
+        Ok(())
     }
 
     /// Adds what the writer accepted, how often it failed, and whether the last update ended well.
@@ -158,34 +202,62 @@ impl Recorded {
         bytes.push(u8::from(self.last_ok));
     }
 
-    // Adds that the writer was called, where it was, and tells whether it was not.
-    fn add_calls(&self, got: &mut Buffer) -> bool {
-        let is_called = self.device.writer.calls() > 0;
-        if is_called {
-            add_word("and the writer was called", got);
-        }
-        !is_called
-    }
-
     /// Makes the calls by one session with a writer that fails where those of the updates did, and adds `agrees` where
     /// its answers, its bytes and whether its last update ended well are the same.
     pub fn add_session(&self, got: &mut Buffer) -> Result<(), Trouble> {
         let room = Vec::with_capacity(self.alloc, self.sent.len())?;
         let mut device = Device::new(Faulty::with_faults(room, self.faults.clone()?));
-        let size = Some(self.size);
-        match session(self.alloc, &self.entry, size, &self.calls, &mut device) {
-            Ok(report) => return self.add_agrees(&device, &report, got),
+        match self.call_again(&mut device) {
+            Ok(report) => add_word(self.compared(&report, &device)?, got),
             Err(OpenFault::NoMemory) if device.writer.calls() == 0 => add_word("NoMemory", got),
             Err(_) => add_word("no session", got),
         }
         Ok(())
     }
 
-    /// How many bytes the next update may send, as far as that is known.
+    /// Makes all calls again by one session.
+    pub(crate) fn call_again(&self, device: &mut Device<Faulty>) -> Result<Report, OpenFault> {
+        let size = Some(self.profile.size());
+        session(self.alloc, &self.entry, size, &self.calls, device)
+    }
+
+    // Whether a session has answered and sent the same, in a word.
+    fn compared(&self, report: &Report, device: &Device<Faulty>) -> Result<&'static str, Trouble> {
+        let mut answers = Buffer::new(self.alloc);
+        for answer in &report.answers.0 {
+            if ran_out(answer) {
+                return Ok("NoMemory");
+            }
+            add_answer(answer, &mut answers);
+        }
+        let agrees = are_same(&self.answers, &answers)?
+            && report.last_ok == self.last_ok
+            && device.writer.taken() == self.sent.as_slice()
+            && device.failed_puts == self.device.failed_puts
+            && device.failed_finishes == self.device.failed_finishes;
+        Ok(if agrees { "agrees" } else { "differs" })
+    }
+
+    /// How many bytes the next update may send, as far as that is known: where only what differs may be sent, those of
+    /// the joined repaint, else those of painting from scratch.
     pub fn most(&self) -> Result<Option<usize>, Trouble> {
-        self.display
-            .left
-            .most(&self.display.profile, self.screen.picture())
+        let (profile, picture) = (&self.profile, self.screen.picture());
+        let ops = match self.allowed {
+            Allowed::Owed => return Ok(None),
+            Allowed::Anew => scratch_on(self.alloc, profile, picture)?,
+            Allowed::Differing => {
+                let mut terminal = self.emulated.terminal.try_clone(self.alloc)?;
+                joined_on(self.alloc, profile, &mut terminal, picture)?
+            }
+        };
+        Ok(Some(bytes_of(profile, &ops.0)))
+    }
+
+    // The next update may paint everything.
+    fn paint_all(&mut self) {
+        if matches!(self.allowed, Allowed::Differing) {
+            self.allowed = Allowed::Anew;
+        }
     }
 
     /// What the last update sent.
@@ -198,130 +270,27 @@ impl Recorded {
         &self.last.0
     }
 
-    fn add_agrees(
-        &self,
-        device: &Device<Faulty>,
-        report: &Report,
-        got: &mut Buffer,
-    ) -> Result<(), Trouble> {
-        let mut answers = Buffer::new(self.alloc);
-        if !add_answers(report, &mut answers) {
-            add_word("NoMemory", got);
-            return Ok(());
-        }
-        let is_same = self.has_sent(device) && report.last_ok == self.last_ok;
-        let agrees = are_same(&self.answers, &answers)? && is_same;
-        add_word(if agrees { "agrees" } else { "differs" }, got);
-        Ok(())
-    }
-
-    // Makes an update, keeps the operations that it began, and tells how it ended.
-    fn make_update(&mut self, got: &mut Buffer) -> Result<Ended, Trouble> {
-        let (call, answer) = self.answered(Call::Doupdate)?;
-        self.last.0.clear();
-        self.last.0.extend_from_slice(begun_by(&answer))?;
-        self.keep(call, &answer, got)?;
-        Ok(end_of(&answer))
-    }
-
-    // Makes a call, by itself or by a list of it alone, and gives it back with its answer.
-    fn answered(&mut self, call: Call) -> Result<(Call, Answer), Trouble> {
-        let (screen, device) = (&mut self.screen, &mut self.device);
-        if self.is_listed {
-            return make_listed(self.alloc, screen, call, device);
-        }
-        let answer = make_call(self.alloc, screen, &call, device);
-        Ok((call, answer))
-    }
-
-    // Keeps a call with its answer unless memory ran out, and adds the answer.
-    fn keep(&mut self, call: Call, answer: &Answer, got: &mut Buffer) -> Result<(), Trouble> {
-        add_answer(answer, got);
-        if !ran_out(answer) {
-            add_answer(answer, &mut self.answers);
-            self.calls.push(call)?;
-        }
-        Ok(())
-    }
-
-    // Feeds the terminal what the last update sent, and tells whether that is defined.
-    fn feed(&mut self) -> Result<bool, Trouble> {
-        let (display, taken) = (&mut self.display, self.device.writer.taken());
-        let is_fed = display.emulated.take(&display.profile, taken, &self.last.0);
-        self.keep_sent()?;
-        Ok(is_fed)
-    }
-
-    // Keeps what the writer accepted.
-    fn keep_sent(&mut self) -> Result<(), Trouble> {
-        self.sent.extend_from_slice(self.device.writer.taken())?;
-        Ok(())
-    }
-
-    // Keeps where the writer of the last update failed, and how: a session's writer fails there too.
-    fn keep_fault(&mut self, fails: Fails) -> Result<(), Trouble> {
-        if let Some(fault) = fails.fault() {
-            let limit = self.sent.len();
-            self.faults.push(WriterFault { limit, ..fault })?;
-        }
-        Ok(())
-    }
-
-    // Adds what is wrong with an update that ended well, and tells whether nothing is.
-    fn end_well(&mut self, bytes: u64, got: &mut Buffer) -> Result<bool, Trouble> {
-        let most = self.most()?;
-        self.last_ok = true;
-        let is_defined = self.display.left.learn(&self.display.profile, &self.last.0);
-        let trouble = if is_defined {
-            self.trouble_of(bytes, most)
-        } else {
-            Some("and an undefined operation")
+    // Makes the last call of the list, by itself or by a list of it alone, adds its answer, and keeps both unless memory
+    // ran out. Want of memory for the list's answers is answered as that of an update is.
+    fn make_last(&mut self, got: &mut Buffer) -> Result<Answer, Trouble> {
+        let (alloc, screen, device) = (self.alloc, &mut self.screen, &mut self.device);
+        let before = self.calls.len().saturating_sub(1);
+        let made = match self.calls.get(before..).unwrap_or(&[]) {
+            [call] if !self.is_listed => Some(make_call(alloc, screen, call, device)),
+            calls => match make_calls(alloc, screen, calls, device) {
+                Ok(mut report) => report.answers.0.pop(),
+                Err(NoMemory) => Some(Answer::Failed(UpdateFault::NoMemory)),
+            },
         };
-        if let Some(words) = trouble {
-            add_word(words, got);
-        }
-        Ok(trouble.is_none())
-    }
-
-    // What is wrong with an update that ended well, sent so many bytes, and may have sent `most`.
-    fn trouble_of(&self, bytes: u64, most: Option<usize>) -> Option<&'static str> {
-        let display = &self.display;
-        if !display.plain.is_shown(&display.emulated, &display.profile) {
-            Some("and the terminal shows something else")
-        } else if most.is_some_and(|most| bytes > most as u64) {
-            Some("and more than it may")
-        } else if bytes == 0 && self.device.writer.calls() > 0 {
-            Some("and the writer was called")
+        let answer = made.ok_or(Trouble::Bad("no answer of a listed call"))?;
+        add_answer(&answer, got);
+        if ran_out(&answer) {
+            self.calls.truncate(before);
         } else {
-            None
+            add_answer(&answer, &mut self.answers);
         }
+        Ok(answer)
     }
-
-    // Whether another device has accepted the same.
-    fn has_sent(&self, device: &Device<Faulty>) -> bool {
-        device.writer.taken() == self.sent.as_slice()
-            && device.failed_puts == self.device.failed_puts
-            && device.failed_finishes == self.device.failed_finishes
-    }
-}
-
-// The terminal of an entry, or why it has none.
-fn open_display(
-    alloc: Global,
-    entry: &Entry,
-    size: Size,
-) -> Result<Result<Display, OpenFault>, Trouble> {
-    let profile = match Profile::admit(alloc, entry, Some(size)) {
-        Ok(profile) => profile,
-        Err(ProfileFault::NoMemory) => return Ok(Err(OpenFault::NoMemory)),
-        Err(fault) => return Ok(Err(OpenFault::Profile(fault))),
-    };
-    Ok(Ok(Display {
-        profile,
-        emulated: Emulated::new(alloc, entry, size)?,
-        plain: Plain::blank(alloc, size)?,
-        left: Left::unknown(alloc, size)?,
-    }))
 }
 
 // Whether an entry has a text for the beginning or the end of a program's use of the screen.
@@ -336,50 +305,9 @@ fn has_ends(entry: &Entry) -> bool {
 fn may_paint_all(screen: &Screen, call: &Call) -> bool {
     match call {
         Call::RedrawWindow(_) | Call::RedrawLines(..) => true,
-        Call::Noutrefresh(win) | Call::PadNoutrefresh(win, ..) => match screen.window(*win) {
-            Ok(window) => window.clear_ok(),
-            Err(_) => false,
-        },
+        Call::Noutrefresh(win) | Call::PadNoutrefresh(win, ..) => {
+            screen.window(*win).is_ok_and(|window| window.clear_ok())
+        }
         _ => false,
     }
-}
-
-// Opens a screen on the terminal of an entry; answers why it could not.
-fn add_screen(
-    alloc: Global,
-    entry: Entry,
-    size: Size,
-    display: Display,
-    opened: &mut Option<Recorded>,
-) -> Option<OpenFault> {
-    match Screen::open(alloc, &entry, Some(size)) {
-        Ok(screen) => {
-            put(
-                opened,
-                Some(Recorded::begun(alloc, entry, size, display, screen)),
-            );
-            None
-        }
-        Err(fault) => Some(fault),
-    }
-}
-
-// Makes a call by a list of it alone, and gives it back with its answer. Want of memory for the list's answers is
-// answered as that of an update is.
-fn make_listed(
-    alloc: Global,
-    screen: &mut Screen,
-    call: Call,
-    device: &mut Device<Faulty>,
-) -> Result<(Call, Answer), Trouble> {
-    let mut calls = Vec::new(alloc);
-    calls.push(call)?;
-    let answer = match make_calls(alloc, screen, &calls, device) {
-        Ok(mut report) => report.answers.0.pop(),
-        Err(NoMemory) => Some(Answer::Failed(UpdateFault::NoMemory)),
-    };
-    calls
-        .pop()
-        .zip(answer)
-        .ok_or(Trouble::Bad("no answer of a listed call"))
 }

@@ -2,16 +2,16 @@
 //! now and then, or are cut after each number of their bytes.
 
 use crate::answers::add_count;
-use crate::calls::{Obeyed, obey};
-use crate::cuts::{count_cuts, cuts_of};
+use crate::calls::obey;
+use crate::cuts::count_cuts;
 use crate::entries::read_entry;
 use crate::made_up::{add_line, add_taking};
 use crate::recorded::Recorded;
-use check_harness::answers::{add_number, add_text, add_word, read_size};
+use check_harness::answers::{add_number, add_text, add_word};
 use check_harness::buffers::Buffer;
 use check_harness::random::Random;
 use check_harness::troubles::Trouble;
-use check_harness::words::Words;
+use check_harness::words::{Line, Words};
 use scr_cells::Size;
 use scr_term::Op;
 use std::alloc::Global;
@@ -29,15 +29,6 @@ static BEGIN: [&str; 8] = [
     "add_text 0 \"pi rho omicron alpha be gamma delta\\n\\nx be alpha rho gamma delta pi\\nbe\\n\"",
 ];
 
-// How many updates sent something and ended well, failed, and moved rows or characters, and how often one was cut.
-#[derive(Clone, Copy)]
-struct Counts {
-    sent: u32,
-    failed: u32,
-    moved: u32,
-    cuts: u32,
-}
-
 // The sessions of a line, up to now.
 #[derive(Drop)]
 struct Sessions {
@@ -47,7 +38,8 @@ struct Sessions {
     // Whether each update is cut after each number of its bytes.
     is_cut: bool,
     random: Random,
-    counts: Counts,
+    // How many updates sent something and ended well, failed, and moved rows or characters, and how often one was cut.
+    counts: [u32; 4],
     line: Buffer,
     answer: Buffer,
     // All lines of this session.
@@ -55,24 +47,17 @@ struct Sessions {
 }
 
 /// The line `sessions R C COUNT UPDATES SEED SENT FAILED MOVED NAME ..`: so many sessions on a screen as with `screen R
-/// C NAME ..`, each of so many updates after calls that are made up, and now and then after others' bytes on a row
-/// that is marked. Some updates fail after some of their bytes. Each that is Ok has to show the plain picture and to
-/// send no more than it may, and all calls of a session, made again by `session`, answer and send the same. Adds
-/// `agrees`, where at least so many updates sent something, failed, and moved rows or characters. Where something does
-/// not agree, adds the number of the session, the answer of its last line, and all its lines.
+/// C NAME ..`, each of so many updates after calls that are made up, and now and then after others' bytes on a row that
+/// is marked. Some updates fail after some of their bytes. After each that is Ok the terminal has to show the plain
+/// picture, and all calls of a session, made again by `session`, have to answer and send the same. Adds `agrees`, where
+/// at least so many updates sent something, failed, and moved rows or characters. Where something does not agree, adds
+/// the number of the session, the answer of its last line, and all its lines.
 ///
 /// The line `cut_sessions R C COUNT UPDATES SEED CUTS NAME ..`: the same, but that no update fails and nothing is
 /// written by others, and each update is cut as with `count_cuts`, which is at least so many cuts.
-pub fn check_sessions(
-    alloc: Global,
-    opened: &mut Option<Recorded>,
-    is_cut: bool,
-    words: &mut Words<'_>,
-    got: &mut Buffer,
-) -> Result<(), Trouble> {
-    let Some(size) = read_size(words) else {
-        return Ok(());
-    };
+pub fn check_sessions(opened: &mut Option<Recorded>, line: &mut Line<'_>) -> Result<(), Trouble> {
+    let (is_cut, words) = (line.name == "cut_sessions", &mut line.words);
+    let size = words.size()?;
     let (count, updates, seed) = (words.number(), words.number(), words.number());
     let least = if is_cut {
         [0, 0, 0, words.number()]
@@ -80,74 +65,40 @@ pub fn check_sessions(
         [words.number(), words.number(), words.number(), 0]
     };
     let names = *words;
-    let _entry = read_entry(alloc, words);
+    words.skip();
     words.done()?;
-    let mut sessions = Sessions::new(alloc, size, updates, is_cut, seed);
+    let mut sessions = Sessions {
+        alloc: line.alloc,
+        size,
+        updates,
+        is_cut,
+        random: Random::new(seed),
+        counts: [0; 4],
+        line: Buffer::new(line.alloc),
+        answer: Buffer::new(line.alloc),
+        story: Buffer::new(line.alloc),
+    };
     for number in 0..count {
         if !sessions.check(opened, names)? {
-            sessions.add_trouble(number, got);
+            sessions.add_trouble(number, &mut line.got);
             return Ok(());
         }
     }
-    sessions.counts.add(least, got);
+    sessions.add_counts(least, &mut line.got);
     Ok(())
-}
-
-impl Counts {
-    // Counts an update that answered so and began these operations.
-    fn count(&mut self, answer: &[u8], ops: &[Op]) {
-        let is_well = answer.starts_with(b" Ok");
-        let is_sent = is_well && !ops.is_empty();
-        self.failed = self.failed.saturating_add(u32::from(!is_well));
-        self.sent = self.sent.saturating_add(u32::from(is_sent));
-        self.moved = self.moved.saturating_add(u32::from(has_moved(ops)));
-    }
-
-    // Adds `agrees`, or how many there are of each, where these are fewer than at least wanted.
-    fn add(&self, [sent, failed, moved, cuts]: [u32; 4], got: &mut Buffer) {
-        let are_enough = self.sent >= sent && self.failed >= failed && self.moved >= moved;
-        if are_enough && self.cuts >= cuts {
-            add_word("agrees", got);
-            return;
-        }
-        for count in [self.sent, self.failed, self.moved, self.cuts] {
-            add_count(u64::from(count), got);
-        }
-    }
 }
 
 // Whether an operation inserts or deletes something.
 fn has_moved(ops: &[Op]) -> bool {
-    for op in ops {
-        match op {
-            Op::InsertLines(_) | Op::DeleteLines(_) | Op::InsertChars(_) | Op::DeleteChars(_) =>
-                return true,
-            _ => {}
-        }
-    }
-    false
+    ops.iter().any(|op| {
+        matches!(
+            op,
+            Op::InsertLines(_) | Op::DeleteLines(_) | Op::InsertChars(_) | Op::DeleteChars(_)
+        )
+    })
 }
 
 impl Sessions {
-    fn new(alloc: Global, size: Size, updates: u32, is_cut: bool, seed: u32) -> Sessions {
-        Sessions {
-            alloc,
-            size,
-            updates,
-            is_cut,
-            random: Random::new(seed),
-            counts: Counts {
-                sent: 0,
-                failed: 0,
-                moved: 0,
-                cuts: 0,
-            },
-            line: Buffer::new(alloc),
-            answer: Buffer::new(alloc),
-            story: Buffer::new(alloc),
-        }
-    }
-
     // Adds the session that does not agree, the answer of its last line, and all its lines.
     fn add_trouble(&self, number: u32, got: &mut Buffer) {
         add_word("session", got);
@@ -156,10 +107,23 @@ impl Sessions {
         add_text(self.story.bytes(), got);
     }
 
+    // Adds `agrees`, or how many there are of each, where these are fewer than at least wanted.
+    fn add_counts(&self, least: [u32; 4], got: &mut Buffer) {
+        let mut counts = self.counts.iter().zip(&least);
+        if counts.all(|(count, least)| count >= least) {
+            add_word("agrees", got);
+            return;
+        }
+        for count in &self.counts {
+            add_count(u64::from(*count), got);
+        }
+    }
+
     // Checks a session on a screen of its own.
     fn check(&mut self, opened: &mut Option<Recorded>, names: Words<'_>) -> Result<bool, Trouble> {
         let mut names = names;
         let entry = read_entry(self.alloc, &mut names).ok_or(Trouble::NoMemory)?;
+        names.done()?;
         if Recorded::open_into(self.alloc, entry, self.size, opened)?.is_some() {
             return Err(Trouble::NoMemory);
         }
@@ -173,7 +137,7 @@ impl Sessions {
     fn check_opened(&mut self, opened: &mut Recorded) -> Result<bool, Trouble> {
         for line in &BEGIN {
             self.line.extend(line.as_bytes());
-            let _is_well = self.make(opened)?;
+            self.make(opened)?;
         }
         for _ in 0..self.updates {
             if !self.check_update(opened)? {
@@ -190,28 +154,41 @@ impl Sessions {
     fn check_update(&mut self, opened: &mut Recorded) -> Result<bool, Trouble> {
         for _ in 0..=self.random.below(8) {
             add_line(self.alloc, &opened.screen, &mut self.random, &mut self.line);
-            let _is_well = self.make(opened)?;
+            self.make(opened)?;
         }
-        if !self.is_cut && self.random.below(16) == 0 && opened.display.emulated.is_free() {
+        if !self.is_cut && self.random.below(16) == 0 && opened.emulated.is_free() {
             self.write_as_others(opened)?;
         }
         add_taking(self.alloc, &opened.screen, &mut self.random, &mut self.line);
-        let _is_well = self.make(opened)?;
+        self.make(opened)?;
         self.add_update();
-        let is_well = self.make(opened)?;
-        self.counts.count(self.answer.bytes(), opened.last_begun());
-        Ok(is_well && (!self.is_cut || self.cut(opened)?))
+        self.make(opened)?;
+        let (is_ok, ops) = (self.answer.bytes().starts_with(b" Ok"), opened.last_begun());
+        let is_sent = is_ok && !ops.is_empty();
+        self.count([
+            u32::from(is_sent),
+            u32::from(!is_ok),
+            u32::from(has_moved(ops)),
+            0,
+        ]);
+        Ok(opened.trouble.is_none() && (!self.is_cut || self.cut(opened)?))
+    }
+
+    // Adds to the counts.
+    fn count(&mut self, more: [u32; 4]) {
+        for (count, more) in self.counts.iter_mut().zip(&more) {
+            *count = count.saturating_add(*more);
+        }
     }
 
     // Cuts the last update in each way, and tells whether all cuts agree; adds how many agree where not all do.
     fn cut(&mut self, opened: &mut Recorded) -> Result<bool, Trouble> {
-        let (agreeing, all) = (count_cuts(opened)?, cuts_of(opened));
+        let (agreeing, all) = count_cuts(opened)?;
         if agreeing < all {
             add_word("cuts", &mut self.answer);
             add_count(agreeing as u64, &mut self.answer);
         }
-        let cuts = u32::try_from(agreeing).unwrap_or(0);
-        self.counts.cuts = self.counts.cuts.saturating_add(cuts);
+        self.count([0, 0, 0, u32::try_from(agreeing).unwrap_or(0)]);
         Ok(agreeing == all)
     }
 
@@ -221,11 +198,11 @@ impl Sessions {
         let row = self.random.below(self.size.rows);
         let mark = write!(self.line.vector(), "redraw_lines 0 {row} 1");
         self.line.check(mark.is_ok());
-        let _marked = self.make(opened)?;
+        self.make(opened)?;
         if self.answer.bytes() != b" Ok".as_slice() {
             return Ok(());
         }
-        let pen = if opened.display.profile.can_reset() {
+        let pen = if opened.profile.can_reset() {
             "\\e[7;32m"
         } else {
             ""
@@ -233,8 +210,7 @@ impl Sessions {
         let number = row.saturating_add(1);
         let text = write!(self.line.vector(), "others \"\\e[{number}H{pen}?\"");
         self.line.check(text.is_ok());
-        let _others = self.make(opened)?;
-        Ok(())
+        self.make(opened)
     }
 
     // Adds an update, which fails now and then, most often after a few bytes.
@@ -257,24 +233,19 @@ impl Sessions {
         }
     }
 
-    // Makes the line, and tells whether the answer is as it has to be.
-    fn make(&mut self, opened: &mut Recorded) -> Result<bool, Trouble> {
+    // Makes the line.
+    fn make(&mut self, opened: &mut Recorded) -> Result<(), Trouble> {
         self.line.done()?;
         self.story.extend(self.line.bytes());
         self.story.push(b'\n');
-        self.answer.clear();
-        let obeyed = self.obey(opened);
+        let got = self.answer.take(self.alloc);
+        let mut line = Line::new(self.alloc, Words::new(self.line.bytes()), got);
+        let obeyed = obey(opened, &mut line);
+        let done = line.words.done();
+        self.answer = line.got;
         self.line.clear();
         self.refuse_shortage()?;
-        Ok(obeyed? == Obeyed::Well)
-    }
-
-    fn obey(&mut self, opened: &mut Recorded) -> Result<Obeyed, Trouble> {
-        let mut words = Words::new(self.line.bytes());
-        let word = words.name();
-        let obeyed = obey(self.alloc, opened, word, &mut words, &mut self.answer);
-        words.done()?;
-        obeyed
+        obeyed.and(done)
     }
 
     // Refuses an answer that says that memory ran out.
