@@ -10,9 +10,9 @@ use scr_term::{Op, Profile};
 use screen_sessions::{Answer, Call, Faulty, Report, WriterFailure};
 use std::io::{ErrorKind, Write};
 
-/// Cuts the last update of a screen after each number of its bytes, by an error and by a write that accepts nothing, and
-/// at its flush, up to the first cut that does not agree; gives how many agree and how many there are, none if nothing
-/// was sent. All updates up to it ended well. Each cut is made in a session that makes all calls anew, and two updates
+/// Cuts the last update of a screen after each number of its bytes, by an error and by a write that accepts nothing,
+/// and at its flush, up to the first cut that does not agree; gives how many agree and how many there are, none if
+/// nothing was sent. All updates up to it ended well. Each cut is made in a session that makes all calls anew, and two updates
 /// after them. The error has to tell what was begun and how much was sent, and what was begun has to be sent to its
 /// end; the next update is Ok, and then a terminal shows the plain picture; the last is Ok and sends nothing.
 ///

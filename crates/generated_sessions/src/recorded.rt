@@ -270,8 +270,8 @@ impl Recorded {
         &self.last.0
     }
 
-    // Makes the last call of the list, by itself or by a list of it alone, adds its answer, and keeps both unless memory
-    // ran out. Want of memory for the list's answers is answered as that of an update is.
+    // Makes the last call of the list, by itself or by a list of it alone, adds its answer, and keeps both unless
+    // memory ran out. Want of memory for the list's answers is answered as that of an update is.
     fn make_last(&mut self, got: &mut Buffer) -> Result<Answer, Trouble> {
         let (alloc, screen, device) = (self.alloc, &mut self.screen, &mut self.device);
         let before = self.calls.len().saturating_sub(1);
