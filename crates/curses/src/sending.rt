@@ -124,23 +124,6 @@ fn send_operation<W: Counted>(
     if let Op::Put(byte) = op {
         return send_character(byte, waiting, out);
     }
-    send_rendered(profile, op, waiting, out)
-}
-
-// Sends the text of any operation by way of the buffer. It is apart, so that the loop over characters stays short.
-#[inline(never)]
-fn send_rendered<W: Counted>(profile: &Profile, op: Op, waiting: &mut Vec<u8>, out: &mut W) -> Taken
-    requires has { has profile.now op ≡ true }
-    requires nothing { waiting.old.items ≡ [] }
-    requires room { length (bytes_of profile.now op) ≤ vec_capacity waiting.old }
-    ensures cut { IsCut [] (bytes_of profile.now op) (W.told out.old).taken (W.told out.new).taken result.bytes waiting.new.items }
-    ensures nothing { result.fault ≡ None → waiting.new.items ≡ [] }
-    ensures fault { result.fault ≢ None → waiting.new.items ≢ [] }
-    ensures room { vec_capacity waiting.old ≤ vec_capacity waiting.new }
-    ensures few { result.bytes ≤ length (bytes_of profile.now op) }
-    ensures puts { (W.told out.new).failed_puts ≡ counted (is_some result.fault) (W.told out.old).failed_puts }
-    ensures finishes { (W.told out.new).failed_finishes ≡ (W.told out.old).failed_finishes }
-{
     append(profile, op, waiting);
     send_waiting(waiting, out)
 }
