@@ -23,7 +23,7 @@ pub nothing-indexed : (fields : List Statement) (index : List (Option ℕ)) → 
 nothing-indexed fields index is kind slot small = rw (is, drop_all (length fields) fields (omega arith), none-at 640 (ordinal kind slot)) refl
 
 -- a capability's place is its own
-ordinal-own : (a b : Kind) (i j : ℕ) → i < positions_of a → j < positions_of b → ordinal a i ≡ ordinal b j → (same_kind b a && eqb j i) ≡ true
+pub ordinal-own : (a b : Kind) (i j : ℕ) → i < positions_of a → j < positions_of b → ordinal a i ≡ ordinal b j → (same_kind b a && eqb j i) ≡ true
 ordinal-own Flag Flag i j p q e = grind (arith, nat_tests)
 ordinal-own Number Number i j p q e = grind (arith, nat_tests)
 ordinal-own Text Text i j p q e = grind (arith, nat_tests)
@@ -57,7 +57,7 @@ same-room Number Text i j e p = cc
 same-room Text Flag i j e p = cc
 same-room Text Number i j e p = cc
 
-at-set : {A : Type 0} → (xs : List A) (i j : ℕ) (x d : A) → i < length xs → slice_index_or (set xs i x) j d ≡ cond (eqb i j) x (slice_index_or xs j d)
+pub at-set : {A : Type 0} → (xs : List A) (i j : ℕ) (x d : A) → i < length xs → slice_index_or (set xs i x) j d ≡ cond (eqb i j) x (slice_index_or xs j d)
 at-set xs i j x d lt = by (eqb i j) refl
   where
     by : (t : Bool) → eqb i j ≡ t → slice_index_or (set xs i x) j d ≡ cond t x (slice_index_or xs j d)

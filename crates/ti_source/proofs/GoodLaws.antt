@@ -9,6 +9,10 @@ pub AreGood-push : (ss : List Statement) (s : Statement) → AreGood ss → IsGo
 AreGood-push [] s all one = (one, tt)
 AreGood-push (x ∷ xs) s all one = (all.0, AreGood-push xs s all.1 one)
 
+pub AreGood-append : (ss more : List Statement) → AreGood ss → AreGood more → AreGood (ss ++ more)
+AreGood-append [] more all rest = rest
+AreGood-append (x ∷ xs) more all rest = (all.0, AreGood-append xs more all.1 rest)
+
 -- each of them is
 pub good-at : (ss : List Statement) (i : ℕ) (s : Statement) → AreGood ss → slice_get ss i ≡ Some s → IsGood s.field_value
 good-at [] i s all at = cc

@@ -1,5 +1,5 @@
 -- For each capability the field that comes first for it, by its index among some; which fields take effect; what a resolved entry says.
-use Rattle.std.specs.Prelude.{ℕ, ◌+◌, ◌<◌, ◌≡◌, Bool, true, false, List, [], ◌∷◌, Option, Some, None, length, slice_get, slice_index_or, ◌&&◌, ◌==◌, nat_lt, if◌then◌else◌}
+use Rattle.std.specs.Prelude.{ℕ, ◌+◌, ◌<◌, ◌≡◌, Bool, true, false, List, [], ◌∷◌, Option, Some, None, length, slice_get, slice_index_or, slice_set, not, ◌&&◌, nat_lt, if◌then◌else◌}
 use Rattle.ti_caps.specs.declared.table.Kind.{Kind}
 use Rattle.ti_caps.specs.declared.table.Kind.TheVariants.{Flag, Number, Text}
 use Rattle.ti_caps.specs.Description.{Description, flag_at, number_at, text_at}
@@ -47,15 +47,17 @@ abbrev pub if_present : Kind → Option FieldValue → Option FieldValue
 if_present kind None = None
 if_present kind (Some s) = if is_present kind s then Some s else None
 
--- whether the index has this number
-abbrev pub is_at : Option ℕ → ℕ → Bool
-is_at None i = false
-is_at (Some j) i = j == i
+-- whether a field is about a capability that is not marked
+abbrev pub is_free : List Bool → Statement → Bool
+is_free marks field = nat_lt field.slot.0 (positions_of field.kind) && not (slice_index_or marks (ordinal field.kind field.slot.0) true)
 
--- whether the field of a number takes effect: the index has it for its capability, and it makes that present
-abbrev pub is_effective : List (Option ℕ) → ℕ → Statement → Bool
-is_effective index i field =
-    nat_lt field.slot.0 (positions_of field.kind) && is_at (slice_index_or index (ordinal field.kind field.slot.0) None) i && is_present field.kind field.field_value
+-- whether it is, and makes that capability present
+abbrev pub takes_effect : List Bool → Statement → Bool
+takes_effect marks field = is_free marks field && is_present field.kind field.field_value
+
+-- the marks, with that of the field's capability
+abbrev pub with_mark : List Bool → Statement → List Bool
+with_mark marks field = if is_free marks field then slice_set marks (ordinal field.kind field.slot.0) true else marks
 
 -- the fields that take effect say of each capability what all do, where that makes it present, and nothing else
 abbrev pub AreEffective : List Statement → List Statement → Type 0

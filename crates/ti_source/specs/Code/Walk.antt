@@ -184,6 +184,10 @@ Adds entries i before now = (fields : List Statement) × (now ≡ before ++ fiel
 abbrev pub AddsGathered : List Described → Described → List Statement → List Statement → Type 0
 AddsGathered entries d before now = (fields : List Statement) × (now ≡ before ++ fields) × Gathers entries d fields
 
+-- these fields, followed by those that take effect of the entry at an index
+abbrev pub AddsEffective : List Described → ℕ → List Statement → List Statement → Type 0
+AddsEffective entries i before now = (fields : List Statement) × (now ≡ before ++ fields) × TakeEffect entries i fields
+
 -- an entry that is left later, and is left once: those of its uses that come first are still to be visited, and those before them resolve
 pub record Awaits (entries : List Described) (first : List (Option ℕ)) (i : ℕ) (tasks : List Task) : Type 0 where
   pub entry : Described

@@ -146,7 +146,8 @@ fn same_kind(a: Kind, b: Kind) -> bool
     }
 }
 
-fn no_marks(alloc: Global, count: usize) -> Result<Vec<bool>, AllocError>
+/// Marks of so many capabilities, none of which is marked.
+pub(crate) fn no_marks(alloc: Global, count: usize) -> Result<Vec<bool>, AllocError>
     ensures { IfOk result (λ v. v.items ≡ replicate count false) }
 {
     vec![in alloc; false; count]
@@ -180,7 +181,7 @@ fn mark(
 }
 
 /// Marks a capability that a field is about.
-fn put_mark(marks: &mut Vec<bool>, kind: Kind, slot: Slot)
+pub(crate) fn put_mark(marks: &mut Vec<bool>, kind: Kind, slot: Slot)
     ensures { marks.new.items ≡ slice_set marks.old.items (ordinal kind slot.0) true }
 {
     let ordinal = ordinal(kind, slot);
@@ -190,7 +191,7 @@ fn put_mark(marks: &mut Vec<bool>, kind: Kind, slot: Slot)
 }
 
 /// Whether a capability is marked, or has no mark.
-fn may_be_stated(marks: &[bool], kind: Kind, slot: Slot) -> bool
+pub(crate) fn may_be_stated(marks: &[bool], kind: Kind, slot: Slot) -> bool
     ensures { result ≡ slice_index_or marks.now (ordinal kind slot.0) true }
 {
     match marks.get(ordinal(kind, slot)) {

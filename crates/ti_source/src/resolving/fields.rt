@@ -82,9 +82,6 @@ impl<'a> Fields<'a> {
     pub(crate) fn extend(&mut self, fields: &Fields<'a>) -> Result<(), AllocError>
         ensures { OnOk result (self.new ≡ self.old ++ fields.now) }
     {
-        for i in 0..fields.len() {
-            self.push(fields.at(i))?;
-        }
-        Ok(())
+        self.0.extend_from_slice(&fields.0)
     }
 }

@@ -1,10 +1,10 @@
 //! Finding the first field about each capability.
 
 ghost use Rattle.std.specs.Prelude.{◌≡◌, ◌<◌, ◌+◌, IfOk, length, replicate, None, drop};
-ghost use Rattle.ti_source.specs.Code.FirstFields.{AreEffective, Indexes, IsIndex, is_effective, is_present};
+ghost use Rattle.ti_source.specs.Code.FirstFields.{AreEffective, Indexes, IsIndex, is_present, takes_effect, with_mark};
 
 use crate::ordinals::{CAPABILITIES, ordinal, room};
-use crate::reading::statement::{FieldValue, Statement};
+use crate::reading::statement::{FieldValue, Statement, may_be_stated, no_marks, put_mark};
 use crate::resolving::fields::Fields;
 use std::alloc::{AllocError, Global};
 use ti_caps::Kind;
@@ -29,15 +29,28 @@ pub(crate) fn effective_fields<'a>(
 ) -> Result<Fields<'a>, AllocError>
     ensures { IfOk result (λ v. AreEffective fields.now v) }
 {
-    let index = index_of(alloc, fields)?;
+    let mut marks = no_marks(alloc, CAPABILITIES)?;
     let mut found = Fields::with_capacity(alloc, fields.len().min(CAPABILITIES))?;
     for i in 0..fields.len() {
         let field = fields.at(i);
-        if is_effective(field, &index, i) {
+        if takes_effect(&mut marks, field) {
             found.push(field)?;
         }
     }
     Ok(found)
+}
+
+/// Marks the capability of a field. Whether the field takes effect: its capability was not marked,
+/// and it makes it present.
+fn takes_effect(marks: &mut Vec<bool>, field: &Statement) -> bool
+    ensures result { result ≡ takes_effect marks.old.items field.now }
+    ensures marks { marks.new.items ≡ with_mark marks.old.items field.now }
+{
+    if field.slot.0 >= room(field.kind) || may_be_stated(marks, field.kind, field.slot) {
+        return false;
+    }
+    put_mark(marks, field.kind, field.slot);
+    is_present(field.kind, &field.field_value)
 }
 
 fn no_places(alloc: Global, count: usize) -> Result<Vec<Option<usize>>, AllocError>
@@ -69,19 +82,5 @@ fn is_present(kind: Kind, field_value: &FieldValue) -> bool
         (Kind::Number, FieldValue::Number(_)) => true,
         (Kind::Text, FieldValue::Text(_)) => true,
         _ => false,
-    }
-}
-
-/// Whether the field with index `i` takes effect.
-fn is_effective(field: &Statement, index: &[Option<usize>], i: usize) -> bool
-    requires { length index.now ≡ 640 }
-    ensures { result ≡ is_effective index.now i field.now }
-{
-    if field.slot.0 >= room(field.kind) {
-        return false;
-    }
-    match index[ordinal(field.kind, field.slot)] {
-        Some(first) => first == i && is_present(field.kind, &field.field_value),
-        None => false,
     }
 }

@@ -5,7 +5,7 @@ ghost use Rattle.std.specs.Prelude.{◌≡◌, ◌≤◌, ◌<◌, ℕ, List, le
 ghost use Rattle.ti_source.specs.declared.reading.statement.Statement.{Statement};
 ghost use Rattle.ti_source.specs.Resolving.Named.{index_of};
 ghost use Rattle.ti_source.specs.Code.Leading.{Leads};
-ghost use Rattle.ti_source.specs.Code.Walk.{Adds, AddsGathered, AreBelow, AreKnown, IsBelow, IsLight, Keeps, IsLedOver, Lists, TakeEffect, known, steps_at};
+ghost use Rattle.ti_source.specs.Code.Walk.{Adds, AddsEffective, AddsGathered, AreBelow, AreKnown, IsBelow, IsLight, Keeps, IsLedOver, Lists, TakeEffect, known, steps_at};
 
 use crate::reading::entries::Entries;
 use crate::reading::entry_view::EntryView;
@@ -15,16 +15,19 @@ use crate::resolving::marks::{Mark, mark_at};
 use std::alloc::{AllocError, Global};
 use ti_caps::Bytes;
 
-/// The fields of an entry are kept if listing them takes more steps than this, besides those for
-/// its own: where all others come from one use, and where they come from several.
-const MOST_STEPS: u32 = 640;
+/// The fields of an entry are kept if it has more of its own than this, or if listing them takes
+/// more steps than this. So an entry that uses 32 others, which takes 200 bytes of a source, has no
+/// long lists to make; and of a chain of uses over an entry with many fields, only every fortieth
+/// entry's are kept.
+const MOST_OWN: u32 = 128;
 
-const MOST_OF_SEVERAL: u32 = 2048;
+const MOST_STEPS: u32 = 512;
 
-/// The same once very many fields are kept.
-const MOST_STEPS_WHEN_FULL: u32 = 4096;
+/// The same once very many fields are kept, however many an entry has of its own: where all others
+/// come from one use, and where they come from several.
+const MOST_OF_ONE_USE: u32 = 4096;
 
-const MOST_OF_SEVERAL_WHEN_FULL: u32 = 32_768;
+const MOST_OF_SEVERAL: u32 = 32_768;
 
 /// The steps that it takes to follow a use.
 const STEPS_OF_USE: u32 = 4;
@@ -49,6 +52,9 @@ pub(crate) fn light_mark(
     ensures { IfSome result (λ m. IsLight entries.now marks.now kept.now entry.now m) }
 {
     let own = u32::try_from(entry.statements().len()).ok()?;
+    if own > MOST_OWN && !full {
+        return None;
+    }
     match leading {
         Some(used) => over(marks, kept, led_to(entries, marks, kept, used), own, full),
         None => several(entries, marks, kept, entry.uses(), own, full),
@@ -60,15 +66,15 @@ fn over(marks: &[Mark], kept: &[Fields<'_>], next: usize, own: u32, full: bool) 
     ensures { IfSome result (λ m. (n : ℕ) × (m ≡ Mark.Over next n) × IsBelow marks.now (Some next) n) }
 {
     let steps = steps_at(marks, kept, next)?;
-    if steps > most(full, MOST_STEPS, MOST_STEPS_WHEN_FULL) {
+    let all = steps.checked_add(STEPS_OF_USE)?.checked_add(own)?;
+    if all > most(full, MOST_OF_ONE_USE) {
         return None;
     }
-    let all = steps.checked_add(STEPS_OF_USE)?.checked_add(own)?;
     Some(Mark::Over(u32::try_from(next).ok()?, all))
 }
 
-fn most(full: bool, usual: u32, when_full: u32) -> u32 {
-    if full { when_full } else { usual }
+fn most(full: bool, when_full: u32) -> u32 {
+    if full { when_full } else { MOST_STEPS }
 }
 
 /// The index of the entry from which the one at an index has all its fields; that index itself if
@@ -111,10 +117,11 @@ fn several(
         let more = steps_at(marks, kept, used)?.checked_add(STEPS_OF_SEVERAL)?;
         steps = steps.checked_add(more)?;
     }
-    if steps > most(full, MOST_OF_SEVERAL, MOST_OF_SEVERAL_WHEN_FULL) {
+    let all = steps.checked_add(own)?;
+    if all > most(full, MOST_OF_SEVERAL) {
         return None;
     }
-    Some(Mark::Done(steps.checked_add(own)?))
+    Some(Mark::Done(all))
 }
 
 /// The steps in which the fields of the entry at an index are listed; `None` if it is not resolved.
@@ -183,9 +190,30 @@ pub(crate) fn add_gathered<'a>(
     }
     for other in entry.uses() {
         let used = entries.index_of(other.0.as_slice()).unwrap();
-        fields.extend(&effective_at(alloc, entries, marks, kept, used)?)?;
+        add_effective(alloc, entries, marks, kept, used, fields)?;
     }
     Ok(())
+}
+
+/// Adds the fields that take effect of the resolved entry at an index, of which kept fields are a
+/// list already.
+#[cycle(listing)]
+fn add_effective<'a>(
+    alloc: Global,
+    entries: &'a Entries,
+    marks: &[Mark],
+    kept: &[Fields<'a>],
+    i: usize,
+    fields: &mut Fields<'a>,
+) -> Result<(), AllocError>
+    requires known { known marks.now (Some i) ≡ true }
+    requires kept { Keeps entries.now marks.now kept.now }
+    ensures { OnOk result (AddsEffective entries.now i fields.old fields.new) }
+{
+    if let Some(Mark::Kept(position)) = mark_at(marks, i) {
+        return fields.extend(kept_at(kept, position));
+    }
+    fields.extend(&effective_at(alloc, entries, marks, kept, i)?)
 }
 
 /// The fields that take effect of the resolved entry at an index.

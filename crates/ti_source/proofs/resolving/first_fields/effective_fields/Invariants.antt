@@ -1,6 +1,7 @@
-use Rattle.ti_source.proofs.EffectiveLaws.{InForceSoFar}
+use Rattle.std.proofs.Common.{take}
+use Rattle.ti_source.proofs.EffectiveLaws.{Sifted}
 use Rattle.ti_source.proofs.resolving.first_fields.effective_fields.Given as goal
 
--- those of the first i fields that are in force are there
+-- those of the first i fields that take effect are there
 abbrev pub invariant-loop-i : goal.invariant-loop-i
-invariant-loop-i l = InForceSoFar l.fields l.index.items l.i l.found
+invariant-loop-i l = Sifted (take l.i l.fields) l.marks.items l.found

@@ -69,8 +69,8 @@ add_gathered-returns-in-Some t c =
     let index : index_of c.args.entries.now c.in-Some.other.now ≡ Some c.unwrap-used.result = search rules in
     on-ok-more c.add_fields.result c.add_fields.ensures (λ adds. gathered-one c.args.entries.now c.args.entry.now c.in-Some.other.now c.unwrap-used.result c.args.fields.now _ c.add_fields.new.fields c.in-Some.ensures index (c.in_ok-extend_from_slice.ensures ∙ ap (λ ss. c.args.fields.now ++ ss) c.statements.ensures.value) adds)
 
-pub add_gathered-effective_at-requires : goal.add_gathered-effective_at-requires
-add_gathered-effective_at-requires t c =
+pub add_gathered-add_effective-requires : goal.add_gathered-add_effective-requires
+add_gathered-add_effective-requires t c =
     let entries = c.args.entries.now in
     let marks = c.args.marks.now in
     let us = c.args.entry.now.uses in
@@ -97,16 +97,29 @@ add_gathered-loop-other-preserved t c =
     let first : drop k us ≡ name ∷ drop (k + 1) us = drop_more us k c.other-item.result lt ∙ ap (λ x. x ∷ drop (k + 1) us) (sym is) in
     let index : index_of entries name ≡ Some c.unwrap-used-in-loop-other.result = rw (← c.index_of-in-loop-other.ensures) (search rules) in
     let got = c.loop-other.invariant.0 in
-    let more = c.in_ok-effective_at.field-0 in (
+    let (more, is, effect) = c.in_ok-add_effective.ensures in (
       got ++ more,
-      c.in_ok-extend.ensures ∙ ap (λ fs. fs ++ more) c.loop-other.invariant.1 ∙ append_assoc c.args.fields.now got more,
-      gathering-go entries marks c.args.entry.now (drop k us) (drop (k + 1) us) name c.unwrap-used-in-loop-other.result got more (got ++ more) c.loop-other.invariant.2 first index c.in_ok-effective_at.ensures refl,
+      is ∙ ap (λ fs. fs ++ more) c.loop-other.invariant.1 ∙ append_assoc c.args.fields.now got more,
+      gathering-go entries marks c.args.entry.now (drop k us) (drop (k + 1) us) name c.unwrap-used-in-loop-other.result got more (got ++ more) c.loop-other.invariant.2 first index effect refl,
     )
 
 pub add_gathered-returns : goal.add_gathered-returns
 add_gathered-returns t c =
     let us = c.args.entry.now.uses in
     (c.loop-other.invariant.0, c.loop-other.invariant.1, gathering-end c.args.entries.now c.args.marks.now c.args.entry.now _ c.loop-other.invariant.0 c.loop-other.invariant.2 (drop_all c.loop-other.other-index us (rw (← c.uses-other-items.ensures.value) (omega arith))))
+
+pub add_effective-kept_at-requires : goal.add_effective-kept_at-requires
+add_effective-kept_at-requires t c =
+    let at : slice_get c.args.marks.now c.args.i ≡ Some (Kept c.in-Some-Kept.position) = search rules in
+    let had = kept-of c.args.entries.now c.args.marks.now c.args.kept.now c.args.i c.in-Some-Kept.position c.requires.kept at in
+    get-lt c.args.kept.now c.in-Some-Kept.position had.0 had.1
+
+pub add_effective-returns-in-Some-Kept : goal.add_effective-returns-in-Some-Kept
+add_effective-returns-in-Some-Kept t c =
+    let at : slice_get c.args.marks.now c.args.i ≡ Some (Kept c.in-Some-Kept.position) = search rules in
+    let had = kept-of c.args.entries.now c.args.marks.now c.args.kept.now c.args.i c.in-Some-Kept.position c.requires.kept at in
+    let same : c.kept_at.result.now ≡ had.0 = cc (c.kept_at.ensures, had.1) in
+    on-ok-more c.extend.result c.extend.ensures (λ is. (had.0, is ∙ ap (λ fs. c.args.fields.now ++ fs) same, had.2))
 
 pub effective_at-returns : goal.effective_at-returns
 effective_at-returns t c =

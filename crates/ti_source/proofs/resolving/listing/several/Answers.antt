@@ -19,4 +19,4 @@ loop-other-preserved c =
 pub returns : goal.returns
 returns c =
     let us = c.args.uses.now in
-    (c.in_ok-checked_add.field-0, refl, below-all c.args.entries.now c.args.marks.now us c.loop-other.other-index c.loop-other.steps c.in_ok-checked_add.field-0 c.loop-other.invariant (take_all c.loop-other.other-index us (omega arith)) (omega arith))
+    (c.in_ok-all.all, refl, below-all c.args.entries.now c.args.marks.now us c.loop-other.other-index c.loop-other.steps c.in_ok-all.all c.loop-other.invariant (take_all c.loop-other.other-index us (omega arith)) (omega arith))

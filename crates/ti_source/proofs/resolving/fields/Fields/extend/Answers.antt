@@ -1,9 +1,13 @@
-use Rattle.std.proofs.Common.{◌∙◌, ◌++◌, ◌∷◌, [], sym, ap, take}
-use Rattle.std.proofs.Common.{append_assoc}
-use Rattle.ti_source.proofs.IndexLaws.{take-at}
+use Rattle.std.proofs.Common.{◌++◌, Bool, true, false, cond, map}
+use Rattle.std.proofs.lemmas.List.{map-append}
+use Rattle.std.specs.Result.{is_ok}
+use Rattle.ti_source.specs.Described.{AreGood}
+use Rattle.ti_source.proofs.GoodLaws.{AreGood-append}
 use Rattle.ti_source.proofs.resolving.fields.Fields.extend.Goals as goal
 
-pub loop-i-preserved : goal.loop-i-preserved
-loop-i-preserved c =
-    let so_far = take c.loop-i.i c.args.fields.now in
-    c.in_ok-push.ensures ∙ ap (λ fs. fs ++ c.at.result.now ∷ []) c.loop-i.invariant ∙ append_assoc c.args.self.now so_far (c.at.result.now ∷ []) ∙ ap (λ fs. c.args.self.now ++ fs) (sym (take-at c.args.fields.now c.loop-i.i c.at.result.now c.at.ensures.value))
+pub invariant_of-self : goal.invariant_of-self
+invariant_of-self c = rw (c.extend_from_slice.ensures.items, c.deref.ensures.value) (by (is_ok c.extend_from_slice.result))
+  where
+    by : (t : Bool) → AreGood (map (λ s. s.now) (cond t (c.self.inside.0.items ++ c.fields.inside.0.items) c.self.inside.0.items))
+    by true = rw (map-append) (AreGood-append (map (λ s. s.now) c.self.inside.0.items) (map (λ s. s.now) c.fields.inside.0.items) c.self.invariant c.fields.invariant)
+    by false = c.self.invariant
