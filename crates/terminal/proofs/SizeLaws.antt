@@ -1,4 +1,4 @@
--- Reading the lines that tell a size or an end.
+-- Reading the lines that tell a size, an end or a stop.
 use Rattle.std.proofs.Common.{◌≡◌, ◌≢◌, ℕ, zero, suc, ◌^◌, ◌<◌, ◌==◌, Bool, true, false, cond, refl, sym, ap, subst, ◌∙◌, arith, List, [], ◌∷◌, ◌++◌, length, length-append, drop, get_or, Option, Some, None, MatchOption}
 use Rattle.std.specs.Str.{IsAscii, IsUtf8}
 use Rattle.std.specs.Str.Parse.{AllDigits}
@@ -11,7 +11,7 @@ use Rattle.std.proofs.lemmas.Str.Ascii.{IsAscii-cons, IsAscii-nil}
 use Rattle.std.proofs.lemmas.Str.Parse.{digit_at}
 use Rattle.std.proofs.lemmas.Str.Pattern.{IsSplitOnceResult, split_parts}
 use Rattle.scr_cells.specs.declared.sizes.Size.{Size}
-use Rattle.terminal.specs.Sizes.{AreFields, Finds, IsNumber, SaySize, TellsSize, end_line}
+use Rattle.terminal.specs.Sizes.{AreFields, Finds, IsNumber, SaySize, TellsSize, end_line, stop_line}
 use denote.Ref.{Bor}
 
 is_plus : (c : ℕ) → (c == 43) ≡ true → c ≡ 43
@@ -82,4 +82,9 @@ tells_in_text text size tells =
 pub end_in_text : (text : List ℕ) → text ≡ end_line → IsUtf8 text
 end_in_text text is =
     let whole = IsUtf8-from_ascii end_line (IsAscii-cons 101 (110 ∷ 100 ∷ 10 ∷ []) (omega arith) (IsAscii-cons 110 (100 ∷ 10 ∷ []) (omega arith) (IsAscii-cons 100 (10 ∷ []) (omega arith) (IsAscii-cons 10 [] (omega arith) IsAscii-nil)))) in
+    subst IsUtf8 (sym is) whole
+
+pub stop_in_text : (text : List ℕ) → text ≡ stop_line → IsUtf8 text
+stop_in_text text is =
+    let whole = IsUtf8-from_ascii stop_line (IsAscii-cons 115 (116 ∷ 111 ∷ 112 ∷ 10 ∷ []) (omega arith) (IsAscii-cons 116 (111 ∷ 112 ∷ 10 ∷ []) (omega arith) (IsAscii-cons 111 (112 ∷ 10 ∷ []) (omega arith) (IsAscii-cons 112 (10 ∷ []) (omega arith) (IsAscii-cons 10 [] (omega arith) IsAscii-nil))))) in
     subst IsUtf8 (sym is) whole

@@ -1,5 +1,5 @@
 -- What a read of the keyboard gives.
-use Rattle.std.specs.Prelude.{ℕ, ◌≤◌, ◌<◌, ◌+◌, ⊤, Bool, true, List, length, min, nat_lt, if◌then◌else◌}
+use Rattle.std.specs.Prelude.{ℕ, ◌≤◌, ◌<◌, ◌+◌, ⊤, Bool, true, false, List, length, min, nat_lt, if◌then◌else◌}
 use Rattle.std.specs.declared.io.ErrorKind.{ErrorKind}
 use Rattle.std.specs.declared.io.ErrorKind.TheVariants.{Interrupted}
 use Rattle.terminal.specs.declared.input.Input.{Input}
@@ -23,7 +23,8 @@ abbrev pub failed_input : ErrorKind → Input
 failed_input Interrupted = inputs.Idle
 failed_input kind = inputs.Failed
 
--- What a program hears of a read: if it is asked to end, it ends where nothing came.
-abbrev pub heard : Bool → Input → Input
-heard true inputs.Idle = inputs.Ended
-heard is_ending input = input
+-- What a program hears of a read: where nothing came, that it is asked to end, or else to stop.
+abbrev pub heard : Bool → Bool → Input → Input
+heard true is_stopping inputs.Idle = inputs.Ended
+heard false true inputs.Idle = inputs.Stop
+heard is_ending is_stopping input = input

@@ -11,18 +11,20 @@ use Rattle.terminal.specs.declared.input.Input.TheVariants.{Bytes, Failed}
 use Rattle.terminal.specs.declared.sizes.Told.{Told}
 use Rattle.terminal.specs.declared.sizes.Told.TheVariants as told
 
--- The terminal's size, if anything says what it is; whether the program is asked to end; how many empty reads in a row
--- were sudden; and whether there is a folder through which the line is told anything.
+-- The terminal's size, if anything says what it is; whether the program is asked to end, and to stop; how many empty
+-- reads in a row were sudden; and whether there is a folder through which the line is told anything.
 pub record LineView : Type 0 where
   pub size : Option Size
   pub is_ending : Bool
+  pub is_stopping : Bool
   pub sudden : ℕ
   pub has_folder : Bool
 
--- The line once it was told this: a size is the new one, and an end stays.
+-- The line once it was told this: a size is the new one, and ends a stop; an end stays.
 abbrev pub after_told : LineView → Told → LineView
-after_told line (told.Size size) = record line { size = Some size }
+after_told line (told.Size size) = record line { size = Some size; is_stopping = false }
 after_told line told.End = record line { is_ending = true }
+after_told line told.Stop = record line { is_stopping = true }
 after_told line told.Nothing = line
 
 -- A look at the folder told something; without a folder, nothing.
@@ -56,10 +58,10 @@ pub record IsKeyboardRead (before after : Option (List ℕ)) (piece : List ℕ) 
   pub means : Means answer old new input
 
 -- A read of the line: one of the keyboard, or none where the clock cannot be read or there is no room; then a look at
--- the folder. If that or an earlier one told an end, the program hears of it where nothing came.
+-- the folder. If that or an earlier one told an end, or it told a stop, the program hears of it where nothing came.
 pub record IsLineRead (piece : List ℕ) (old new : LineView) (input : Input) : Type 0 where
   pub between : LineView
   pub found : Input
   pub read : IsFailedRead old between found ⊎ ((before : Option (List ℕ)) × (after : Option (List ℕ)) × IsKeyboardRead before after piece old between found)
   pub looked : IsLook between new
-  pub is : input ≡ heard new.is_ending found
+  pub is : input ≡ heard new.is_ending new.is_stopping found

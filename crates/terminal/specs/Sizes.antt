@@ -46,8 +46,13 @@ pub record TellsSize (text : List ℕ) (size : Size) : Type 0 where
 abbrev pub end_line : List ℕ
 end_line = 101 ∷ 110 ∷ 100 ∷ 10 ∷ []
 
--- What a text tells: the size that it tells, the end, or nothing where it tells neither.
+-- The line that asks the program to stop: `stop` and a line feed.
+abbrev pub stop_line : List ℕ
+stop_line = 115 ∷ 116 ∷ 111 ∷ 112 ∷ 10 ∷ []
+
+-- What a text tells: the size that it tells, the end, a stop, or nothing where it tells none of these.
 abbrev pub Tells : List ℕ → Told → Type 0
 Tells text (told.Size size) = TellsSize text size
 Tells text told.End = text ≡ end_line
-Tells text told.Nothing = (text ≢ end_line) × ((size : Size) → TellsSize text size → ⊥)
+Tells text told.Stop = text ≡ stop_line
+Tells text told.Nothing = (text ≢ end_line) × (text ≢ stop_line) × ((size : Size) → TellsSize text size → ⊥)

@@ -16,6 +16,7 @@ pub(crate) struct Folder {
     size: String,
     suspend: String,
     continued: String,
+    terminal: String,
 }
 
 impl Folder {
@@ -25,6 +26,7 @@ impl Folder {
             size: format!(in alloc; "{path}/size")?,
             suspend: format!(in alloc; "{path}/suspend")?,
             continued: format!(in alloc; "{path}/continued")?,
+            terminal: format!(in alloc; "{path}/terminal")?,
         })
     }
 
@@ -33,6 +35,14 @@ impl Folder {
         let mut text = [0u8; 32];
         let read = read_piece(rt, self.size.as_str(), &mut text);
         told_of(read, &text)
+    }
+
+    /// The terminal, if it can be opened.
+    pub(crate) fn terminal(&self, rt: &HostRuntime) -> Option<File> {
+        File::options()
+            .write(true)
+            .open(rt, self.terminal.as_str())
+            .ok()
     }
 
     /// Asks for suspension, and waits for the answer, which comes when the program is continued. Answers whether one

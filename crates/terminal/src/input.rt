@@ -16,6 +16,8 @@ pub enum Input {
     Idle,
     /// The input has ended: a file is at its end, the terminal has hung up, or the program is asked to end.
     Ended,
+    /// Nothing came, and somebody asks the program to stop, as `kill -TSTP` does: close the screen, and suspend it.
+    Stop,
     /// The read failed.
     Failed,
 }
@@ -58,13 +60,13 @@ pub(crate) fn failed_input(kind: ErrorKind) -> Input
     }
 }
 
-/// What a program hears of a read: if it is asked to end, it ends where nothing came.
-pub(crate) fn heard(is_ending: bool, input: Input) -> Input
-    ensures { result ≡ heard is_ending input }
+/// What a program hears of a read: where nothing came, that it is asked to end, or else to stop.
+pub(crate) fn heard(is_ending: bool, is_stopping: bool, input: Input) -> Input
+    ensures { result ≡ heard is_ending is_stopping input }
 {
-    if is_ending && input == Input::Idle {
-        Input::Ended
-    } else {
-        input
+    match input {
+        Input::Idle if is_ending => Input::Ended,
+        Input::Idle if is_stopping => Input::Stop,
+        _ => input,
     }
 }

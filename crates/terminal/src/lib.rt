@@ -10,11 +10,16 @@ mod faults;
 mod folders;
 mod input;
 mod lines;
+mod outputs;
+mod programs;
 mod screens;
 mod sizes;
+mod typed;
 
 pub use events::Event;
 pub use faults::TerminalFault;
 pub use input::Input;
 pub use lines::TerminalLine;
+pub use outputs::TerminalOutput;
+pub use programs::Program;
 pub use screens::TerminalScreen;

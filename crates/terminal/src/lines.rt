@@ -6,10 +6,12 @@ ghost use Rattle.terminal.specs.Lines.{IsFailedRead, IsKeyboardRead, IsLineRead,
 
 use crate::folders::Folder;
 use crate::input::{Input, empty_input, failed_input, heard, sudden_after};
+use crate::outputs::TerminalOutput;
 use crate::sizes::{Told, size_said};
 use scr_cells::{NoMemory, Size};
 use std::env::VarError;
-use std::io::Read;
+use std::fs::File;
+use std::io::{IsTerminal, Read};
 use std::marker::Model;
 use std::rt::{Clock, Env, Files};
 use std::time::{Duration, Instant};
@@ -21,6 +23,7 @@ pub struct TerminalLine {
     folder: Option<Folder>,
     size: Option<Size>,
     is_ending: bool,
+    is_stopping: bool,
     // How many empty reads came back at once, one after another.
     sudden: u32,
 }
@@ -31,7 +34,7 @@ impl Model for TerminalLine {
 
     ghost Value = { LineView };
 
-    ghost view = { λ l. record { size = l.size; is_ending = l.is_ending; sudden = l.sudden; has_folder = is_some l.folder } };
+    ghost view = { λ l. record { size = l.size; is_ending = l.is_ending; is_stopping = l.is_stopping; sudden = l.sudden; has_folder = is_some l.folder } };
 }
 
 impl TerminalLine {
@@ -44,6 +47,7 @@ impl TerminalLine {
             folder: folder_of(rt)?,
             size: size_of(rt)?,
             is_ending: false,
+            is_stopping: false,
             sudden: 0,
         };
         line.look(rt);
@@ -58,13 +62,36 @@ impl TerminalLine {
         self.size
     }
 
+    /// Whether a full-screen program can run: its standard input is no terminal, or one that `run-on-terminal` has set to
+    /// raw mode. On another terminal keys come line by line, and `^C` ends the program before it has closed its screen.
+    pub fn is_ready(&self, rt: &HostRuntime) -> bool
+        ensures { self.now.has_folder ≡ true → result ≡ true }
+    {
+        self.folder.is_some() || !rt.stdin().is_terminal()
+    }
+
+    /// Where the screen goes: to the terminal that `run-on-terminal` hands in, also where the standard output is a file or
+    /// a pipe; otherwise to the standard output.
+    pub fn output(&self, rt: &HostRuntime) -> TerminalOutput {
+        match self.terminal(rt) {
+            Some(file) => TerminalOutput::Terminal(file),
+            None => TerminalOutput::Standard(rt.stdout()),
+        }
+    }
+
+    // The terminal that was handed in.
+    fn terminal(&self, rt: &HostRuntime) -> Option<File> {
+        self.folder.as_ref()?.terminal(rt)
+    }
+
     /// Reads a piece of the keyboard's bytes by one read of the standard input, and looks once whether the size has
     /// changed.
     ///
     /// Idle if nothing came while the read waited, or a signal ended it. Ended if the program is asked to end, at once
     /// if it was asked before, else if no byte came; and if the input has ended. How that is told from silence: three
     /// empty reads in a row return within 20 milliseconds, while a line in raw mode lets each wait for a tenth of a
-    /// second. So a program whose input is a file gets Idle twice first. Failed if the piece is empty, the read fails
+    /// second. So a program whose input is a file gets Idle twice first. Stop if nothing came and the program is asked to
+    /// stop. Failed if the piece is empty, the read fails
     /// or the clock cannot be read.
     /// POSIX, read(); General Terminal Interface, 'Non-Canonical Mode Input Processing', case C.
     pub fn read<R: io::Input + Files + Clock>(&mut self, rt: &R, piece: &mut [u8]) -> Input
@@ -78,7 +105,7 @@ impl TerminalLine {
         }
         let found = self.read_keyboard(rt, piece);
         self.look(rt);
-        heard(self.is_ending, found)
+        heard(self.is_ending, self.is_stopping, found)
     }
 
     /// Suspends the program until its user continues it, as with `fg`. Call it when the screen is closed; start the
@@ -112,8 +139,12 @@ impl TerminalLine {
         ensures { self.new ≡ after_told self.old told }
     {
         match told {
-            Told::Size(size) => self.size = Some(size),
+            Told::Size(size) => {
+                self.size = Some(size);
+                self.is_stopping = false;
+            }
             Told::End => self.is_ending = true,
+            Told::Stop => self.is_stopping = true,
             Told::Nothing => {}
         }
     }

@@ -4,27 +4,29 @@ use crate::events::Event;
 use crate::faults::TerminalFault;
 use crate::input::Input;
 use crate::lines::TerminalLine;
+use crate::outputs::TerminalOutput;
+use crate::typed::Typed;
 use curses::{Device, Entry, Key, OpenFault, Screen, Sent, Size};
 use std::alloc::Global;
 use std::env;
 use std::env::VarError;
-use std::io::{BufWriter, Stdout};
+use std::io::BufWriter;
+use std::time::{Duration, Instant};
 use ti_database::find;
 
 // The key that asks for suspension: `^Z`, as at a shell's own line.
 const SUSPEND: Key = Key::Byte(26);
-
-// How many bytes of the keyboard are read at a time: so few that their keys always have room in the queue, which is
-// empty where the keyboard is read.
-const PIECE: usize = 16;
 
 /// The screen of the terminal that a program runs on, from its opening to its close.
 #[derive(Drop)]
 pub struct TerminalScreen {
     entry: Entry,
     line: TerminalLine,
+    typed: Typed,
+    // A key that `has_input` found.
+    waiting: Option<Key>,
     screen: Screen,
-    out: Device<BufWriter<Stdout>>,
+    out: Device<BufWriter<TerminalOutput>>,
     // Whether what was sent last went out whole, so that nothing is owed.
     is_whole: bool,
 }
@@ -33,20 +35,42 @@ impl TerminalScreen {
     /// Opens a screen of the terminal's size, or of the entry's own if nothing says what that is, on the entry of the
     /// machine's database that `TERM` names, and starts it.
     ///
-    /// Refused if `TERM` is not set, if there is no such entry or it cannot be served, or if memory runs out.
+    /// Refused if `TERM` is not set, if there is no such entry or it cannot be served, if the standard input is a
+    /// terminal that is not in raw mode, or if memory runs out. Nothing was written then.
     pub fn open(rt: &HostRuntime) -> Result<TerminalScreen, TerminalFault> {
-        let entry = named_entry(rt)?;
-        TerminalScreen::open_entry(rt, entry)
+        let name = terminal_name(rt)?;
+        match find(rt, name.as_str()) {
+            Ok(entry) => TerminalScreen::open_named(rt, name, entry),
+            Err(fault) => Err(TerminalFault::Entry { name, fault }),
+        }
+    }
+
+    // Opens a screen on the entry of this name.
+    fn open_named(
+        rt: &HostRuntime,
+        name: String,
+        entry: Entry,
+    ) -> Result<TerminalScreen, TerminalFault> {
+        match TerminalScreen::open_entry(rt, entry) {
+            Err(TerminalFault::Open(fault)) => Err(TerminalFault::Unserved { name, fault }),
+            opened => opened,
+        }
     }
 
     /// Like `open`, on an entry that the caller supplies, such as the bundled one.
     pub fn open_entry(rt: &HostRuntime, entry: Entry) -> Result<TerminalScreen, TerminalFault> {
         let line = TerminalLine::open(rt)?;
-        let out = device(rt)?;
+        if !line.is_ready(rt) {
+            return Err(TerminalFault::NotRaw);
+        }
+        let typed = Typed::new(rt.alloc())?;
+        let out = device(rt.alloc(), line.output(rt))?;
         let screen = Screen::open(rt.alloc(), &entry, line.size())?;
         Ok(started(TerminalScreen {
             entry,
             line,
+            typed,
+            waiting: None,
             screen,
             out,
             is_whole: false,
@@ -68,17 +92,44 @@ impl TerminalScreen {
         }
     }
 
-    /// Waits for a key, a resize, or the end. `^Z` is not a key: it suspends the program until its user continues it.
+    /// Waits for a key, a resize, or the end. `^Z` is not a key: it suspends the program until its user continues it, as
+    /// a stop from elsewhere does.
     pub fn event(&mut self, rt: &HostRuntime) -> Result<Event, TerminalFault> {
         for _ in 0..u64::MAX {
-            if let Some(key) = self.screen.key() {
-                return self.pressed(rt, key);
-            }
-            if let Some(event) = self.read(rt)? {
+            if let Some(event) = self.turn(rt)? {
                 return Ok(event);
             }
         }
         Ok(Event::Ended)
+    }
+
+    /// Like `event`, but waits for so many tenths of a second at most, by the clock: `Idle` if nothing came. A program
+    /// with a clock of its own calls it. A wait takes up to a tenth of a second longer, as a read of the keyboard does.
+    pub fn event_within(&mut self, rt: &HostRuntime, tenths: u32) -> Result<Event, TerminalFault> {
+        let Ok(start) = Instant::now(rt) else {
+            return Err(TerminalFault::Input);
+        };
+        let most = Duration::from_millis(u64::from(tenths) * 100);
+        for _ in 0..u64::MAX {
+            if let Some(event) = self.turn(rt)? {
+                return Ok(event);
+            }
+            match start.elapsed(rt) {
+                Ok(passed) if passed < most => {}
+                Ok(_) => return Ok(Event::Idle),
+                Err(_) => return Err(TerminalFault::Input),
+            }
+        }
+        Ok(Event::Ended)
+    }
+
+    /// Whether bytes that were read wait: the next event may be there already. It reads nothing. A program that updates
+    /// only where nothing waits makes one update for what is pasted, and not one for each key.
+    pub fn has_input(&mut self) -> bool {
+        if self.waiting.is_none() {
+            self.waiting = self.screen.key();
+        }
+        self.waiting.is_some() || !self.typed.is_empty()
     }
 
     /// Gives the terminal back: without attributes, with the cursor on its last line, and out of the modes of
@@ -123,27 +174,46 @@ impl TerminalScreen {
         }
     }
 
-    // Reads the keyboard once.
-    fn read(&mut self, rt: &HostRuntime) -> Result<Option<Event>, TerminalFault> {
-        let mut piece = [0u8; PIECE];
-        match self.line.read(rt, &mut piece) {
-            Input::Bytes(count) => {
-                self.take(&piece[..count])?;
-                Ok(None)
-            }
+    // What is there already, or what one read of the keyboard gives.
+    fn turn(&mut self, rt: &HostRuntime) -> Result<Option<Event>, TerminalFault> {
+        if let Some(event) = self.typed_event(rt)? {
+            return Ok(Some(event));
+        }
+        match self.typed.read(rt, &mut self.line) {
+            Input::Bytes(_) => self.typed_event(rt),
             Input::Idle => self.idle(rt),
             Input::Ended => Ok(Some(Event::Ended)),
+            Input::Stop => Ok(Some(self.suspend(rt)?)),
             Input::Failed => Err(TerminalFault::Input),
         }
     }
 
-    fn take(&mut self, bytes: &[u8]) -> Result<(), TerminalFault> {
-        for byte in bytes {
-            if let Err(fault) = self.screen.key_byte(*byte) {
+    // What the next key means, if one is there.
+    fn typed_event(&mut self, rt: &HostRuntime) -> Result<Option<Event>, TerminalFault> {
+        match self.typed_key()? {
+            Some(key) => Ok(Some(self.pressed(rt, key)?)),
+            None => Ok(None),
+        }
+    }
+
+    // The next key, if it is there. A byte goes to the queue of keys only where that is empty, so there is room for
+    // what comes of it.
+    fn typed_key(&mut self) -> Result<Option<Key>, TerminalFault> {
+        if let Some(key) = self.waiting.take() {
+            return Ok(Some(key));
+        }
+        for _ in 0..usize::MAX {
+            if let Some(key) = self.screen.key() {
+                return Ok(Some(key));
+            }
+            let Some(byte) = self.typed.next() else {
+                break;
+            };
+            if let Err(fault) = self.screen.key_byte(byte) {
                 return Err(TerminalFault::Keys(fault));
             }
         }
-        Ok(())
+        Ok(None)
     }
 
     // No byte came for a while. The size is followed where nothing is typed, since a new screen knows nothing of a key
@@ -181,24 +251,20 @@ fn started(opened: TerminalScreen) -> TerminalScreen {
     terminal
 }
 
-// The entry of the terminal that `TERM` names.
-fn named_entry(rt: &HostRuntime) -> Result<Entry, TerminalFault> {
+// The name of the terminal.
+fn terminal_name(rt: &HostRuntime) -> Result<String, TerminalFault> {
     match env::var(rt, "TERM") {
-        Ok(name) => entry_of(rt, name.as_str()),
+        Ok(name) => Ok(name),
         Err(VarError::OutOfMemory) => Err(TerminalFault::NoMemory),
         Err(_) => Err(TerminalFault::NoName),
     }
 }
 
-fn entry_of(rt: &HostRuntime, name: &str) -> Result<Entry, TerminalFault> {
-    match find(rt, name) {
-        Ok(entry) => Ok(entry),
-        Err(fault) => Err(TerminalFault::Entry(fault)),
-    }
-}
-
-fn device(rt: &HostRuntime) -> Result<Device<BufWriter<Stdout>>, TerminalFault> {
-    match BufWriter::new(rt.alloc(), rt.stdout()) {
+fn device(
+    alloc: Global,
+    output: TerminalOutput,
+) -> Result<Device<BufWriter<TerminalOutput>>, TerminalFault> {
+    match BufWriter::new(alloc, output) {
         Ok(writer) => Ok(Device::new(writer)),
         Err(_) => Err(TerminalFault::NoMemory),
     }

@@ -13,6 +13,8 @@ pub(crate) enum Told {
     Size(Size),
     /// The program is to end.
     End,
+    /// The program is to be suspended.
+    Stop,
     /// Nothing that can be used.
     Nothing,
 }
@@ -29,7 +31,8 @@ pub(crate) fn told_of(read: io::Result<usize>, piece: &[u8]) -> Told
     }
 }
 
-/// What a text tells: the size of the line `ROWS COLUMNS`, or the end that the line `end` asks for.
+/// What a text tells: the size of the line `ROWS COLUMNS`, the end that the line `end` asks for, or the stop that `stop`
+/// asks for.
 pub(crate) fn told_by(text: &[u8]) -> Told
     ensures { Tells text.now result }
 {
@@ -45,6 +48,9 @@ fn told_in(line: &str) -> Told
 {
     if line == "end\n" {
         return Told::End;
+    }
+    if line == "stop\n" {
+        return Told::Stop;
     }
     match size_told(line) {
         Some(size) => Told::Size(size),

@@ -1,0 +1,79 @@
+//! What was read of the keyboard and waits to be used.
+ghost use Rattle.std.specs.Prelude.{◌≡◌, ◌∷◌, [], None, true, IfSome};
+
+use crate::input::Input;
+use crate::lines::TerminalLine;
+use scr_cells::NoMemory;
+use std::alloc::{AllocError, Global};
+use std::marker::Model;
+
+// How many bytes are read at a time, at most.
+const PIECE: usize = 4096;
+
+/// What was read of the keyboard and waits to be used.
+#[derive(Drop)]
+pub(crate) struct Typed {
+    piece: Vec<u8>,
+    // How many of its bytes were used, and how many were read.
+    used: usize,
+    count: usize,
+}
+
+impl Model for Typed {
+    ghost use Rattle.std.specs.Prelude.{◌≤◌, ℕ, List, drop, length, take};
+
+    ghost Value = { List ℕ };
+
+    ghost view = { λ t. drop t.used (take t.count t.piece.items) };
+
+    ghost invariant = { λ t. record { used : t.used ≤ t.count; count : t.count ≤ length t.piece.items } };
+}
+
+impl Typed {
+    /// Nothing, with room for a piece. Fails only when memory runs out.
+    pub(crate) fn new(alloc: Global) -> Result<Typed, NoMemory> {
+        match piece(alloc) {
+            Ok(piece) => Ok(Typed {
+                piece,
+                used: 0,
+                count: 0,
+            }),
+            Err(_) => Err(NoMemory),
+        }
+    }
+
+    /// Whether nothing waits.
+    pub(crate) fn is_empty(&self) -> bool
+        ensures { result ≡ true → self.now ≡ [] }
+    {
+        self.used == self.count
+    }
+
+    /// The next byte that waits.
+    pub(crate) fn next(&mut self) -> Option<u8>
+        ensures some { IfSome result (λ byte. self.old ≡ byte ∷ self.new) }
+        ensures none { result ≡ None → self.old ≡ [] }
+    {
+        if self.used == self.count {
+            return None;
+        }
+        let byte = self.piece[self.used];
+        self.used += 1;
+        Some(byte)
+    }
+
+    /// Reads the keyboard once, where nothing waits.
+    pub(crate) fn read(&mut self, rt: &HostRuntime, line: &mut TerminalLine) -> Input {
+        let input = line.read(rt, self.piece.as_mut_slice());
+        self.used = 0;
+        self.count = match input {
+            Input::Bytes(count) => count,
+            _ => 0,
+        };
+        input
+    }
+}
+
+fn piece(alloc: Global) -> Result<Vec<u8>, AllocError> {
+    vec![in alloc; 0; PIECE]
+}
