@@ -1,0 +1,60 @@
+//! A list of a hundred lines with a highlight, which keys move; `q` ends. Any argument selects the bundled entry.
+#![tactic(auto)]
+
+use anyhow::Result;
+use curses::{Attrs, Key, Screen, Win, WinFault, bundled, keys};
+use terminal::{Event, Program, TerminalScreen};
+
+const LINES: u32 = 100;
+
+#[derive(Default, Drop)]
+struct List {
+    chosen: u32,
+    top: u32,
+    rows: u32,
+}
+
+impl Program for List {
+    fn draw(&mut self, screen: &mut Screen) -> Result<(), WinFault> {
+        (self.rows, _) = screen.size(Win(0))?;
+        let lowest = self.chosen.saturating_add(1).saturating_sub(self.rows);
+        self.top = self.top.min(self.chosen).max(lowest);
+        screen.erase(Win(0))?;
+        for row in 0..self.rows.min(LINES.saturating_sub(self.top)) {
+            let line = self.top.saturating_add(row);
+            let is_chosen = line == self.chosen;
+            screen.attr_set(Win(0), if is_chosen { Attrs::REVERSE } else { Attrs(0) })?;
+            screen.move_cursor(Win(0), row, 0)?;
+            let _ = screen.add_text(Win(0), b"line ")?;
+            let _ = screen.add_text(Win(0), itoa::Buffer::new().format(line).as_bytes())?;
+        }
+        screen.move_cursor(Win(0), self.chosen.saturating_sub(self.top), 0)?;
+        screen.noutrefresh(Win(0))
+    }
+
+    fn answer(&mut self, event: Event) -> bool {
+        let Event::Key(key) = event else {
+            return true;
+        };
+        self.chosen = match key {
+            Key::Byte(b'q') => return false,
+            keys::UP => self.chosen.saturating_sub(1),
+            keys::DOWN => self.chosen.saturating_add(1),
+            keys::PAGE_UP => self.chosen.saturating_sub(self.rows),
+            keys::PAGE_DOWN => self.chosen.saturating_add(self.rows),
+            keys::HOME => 0,
+            keys::END => LINES,
+            _ => self.chosen,
+        }
+        .min(LINES - 1);
+        true
+    }
+}
+
+fn main(rt: HostRuntime) -> Result<()> {
+    let mut terminal = match std::env::args(&rt)?.count() {
+        0 | 1 => TerminalScreen::open(&rt)?,
+        _ => TerminalScreen::open_entry(&rt, bundled(rt.alloc())?)?,
+    };
+    Ok(terminal.run(&rt, &mut List::default())?)
+}
