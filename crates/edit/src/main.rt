@@ -2,8 +2,8 @@
 //!
 //! `run-on-terminal edit FILE` opens FILE on the terminal that `TERM` names, with its entry from the machine's terminfo
 //! database; with `--bundled` the bundled entry is used. Every byte of a file is kept: one outside the printable
-//! characters is shown as `^X` or `\ooo`. `^S` saves, `^Q` leaves, `^F` and `^N` find, `^U` undoes, `^V` inserts the
-//! next byte as it is, `^L` paints anew, `^Z` suspends.
+//! characters is shown as `^X` or `\ooo`. `^S` saves, `^O` saves under another name, `^Q` leaves, `^F` and `^N` find, `^U`
+//! undoes, `^V` inserts the next byte as it is, `^L` paints anew, `^Z` suspends. `edit +LINE FILE` begins in that line.
 //!
 //! With `--script` the keys come from a script on standard input, and what an emulated terminal shows is printed. The
 //! status is 0, 1 for an error and 2 for a usage error.
@@ -42,14 +42,15 @@ fn words_given(rt: &HostRuntime) -> Result<Vec<String>, EditFailure> {
 
 // Does what the command line asks for, and gives the status.
 fn perform(rt: &HostRuntime, words: &[String]) -> u8 {
+    let (line, words) = words::line_of(words);
     match words::matches(rt.alloc(), words) {
-        Ok(matches) => perform_task(rt, &matches),
+        Ok(matches) => perform_task(rt, &matches, line),
         Err(error) => answered(rt, &error),
     }
 }
 
-fn perform_task(rt: &HostRuntime, matches: &ArgMatches<'_>) -> u8 {
-    match words::task_of(matches) {
+fn perform_task(rt: &HostRuntime, matches: &ArgMatches<'_>, line: usize) -> u8 {
+    match words::task_of(matches, line) {
         Some(task) => run(rt, task),
         None => 2,
     }
@@ -80,6 +81,7 @@ fn run(rt: &HostRuntime, task: Task<'_>) -> u8 {
 
 fn edit_file(rt: &HostRuntime, task: Task<'_>) -> Result<(), EditFailure> {
     let mut editor = Editor::open(rt, task.file)?;
+    editor.begin_at(task.line);
     edit(rt, task, &mut editor)
 }
 

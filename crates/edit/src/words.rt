@@ -12,6 +12,24 @@ pub(crate) struct Task<'a> {
     pub(crate) bundled: bool,
     /// A script of keys is read from standard input, and the emulated terminal is printed.
     pub(crate) script: bool,
+    /// The line in which the cursor is at first, counted from 1.
+    pub(crate) line: usize,
+}
+
+/// The line that a first word `+LINE` asks for, and the other words after the one that stands for the program's name.
+pub(crate) fn line_of(words: &[String]) -> (usize, &[String]) {
+    match words.get(1) {
+        Some(word) => match number_of(word.as_str()) {
+            Some(line) => (line, words.get(1..).unwrap_or(words)),
+            None => (1, words),
+        },
+        None => (1, words),
+    }
+}
+
+// The number of a word `+NUMBER`.
+fn number_of(word: &str) -> Option<usize> {
+    word.strip_prefix('+')?.parse::<usize>().ok()
 }
 
 /// Parses the command line: one file, and the options.
@@ -22,7 +40,9 @@ pub(crate) fn matches<'a>(alloc: Global, words: &'a [String]) -> Result<ArgMatch
 fn command<'a>(alloc: Global) -> Result<Command<'a>, AllocError> {
     Command::new(alloc, "edit")
         .version("0.1.0")
-        .about("Edits a text file on the terminal; run it by run-on-terminal")
+        .about(
+            "Edits a text file on the terminal; run it by run-on-terminal. +LINE before FILE: begins there",
+        )
         .arg(bundled(alloc))?
         .arg(script(alloc))?
         .arg(file(alloc))
@@ -52,10 +72,11 @@ fn file<'a>(alloc: Global) -> Arg<'a> {
 }
 
 /// What a parsed command line asks for.
-pub(crate) fn task_of<'a>(matches: &ArgMatches<'a>) -> Option<Task<'a>> {
+pub(crate) fn task_of<'a>(matches: &ArgMatches<'a>, line: usize) -> Option<Task<'a>> {
     Some(Task {
         file: matches.get_str("file")?,
         bundled: matches.get_flag("bundled"),
         script: matches.get_flag("script"),
+        line,
     })
 }

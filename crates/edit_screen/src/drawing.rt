@@ -56,9 +56,9 @@ pub(crate) fn draw(screen: &mut Screen, editor: &mut Editor) {
     let _ = screen.noutrefresh(Win(0));
 }
 
-// Whether the last row asks for what is looked for.
+// Whether the last row asks something.
 fn is_asking(editor: &Editor) -> bool {
-    editor.mode == Mode::Find
+    editor.mode == Mode::Find || editor.mode == Mode::Name
 }
 
 // The row and the column in which the cursor is shown.
@@ -143,9 +143,7 @@ fn draw_status(screen: &mut Screen, editor: &Editor, row: u32, columns: usize) -
         left: columns,
     };
     if is_asking(editor) {
-        draw_piece(screen, b"find: ", &mut room);
-        let most = room.left.saturating_sub(1);
-        draw_end(screen, &editor.needle, most, &mut room);
+        draw_question(screen, editor, &mut room);
     } else {
         draw_state(screen, editor, &mut room);
     }
@@ -158,6 +156,18 @@ fn draw_status(screen: &mut Screen, editor: &Editor, row: u32, columns: usize) -
     let _ = screen.attr_set(Win(0), Attrs(0));
     let _ = screen.color_set(Win(0), 0);
     low(end)
+}
+
+// Draws what is asked, and what is typed.
+fn draw_question(screen: &mut Screen, editor: &Editor, room: &mut Room) {
+    let (question, answer) = if editor.mode == Mode::Find {
+        ("find: ", &editor.needle)
+    } else {
+        ("save as: ", &editor.other)
+    };
+    draw_piece(screen, question.as_bytes(), room);
+    let most = room.left.saturating_sub(1);
+    draw_end(screen, answer, most, room);
 }
 
 // Draws what is said of the last key and the file's name, or else the name and where the cursor is. A star after the

@@ -2,6 +2,7 @@
 
 use crate::commands::{Command, Motion, command_of};
 use crate::messages::Message;
+use crate::saving::Seen;
 use crate::sequences::Sequence;
 use crate::view::{bytes_before, column_of};
 use curses::{Key, keys};
@@ -17,8 +18,12 @@ pub(crate) enum Mode {
     Literal,
     /// As a byte of what is looked for.
     Find,
+    /// As a byte of the name that the text is to be saved under.
+    Name,
     /// As in `Text`; but `^Q` leaves now, with the text not saved.
     Leaving,
+    /// As in `Text`; but `^S` saves now over what another program wrote.
+    Overwriting,
 }
 
 /// What a key asks of the program around the editor.
@@ -26,6 +31,10 @@ pub(crate) enum Mode {
 pub(crate) enum Request {
     Nothing,
     Save,
+    // To save over what another program wrote.
+    Overwrite,
+    // To save under the name that was typed.
+    SaveAs,
     Leave,
     Suspend,
     Repaint,
@@ -45,17 +54,29 @@ pub struct Editor {
     pub(crate) mode: Mode,
     /// What is looked for.
     pub(crate) needle: Vec<u8>,
+    /// The other name that is typed, under which the text is to be saved.
+    pub(crate) other: Vec<u8>,
+    /// The name under which the text was saved last, if that is not the file's first one.
+    pub(crate) renamed: Option<String>,
     /// What is to be said of the last key.
     pub(crate) message: Message,
     // How far the sequence of a key is read that the terminal's entry does not have.
     sequence: Sequence,
     // The version of the text that the file has.
     saved: u64,
+    /// What the file had when it was read or saved last.
+    pub(crate) seen: Seen,
 }
 
 impl Editor {
     /// An editor of a text that the file has.
-    pub(crate) fn new(alloc: Global, name: Vec<u8>, text: Text, message: Message) -> Editor {
+    pub(crate) fn new(
+        alloc: Global,
+        name: Vec<u8>,
+        text: Text,
+        seen: Seen,
+        message: Message,
+    ) -> Editor {
         let saved = text.version();
         Editor {
             name,
@@ -65,9 +86,12 @@ impl Editor {
             top: 0,
             mode: Mode::Text,
             needle: Vec::new(alloc),
+            other: Vec::new(alloc),
+            renamed: None,
             message,
             sequence: Sequence::Outside,
             saved,
+            seen,
         }
     }
 
@@ -77,8 +101,14 @@ impl Editor {
     }
 
     /// Says that the file has the text now.
-    pub(crate) fn mark_saved(&mut self) {
+    pub(crate) fn mark_saved(&mut self, seen: Seen) {
         self.saved = self.text.version();
+        self.seen = seen;
+    }
+
+    /// Moves the cursor to a line, counted from 1, or to the last.
+    pub fn begin_at(&mut self, line: usize) {
+        self.go_to_line(line.saturating_sub(1));
     }
 
     /// The line in which the cursor is.
@@ -102,8 +132,8 @@ impl Editor {
             return Request::Nothing;
         }
         self.message = Message::Nothing;
-        if self.mode == Mode::Find && self.press_in_find(key) {
-            return Request::Nothing;
+        if let Some(request) = self.press_in_question(key) {
+            return request;
         }
         self.press_command(command_of(key), page)
     }
@@ -124,33 +154,40 @@ impl Editor {
         }
     }
 
-    // Reads a key of what is looked for; enter begins the search. Answers whether it was one: any other key ends the
-    // question, and does what it does else.
-    fn press_in_find(&mut self, key: Key) -> bool {
-        match key {
-            Key::Byte(10 | 13) | keys::ENTER => {
-                self.mode = Mode::Text;
-                self.find();
-            }
-            Key::Byte(8 | 127) | keys::BACKSPACE => {
-                let _ = self.needle.pop();
-            }
-            Key::Byte(byte) if byte >= 32 || byte == b'\t' => {
-                if self.needle.push(byte).is_err() {
-                    self.message = Message::NoMemory;
+    // Reads a key of what a question asks for, if there is one; enter ends it. `None` if it was not one: any other key
+    // leaves the question, and does what it does else.
+    fn press_in_question(&mut self, key: Key) -> Option<Request> {
+        match self.mode {
+            Mode::Find => match typed_at(&mut self.needle, key) {
+                Typed::Ended => {
+                    self.mode = Mode::Text;
+                    self.find();
                 }
-            }
-            _ => return false,
+                Typed::Taken => {}
+                Typed::NoMemory => self.message = Message::NoMemory,
+                Typed::Other => return None,
+            },
+            Mode::Name => match typed_at(&mut self.other, key) {
+                Typed::Ended => {
+                    self.mode = Mode::Text;
+                    return Some(Request::SaveAs);
+                }
+                Typed::Taken => {}
+                Typed::NoMemory => self.message = Message::NoMemory,
+                Typed::Other => return None,
+            },
+            _ => return None,
         }
-        true
+        Some(Request::Nothing)
     }
 
     fn press_command(&mut self, command: Command, page: usize) -> Request {
-        let leaving = self.mode == Mode::Leaving;
+        let before = self.mode;
         self.mode = Mode::Text;
         match command {
+            Command::Save if before == Mode::Overwriting => return Request::Overwrite,
             Command::Save => return Request::Save,
-            Command::Quit => return self.quit(leaving),
+            Command::Quit => return self.quit(before == Mode::Leaving),
             Command::Suspend => return Request::Suspend,
             Command::Repaint => return Request::Repaint,
             Command::Move(motion) => self.move_by(motion, page),
@@ -177,6 +214,10 @@ impl Editor {
             Command::DeleteBefore => self.delete_before(),
             Command::DeleteHere => self.delete(self.cursor),
             Command::Find => self.begin_find(),
+            Command::SaveAs => {
+                self.mode = Mode::Name;
+                self.other.clear();
+            }
             Command::FindNext => self.find(),
             Command::Undo => self.undo(),
             _ => {}
@@ -333,5 +374,31 @@ impl Editor {
         let line = self.cursor.line;
         let lowest = line.saturating_add(1).saturating_sub(page);
         self.top = self.top.max(lowest).min(line);
+    }
+}
+
+// What a key did that was typed at a question.
+#[derive(Clone, Copy)]
+enum Typed {
+    Taken,
+    Ended,
+    // It is not for the question.
+    Other,
+    NoMemory,
+}
+
+// Types a key at a question whose answer so far is given.
+fn typed_at(answer: &mut Vec<u8>, key: Key) -> Typed {
+    match key {
+        Key::Byte(10 | 13) | keys::ENTER => Typed::Ended,
+        Key::Byte(8 | 127) | keys::BACKSPACE => {
+            let _ = answer.pop();
+            Typed::Taken
+        }
+        Key::Byte(byte) if byte >= 32 || byte == b'\t' => match answer.push(byte) {
+            Ok(()) => Typed::Taken,
+            Err(_) => Typed::NoMemory,
+        },
+        _ => Typed::Other,
     }
 }

@@ -16,10 +16,14 @@ pub enum EditFailure {
     File(ReadFault),
     /// `TERM` is not set, or is not text.
     NoTerm,
-    /// The terminal's entry cannot be read.
-    Entry(DatabaseFault),
-    /// No screen can be opened on the entry.
+    /// The entry of the terminal of this name cannot be read.
+    Entry(String, DatabaseFault),
+    /// No screen can be opened on the entry of the terminal of this name.
+    Unserved(String, OpenFault),
+    /// No screen can be opened on the bundled entry.
     Screen(#[from] OpenFault),
+    /// The standard input is a terminal that is not in raw mode.
+    NotRaw,
     /// The terminal accepts no output.
     Output,
     /// The terminal cannot be read.
@@ -35,7 +39,13 @@ pub enum EditFailure {
 impl Display for EditFailure {
     fn fmt<W: fmt::Write>(&self, f: &mut Formatter<W>) -> fmt::Result {
         match self {
-            EditFailure::Entry(fault) => fault.fmt(f),
+            EditFailure::Entry(name, fault) => write!(f, "TERM={name}: {fault}"),
+            EditFailure::Unserved(name, fault) => {
+                write!(
+                    f,
+                    "TERM={name}: {fault} (set TERM to a terminal that is served, or use --bundled)"
+                )
+            }
             EditFailure::Screen(fault) => fault.fmt(f),
             EditFailure::BadLine(number) => write!(f, "line {number}: bad command"),
             _ => f.write_str(self.words()),
@@ -50,11 +60,15 @@ impl EditFailure {
             EditFailure::NoMemory => "out of memory",
             EditFailure::File(fault) => fault.words(),
             EditFailure::NoTerm => "TERM is not set",
+            EditFailure::NotRaw => "not on a raw terminal: start it with run-on-terminal edit FILE",
             EditFailure::Output => "the terminal takes no output",
             EditFailure::Input => "the terminal cannot be read",
             EditFailure::Ended => "the input has ended",
             EditFailure::NotText => "the words or the script are not UTF-8 text",
-            EditFailure::Entry(_) | EditFailure::Screen(_) | EditFailure::BadLine(_) => "",
+            EditFailure::Entry(_, _)
+            | EditFailure::Unserved(_, _)
+            | EditFailure::Screen(_)
+            | EditFailure::BadLine(_) => "",
         }
     }
 }

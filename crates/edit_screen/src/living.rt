@@ -31,6 +31,9 @@ pub(crate) struct Around<'a> {
 /// Runs the editor on the terminal that standard input and output are, to its end.
 pub(crate) fn run_on_terminal(around: &Around<'_>, editor: &mut Editor) -> Result<(), EditFailure> {
     let mut line = TerminalLine::open(around.rt)?;
+    if !line.is_ready(around.rt) {
+        return Err(EditFailure::NotRaw);
+    }
     run_on_line(around, &mut line, editor)
 }
 
@@ -39,7 +42,7 @@ fn run_on_line(
     line: &mut TerminalLine,
     editor: &mut Editor,
 ) -> Result<(), EditFailure> {
-    match BufWriter::new(around.rt.alloc(), around.rt.stdout()) {
+    match BufWriter::new(around.rt.alloc(), line.output(around.rt)) {
         Ok(writer) => own_screen(around, line, &mut Device::new(writer), editor),
         Err(_) => Err(EditFailure::NoMemory),
     }
@@ -85,24 +88,46 @@ fn live<W: Counted>(
     editor: &mut Editor,
 ) -> Result<(), EditFailure> {
     let mut failures = 0u32;
+    let mut waits = false;
     // What a failed write leaves of the opening text is sent by the next update.
     let _ = screen.start(out);
     for _ in 0..u64::MAX {
-        match update(around.rt.alloc(), screen, editor, out) {
-            Ok(_) => failures = 0,
-            Err(fault) => {
-                failures = failures.saturating_add(1);
-                if failures == MOST_FAILURES {
-                    return Err(failure_of(&fault));
+        // What is pasted is shown once all of it is read.
+        if !waits {
+            match update(around.rt.alloc(), screen, editor, out) {
+                Ok(_) => failures = 0,
+                Err(fault) => {
+                    failures = failures.saturating_add(1);
+                    if failures == MOST_FAILURES {
+                        return Err(failure_of(&fault));
+                    }
                 }
             }
         }
         let is_shown = failures == 0;
-        if !turn(around, screen, line, out, editor, is_shown)? {
-            return Ok(());
+        match take_turn(around, screen, line, out, editor, is_shown)? {
+            Turn::Over => return Ok(()),
+            Turn::Read => waits = false,
+            Turn::ReadMore => waits = true,
         }
     }
     Ok(())
+}
+
+// What a turn came to.
+#[derive(Clone, Copy)]
+enum Turn {
+    // The editor was left.
+    Over,
+    // What was there is read.
+    Read,
+    // There is most likely more to read.
+    ReadMore,
+}
+
+// What a turn came to after which the editor goes on, or does not.
+fn turn_of(goes_on: bool) -> Turn {
+    if goes_on { Turn::Read } else { Turn::Over }
 }
 
 fn failure_of(fault: &UpdateFault) -> EditFailure {
@@ -134,21 +159,24 @@ fn put<T: Drop>(place: &mut T, value: T) {
 }
 
 // Reads the keyboard once, and presses the keys that came. Follows the terminal's size while nothing is typed, since a
-// new screen knows nothing of a key whose first bytes came, and only where nothing is owed. Answers whether the editor
-// goes on.
-fn turn<W: Counted>(
+// new screen knows nothing of a key whose first bytes came, and only where nothing is owed.
+fn take_turn<W: Counted>(
     around: &Around<'_>,
     screen: &mut Screen,
     line: &mut TerminalLine,
     out: &mut W,
     editor: &mut Editor,
     is_shown: bool,
-) -> Result<bool, EditFailure> {
+) -> Result<Turn, EditFailure> {
     let mut piece = [0u8; PIECE];
     match line.read(around.rt, &mut piece) {
         Input::Bytes(count) => {
             let bytes = &piece[..count];
-            Ok(type_all(around, screen, line, out, editor, bytes))
+            let goes_on = type_all(around, screen, line, out, editor, bytes);
+            if goes_on && count == PIECE {
+                return Ok(Turn::ReadMore);
+            }
+            Ok(turn_of(goes_on))
         }
         Input::Idle => {
             let _ = screen.key_idle();
@@ -157,7 +185,11 @@ fn turn<W: Counted>(
             if is_shown {
                 follow_size(around, screen, line, editor);
             }
-            Ok(goes_on)
+            Ok(turn_of(goes_on))
+        }
+        Input::Stop => {
+            suspend(around, screen, line, out, editor);
+            Ok(Turn::Read)
         }
         Input::Ended => Err(EditFailure::Ended),
         Input::Failed => Err(EditFailure::Input),

@@ -7,7 +7,10 @@ use crate::saving::SaveFault;
 pub(crate) enum Message {
     Nothing,
     NewFile,
+    ReadOnly,
+    Recovered,
     Saved,
+    SavedBefore,
     NotSaved,
     CannotSave(SaveFault),
     CannotSuspend,
@@ -37,7 +40,10 @@ impl Message {
         match self {
             Message::Nothing => "",
             Message::NewFile => "new file",
+            Message::ReadOnly => "the file may not be written",
+            Message::Recovered => "a text that was not saved is in a file with .recovered",
             Message::Saved => "saved",
+            Message::SavedBefore => "saved; what another program wrote is in a file with .before",
             Message::NotSaved => "not saved: ^S saves, ^Q leaves without saving",
             Message::CannotSave(fault) => fault.words(),
             Message::CannotSuspend => "cannot be suspended: not run by run-on-terminal",

@@ -4,8 +4,9 @@ use crate::editor::Editor;
 use edit_text::Text;
 use program_input::{InputFault, read_input};
 use std::fs::{File, OpenOptions};
+use std::hash::{DefaultHasher, Hasher};
 use std::io::{ErrorKind, Write};
-use std::{fs, io};
+use std::{env, fs, io};
 
 /// How often it is tried to save a text that would be lost, where memory runs out.
 const MOST_RESCUES: u32 = 3;
@@ -38,11 +39,42 @@ impl ReadFault {
     }
 }
 
+/// What a file had when it was looked at: how many bytes, and their hash; `None` if there was no file.
+#[derive(Clone, Copy, PartialEq, Eq)]
+pub(crate) struct Seen(Option<(usize, u64)>);
+
+impl Seen {
+    /// There was no file.
+    pub(crate) const NOTHING: Seen = Seen(None);
+
+    /// A file with these bytes.
+    pub(crate) fn of(bytes: &[u8]) -> Seen {
+        let mut hasher = DefaultHasher::new();
+        hasher.write(bytes);
+        Seen(Some((bytes.len(), hasher.finish())))
+    }
+}
+
+/// What was saved.
+#[derive(Clone, Copy)]
+pub(crate) struct Saved {
+    /// What the file has now.
+    pub(crate) seen: Seen,
+    /// Whether it had something else than the editor knew, which is kept beside it.
+    pub(crate) is_kept: bool,
+}
+
 /// Why a text was not saved. The file has what it had.
 #[derive(Clone, Copy, Debug, PartialEq, Eq)]
 pub enum SaveFault {
     /// Memory ran out.
     NoMemory,
+    /// Another program has changed the file.
+    Changed,
+    /// There is a file of the other name.
+    Taken,
+    /// The other name is not UTF-8 text.
+    NotText,
     /// The new file beside the old one is there already.
     IsThere,
     /// The file may not be written.
@@ -62,6 +94,9 @@ impl SaveFault {
     pub fn words(self) -> &'static str {
         match self {
             SaveFault::NoMemory => "out of memory",
+            SaveFault::Changed => "changed by another program: ^S keeps that as .before",
+            SaveFault::Taken => "there is such a file",
+            SaveFault::NotText => "the name is not UTF-8 text",
             SaveFault::IsThere => "a file of this name with .new at its end is in the way",
             SaveFault::ReadOnly => "the file may not be written",
             SaveFault::BrokenLink => "the name is a link to a file that is not there",
@@ -92,51 +127,118 @@ pub(crate) fn bytes_of(rt: &HostRuntime, path: &str) -> Result<Option<Vec<u8>>, 
     }
 }
 
-/// Saves a text: writes a new file, named as the old one with `.new` after it, which is then renamed to the old
+/// Saves a text: writes a new file, named as the old one with `.new` after it, which then takes the place of the old
 /// one. A name that is a link stays one. The new file has the old one's permissions.
-pub(crate) fn save(rt: &HostRuntime, path: &str, text: &Text) -> Result<(), SaveFault> {
+///
+/// Refused with `Changed` if the file has something else than was seen last, unless that is to be overwritten. What the
+/// old file has at the end, where that was not seen, is kept with `.before` after its name.
+pub(crate) fn save(
+    rt: &HostRuntime,
+    path: &str,
+    text: &Text,
+    seen: Seen,
+    overwrites: bool,
+) -> Result<Saved, SaveFault> {
     match text.bytes(rt.alloc()) {
-        Ok(bytes) => save_bytes(rt, path, &bytes),
+        Ok(bytes) => save_bytes(rt, path, &bytes, seen, overwrites),
         Err(_) => Err(SaveFault::NoMemory),
     }
 }
 
-fn save_bytes(rt: &HostRuntime, path: &str, bytes: &[u8]) -> Result<(), SaveFault> {
+fn save_bytes(
+    rt: &HostRuntime,
+    path: &str,
+    bytes: &[u8],
+    seen: Seen,
+    overwrites: bool,
+) -> Result<Saved, SaveFault> {
+    if !overwrites && seen_at(rt, path)? != seen {
+        return Err(SaveFault::Changed);
+    }
+    let is_kept = save_over(rt, path, bytes, seen)?;
+    Ok(Saved {
+        seen: Seen::of(bytes),
+        is_kept,
+    })
+}
+
+/// Saves a text under another name, which no file has.
+pub(crate) fn save_as(rt: &HostRuntime, path: &str, text: &Text) -> Result<Saved, SaveFault> {
+    match save(rt, path, text, Seen::NOTHING, false) {
+        Err(SaveFault::Changed) => Err(SaveFault::Taken),
+        saved => saved,
+    }
+}
+
+// What a file has now. One that cannot be read has changed.
+fn seen_at(rt: &HostRuntime, path: &str) -> Result<Seen, SaveFault> {
+    match bytes_of(rt, path) {
+        Ok(Some(bytes)) => Ok(Seen::of(&bytes)),
+        Ok(None) => Ok(Seen::NOTHING),
+        Err(ReadFault::NoMemory) => Err(SaveFault::NoMemory),
+        Err(_) => Err(SaveFault::Changed),
+    }
+}
+
+// Saves bytes over a file, and answers whether that had something else than was seen, which is kept.
+fn save_over(rt: &HostRuntime, path: &str, bytes: &[u8], seen: Seen) -> Result<bool, SaveFault> {
     match fs::canonicalize(rt, path) {
-        Ok(real) => replace(rt, real.as_path().as_str(), bytes),
-        Err(error) if error.kind() == ErrorKind::NotFound => save_new(rt, path, bytes),
+        Ok(real) => replace(rt, real.as_path().as_str(), bytes, seen),
+        Err(error) if error.kind() == ErrorKind::NotFound => save_new(rt, path, bytes, seen),
         Err(error) if error.kind() == ErrorKind::OutOfMemory => Err(SaveFault::NoMemory),
         Err(_) => Err(SaveFault::CannotCreate),
     }
 }
 
 /// Saves the text of an editor that has ended, which would be lost: beside the file, with `.recovered` after its name,
-/// or `.recovered.1` and so on if that is there. Gives the name.
+/// or `.recovered.1` and so on if that is there; or as `edit.recovered` in the folder that `TMPDIR` names, or in `/tmp`,
+/// where no file can be made or written beside the file. Gives the name.
 ///
-/// Refused if memory runs out, if all of a hundred names are there, or if no file can be made or written beside the
-/// file.
+/// Refused if memory runs out, if all of a hundred names are there, or if no file can be made or written there either.
 pub fn rescue(rt: &HostRuntime, path: &str, editor: &Editor) -> Result<String, SaveFault> {
     // The screen's memory is free by now, so where there was none it tries again.
     for _ in 1..MOST_RESCUES {
-        match save_beside(rt, path, &editor.text) {
+        match rescue_once(rt, path, &editor.text) {
             Err(SaveFault::NoMemory) => {}
             saved => return saved,
         }
     }
-    save_beside(rt, path, &editor.text)
+    rescue_once(rt, path, &editor.text)
 }
 
-// Saves a text beside the file, and gives the name.
-fn save_beside(rt: &HostRuntime, path: &str, text: &Text) -> Result<String, SaveFault> {
+fn rescue_once(rt: &HostRuntime, path: &str, text: &Text) -> Result<String, SaveFault> {
     match text.bytes(rt.alloc()) {
-        Ok(bytes) => save_bytes_beside(rt, path, &bytes),
+        Ok(bytes) => rescue_bytes(rt, path, &bytes),
         Err(_) => Err(SaveFault::NoMemory),
     }
 }
 
-fn save_bytes_beside(rt: &HostRuntime, path: &str, bytes: &[u8]) -> Result<String, SaveFault> {
+fn rescue_bytes(rt: &HostRuntime, path: &str, bytes: &[u8]) -> Result<String, SaveFault> {
+    match save_beside(rt, path, path, bytes) {
+        Err(SaveFault::NoMemory) => Err(SaveFault::NoMemory),
+        Err(_) => save_beside(rt, temporary(rt)?.as_str(), path, bytes),
+        saved => saved,
+    }
+}
+
+// The name in the folder for temporary files beside which a text is saved.
+fn temporary(rt: &HostRuntime) -> Result<String, SaveFault> {
+    let name = match env::var(rt, "TMPDIR") {
+        Ok(folder) => format!(in rt.alloc(); "{folder}/edit"),
+        Err(_) => String::from_str(rt.alloc(), "/tmp/edit"),
+    };
+    name.map_err(|_| SaveFault::NoMemory)
+}
+
+// Saves bytes beside a name, with the permissions of a file, and gives the name.
+fn save_beside(
+    rt: &HostRuntime,
+    base: &str,
+    path: &str,
+    bytes: &[u8],
+) -> Result<String, SaveFault> {
     for number in 0..MOST_RECOVERED {
-        let name = recovered_name(rt, path, number)?;
+        let name = name_beside(rt, base, "recovered", number)?;
         match create(rt, name.as_str(), path, bytes) {
             Ok(()) => return Ok(name),
             Err(SaveFault::IsThere) => {}
@@ -146,46 +248,87 @@ fn save_bytes_beside(rt: &HostRuntime, path: &str, bytes: &[u8]) -> Result<Strin
     Err(SaveFault::IsThere)
 }
 
-// The name of the nth file beside a file.
-fn recovered_name(rt: &HostRuntime, path: &str, number: u32) -> Result<String, SaveFault> {
+// The name of the nth file of a kind beside a file.
+fn name_beside(rt: &HostRuntime, path: &str, kind: &str, number: u32) -> Result<String, SaveFault> {
     let name = if number == 0 {
-        format!(in rt.alloc(); "{path}.recovered")
+        format!(in rt.alloc(); "{path}.{kind}")
     } else {
-        format!(in rt.alloc(); "{path}.recovered.{number}")
+        format!(in rt.alloc(); "{path}.{kind}.{number}")
     };
     name.map_err(|_| SaveFault::NoMemory)
 }
 
 // Saves a file that is not there yet.
-fn save_new(rt: &HostRuntime, path: &str, bytes: &[u8]) -> Result<(), SaveFault> {
+fn save_new(rt: &HostRuntime, path: &str, bytes: &[u8], seen: Seen) -> Result<bool, SaveFault> {
     match fs::symlink_metadata(rt, path) {
         Ok(_) => Err(SaveFault::BrokenLink),
-        Err(_) => replace(rt, path, bytes),
+        Err(_) => replace(rt, path, bytes, seen),
     }
 }
 
-// Writes bytes into a new file, which is then renamed to a file that may exist.
-fn replace(rt: &HostRuntime, path: &str, bytes: &[u8]) -> Result<(), SaveFault> {
+// Writes bytes into a new file, which then takes the place of a file that may exist. Answers whether that had something
+// else than was seen.
+fn replace(rt: &HostRuntime, path: &str, bytes: &[u8], seen: Seen) -> Result<bool, SaveFault> {
     if is_read_only(rt, path) {
         return Err(SaveFault::ReadOnly);
     }
-    match format!(in rt.alloc(); "{path}.new") {
-        Ok(beside) => replace_by(rt, path, beside.as_str(), bytes),
-        Err(_) => Err(SaveFault::NoMemory),
+    let new = name_beside(rt, path, "new", 0)?;
+    let before = free_name(rt, path)?;
+    create(rt, new.as_str(), path, bytes)?;
+    let put = exchange(rt, path, new.as_str(), before.as_str());
+    if put.is_err() {
+        let _ = fs::remove_file(rt, new.as_str());
+    }
+    put?;
+    Ok(is_kept(rt, before.as_str(), seen))
+}
+
+// A name with `.before` that no file beside a file has.
+fn free_name(rt: &HostRuntime, path: &str) -> Result<String, SaveFault> {
+    for number in 0..MOST_RECOVERED {
+        let name = name_beside(rt, path, "before", number)?;
+        if fs::symlink_metadata(rt, name.as_str()).is_err() {
+            return Ok(name);
+        }
+    }
+    Err(SaveFault::IsThere)
+}
+
+// Puts a new file in the place of a file, which gets another name. A file that another program makes in between stays:
+// a link is made only where no file is. Where the file system has no links, the new file is renamed.
+fn exchange(rt: &HostRuntime, path: &str, new: &str, before: &str) -> Result<(), SaveFault> {
+    match fs::rename(rt, path, before) {
+        Err(error) if error.kind() != ErrorKind::NotFound => return Err(SaveFault::RenameFailed),
+        _ => {}
+    }
+    match fs::hard_link(rt, new, path) {
+        Ok(()) => {
+            let _ = fs::remove_file(rt, new);
+            Ok(())
+        }
+        Err(error) if error.kind() == ErrorKind::AlreadyExists => Err(SaveFault::Changed),
+        Err(_) if fs::rename(rt, new, path).is_ok() => Ok(()),
+        Err(_) => {
+            let _ = fs::rename(rt, before, path);
+            Err(SaveFault::RenameFailed)
+        }
     }
 }
 
-fn replace_by(rt: &HostRuntime, path: &str, beside: &str, bytes: &[u8]) -> Result<(), SaveFault> {
-    create(rt, beside, path, bytes)?;
-    if fs::rename(rt, beside, path).is_err() {
-        let _ = fs::remove_file(rt, beside);
-        return Err(SaveFault::RenameFailed);
+// Whether the old file had something else than was seen. If it had not, it is removed.
+fn is_kept(rt: &HostRuntime, before: &str, seen: Seen) -> bool {
+    match seen_at(rt, before) {
+        Ok(found) if found == Seen::NOTHING => false,
+        Ok(found) if found == seen => {
+            let _ = fs::remove_file(rt, before);
+            false
+        }
+        _ => true,
     }
-    Ok(())
 }
 
-// Whether a file is there that may not be written.
-fn is_read_only(rt: &HostRuntime, path: &str) -> bool {
+/// Whether a file is there that may not be written.
+pub(crate) fn is_read_only(rt: &HostRuntime, path: &str) -> bool {
     match OpenOptions::new().write(true).open(rt, path) {
         Ok(_) => false,
         Err(error) => error.kind() != ErrorKind::NotFound,

@@ -11,39 +11,49 @@ use ti_database::find;
 /// Runs the editor of a file on the terminal that standard input and output are, to its end: with the bundled entry, or
 /// with the one that `TERM` names in the machine's database.
 ///
-/// Refused if there is no such entry or it cannot be served, if the input ends, if the terminal cannot be read or
-/// accepts no output, or if memory runs out. The screen is closed however it ends.
+/// Refused if there is no such entry or it cannot be served, if the standard input is a terminal that is not in raw mode,
+/// if the input ends, if the terminal cannot be read or accepts no output, or if memory runs out. The screen is closed
+/// however it ends.
 pub fn edit_on_terminal(
     rt: &HostRuntime,
     path: &str,
     is_bundled: bool,
     editor: &mut Editor,
 ) -> Result<(), EditFailure> {
-    let entry = entry_of(rt, is_bundled)?;
-    let around = Around {
-        rt,
-        entry: &entry,
-        path,
-    };
-    run_on_terminal(&around, editor)
-}
-
-// The bundled entry, or the one that `TERM` names.
-fn entry_of(rt: &HostRuntime, is_bundled: bool) -> Result<Entry, EditFailure> {
     if is_bundled {
-        return Ok(bundled(rt.alloc())?);
+        return edit_on_entry(rt, path, &bundled(rt.alloc())?, editor);
     }
     match env::var(rt, "TERM") {
-        Ok(name) => entry_named(rt, name.as_str()),
+        Ok(name) => edit_on_named(rt, path, name, editor),
         Err(VarError::OutOfMemory) => Err(EditFailure::NoMemory),
         Err(_) => Err(EditFailure::NoTerm),
     }
 }
 
-// The entry of this name in the machine's database.
-fn entry_named(rt: &HostRuntime, name: &str) -> Result<Entry, EditFailure> {
-    match find(rt, name) {
-        Ok(entry) => Ok(entry),
-        Err(fault) => Err(EditFailure::Entry(fault)),
+// Runs the editor with the entry of this name in the machine's database.
+fn edit_on_named(
+    rt: &HostRuntime,
+    path: &str,
+    name: String,
+    editor: &mut Editor,
+) -> Result<(), EditFailure> {
+    let entry = match find(rt, name.as_str()) {
+        Ok(entry) => entry,
+        Err(fault) => return Err(EditFailure::Entry(name, fault)),
+    };
+    match edit_on_entry(rt, path, &entry, editor) {
+        Err(EditFailure::Screen(fault)) => Err(EditFailure::Unserved(name, fault)),
+        ended => ended,
     }
+}
+
+// Runs the editor with an entry.
+fn edit_on_entry(
+    rt: &HostRuntime,
+    path: &str,
+    entry: &Entry,
+    editor: &mut Editor,
+) -> Result<(), EditFailure> {
+    let around = Around { rt, entry, path };
+    run_on_terminal(&around, editor)
 }
