@@ -1,18 +1,21 @@
 //! Runs a script that draws on a screen, and prints what a terminal shows of it. With `-r` it writes the terminal's
 //! bytes instead. With `-e` it explains the script's last update: each operation that is sent with the bytes of its
-//! text, and how many bytes these are, beside those of the joined repaint and of painting from scratch.
+//! text, and how many bytes these are, beside those of the joined repaint and of painting from scratch. With `--picture`
+//! it draws the last screen as an SVG.
 #![tactic(auto)]
 
 mod explaining;
 mod failures;
 mod last_update;
 mod pages;
+mod pictures;
 mod pricing;
 mod scripts;
 mod words;
 
 use explaining::explanation;
 use failures::DemoFailure;
+use pictures::picture;
 use program_input::{InputFault, read_input};
 pub use screen_scripts::{DemoFault, refusals, run};
 use std::io;
@@ -43,7 +46,8 @@ fn perform(rt: &HostRuntime, task: Task, script: &[u8]) -> Result<(), DemoFailur
             let told = tell_refusals(rt, script);
             ended.and(told)
         }
-        Task::Explain => explain(rt, script),
+        Task::Explain => print(rt, explanation(rt.alloc(), script)),
+        Task::Picture => print(rt, picture(rt.alloc(), script)),
     }
 }
 
@@ -60,11 +64,11 @@ fn tell_refusals(rt: &HostRuntime, script: &[u8]) -> Result<(), DemoFailure> {
         .map_err(|error| DemoFailure::Demo(DemoFault::Write(error.kind())))
 }
 
-// Explains the last update of a script.
-fn explain(rt: &HostRuntime, script: &[u8]) -> Result<(), DemoFailure> {
-    let lines = explanation(rt.alloc(), script).map_err(DemoFailure::Demo)?;
+// Prints a text, if it was made.
+fn print(rt: &HostRuntime, made: Result<Vec<u8>, DemoFault>) -> Result<(), DemoFailure> {
+    let text = made.map_err(DemoFailure::Demo)?;
     rt.stdout()
-        .write_all(&lines)
+        .write_all(&text)
         .map_err(|error| DemoFailure::Demo(DemoFault::Write(error.kind())))
 }
 

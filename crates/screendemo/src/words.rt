@@ -16,6 +16,8 @@ pub enum Task {
     Send,
     /// The last update is explained.
     Explain,
+    /// The last screen is drawn as a picture.
+    Picture,
 }
 
 /// What the command line asks for. A request for the usage text is refused with it.
@@ -38,6 +40,11 @@ fn command<'a>(alloc: Global) -> Result<Command<'a>, AllocError> {
         .action(ArgAction::SetTrue)
         .exclusive(true)
         .help("Explains the last update: what is sent, and how many bytes each part takes");
+    let picture = Arg::new(alloc, "picture")
+        .long("picture")
+        .action(ArgAction::SetTrue)
+        .exclusive(true)
+        .help("Draws the last screen as an SVG");
     // The usage text tells the version in its first line.
     let version = Arg::new(alloc, "version")
         .short('V')
@@ -50,6 +57,7 @@ fn command<'a>(alloc: Global) -> Result<Command<'a>, AllocError> {
         .disable_version_flag(true)
         .arg(raw)?
         .arg(explain)?
+        .arg(picture)?
         .arg(version)
 }
 
@@ -57,6 +65,8 @@ fn task_in(alloc: Global, words: &[String]) -> Result<Task, clap::Error> {
     let matches = command(alloc)?.try_get_matches_from(words)?;
     if matches.get_flag("explain") {
         Ok(Task::Explain)
+    } else if matches.get_flag("picture") {
+        Ok(Task::Picture)
     } else if matches.get_flag("raw") {
         Ok(Task::Send)
     } else {
