@@ -24,11 +24,14 @@ const INK: &[u8] = b"#d3d7cf";
 
 const PAPER: &[u8] = b"#1d1f21";
 
-/// The picture of the screen that a terminal shows after a script. A blinking character is slanted, a dim one pale, and
-/// an invisible one left out.
+/// The picture of the screen that a terminal shows after a script; nothing for an empty script. A blinking character is
+/// slanted, a dim one pale, and an invisible one left out.
 ///
 /// Refused at a bad line of the script, or with `NoMemory`.
 pub fn picture(alloc: Global, script: &[u8]) -> Result<Vec<u8>, DemoFault> {
+    if script.is_empty() {
+        return Ok(Vec::new(alloc));
+    }
     let (line, _) = cut_line(script);
     let size = first_size(alloc, line)?;
     let mut bytes = Vec::new(alloc);
