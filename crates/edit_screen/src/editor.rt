@@ -2,10 +2,11 @@
 
 use crate::commands::{Command, Motion, command_of};
 use crate::messages::Message;
+use crate::questions::{Typed, typed_at};
 use crate::saving::Seen;
 use crate::sequences::Sequence;
 use crate::view::{bytes_before, column_of};
-use curses::{Key, keys};
+use curses::Key;
 use edit_text::{EditFault, Place, Text};
 use std::alloc::Global;
 
@@ -374,31 +375,5 @@ impl Editor {
         let line = self.cursor.line;
         let lowest = line.saturating_add(1).saturating_sub(page);
         self.top = self.top.max(lowest).min(line);
-    }
-}
-
-// What a key did that was typed at a question.
-#[derive(Clone, Copy)]
-enum Typed {
-    Taken,
-    Ended,
-    // It is not for the question.
-    Other,
-    NoMemory,
-}
-
-// Types a key at a question whose answer so far is given.
-fn typed_at(answer: &mut Vec<u8>, key: Key) -> Typed {
-    match key {
-        Key::Byte(10 | 13) | keys::ENTER => Typed::Ended,
-        Key::Byte(8 | 127) | keys::BACKSPACE => {
-            let _ = answer.pop();
-            Typed::Taken
-        }
-        Key::Byte(byte) if byte >= 32 || byte == b'\t' => match answer.push(byte) {
-            Ok(()) => Typed::Taken,
-            Err(_) => Typed::NoMemory,
-        },
-        _ => Typed::Other,
     }
 }

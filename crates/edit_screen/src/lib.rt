@@ -10,6 +10,7 @@ mod failures;
 mod living;
 mod messages;
 mod opening;
+mod questions;
 mod saving;
 mod scripts;
 mod sequences;

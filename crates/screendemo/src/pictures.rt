@@ -101,13 +101,8 @@ fn draw_stretch(row: u32, column: usize, looks: &[Look], page: &mut Page) {
     let width = width_of(looks.len());
     let (ink, paper) = inks(*first);
     if paper != PAPER {
-        page.add(b"<rect x=\"");
-        page.add_value(&left);
-        page.add(b"\" y=\"");
-        page.add_value(&row.saturating_mul(HEIGHT));
-        page.add(b"\" width=\"");
-        page.add_value(&width);
-        page.add(b"\" height=\"17\" fill=\"");
+        add_rectangle(row, left, width, page);
+        page.add(b"fill=\"");
         page.add(paper);
         page.add(b"\"/>\n");
     }
@@ -191,13 +186,19 @@ fn draw_cursor(size: Size, spot: Spot, page: &mut Page) {
         Spot::At(row, column) => (row, column, WIDTH),
         Spot::Margin(row) => (row, size.columns, 1),
     };
+    add_rectangle(row, column.saturating_mul(WIDTH), width, page);
+    page.add(b"fill=\"none\" stroke=\"");
+    page.add(INK);
+    page.add(b"\"/>\n");
+}
+
+// Begins a rectangle as high as a row, up to its colours.
+fn add_rectangle(row: u32, left: u32, width: u32, page: &mut Page) {
     page.add(b"<rect x=\"");
-    page.add_value(&column.saturating_mul(WIDTH));
+    page.add_value(&left);
     page.add(b"\" y=\"");
     page.add_value(&row.saturating_mul(HEIGHT));
     page.add(b"\" width=\"");
     page.add_value(&width);
-    page.add(b"\" height=\"17\" fill=\"none\" stroke=\"");
-    page.add(INK);
-    page.add(b"\"/>\n");
+    page.add(b"\" height=\"17\" ");
 }
