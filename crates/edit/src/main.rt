@@ -2,8 +2,9 @@
 //!
 //! `run-on-terminal edit FILE` opens FILE on the terminal that `TERM` names, with its entry from the machine's terminfo
 //! database; with `--bundled` the bundled entry is used. Every byte of a file is kept: one outside the printable
-//! characters is shown as `^X` or `\ooo`. `^S` saves, `^O` saves under another name, `^Q` leaves, `^F` and `^N` find, `^U`
-//! undoes, `^V` inserts the next byte as it is, `^L` paints anew, `^Z` suspends. `edit +LINE FILE` begins in that line.
+//! characters is shown as `^X` or `\ooo`, and a tab as blanks. `^S` saves, `^O` saves under another name, `^X` leaves, `^F`
+//! and `^N` find, `^K` cuts a line, `^U` pastes, Alt-U undoes, Alt-E does again, `^V` inserts the next byte as it is, `^L`
+//! paints anew, `^Z` suspends. `edit +LINE FILE` begins in that line; with `-w 72` lines are wrapped at column 72.
 //!
 //! With `--script` the keys come from a script on standard input, and what an emulated terminal shows is printed. The
 //! status is 0, 1 for an error and 2 for a usage error.
@@ -52,7 +53,10 @@ fn perform(rt: &HostRuntime, words: &[String]) -> u8 {
 fn perform_task(rt: &HostRuntime, matches: &ArgMatches<'_>, line: usize) -> u8 {
     match words::task_of(matches, line) {
         Some(task) => run(rt, task),
-        None => 2,
+        None => {
+            let _ = eprintln!(rt; "edit: -w wants a number of columns, at least 10");
+            2
+        }
     }
 }
 
@@ -82,6 +86,9 @@ fn run(rt: &HostRuntime, task: Task<'_>) -> u8 {
 fn edit_file(rt: &HostRuntime, task: Task<'_>) -> Result<(), EditFailure> {
     let mut editor = Editor::open(rt, task.file)?;
     editor.begin_at(task.line);
+    if let Some(columns) = task.wrap {
+        editor.wrap_at(columns);
+    }
     edit(rt, task, &mut editor)
 }
 

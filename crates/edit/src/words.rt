@@ -14,7 +14,12 @@ pub(crate) struct Task<'a> {
     pub(crate) script: bool,
     /// The line in which the cursor is at first, counted from 1.
     pub(crate) line: usize,
+    /// The column at which lines that become longer are wrapped, if they are.
+    pub(crate) wrap: Option<usize>,
 }
+
+/// The least column at which lines can be wrapped.
+const LEAST_WRAP: usize = 10;
 
 /// The line that a first word `+LINE` asks for, and the other words after the one that stands for the program's name.
 pub(crate) fn line_of(words: &[String]) -> (usize, &[String]) {
@@ -45,6 +50,7 @@ fn command<'a>(alloc: Global) -> Result<Command<'a>, AllocError> {
         )
         .arg(bundled(alloc))?
         .arg(script(alloc))?
+        .arg(wrap(alloc))?
         .arg(file(alloc))
 }
 
@@ -64,6 +70,15 @@ fn script<'a>(alloc: Global) -> Arg<'a> {
         .help("Reads keys from a script, and prints what an emulated terminal shows")
 }
 
+fn wrap<'a>(alloc: Global) -> Arg<'a> {
+    Arg::new(alloc, "wrap")
+        .short('w')
+        .long("wrap")
+        .action(ArgAction::Set)
+        .value_name("COLUMNS")
+        .help("Wraps lines that become longer than COLUMNS, at least 10")
+}
+
 fn file<'a>(alloc: Global) -> Arg<'a> {
     Arg::new(alloc, "file")
         .required(true)
@@ -71,12 +86,23 @@ fn file<'a>(alloc: Global) -> Arg<'a> {
         .help("The file to edit")
 }
 
-/// What a parsed command line asks for.
+/// What a parsed command line asks for; `None` if lines are to be wrapped at what is not such a column.
 pub(crate) fn task_of<'a>(matches: &ArgMatches<'a>, line: usize) -> Option<Task<'a>> {
+    let wrap = match matches.get_str("wrap") {
+        Some(columns) => Some(column_of(columns)?),
+        None => None,
+    };
     Some(Task {
         file: matches.get_str("file")?,
         bundled: matches.get_flag("bundled"),
         script: matches.get_flag("script"),
         line,
+        wrap,
     })
+}
+
+// The column that a word names, if lines can be wrapped there.
+fn column_of(word: &str) -> Option<usize> {
+    let column = word.parse::<usize>().ok()?;
+    if column < LEAST_WRAP { None } else { Some(column) }
 }

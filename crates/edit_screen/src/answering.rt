@@ -1,41 +1,18 @@
-//! What keys ask of the program around the editor: saving, leaving, suspending, painting anew.
+//! What keys ask of the program around the editor: to save the text.
 
 use crate::editor::{Editor, Mode, Request};
 use crate::messages::Message;
 use crate::saving::{SaveFault, Saved, save, save_as};
-use crate::typing::{press_keys, repaint};
-use curses::Screen;
 
-/// What the program does next.
-#[derive(Clone, Copy)]
-pub(crate) enum Next {
-    /// It reads the keyboard.
-    Read,
-    /// It suspends itself; keys may wait.
-    Suspend,
-    /// It ends.
-    Leave,
-}
-
-/// Presses the keys that wait, and does what they ask for.
-pub(crate) fn answer_keys(
-    rt: &HostRuntime,
-    path: &str,
-    screen: &mut Screen,
-    editor: &mut Editor,
-) -> Next {
-    for _ in 0..u32::MAX {
-        match press_keys(screen, editor) {
-            Request::Nothing => return Next::Read,
-            Request::Save => save_text(rt, path, editor, false),
-            Request::Overwrite => save_text(rt, path, editor, true),
-            Request::SaveAs => save_named(rt, editor),
-            Request::Repaint => repaint(screen),
-            Request::Suspend => return Next::Suspend,
-            Request::Leave => return Next::Leave,
-        }
+/// Does what a key asks for, if that is to save. What suspends a program is not given to it as a key.
+pub(crate) fn answer_request(rt: &HostRuntime, path: &str, editor: &mut Editor, request: Request) {
+    match request {
+        Request::Save => save_text(rt, path, editor, false),
+        Request::Overwrite => save_text(rt, path, editor, true),
+        Request::SaveAs => save_named(rt, editor),
+        Request::Suspend => editor.message = Message::CannotSuspend,
+        Request::Nothing | Request::Leave | Request::Repaint => {}
     }
-    Next::Read
 }
 
 // Saves the text, and says how that ended. Where another program has changed the file, the next key may be to overwrite
@@ -65,11 +42,8 @@ fn say_saved(editor: &mut Editor, saved: Saved) {
     };
 }
 
-// Saves the text under the name that was typed, which it keeps if that ends well. Nothing is done for an empty name.
+// Saves the text under the name that was typed, which it keeps if that ends well.
 fn save_named(rt: &HostRuntime, editor: &mut Editor) {
-    if editor.other.is_empty() {
-        return;
-    }
     match named(rt, editor) {
         Ok(()) => {}
         Err(fault) => editor.message = Message::CannotSave(fault),
@@ -77,7 +51,7 @@ fn save_named(rt: &HostRuntime, editor: &mut Editor) {
 }
 
 fn named(rt: &HostRuntime, editor: &mut Editor) -> Result<(), SaveFault> {
-    let Ok(name) = str::from_utf8(&editor.other) else {
+    let Ok(name) = str::from_utf8(&editor.answer) else {
         return Err(SaveFault::NotText);
     };
     let saved = save_as(rt, name, &editor.text)?;

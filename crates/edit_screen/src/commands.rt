@@ -1,5 +1,6 @@
 //! What each key asks the editor to do.
 
+use crate::sequences::Sequence;
 use curses::{Key, keys};
 
 /// Where the cursor goes.
@@ -18,17 +19,21 @@ pub(crate) enum Motion {
 /// What a key asks for.
 #[derive(Clone, Copy)]
 pub(crate) enum Command {
-    Nothing,
+    // The key has no command.
+    Unknown,
+    // A line feed splits the line.
     Insert(u8),
     // The next byte is inserted, whatever it is.
     InsertNext,
-    Split,
     DeleteBefore,
     DeleteHere,
+    Cut,
+    Paste,
     Move(Motion),
     Find,
     FindNext,
     Undo,
+    Redo,
     Cancel,
     Save,
     SaveAs,
@@ -51,15 +56,16 @@ pub(crate) fn command_of(key: Key) -> Command {
         keys::PAGE_DOWN => Command::Move(Motion::PageDown),
         keys::BACKSPACE => Command::DeleteBefore,
         keys::DELETE => Command::DeleteHere,
-        keys::ENTER => Command::Split,
+        keys::ENTER => Command::Insert(b'\n'),
         keys::FIND => Command::Find,
         keys::UNDO => Command::Undo,
+        keys::REDO => Command::Redo,
         keys::CANCEL => Command::Cancel,
         keys::SAVE => Command::Save,
         keys::EXIT => Command::Quit,
         keys::SUSPEND => Command::Suspend,
         keys::REFRESH => Command::Repaint,
-        Key::Slot(_) => Command::Nothing,
+        Key::Slot(_) => Command::Unknown,
     }
 }
 
@@ -67,7 +73,7 @@ pub(crate) fn command_of(key: Key) -> Command {
 fn command_of_byte(byte: u8) -> Command {
     match byte {
         8 | 127 => Command::DeleteBefore,
-        10 | 13 => Command::Split,
+        10 | 13 => Command::Insert(b'\n'),
         9 | 32..=126 | 128..=255 => Command::Insert(byte),
         _ => command_of_control(byte ^ 64),
     }
@@ -77,18 +83,30 @@ fn command_of_byte(byte: u8) -> Command {
 fn command_of_control(letter: u8) -> Command {
     match letter {
         b'A' => Command::Move(Motion::LineStart),
+        b'C' | b'G' | b'[' => Command::Cancel,
         b'D' => Command::DeleteHere,
         b'E' => Command::Move(Motion::LineEnd),
-        b'F' => Command::Find,
-        b'G' | b'[' => Command::Cancel,
+        b'F' | b'W' => Command::Find,
+        b'K' => Command::Cut,
         b'L' => Command::Repaint,
         b'N' => Command::FindNext,
         b'O' => Command::SaveAs,
-        b'Q' => Command::Quit,
+        b'Q' | b'X' => Command::Quit,
         b'S' => Command::Save,
-        b'U' => Command::Undo,
+        b'U' => Command::Paste,
         b'V' => Command::InsertNext,
+        b'Y' => Command::Redo,
         b'Z' => Command::Suspend,
-        _ => Command::Nothing,
+        b'_' => Command::Undo,
+        _ => Command::Unknown,
+    }
+}
+
+/// The command of a key that is typed after an escape, as a terminal sends a letter that is typed with Alt.
+pub(crate) fn command_of_meta(before: Sequence, key: Key) -> Command {
+    match key {
+        Key::Byte(b'u' | b'U') if before == Sequence::Escape => Command::Undo,
+        Key::Byte(b'e' | b'E') if before == Sequence::Escape => Command::Redo,
+        _ => Command::Unknown,
     }
 }

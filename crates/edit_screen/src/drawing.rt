@@ -1,7 +1,8 @@
-//! Drawing the editor on a screen: lines of the text, and in the last row what is edited.
+//! Drawing the editor on a screen: lines of the text, and below them what is edited and what keys do.
 
 use crate::editor::{Editor, Mode};
-use crate::view::{column_of, first_shown, form_of, printable_length, width_of};
+use crate::hints::hints_of;
+use crate::view::{BLANKS, column_of, first_shown, form_of, printable_length, width_at};
 use curses::{Attrs, Screen, Size, Win};
 
 /// The colours of the last row, as a pair.
@@ -11,16 +12,37 @@ const BLUE: u32 = 4;
 
 const WHITE: u32 = 7;
 
-// What is left to draw of a row: columns of the text to leave out, and columns of the row to fill.
+/// The fewest rows of a screen whose last one says what keys do.
+const LEAST_WITH_HINTS: u32 = 6;
+
+// What is left to draw of a row: the line's column that is next, columns of the text to leave out, and columns of the
+// row to fill.
 #[derive(Drop)]
 struct Room {
+    column: usize,
     skipped: usize,
     left: usize,
 }
 
-/// The rows of a screen that show lines of the text: all but the last, if there are two.
+impl Room {
+    // A whole row, for a text without the columns to leave out.
+    fn of(columns: usize, skipped: usize) -> Room {
+        Room {
+            column: 0,
+            skipped,
+            left: columns,
+        }
+    }
+}
+
+/// The rows of a screen that show lines of the text: all but those below, if there are more.
 pub(crate) fn text_rows(size: Size) -> u32 {
-    size.rows.saturating_sub(1).max(1)
+    size.rows.saturating_sub(rows_below(size)).max(1)
+}
+
+// The rows below the text: one for the file's name or a message, and on most screens one that says what keys do.
+fn rows_below(size: Size) -> u32 {
+    if size.rows < LEAST_WITH_HINTS { 1 } else { 2 }
 }
 
 /// Sets the colours of a screen that was opened.
@@ -30,35 +52,33 @@ pub(crate) fn prepare(screen: &mut Screen) {
     }
 }
 
-/// Draws the editor, and copies the screen's window to the virtual screen. A screen of one row shows the last row's
-/// messages in place of a line.
+/// Draws the editor, and copies the screen's window to the virtual screen. A screen of one row shows messages in place
+/// of a line.
 pub(crate) fn draw(screen: &mut Screen, editor: &mut Editor) {
     let size = screen.screen();
     let rows = text_rows(size);
-    editor.show_cursor(rows as usize);
+    editor.show_cursor();
     let columns = size.columns as usize;
     for row in 0..rows {
         draw_text_row(screen, editor, row, columns);
     }
     let (row, column) = cursor_of(editor, columns);
-    let place = if rows < size.rows || is_asking(editor) || !editor.message.is_empty() {
-        let last = size.rows.saturating_sub(1);
-        let end = draw_status(screen, editor, last, columns);
-        if is_asking(editor) {
-            (last, end)
+    let status = size.rows.saturating_sub(rows_below(size));
+    let place = if rows < size.rows || editor.is_asking() || !editor.message.is_empty() {
+        let end = draw_status(screen, editor, status, columns);
+        if editor.is_asking() {
+            (status, end)
         } else {
             (row, column)
         }
     } else {
         (row, column)
     };
+    if size.rows >= LEAST_WITH_HINTS {
+        draw_hints(screen, editor, status.saturating_add(1), columns);
+    }
     let _ = screen.move_cursor(Win(0), place.0, place.1);
     let _ = screen.noutrefresh(Win(0));
-}
-
-// Whether the last row asks something.
-fn is_asking(editor: &Editor) -> bool {
-    editor.mode == Mode::Find || editor.mode == Mode::Name
 }
 
 // The row and the column in which the cursor is shown.
@@ -83,10 +103,7 @@ fn draw_text_row(screen: &mut Screen, editor: &Editor, row: u32, columns: usize)
         0
     };
     let _ = screen.move_cursor(Win(0), row, 0);
-    let mut room = Room {
-        skipped: first,
-        left: columns,
-    };
+    let mut room = Room::of(columns, first);
     if let Some(bytes) = editor.text.line(line) {
         draw_bytes(screen, bytes, &mut room);
     }
@@ -113,11 +130,17 @@ fn draw_bytes(screen: &mut Screen, bytes: &[u8], room: &mut Room) {
     }
 }
 
-// Draws the form of a byte that is not printable in bold, to tell it from the same characters in the text.
+// Draws the form of a byte that is not printable in bold, to tell it from the same characters in the text. A tab is
+// blanks.
 fn draw_form(screen: &mut Screen, byte: u8, room: &mut Room) {
+    let width = width_at(room.column, byte);
+    if byte == b'\t' {
+        draw_piece(screen, BLANKS.get(..width).unwrap_or(&BLANKS), room);
+        return;
+    }
     let form = form_of(byte);
     let _ = screen.attr_on(Win(0), Attrs::BOLD);
-    draw_piece(screen, form.get(..width_of(byte)).unwrap_or(&form), room);
+    draw_piece(screen, form.get(..width).unwrap_or(&form), room);
     let _ = screen.attr_off(Win(0), Attrs::BOLD);
 }
 
@@ -129,6 +152,7 @@ fn draw_piece(screen: &mut Screen, text: &[u8], room: &mut Room) {
     let _ = screen.add_text(Win(0), &shown[..count]);
     room.skipped -= skipped;
     room.left -= count;
+    room.column = room.column.saturating_add(text.len());
 }
 
 // Draws the last row, and gives the column after what it says.
@@ -138,11 +162,8 @@ fn draw_status(screen: &mut Screen, editor: &Editor, row: u32, columns: usize) -
     if screen.colours() {
         let _ = screen.color_set(Win(0), STATUS_PAIR);
     }
-    let mut room = Room {
-        skipped: 0,
-        left: columns,
-    };
-    if is_asking(editor) {
+    let mut room = Room::of(columns, 0);
+    if editor.is_asking() {
         draw_question(screen, editor, &mut room);
     } else {
         draw_state(screen, editor, &mut room);
@@ -160,14 +181,14 @@ fn draw_status(screen: &mut Screen, editor: &Editor, row: u32, columns: usize) -
 
 // Draws what is asked, and what is typed.
 fn draw_question(screen: &mut Screen, editor: &Editor, room: &mut Room) {
-    let (question, answer) = if editor.mode == Mode::Find {
-        ("find: ", &editor.needle)
+    let question = if editor.mode == Mode::Find {
+        "find: "
     } else {
-        ("save as: ", &editor.other)
+        "save as: "
     };
     draw_piece(screen, question.as_bytes(), room);
     let most = room.left.saturating_sub(1);
-    draw_end(screen, answer, most, room);
+    draw_end(screen, &editor.answer, most, room);
 }
 
 // Draws what is said of the last key and the file's name, or else the name and where the cursor is. A star after the
@@ -177,6 +198,7 @@ fn draw_state(screen: &mut Screen, editor: &Editor, room: &mut Room) {
         draw_piece(screen, editor.message.beginning().as_bytes(), room);
         draw_piece(screen, editor.message.words().as_bytes(), room);
         draw_piece(screen, b"  ", room);
+        room.column = 0;
         draw_bytes(screen, &editor.name, room);
         draw_mark(screen, editor, room);
         return;
@@ -192,6 +214,7 @@ fn draw_state(screen: &mut Screen, editor: &Editor, room: &mut Room) {
 
 // Draws the end of bytes, as much of it as some columns show.
 fn draw_end(screen: &mut Screen, bytes: &[u8], columns: usize, room: &mut Room) {
+    room.column = 0;
     room.skipped = column_of(bytes, bytes.len()).saturating_sub(columns);
     draw_bytes(screen, bytes, room);
     room.skipped = 0;
@@ -201,6 +224,27 @@ fn draw_end(screen: &mut Screen, bytes: &[u8], columns: usize, room: &mut Room) 
 fn draw_mark(screen: &mut Screen, editor: &Editor, room: &mut Room) {
     if editor.is_changed() {
         draw_piece(screen, b"*", room);
+    }
+}
+
+// Draws what keys do, as much of it as the row has room for.
+fn draw_hints(screen: &mut Screen, editor: &Editor, row: u32, columns: usize) {
+    let _ = screen.move_cursor(Win(0), row, 0);
+    let mut room = Room::of(columns, 0);
+    for &(key, what) in hints_of(editor.mode) {
+        let length = key.len().saturating_add(what.len());
+        if length >= room.left {
+            break;
+        }
+        let _ = screen.attr_on(Win(0), Attrs::REVERSE);
+        draw_piece(screen, key.as_bytes(), &mut room);
+        let _ = screen.attr_off(Win(0), Attrs::REVERSE);
+        draw_piece(screen, b" ", &mut room);
+        draw_piece(screen, what.as_bytes(), &mut room);
+        draw_piece(screen, b"  ", &mut room);
+    }
+    if room.left > 0 {
+        let _ = screen.clear_to_eol(Win(0));
     }
 }
 

@@ -1,9 +1,10 @@
 //! Why the editor ends without having done what it was asked for.
 
 use crate::saving::ReadFault;
-use curses::{CapFault, NoMemory, OpenFault};
+use curses::{CapFault, NoMemory, OpenFault, UpdateFault, WinFault};
 use std::alloc::{AllocError, AllocFailed};
 use std::fmt::{self, Display, Formatter};
+use terminal::TerminalFault;
 use thiserror::Error;
 use ti_database::DatabaseFault;
 
@@ -54,6 +55,23 @@ impl Display for EditFailure {
 }
 
 impl EditFailure {
+    /// The failure that an error of the terminal is.
+    pub(crate) fn of(fault: TerminalFault) -> EditFailure {
+        match fault {
+            TerminalFault::NoName => EditFailure::NoTerm,
+            TerminalFault::Entry { name, fault } => EditFailure::Entry(name, fault),
+            TerminalFault::Unserved { name, fault } => EditFailure::Unserved(name, fault),
+            TerminalFault::Open(fault) => EditFailure::Screen(fault),
+            TerminalFault::NotRaw => EditFailure::NotRaw,
+            TerminalFault::Input => EditFailure::Input,
+            TerminalFault::NoMemory
+            | TerminalFault::Draw(_)
+            | TerminalFault::Keys(_)
+            | TerminalFault::Update(UpdateFault::NoMemory) => EditFailure::NoMemory,
+            TerminalFault::Update(_) | TerminalFault::Send(_) => EditFailure::Output,
+        }
+    }
+
     // What is said of a failure that is the same each time.
     fn words(&self) -> &'static str {
         match self {
@@ -75,6 +93,13 @@ impl EditFailure {
 
 impl From<NoMemory> for EditFailure {
     fn from(_: NoMemory) -> EditFailure {
+        EditFailure::NoMemory
+    }
+}
+
+// No other error comes of what the editor draws.
+impl From<WinFault> for EditFailure {
+    fn from(_: WinFault) -> EditFailure {
         EditFailure::NoMemory
     }
 }

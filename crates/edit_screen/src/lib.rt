@@ -3,19 +3,23 @@
 #![tactic(auto)]
 
 mod answering;
+mod changing;
 mod commands;
 mod drawing;
 mod editor;
 mod failures;
+mod hints;
+mod history;
 mod living;
 mod messages;
+mod moving;
 mod opening;
 mod questions;
 mod saving;
 mod scripts;
+mod searching;
 mod sequences;
 mod terminals;
-mod typing;
 mod view;
 
 pub use editor::Editor;

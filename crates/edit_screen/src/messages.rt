@@ -17,7 +17,14 @@ pub(crate) enum Message {
     // Said by a script alone, which goes on.
     Left,
     NotFound,
+    // What was looked for was found, but not after the cursor.
+    Again,
+    NothingToFind,
     NothingToUndo,
+    NothingToRedo,
+    NothingToCut,
+    NothingToPaste,
+    NoCommand,
     NoMemory,
 }
 
@@ -44,12 +51,18 @@ impl Message {
             Message::Recovered => "a text that was not saved is in a file with .recovered",
             Message::Saved => "saved",
             Message::SavedBefore => "saved; what another program wrote is in a file with .before",
-            Message::NotSaved => "not saved: ^S saves, ^Q leaves without saving",
+            Message::NotSaved => "not saved: ^S saves, ^X leaves without saving",
             Message::CannotSave(fault) => fault.words(),
             Message::CannotSuspend => "cannot be suspended: not run by run-on-terminal",
             Message::Left => "left",
             Message::NotFound => "not found",
+            Message::Again => "again from the beginning",
+            Message::NothingToFind => "nothing to look for",
             Message::NothingToUndo => "nothing to undo",
+            Message::NothingToRedo => "nothing to redo",
+            Message::NothingToCut => "nothing to cut",
+            Message::NothingToPaste => "nothing to paste: ^K cuts a line",
+            Message::NoCommand => "this key does nothing",
             Message::NoMemory => "out of memory",
         }
     }

@@ -287,7 +287,7 @@ fn replace(rt: &HostRuntime, path: &str, bytes: &[u8], seen: Seen) -> Result<boo
 fn free_name(rt: &HostRuntime, path: &str) -> Result<String, SaveFault> {
     for number in 0..MOST_RECOVERED {
         let name = name_beside(rt, path, "before", number)?;
-        if fs::symlink_metadata(rt, name.as_str()).is_err() {
+        if is_free(rt, name.as_str()) {
             return Ok(name);
         }
     }
@@ -307,12 +307,30 @@ fn exchange(rt: &HostRuntime, path: &str, new: &str, before: &str) -> Result<(),
             Ok(())
         }
         Err(error) if error.kind() == ErrorKind::AlreadyExists => Err(SaveFault::Changed),
-        Err(_) if fs::rename(rt, new, path).is_ok() => Ok(()),
+        Err(_) if is_free(rt, path) && fs::rename(rt, new, path).is_ok() => Ok(()),
         Err(_) => {
-            let _ = fs::rename(rt, before, path);
+            bring_back(rt, path, before);
             Err(SaveFault::RenameFailed)
         }
     }
+}
+
+// Gives a file its name back. If another program has made a file of that name, the file keeps the other one.
+fn bring_back(rt: &HostRuntime, path: &str, before: &str) {
+    match fs::hard_link(rt, before, path) {
+        Ok(()) => {
+            let _ = fs::remove_file(rt, before);
+        }
+        Err(_) if is_free(rt, path) => {
+            let _ = fs::rename(rt, before, path);
+        }
+        Err(_) => {}
+    }
+}
+
+// Whether no file has a name.
+fn is_free(rt: &HostRuntime, path: &str) -> bool {
+    fs::symlink_metadata(rt, path).is_err()
 }
 
 // Whether the old file had something else than was seen. If it had not, it is removed.

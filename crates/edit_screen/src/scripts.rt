@@ -4,17 +4,15 @@
 //! the characters of TEXT, `key HH ..` bytes of the keyboard in hexadecimal; `idle` says that none came for a while;
 //! `show` prints what the terminal shows.
 
-use crate::answering::{Next, answer_keys};
-use crate::drawing::prepare;
-use crate::editor::Editor;
+use crate::editor::{Editor, Mode};
 use crate::failures::EditFailure;
+use crate::living::Session;
 use crate::messages::Message;
-use crate::typing::{take_byte, update};
-use curses::{Device, EcmaScreen, Entry, Screen, Size, bundled};
+use curses::{Device, EcmaScreen, Entry, Key, Screen, Size, bundled};
 use program_input::{InputFault, read_input};
 use screen_scripts::print_screen;
-use std::alloc::Global;
 use std::io::Write;
+use terminal::{Event, Program};
 
 // A line of a script.
 #[derive(Clone, Copy)]
@@ -95,50 +93,35 @@ pub fn edit_by_script(
     editor: &mut Editor,
 ) -> Result<(), EditFailure> {
     match read_input(rt.alloc(), &mut rt.reader()) {
-        Ok(bytes) => run_bytes(rt, path, &bytes, editor),
+        Ok(bytes) => run_bytes(&bytes, &mut Session::new(rt, path, editor)),
         Err(InputFault::Failed) => Err(EditFailure::Input),
         Err(InputFault::NoMemory) => Err(EditFailure::NoMemory),
     }
 }
 
-fn run_bytes(
-    rt: &HostRuntime,
-    path: &str,
-    script: &[u8],
-    editor: &mut Editor,
-) -> Result<(), EditFailure> {
+fn run_bytes(script: &[u8], session: &mut Session<'_>) -> Result<(), EditFailure> {
     match str::from_utf8(script) {
-        Ok(script) => run_script(rt, path, script, editor),
+        Ok(script) => run_script(script, session),
         Err(_) => Err(EditFailure::NotText),
     }
 }
 
-fn run_script(
-    rt: &HostRuntime,
-    path: &str,
-    script: &str,
-    editor: &mut Editor,
-) -> Result<(), EditFailure> {
+fn run_script(script: &str, session: &mut Session<'_>) -> Result<(), EditFailure> {
     let mut script = Script {
         rest: script,
         number: 0,
     };
-    run_lines(rt, path, &mut script, editor)
+    run_lines(&mut script, session)
 }
 
-fn run_lines(
-    rt: &HostRuntime,
-    path: &str,
-    script: &mut Script<'_>,
-    editor: &mut Editor,
-) -> Result<(), EditFailure> {
+fn run_lines(script: &mut Script<'_>, session: &mut Session<'_>) -> Result<(), EditFailure> {
     let Some(Line::Size(first)) = script.next_line()? else {
         return Err(EditFailure::BadLine(1));
     };
     let mut size = Some(first);
     for _ in 0..u32::MAX {
         size = match size {
-            Some(size) => play_at(rt, path, size, script, editor)?,
+            Some(size) => play_at(size, script, session)?,
             None => return Ok(()),
         };
     }
@@ -147,60 +130,45 @@ fn run_lines(
 
 // Plays lines on a terminal of this size that the bundled entry is for, and gives the size that it is resized to.
 fn play_at(
-    rt: &HostRuntime,
-    path: &str,
     size: Size,
     script: &mut Script<'_>,
-    editor: &mut Editor,
+    session: &mut Session<'_>,
 ) -> Result<Option<Size>, EditFailure> {
-    let entry = bundled(rt.alloc())?;
-    play_with(rt, path, &entry, size, script, editor)
+    let entry = bundled(session.rt.alloc())?;
+    play_with(&entry, size, script, session)
 }
 
 // Opens a screen of this entry, and plays on it.
 fn play_with(
-    rt: &HostRuntime,
-    path: &str,
     entry: &Entry,
     size: Size,
     script: &mut Script<'_>,
-    editor: &mut Editor,
+    session: &mut Session<'_>,
 ) -> Result<Option<Size>, EditFailure> {
-    let opened = Screen::open_sized(rt.alloc(), entry, size);
-    play_on(rt, path, &mut opened?, script, editor)
+    let opened = Screen::open_sized(session.rt.alloc(), entry, size);
+    play_on(&mut opened?, script, session)
 }
 
 fn play_on(
-    rt: &HostRuntime,
-    path: &str,
     screen: &mut Screen,
     script: &mut Script<'_>,
-    editor: &mut Editor,
+    session: &mut Session<'_>,
 ) -> Result<Option<Size>, EditFailure> {
-    prepare(screen);
-    match EcmaScreen::new(rt.alloc(), screen.screen()) {
+    session.begin_screen(screen);
+    match EcmaScreen::new(session.rt.alloc(), screen.screen()) {
         Ok(terminal) => {
-            let out = Device::new(Vec::new(rt.alloc()));
-            play(
-                rt,
-                path,
-                screen,
-                &mut Shown { out, terminal },
-                script,
-                editor,
-            )
+            let out = Device::new(Vec::new(session.rt.alloc()));
+            play(screen, &mut Shown { out, terminal }, script, session)
         }
         Err(_) => Err(EditFailure::NoMemory),
     }
 }
 
 fn play(
-    rt: &HostRuntime,
-    path: &str,
     screen: &mut Screen,
     shown: &mut Shown,
     script: &mut Script<'_>,
-    editor: &mut Editor,
+    session: &mut Session<'_>,
 ) -> Result<Option<Size>, EditFailure> {
     for _ in 0..u32::MAX {
         let Some(line) = script.next_line()? else {
@@ -208,83 +176,85 @@ fn play(
         };
         match line {
             Line::Size(size) => return Ok(Some(size)),
-            Line::Type(text) => type_bytes(rt, path, screen, editor, text.as_bytes()),
+            Line::Type(text) => type_bytes(screen, session, text.as_bytes()),
             Line::Bytes(words) => {
-                if !press_bytes(rt, path, screen, editor, words) {
+                if !press_bytes(screen, session, words) {
                     return Err(script.fault());
                 }
             }
             Line::Idle => {
                 let _ = screen.key_idle();
-                answer(rt, path, screen, editor);
-                editor.pause();
+                answer_keys(screen, session);
+                answer(session, Event::Idle);
             }
-            Line::Show => show(rt, screen, shown, editor)?,
+            Line::Show => show(screen, shown, session)?,
         }
     }
     Ok(None)
 }
 
-fn type_bytes(
-    rt: &HostRuntime,
-    path: &str,
-    screen: &mut Screen,
-    editor: &mut Editor,
-    bytes: &[u8],
-) {
+fn type_bytes(screen: &mut Screen, session: &mut Session<'_>, bytes: &[u8]) {
     for &byte in bytes {
-        type_byte(rt, path, screen, editor, byte);
+        type_byte(screen, session, byte);
     }
 }
 
-fn type_byte(rt: &HostRuntime, path: &str, screen: &mut Screen, editor: &mut Editor, byte: u8) {
-    take_byte(screen, editor, byte);
-    answer(rt, path, screen, editor);
+// Types a byte: as a part of a key, or as it is where that was asked for.
+fn type_byte(screen: &mut Screen, session: &mut Session<'_>, byte: u8) {
+    if session.editor.mode == Mode::Literal {
+        answer(session, Event::Key(Key::Byte(byte)));
+    } else {
+        let _ = screen.key_byte(byte);
+        answer_keys(screen, session);
+    }
 }
 
 // Types bytes in hexadecimal; answers whether all are.
-fn press_bytes(
-    rt: &HostRuntime,
-    path: &str,
-    screen: &mut Screen,
-    editor: &mut Editor,
-    words: &str,
-) -> bool {
+fn press_bytes(screen: &mut Screen, session: &mut Session<'_>, words: &str) -> bool {
     for word in words.split(' ') {
         match u8::from_str_radix(word, 16) {
-            Ok(byte) => type_byte(rt, path, screen, editor, byte),
+            Ok(byte) => type_byte(screen, session, byte),
             Err(_) => return false,
         }
     }
     true
 }
 
-// Does what keys ask for. A script cannot be suspended, and goes on where the editor would be left.
-fn answer(rt: &HostRuntime, path: &str, screen: &mut Screen, editor: &mut Editor) {
+// Presses the keys that wait.
+fn answer_keys(screen: &mut Screen, session: &mut Session<'_>) {
     for _ in 0..u32::MAX {
-        match answer_keys(rt, path, screen, editor) {
-            Next::Read => return,
-            Next::Suspend => editor.message = Message::CannotSuspend,
-            Next::Leave => editor.message = Message::Left,
-        }
+        let Some(key) = screen.key() else {
+            return;
+        };
+        answer(session, Event::Key(key));
+    }
+}
+
+// Does what an event asks for. A script goes on where the editor would be left.
+fn answer(session: &mut Session<'_>, event: Event) {
+    if !session.answer(event) {
+        session.editor.message = Message::Left;
     }
 }
 
 // Brings the terminal to what the editor shows, and prints it.
 fn show(
-    rt: &HostRuntime,
     screen: &mut Screen,
     shown: &mut Shown,
-    editor: &mut Editor,
+    session: &mut Session<'_>,
 ) -> Result<(), EditFailure> {
     shown.out.writer.clear();
-    if update(rt.alloc(), screen, editor, &mut shown.out).is_err() {
+    session.draw(screen)?;
+    if screen
+        .doupdate(session.rt.alloc(), &mut shown.out)
+        .is_err()
+    {
         return Err(EditFailure::NoMemory);
     }
     if shown.terminal.feed(&shown.out.writer).is_err() {
         return Err(EditFailure::Output);
     }
-    print_terminal(rt, &shown.terminal)
+    print_terminal(session.rt, &shown.terminal)
 }
 
 fn print_terminal(rt: &HostRuntime, terminal: &EcmaScreen) -> Result<(), EditFailure> {

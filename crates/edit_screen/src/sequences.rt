@@ -1,4 +1,5 @@
-//! Sequences that an unknown key sends, which are not text: an escape, and `[` or `O` with what follows.
+//! Sequences that are not text: an escape with `[` or `O` and what follows, as an unknown key sends, and an escape with
+//! another character, which is that character typed with Alt.
 
 use curses::Key;
 
@@ -23,8 +24,7 @@ impl Sequence {
         };
         match self {
             Sequence::Outside => false,
-            Sequence::Escape => byte == b'[' || byte == b'O',
-            Sequence::Control | Sequence::Single => matches!(byte, 32..=126),
+            Sequence::Escape | Sequence::Control | Sequence::Single => matches!(byte, 32..=126),
         }
     }
 

@@ -1,12 +1,10 @@
-//! The entry of the terminal that the editor runs on.
+//! The terminal that the editor runs on.
 
 use crate::editor::Editor;
 use crate::failures::EditFailure;
-use crate::living::{Around, run_on_terminal};
-use curses::{Entry, bundled};
-use std::env;
-use std::env::VarError;
-use ti_database::find;
+use crate::living::Session;
+use curses::bundled;
+use terminal::{TerminalFault, TerminalScreen};
 
 /// Runs the editor of a file on the terminal that standard input and output are, to its end: with the bundled entry, or
 /// with the one that `TERM` names in the machine's database.
@@ -20,40 +18,30 @@ pub fn edit_on_terminal(
     is_bundled: bool,
     editor: &mut Editor,
 ) -> Result<(), EditFailure> {
-    if is_bundled {
-        return edit_on_entry(rt, path, &bundled(rt.alloc())?, editor);
-    }
-    match env::var(rt, "TERM") {
-        Ok(name) => edit_on_named(rt, path, name, editor),
-        Err(VarError::OutOfMemory) => Err(EditFailure::NoMemory),
-        Err(_) => Err(EditFailure::NoTerm),
-    }
+    let opened = open(rt, is_bundled);
+    run(rt, &mut opened?, &mut Session::new(rt, path, editor))
 }
 
-// Runs the editor with the entry of this name in the machine's database.
-fn edit_on_named(
-    rt: &HostRuntime,
-    path: &str,
-    name: String,
-    editor: &mut Editor,
-) -> Result<(), EditFailure> {
-    let entry = match find(rt, name.as_str()) {
-        Ok(entry) => entry,
-        Err(fault) => return Err(EditFailure::Entry(name, fault)),
+fn open(rt: &HostRuntime, is_bundled: bool) -> Result<TerminalScreen, EditFailure> {
+    let opened: Result<TerminalScreen, TerminalFault> = if is_bundled {
+        TerminalScreen::open_entry(rt, bundled(rt.alloc())?)
+    } else {
+        TerminalScreen::open(rt)
     };
-    match edit_on_entry(rt, path, &entry, editor) {
-        Err(EditFailure::Screen(fault)) => Err(EditFailure::Unserved(name, fault)),
-        ended => ended,
+    match opened {
+        Ok(terminal) => Ok(terminal),
+        Err(fault) => Err(EditFailure::of(fault)),
     }
 }
 
-// Runs the editor with an entry.
-fn edit_on_entry(
+fn run(
     rt: &HostRuntime,
-    path: &str,
-    entry: &Entry,
-    editor: &mut Editor,
+    terminal: &mut TerminalScreen,
+    session: &mut Session<'_>,
 ) -> Result<(), EditFailure> {
-    let around = Around { rt, entry, path };
-    run_on_terminal(&around, editor)
+    match terminal.run(rt, session) {
+        Err(fault) => Err(EditFailure::of(fault)),
+        Ok(()) if session.has_ended => Err(EditFailure::Ended),
+        Ok(()) => Ok(()),
+    }
 }

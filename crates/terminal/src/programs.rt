@@ -18,11 +18,20 @@ pub trait Program {
     fn wait(&self) -> Option<u32> {
         None
     }
+
+    /// Whether the next event is to be the next byte of the keyboard as it is, in place of a key (`byte_event`).
+    fn reads_byte(&self) -> bool {
+        false
+    }
 }
+
+/// How many updates may fail one after another before a program ends.
+const MOST_FAILURES: u32 = 20;
 
 impl TerminalScreen {
     /// Runs a program: it draws, the terminal is updated, and it answers an event, again and again until it ends. While
-    /// keys wait that were read, nothing is drawn. The terminal is given back however the program ends.
+    /// keys wait that were read, nothing is drawn. After an update that failed the next one sends what is owed; twenty
+    /// that fail one after another end the program. The terminal is given back however the program ends.
     pub fn run<P: Program>(
         &mut self,
         rt: &HostRuntime,
@@ -40,11 +49,12 @@ impl TerminalScreen {
         rt: &HostRuntime,
         program: &mut P,
     ) -> Result<(), TerminalFault> {
+        let mut failures = 0u32;
         for _ in 0..u64::MAX {
             if !self.has_input() {
-                self.show(rt, program)?;
+                failures = self.show(rt, program, failures)?;
             }
-            let event = self.awaited(rt, program.wait())?;
+            let event = self.awaited(rt, program)?;
             if !program.answer(event) || event == Event::Ended {
                 break;
             }
@@ -52,17 +62,32 @@ impl TerminalScreen {
         Ok(())
     }
 
-    // Draws and updates.
-    fn show<P: Program>(&mut self, rt: &HostRuntime, program: &mut P) -> Result<(), TerminalFault> {
+    // Draws and updates. Gives how many updates have failed one after another.
+    fn show<P: Program>(
+        &mut self,
+        rt: &HostRuntime,
+        program: &mut P,
+        failures: u32,
+    ) -> Result<u32, TerminalFault> {
         if let Err(fault) = program.draw(self.screen()) {
             return Err(TerminalFault::Draw(fault));
         }
-        let _ = self.update(rt.alloc())?;
-        Ok(())
+        match self.update(rt.alloc()) {
+            Ok(_) => Ok(0),
+            Err(fault) if failures.saturating_add(1) >= MOST_FAILURES => Err(fault),
+            Err(_) => Ok(failures.saturating_add(1)),
+        }
     }
 
-    fn awaited(&mut self, rt: &HostRuntime, wait: Option<u32>) -> Result<Event, TerminalFault> {
-        match wait {
+    fn awaited<P: Program>(
+        &mut self,
+        rt: &HostRuntime,
+        program: &P,
+    ) -> Result<Event, TerminalFault> {
+        if program.reads_byte() {
+            return self.byte_event(rt);
+        }
+        match program.wait() {
             Some(tenths) => self.event_within(rt, tenths),
             None => self.event(rt),
         }

@@ -6,12 +6,13 @@ use crate::input::Input;
 use crate::lines::TerminalLine;
 use crate::outputs::TerminalOutput;
 use crate::typed::Typed;
-use curses::{Device, Entry, Key, OpenFault, Screen, Sent, Size};
+use curses::{Device, Entry, Key, OpenFault, Screen, Sent, Size, keys};
 use std::alloc::Global;
 use std::env;
 use std::env::VarError;
-use std::io::BufWriter;
+use std::io::{BufWriter, Write};
 use std::time::{Duration, Instant};
+use ti_caps::slots;
 use ti_database::find;
 
 // The key that asks for suspension: `^Z`, as at a shell's own line.
@@ -29,6 +30,8 @@ pub struct TerminalScreen {
     out: Device<BufWriter<TerminalOutput>>,
     // Whether what was sent last went out whole, so that nothing is owed.
     is_whole: bool,
+    // Whether it was started, and not closed since.
+    is_started: bool,
 }
 
 impl TerminalScreen {
@@ -74,6 +77,7 @@ impl TerminalScreen {
             screen,
             out,
             is_whole: false,
+            is_started: false,
         }))
     }
 
@@ -92,7 +96,7 @@ impl TerminalScreen {
         }
     }
 
-    /// Waits for a key, a resize, or the end. `^Z` is not a key: it suspends the program until its user continues it, as
+    /// Waits for a key, a resize, or the end. `^Z`, or a key of that name, is not given: it suspends the program until its user continues it, as
     /// a stop from elsewhere does.
     pub fn event(&mut self, rt: &HostRuntime) -> Result<Event, TerminalFault> {
         for _ in 0..u64::MAX {
@@ -123,6 +127,17 @@ impl TerminalScreen {
         Ok(Event::Ended)
     }
 
+    /// Like `event`, but gives the next byte of the keyboard as it is, `^Z` and the first byte of a key's text too, unless
+    /// a key waits already. A program calls it to have any byte typed, as after `^V` in an editor.
+    pub fn byte_event(&mut self, rt: &HostRuntime) -> Result<Event, TerminalFault> {
+        for _ in 0..u64::MAX {
+            if let Some(event) = self.byte_turn(rt)? {
+                return Ok(event);
+            }
+        }
+        Ok(Event::Ended)
+    }
+
     /// Whether bytes that were read wait: the next event may be there already. It reads nothing. A program that updates
     /// only where nothing waits makes one update for what is pasted, and not one for each key.
     pub fn has_input(&mut self) -> bool {
@@ -133,20 +148,34 @@ impl TerminalScreen {
     }
 
     /// Gives the terminal back: without attributes, with the cursor on its last line, and out of the modes of
-    /// full-screen programs.
+    /// full-screen programs. A terminal whose entry has no `rmcup` goes on showing the screen, and gets a line feed, so
+    /// that what comes next has a line of its own.
     pub fn close(&mut self) -> Result<(), TerminalFault> {
         let closed = self.screen.close(&mut self.out);
         self.is_whole = closed.is_ok();
         match closed {
-            Ok(_) => Ok(()),
+            Ok(_) => {
+                self.end_last_line();
+                Ok(())
+            }
             Err(fault) => Err(TerminalFault::Send(fault)),
         }
+    }
+
+    // Ends the last line of a screen that stays, once.
+    fn end_last_line(&mut self) {
+        if self.is_started && self.entry.text(slots::RMCUP).is_none() {
+            let _ = self.out.writer.write_all(b"\r\n");
+            let _ = self.out.writer.flush();
+        }
+        self.is_started = false;
     }
 
     /// Takes over the terminal again after a close. The next update paints all of it.
     pub fn start(&mut self) -> Result<(), TerminalFault> {
         let started = self.screen.start(&mut self.out);
         self.is_whole = started.is_ok();
+        self.is_started = true;
         match started {
             Ok(_) => Ok(()),
             Err(fault) => Err(TerminalFault::Send(fault)),
@@ -155,7 +184,7 @@ impl TerminalScreen {
 
     // What a key that was pressed means.
     fn pressed(&mut self, rt: &HostRuntime, key: Key) -> Result<Event, TerminalFault> {
-        if key == SUSPEND {
+        if key == SUSPEND || key == keys::SUSPEND {
             self.suspend(rt)
         } else {
             Ok(Event::Key(key))
@@ -181,6 +210,40 @@ impl TerminalScreen {
         }
         match self.typed.read(rt, &mut self.line) {
             Input::Bytes(_) => self.typed_event(rt),
+            other => self.other_event(rt, other),
+        }
+    }
+
+    // Like `turn`, with the next byte in place of a key.
+    fn byte_turn(&mut self, rt: &HostRuntime) -> Result<Option<Event>, TerminalFault> {
+        if let Some(key) = self.waiting_key() {
+            return Ok(Some(Event::Key(key)));
+        }
+        if let Some(byte) = self.typed.next() {
+            return Ok(Some(Event::Key(Key::Byte(byte))));
+        }
+        match self.typed.read(rt, &mut self.line) {
+            Input::Bytes(_) => Ok(None),
+            other => self.other_event(rt, other),
+        }
+    }
+
+    // A key that was made of bytes already.
+    fn waiting_key(&mut self) -> Option<Key> {
+        match self.waiting.take() {
+            Some(key) => Some(key),
+            None => self.screen.key(),
+        }
+    }
+
+    // What a read means that gave no bytes.
+    fn other_event(
+        &mut self,
+        rt: &HostRuntime,
+        input: Input,
+    ) -> Result<Option<Event>, TerminalFault> {
+        match input {
+            Input::Bytes(_) => Ok(None),
             Input::Idle => self.idle(rt),
             Input::Ended => Ok(Some(Event::Ended)),
             Input::Stop => Ok(Some(self.suspend(rt)?)),
@@ -199,11 +262,8 @@ impl TerminalScreen {
     // The next key, if it is there. A byte goes to the queue of keys only where that is empty, so there is room for
     // what comes of it.
     fn typed_key(&mut self) -> Result<Option<Key>, TerminalFault> {
-        if let Some(key) = self.waiting.take() {
-            return Ok(Some(key));
-        }
         for _ in 0..usize::MAX {
-            if let Some(key) = self.screen.key() {
+            if let Some(key) = self.waiting_key() {
                 return Ok(Some(key));
             }
             let Some(byte) = self.typed.next() else {

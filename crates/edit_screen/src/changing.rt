@@ -1,0 +1,256 @@
+//! Changes of the text: typing, deleting, lines that are cut and pasted, undoing and doing again.
+
+use crate::editor::Editor;
+use crate::history::{Change, Step, is_up_to, place_after};
+use crate::messages::Message;
+use crate::view::{is_blank, last_break};
+use edit_text::{EditFault, Place};
+
+impl Editor {
+    /// Inserts a byte at the cursor; a line feed splits the line. A line that becomes too long is broken before its
+    /// last word, where lines are to be wrapped.
+    pub(crate) fn insert(&mut self, byte: u8) {
+        if self.insert_at(self.cursor, byte, Step::Word) && !is_blank(byte) {
+            self.wrap();
+            self.history.settle(Change::Inserted(byte), self.cursor);
+        }
+    }
+
+    /// Deletes what is at a place, if anything, and moves the cursor there.
+    pub(crate) fn delete(&mut self, place: Place) {
+        if let Some(byte) = self.byte_at(place) {
+            self.delete_at(place, byte, Step::Word);
+        }
+    }
+
+    /// Deletes what is before the cursor, if anything.
+    pub(crate) fn delete_before(&mut self) {
+        if let Some(place) = self.place_before() {
+            self.delete(place);
+        }
+    }
+
+    /// Cuts the cursor's line out of the text. Lines that are cut one after another are kept together.
+    pub(crate) fn cut(&mut self, goes_on: bool) {
+        let line = self.cursor.line;
+        let length = self.line().len();
+        let has_end = line.saturating_add(1) < self.text.line_count();
+        if length == 0 && !has_end {
+            self.message = Message::NothingToCut;
+            return;
+        }
+        if !goes_on {
+            self.cut_text.clear();
+        }
+        if self.keep_line(has_end) {
+            self.delete_line(line, length, has_end);
+        } else {
+            self.message = Message::NoMemory;
+        }
+    }
+
+    /// Inserts at the cursor what was cut.
+    pub(crate) fn paste(&mut self) {
+        if self.cut_text.is_empty() {
+            self.message = Message::NothingToPaste;
+        }
+        let mut step = Step::New;
+        for i in 0..self.cut_text.len() {
+            let Some(&byte) = self.cut_text.get(i) else {
+                break;
+            };
+            if !self.insert_at(self.cursor, byte, step) {
+                break;
+            }
+            step = Step::Same;
+        }
+        self.history.end_step();
+    }
+
+    /// Undoes the last step that is not undone, and moves the cursor to the first place that it was made at.
+    pub(crate) fn undo(&mut self) {
+        let Some(last) = self.history.last() else {
+            self.message = Message::NothingToUndo;
+            return;
+        };
+        let mut first = last.place;
+        for _ in 0..u64::MAX {
+            let Some(last) = self.history.last() else {
+                break;
+            };
+            if self.text.undo().is_err() {
+                self.message = Message::NoMemory;
+                break;
+            }
+            self.history.take_back();
+            if is_up_to(last.place, first) {
+                first = last.place;
+            }
+            if last.begins {
+                break;
+            }
+        }
+        self.go_to(first);
+    }
+
+    /// Does again the step that was undone last, if nothing was changed since.
+    pub(crate) fn redo(&mut self) {
+        if self.history.last_undone().is_none() {
+            self.message = Message::NothingToRedo;
+        }
+        let mut is_first = true;
+        for _ in 0..u64::MAX {
+            let Some(next) = self.history.last_undone() else {
+                break;
+            };
+            if next.begins && !is_first {
+                break;
+            }
+            is_first = false;
+            if self.history.add_again(next).is_err() || !self.is_made(next.place, next.change) {
+                self.message = Message::NoMemory;
+                break;
+            }
+            self.history.settle_again();
+        }
+    }
+
+    // Inserts a byte at a place, and moves the cursor after it. Answers whether it was done.
+    fn insert_at(&mut self, place: Place, byte: u8, step: Step) -> bool {
+        self.make(place, Change::Inserted(byte), step)
+    }
+
+    // Deletes the byte that is at a place, and moves the cursor there. Answers whether it was done.
+    fn delete_at(&mut self, place: Place, byte: u8, step: Step) -> bool {
+        self.make(place, Change::Deleted(byte), step)
+    }
+
+    // Makes an edit, so that it can be undone. Answers whether it was made, and says why if it was not.
+    fn make(&mut self, place: Place, change: Change, step: Step) -> bool {
+        if self.history.add(place, change, step).is_err() {
+            self.message = Message::NoMemory;
+            return false;
+        }
+        if self.is_made(place, change) {
+            self.history.settle(change, self.cursor);
+            return true;
+        }
+        self.message = Message::NoMemory;
+        false
+    }
+
+    // Makes an edit that the history has, and moves the cursor to where it ends. If it cannot be made, the history
+    // loses it.
+    fn is_made(&mut self, place: Place, change: Change) -> bool {
+        match self.change_text(place, change) {
+            Ok(end) => {
+                self.go_to(end);
+                true
+            }
+            Err(_) => {
+                self.history.drop_last();
+                false
+            }
+        }
+    }
+
+    // Changes the text, and gives the place where the edit ends.
+    fn change_text(&mut self, place: Place, change: Change) -> Result<Place, EditFault> {
+        match change {
+            Change::Inserted(byte) => {
+                if byte == b'\n' {
+                    self.text.split(place)?;
+                } else {
+                    self.text.insert(place, byte)?;
+                }
+                Ok(place_after(place, byte))
+            }
+            Change::Deleted(_) => {
+                let _ = self.text.delete(place)?;
+                Ok(place)
+            }
+        }
+    }
+
+    // The byte at a place, a line feed at the end of a line; `None` at the end of the text.
+    fn byte_at(&self, place: Place) -> Option<u8> {
+        let line = self.text.line(place.line)?;
+        match line.get(place.column) {
+            Some(&byte) => Some(byte),
+            None if place.line.saturating_add(1) < self.text.line_count() => Some(b'\n'),
+            None => None,
+        }
+    }
+
+    // Keeps the cursor's line, to paste it. Answers whether there is memory for it.
+    fn keep_line(&mut self, has_end: bool) -> bool {
+        let kept = self.cut_text.len();
+        let line = match self.text.line(self.cursor.line) {
+            Some(line) => line,
+            None => &[],
+        };
+        if self.cut_text.extend_from_slice(line).is_err() {
+            return false;
+        }
+        if has_end && self.cut_text.push(b'\n').is_err() {
+            self.cut_text.truncate(kept);
+            return false;
+        }
+        true
+    }
+
+    // Deletes a line, from its end on.
+    fn delete_line(&mut self, line: usize, length: usize, has_end: bool) {
+        let mut step = Step::New;
+        for i in 0..length {
+            let column = length - 1 - i;
+            let Some(byte) = self.byte_at(Place { line, column }) else {
+                break;
+            };
+            if !self.delete_at(Place { line, column }, byte, step) {
+                break;
+            }
+            step = Step::Same;
+        }
+        if has_end && self.text.line_length(line) == 0 {
+            self.delete_at(Place { line, column: 0 }, b'\n', step);
+        }
+        self.history.end_step();
+    }
+
+    // Breaks the line before its last word, if the cursor is past the column at which lines are wrapped.
+    fn wrap(&mut self) {
+        let Some(most) = self.wrap_column else {
+            return;
+        };
+        if self.column() <= most {
+            return;
+        }
+        let Place { line, column } = self.cursor;
+        let Some(blank) = last_break(self.line(), column, most) else {
+            return;
+        };
+        self.break_at(Place {
+            line,
+            column: blank,
+        });
+    }
+
+    // Puts a line's end in the place of a blank before the cursor.
+    fn break_at(&mut self, blank: Place) {
+        let left = self
+            .cursor
+            .column
+            .saturating_sub(blank.column.saturating_add(1));
+        let Some(byte) = self.byte_at(blank) else {
+            return;
+        };
+        let start = place_after(blank, b'\n');
+        if self.insert_at(blank, b'\n', Step::Same) && self.delete_at(start, byte, Step::Same) {
+            self.go_to(Place {
+                line: start.line,
+                column: left,
+            });
+        }
+    }
+}
