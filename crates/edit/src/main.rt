@@ -105,7 +105,7 @@ fn edit(rt: &HostRuntime, task: Task<'_>, editor: &mut Editor) -> Result<(), Edi
 }
 
 // Saves a text that would be lost beside the file, and says where.
-fn save_lost(rt: &HostRuntime, path: &str, editor: &Editor) {
+fn save_lost(rt: &HostRuntime, path: &str, editor: &mut Editor) {
     match rescue(rt, path, editor) {
         Ok(name) => {
             let _ = eprintln!(rt; "edit: the changed text is in {name}");

@@ -23,7 +23,7 @@ fn save_text(rt: &HostRuntime, path: &str, editor: &mut Editor, overwrites: bool
         None => path,
     };
     match save(rt, path, &editor.text, editor.seen, overwrites) {
-        Ok(saved) => say_saved(editor, saved),
+        Ok(saved) => say_saved(rt, editor, saved),
         Err(fault) => {
             if fault == SaveFault::Changed {
                 editor.mode = Mode::Overwriting;
@@ -33,7 +33,8 @@ fn save_text(rt: &HostRuntime, path: &str, editor: &mut Editor, overwrites: bool
     }
 }
 
-fn say_saved(editor: &mut Editor, saved: Saved) {
+fn say_saved(rt: &HostRuntime, editor: &mut Editor, saved: Saved) {
+    editor.forget_kept(rt);
     editor.mark_saved(saved.seen);
     editor.message = if saved.is_kept {
         Message::SavedBefore
@@ -63,6 +64,6 @@ fn named(rt: &HostRuntime, editor: &mut Editor) -> Result<(), SaveFault> {
     };
     editor.renamed = Some(path);
     editor.name = shown;
-    say_saved(editor, saved);
+    say_saved(rt, editor, saved);
     Ok(())
 }

@@ -2,6 +2,7 @@
 
 use crate::commands::{Command, command_of, command_of_meta};
 use crate::history::History;
+use crate::keeping::Kept;
 use crate::messages::Message;
 use crate::questions::{Typed, typed_at};
 use crate::saving::Seen;
@@ -74,8 +75,10 @@ pub struct Editor {
     sequence: Sequence,
     // Whether the last key cut a line.
     is_cutting: bool,
-    // The version of the text that the file has.
-    saved: u64,
+    /// The version of the text that the file has.
+    pub(crate) saved: u64,
+    /// A copy of the text beside the file, if it was changed for a while.
+    pub(crate) kept: Option<Kept>,
     /// What the file had when it was read or saved last.
     pub(crate) seen: Seen,
 }
@@ -108,6 +111,7 @@ impl Editor {
             sequence: Sequence::Outside,
             is_cutting: false,
             saved,
+            kept: None,
             seen,
         }
     }

@@ -10,6 +10,7 @@ mod editor;
 mod failures;
 mod hints;
 mod history;
+mod keeping;
 mod living;
 mod messages;
 mod moving;
@@ -24,6 +25,7 @@ mod view;
 
 pub use editor::Editor;
 pub use failures::EditFailure;
-pub use saving::{ReadFault, SaveFault, rescue};
+pub use keeping::rescue;
+pub use saving::{ReadFault, SaveFault};
 pub use scripts::edit_by_script;
 pub use terminals::edit_on_terminal;

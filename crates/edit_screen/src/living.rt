@@ -6,6 +6,9 @@ use crate::editor::{Editor, Mode, Request};
 use curses::{Key, Screen, Win, WinFault};
 use terminal::{Event, Program};
 
+/// After so many tenths of a second without a key a changed text is copied beside its file.
+const WAIT: u32 = 20;
+
 /// An editor, and what it is run on and for.
 #[derive(Drop)]
 pub(crate) struct Session<'a> {
@@ -41,10 +44,22 @@ impl<'a> Session<'a> {
         self.is_new = false;
     }
 
+    // Nothing was typed for a while: a sequence of bytes is over, or a changed text is copied.
+    fn pass_time(&mut self) {
+        if self.editor.is_in_sequence() {
+            self.editor.pause();
+        } else if self.editor.is_to_keep() {
+            self.editor.keep(self.rt, self.path);
+        }
+    }
+
     // Does what a key asks for. Answers whether the editor goes on.
     fn answer_key(&mut self, key: Key) -> bool {
         match self.editor.take_key(key) {
-            Request::Leave => return false,
+            Request::Leave => {
+                self.editor.forget_kept(self.rt);
+                return false;
+            }
             Request::Repaint => self.repaints = true,
             request => answer_request(self.rt, self.path, self.editor, request),
         }
@@ -69,7 +84,7 @@ impl Program for Session<'_> {
         match event {
             Event::Key(key) => return self.answer_key(key),
             Event::Resized => self.is_new = true,
-            Event::Idle => self.editor.pause(),
+            Event::Idle => self.pass_time(),
             Event::Continued => {}
             Event::Ended => self.has_ended = true,
         }
@@ -79,6 +94,8 @@ impl Program for Session<'_> {
     fn wait(&self) -> Option<u32> {
         if self.editor.is_in_sequence() {
             Some(1)
+        } else if self.editor.is_to_keep() {
+            Some(WAIT)
         } else {
             None
         }

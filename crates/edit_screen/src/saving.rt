@@ -1,18 +1,14 @@
 //! Files: reading one, and saving a text so that no failure loses what the file had.
 
-use crate::editor::Editor;
 use edit_text::Text;
 use program_input::{InputFault, read_input};
 use std::fs::{File, OpenOptions};
 use std::hash::{DefaultHasher, Hasher};
 use std::io::{ErrorKind, Write};
-use std::{env, fs, io};
+use std::{fs, io};
 
-/// How often it is tried to save a text that would be lost, where memory runs out.
-const MOST_RESCUES: u32 = 3;
-
-/// How many names are tried for a text that would be lost.
-const MOST_RECOVERED: u32 = 100;
+/// How many names are tried for a file beside another.
+pub(crate) const MOST_NAMES: u32 = 100;
 
 /// Why a file was not opened.
 #[derive(Clone, Copy, Debug, PartialEq, Eq)]
@@ -190,66 +186,13 @@ fn save_over(rt: &HostRuntime, path: &str, bytes: &[u8], seen: Seen) -> Result<b
     }
 }
 
-/// Saves the text of an editor that has ended, which would be lost: beside the file, with `.recovered` after its name,
-/// or `.recovered.1` and so on if that is there; or as `edit.recovered` in the folder that `TMPDIR` names, or in `/tmp`,
-/// where no file can be made or written beside the file. Gives the name.
-///
-/// Refused if memory runs out, if all of a hundred names are there, or if no file can be made or written there either.
-pub fn rescue(rt: &HostRuntime, path: &str, editor: &Editor) -> Result<String, SaveFault> {
-    // The screen's memory is free by now, so where there was none it tries again.
-    for _ in 1..MOST_RESCUES {
-        match rescue_once(rt, path, &editor.text) {
-            Err(SaveFault::NoMemory) => {}
-            saved => return saved,
-        }
-    }
-    rescue_once(rt, path, &editor.text)
-}
-
-fn rescue_once(rt: &HostRuntime, path: &str, text: &Text) -> Result<String, SaveFault> {
-    match text.bytes(rt.alloc()) {
-        Ok(bytes) => rescue_bytes(rt, path, &bytes),
-        Err(_) => Err(SaveFault::NoMemory),
-    }
-}
-
-fn rescue_bytes(rt: &HostRuntime, path: &str, bytes: &[u8]) -> Result<String, SaveFault> {
-    match save_beside(rt, path, path, bytes) {
-        Err(SaveFault::NoMemory) => Err(SaveFault::NoMemory),
-        Err(_) => save_beside(rt, temporary(rt)?.as_str(), path, bytes),
-        saved => saved,
-    }
-}
-
-// The name in the folder for temporary files beside which a text is saved.
-fn temporary(rt: &HostRuntime) -> Result<String, SaveFault> {
-    let name = match env::var(rt, "TMPDIR") {
-        Ok(folder) => format!(in rt.alloc(); "{folder}/edit"),
-        Err(_) => String::from_str(rt.alloc(), "/tmp/edit"),
-    };
-    name.map_err(|_| SaveFault::NoMemory)
-}
-
-// Saves bytes beside a name, with the permissions of a file, and gives the name.
-fn save_beside(
+/// The name of the nth file of a kind beside a file.
+pub(crate) fn name_beside(
     rt: &HostRuntime,
-    base: &str,
     path: &str,
-    bytes: &[u8],
+    kind: &str,
+    number: u32,
 ) -> Result<String, SaveFault> {
-    for number in 0..MOST_RECOVERED {
-        let name = name_beside(rt, base, "recovered", number)?;
-        match create(rt, name.as_str(), path, bytes) {
-            Ok(()) => return Ok(name),
-            Err(SaveFault::IsThere) => {}
-            Err(fault) => return Err(fault),
-        }
-    }
-    Err(SaveFault::IsThere)
-}
-
-// The name of the nth file of a kind beside a file.
-fn name_beside(rt: &HostRuntime, path: &str, kind: &str, number: u32) -> Result<String, SaveFault> {
     let name = if number == 0 {
         format!(in rt.alloc(); "{path}.{kind}")
     } else {
@@ -285,7 +228,7 @@ fn replace(rt: &HostRuntime, path: &str, bytes: &[u8], seen: Seen) -> Result<boo
 
 // A name with `.before` that no file beside a file has.
 fn free_name(rt: &HostRuntime, path: &str) -> Result<String, SaveFault> {
-    for number in 0..MOST_RECOVERED {
+    for number in 0..MOST_NAMES {
         let name = name_beside(rt, path, "before", number)?;
         if is_free(rt, name.as_str()) {
             return Ok(name);
@@ -353,8 +296,13 @@ pub(crate) fn is_read_only(rt: &HostRuntime, path: &str) -> bool {
     }
 }
 
-// Makes a file of bytes with the permissions of another, which may not be there.
-fn create(rt: &HostRuntime, path: &str, other: &str, bytes: &[u8]) -> Result<(), SaveFault> {
+/// Makes a file of bytes with the permissions of another, which may not be there.
+pub(crate) fn create(
+    rt: &HostRuntime,
+    path: &str,
+    other: &str,
+    bytes: &[u8],
+) -> Result<(), SaveFault> {
     let mut file = match OpenOptions::new()
         .write(true)
         .create_new(true)

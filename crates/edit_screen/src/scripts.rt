@@ -185,7 +185,7 @@ fn play(
             Line::Idle => {
                 let _ = screen.key_idle();
                 answer_keys(screen, session);
-                answer(session, Event::Idle);
+                session.editor.pause();
             }
             Line::Show => show(screen, shown, session)?,
         }
