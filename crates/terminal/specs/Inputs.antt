@@ -1,5 +1,5 @@
 -- What a read of the keyboard gives.
-use Rattle.std.specs.Prelude.{ℕ, ◌≤◌, ◌<◌, ◌+◌, ⊤, Bool, true, false, List, length, min, nat_lt, if◌then◌else◌}
+use Rattle.std.specs.Prelude.{ℕ, ◌≤◌, ◌<◌, ◌+◌, ⊤, Bool, true, false, List, [], length, min, take, nat_lt, if◌then◌else◌}
 use Rattle.std.specs.declared.io.ErrorKind.{ErrorKind}
 use Rattle.std.specs.declared.io.ErrorKind.TheVariants.{Interrupted}
 use Rattle.terminal.specs.declared.input.Input.{Input}
@@ -9,6 +9,11 @@ use Rattle.terminal.specs.declared.input.Input.TheVariants as inputs
 abbrev pub IsWithin : List ℕ → Input → Type 0
 IsWithin piece (inputs.Bytes count) = (0 < count) × (count ≤ length piece)
 IsWithin piece input = ⊤
+
+-- The bytes of a piece that were read.
+abbrev pub bytes_of : List ℕ → Input → List ℕ
+bytes_of piece (inputs.Bytes count) = take count piece
+bytes_of piece input = []
 
 -- How many empty reads in a row were sudden, after one that took so many nanoseconds: 3 at most.
 abbrev pub sudden_after : ℕ → ℕ → ℕ

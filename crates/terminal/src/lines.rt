@@ -1,5 +1,5 @@
 //! The terminal line that a program reads.
-ghost use Rattle.std.specs.Prelude.{◌≡◌, ◌⊎◌, false, true, IfErr, IfOk, List, Option, ℕ};
+ghost use Rattle.std.specs.Prelude.{◌≡◌, ◌⊎◌, ◌||◌, not, Bool, false, true, IfErr, IfOk, List, Option, ℕ};
 ghost use Rattle.std.specs.Duration.{as_nanos};
 ghost use Rattle.terminal.specs.Inputs.{IsWithin, empty_input, sudden_after};
 ghost use Rattle.terminal.specs.Lines.{IsFailedRead, IsKeyboardRead, IsLineRead, IsLook, after_told};
@@ -65,9 +65,9 @@ impl TerminalLine {
     /// Whether a full-screen program can run: its standard input is no terminal, or one that `run-on-terminal` has set to
     /// raw mode. On another terminal keys come line by line, and `^C` ends the program before it has closed its screen.
     pub fn is_ready(&self, rt: &HostRuntime) -> bool
-        ensures { self.now.has_folder ≡ true → result ≡ true }
+        ensures { (is_terminal : Bool) × (result ≡ (self.now.has_folder || not is_terminal)) }
     {
-        self.folder.is_some() || !rt.stdin().is_terminal()
+        may_draw(self.folder.is_some(), rt.stdin().is_terminal())
     }
 
     /// Where the screen goes: to the terminal that `run-on-terminal` hands in, also where the standard output is a file or
@@ -195,6 +195,13 @@ impl TerminalLine {
         self.sudden = sudden_after(self.sudden, took);
         empty_input(self.sudden)
     }
+}
+
+// Whether a full-screen program can run, where there is a folder or not, and its input is a terminal or not.
+fn may_draw(has_folder: bool, is_terminal: bool) -> bool
+    ensures { result ≡ (has_folder || not is_terminal) }
+{
+    has_folder || !is_terminal
 }
 
 // The folder that the environment names.

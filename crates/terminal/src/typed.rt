@@ -1,5 +1,7 @@
 //! What was read of the keyboard and waits to be used.
-ghost use Rattle.std.specs.Prelude.{◌≡◌, ◌∷◌, [], None, true, IfSome};
+ghost use Rattle.std.specs.Prelude.{◌≡◌, ◌≢◌, ◌∷◌, [], None, true, false, IfSome, List, ℕ};
+ghost use Rattle.terminal.specs.Inputs.{bytes_of};
+ghost use Rattle.terminal.specs.Lines.{IsLineRead};
 
 use crate::input::Input;
 use crate::lines::TerminalLine;
@@ -44,7 +46,8 @@ impl Typed {
 
     /// Whether nothing waits.
     pub(crate) fn is_empty(&self) -> bool
-        ensures { result ≡ true → self.now ≡ [] }
+        ensures empty { result ≡ true → self.now ≡ [] }
+        ensures waits { result ≡ false → self.now ≢ [] }
     {
         self.used == self.count
     }
@@ -62,8 +65,11 @@ impl Typed {
         Some(byte)
     }
 
-    /// Reads the keyboard once, where nothing waits.
-    pub(crate) fn read(&mut self, rt: &HostRuntime, line: &mut TerminalLine) -> Input {
+    /// Reads the keyboard once, where nothing waits. What was read waits then.
+    pub(crate) fn read(&mut self, rt: &HostRuntime, line: &mut TerminalLine) -> Input
+        ensures ending { line.old.is_ending ≡ true → (line.new ≡ line.old) × (self.new ≡ []) × (result ≡ Input.Ended) }
+        ensures reads { line.old.is_ending ≡ false → (piece : List ℕ) × IsLineRead piece line.old line.new result × (self.new ≡ bytes_of piece result) }
+    {
         let input = line.read(rt, self.piece.as_mut_slice());
         self.used = 0;
         self.count = match input {
