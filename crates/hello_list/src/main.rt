@@ -20,11 +20,10 @@ impl Program for List {
         let lowest = self.chosen.saturating_add(1).saturating_sub(self.rows);
         self.top = self.top.min(self.chosen).max(lowest);
         screen.erase(Win(0))?;
-        for row in 0..self.rows.min(LINES.saturating_sub(self.top)) {
-            let line = self.top.saturating_add(row);
+        for line in self.top..self.top.saturating_add(self.rows).min(LINES) {
             let is_chosen = line == self.chosen;
             screen.attr_set(Win(0), if is_chosen { Attrs::REVERSE } else { Attrs(0) })?;
-            screen.move_cursor(Win(0), row, 0)?;
+            screen.move_cursor(Win(0), line.saturating_sub(self.top), 0)?;
             let _ = screen.add_text(Win(0), b"line ")?;
             let _ = screen.add_text(Win(0), itoa::Buffer::new().format(line).as_bytes())?;
         }
@@ -32,18 +31,19 @@ impl Program for List {
         screen.noutrefresh(Win(0))
     }
 
+    fn shows_cursor(&self) -> bool {
+        false
+    }
+
     fn answer(&mut self, event: Event) -> bool {
-        let Event::Key(key) = event else {
-            return true;
-        };
-        self.chosen = match key {
-            Key::Byte(b'q') => return false,
-            keys::UP => self.chosen.saturating_sub(1),
-            keys::DOWN => self.chosen.saturating_add(1),
-            keys::PAGE_UP => self.chosen.saturating_sub(self.rows),
-            keys::PAGE_DOWN => self.chosen.saturating_add(self.rows),
-            keys::HOME => 0,
-            keys::END => LINES,
+        self.chosen = match event {
+            Event::Key(Key::Byte(b'q')) => return false,
+            Event::Key(keys::UP) => self.chosen.saturating_sub(1),
+            Event::Key(keys::DOWN) => self.chosen.saturating_add(1),
+            Event::Key(keys::PAGE_UP) => self.chosen.saturating_sub(self.rows),
+            Event::Key(keys::PAGE_DOWN) => self.chosen.saturating_add(self.rows),
+            Event::Key(keys::HOME) => 0,
+            Event::Key(keys::END) => LINES,
             _ => self.chosen,
         }
         .min(LINES - 1);

@@ -1,1 +1,2 @@
+mod CursorLaws
 mod SizeLaws

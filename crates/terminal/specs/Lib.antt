@@ -1,3 +1,4 @@
+pub mod Cursors
 pub mod Inputs
 pub mod Lines
 pub mod Sizes

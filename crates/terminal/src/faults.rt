@@ -35,7 +35,7 @@ pub enum TerminalFault {
     /// An update ended early.
     #[error("{0}")]
     Update(#[from] UpdateFault),
-    /// The opening or the closing text could not be sent.
+    /// The opening or the closing text, or one that hides or shows the cursor, could not be sent.
     #[error("{0}")]
     Send(#[from] SendFault),
     /// Memory ran out for keys.

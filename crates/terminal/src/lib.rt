@@ -5,6 +5,7 @@
 //! what the files there say. Without such a folder everything works but changes of the size and suspension.
 #![tactic(auto)]
 
+mod cursors;
 mod events;
 mod faults;
 mod folders;

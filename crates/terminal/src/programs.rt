@@ -23,6 +23,12 @@ pub trait Program {
     fn reads_byte(&self) -> bool {
         false
     }
+
+    /// Whether it wants the cursor to be seen. It is asked before each update; a terminal that cannot hide its cursor
+    /// shows it in any case.
+    fn shows_cursor(&self) -> bool {
+        true
+    }
 }
 
 /// How many updates may fail one after another before a program ends.
@@ -72,11 +78,18 @@ impl TerminalScreen {
         if let Err(fault) = program.draw(self.screen()) {
             return Err(TerminalFault::Draw(fault));
         }
-        match self.update(rt.alloc()) {
-            Ok(_) => Ok(0),
+        match self.update_both(rt, program.shows_cursor()) {
+            Ok(()) => Ok(0),
             Err(fault) if failures.saturating_add(1) >= MOST_FAILURES => Err(fault),
             Err(_) => Ok(failures.saturating_add(1)),
         }
+    }
+
+    // Updates the cursor and the screen.
+    fn update_both(&mut self, rt: &HostRuntime, shows_cursor: bool) -> Result<(), TerminalFault> {
+        let _ = self.set_cursor(shows_cursor)?;
+        let _ = self.update(rt.alloc())?;
+        Ok(())
     }
 
     fn awaited<P: Program>(

@@ -1,5 +1,6 @@
 //! The screen of the terminal that a program runs on.
 
+use crate::cursors::Cursor;
 use crate::events::Event;
 use crate::faults::TerminalFault;
 use crate::input::Input;
@@ -32,6 +33,7 @@ pub struct TerminalScreen {
     is_whole: bool,
     // Whether it was started, and not closed since.
     is_started: bool,
+    cursor: Cursor,
 }
 
 impl TerminalScreen {
@@ -67,6 +69,7 @@ impl TerminalScreen {
             return Err(TerminalFault::NotRaw);
         }
         let typed = Typed::new(rt.alloc())?;
+        let cursor = Cursor::new(rt.alloc(), &entry)?;
         let out = device(rt.alloc(), line.output(rt))?;
         let screen = Screen::open(rt.alloc(), &entry, line.size())?;
         Ok(started(TerminalScreen {
@@ -78,6 +81,7 @@ impl TerminalScreen {
             out,
             is_whole: false,
             is_started: false,
+            cursor,
         }))
     }
 
@@ -91,13 +95,29 @@ impl TerminalScreen {
         let updated = self.screen.doupdate(alloc, &mut self.out);
         self.is_whole = updated.is_ok();
         match updated {
-            Ok(sent) => Ok(sent),
+            Ok(sent) => {
+                self.settle_cursor()?;
+                Ok(sent)
+            }
             Err(fault) => Err(TerminalFault::Update(fault)),
         }
     }
 
-    /// Waits for a key, a resize, or the end. `^Z`, or a key of that name, is not given: it suspends the program until its user continues it, as
-    /// a stop from elsewhere does.
+    /// Shows the cursor, as at first, or hides it, where the terminal's entry has texts for both (`cnorm` and `civis`).
+    /// Answers whether it can do what is asked: false only if the cursor is to be hidden and the entry cannot. Where the
+    /// cursor is so already, nothing is sent.
+    ///
+    /// `close` shows it again, and so does a suspension; `start` hides it if that was asked for last. If a write failed
+    /// and the rest of a text is owed, or the screen is closed, the cursor follows at the next update or start.
+    /// terminfo(5), 'Cursor Motions'; X/Open Curses Issue 7, curs_set().
+    pub fn set_cursor(&mut self, visible: bool) -> Result<bool, TerminalFault> {
+        let can = self.cursor.ask(visible);
+        self.settle_cursor()?;
+        Ok(can)
+    }
+
+    /// Waits for a key, a resize, or the end. `^Z`, or a key of that name, is not given: it suspends the program until
+    /// its user continues it, as a stop from elsewhere does.
     pub fn event(&mut self, rt: &HostRuntime) -> Result<Event, TerminalFault> {
         for _ in 0..u64::MAX {
             if let Some(event) = self.turn(rt)? {
@@ -147,16 +167,17 @@ impl TerminalScreen {
         self.waiting.is_some() || !self.typed.is_empty()
     }
 
-    /// Gives the terminal back: without attributes, with the cursor on its last line, and out of the modes of
+    /// Gives the terminal back: without attributes, with the cursor shown and on its last line, and out of the modes of
     /// full-screen programs. A terminal whose entry has no `rmcup` goes on showing the screen, and gets a line feed, so
     /// that what comes next has a line of its own.
     pub fn close(&mut self) -> Result<(), TerminalFault> {
         let closed = self.screen.close(&mut self.out);
         self.is_whole = closed.is_ok();
+        self.cursor.set_started(false);
         match closed {
             Ok(_) => {
                 self.end_last_line();
-                Ok(())
+                self.settle_cursor()
             }
             Err(fault) => Err(TerminalFault::Send(fault)),
         }
@@ -176,8 +197,22 @@ impl TerminalScreen {
         let started = self.screen.start(&mut self.out);
         self.is_whole = started.is_ok();
         self.is_started = true;
+        self.cursor.set_started(true);
         match started {
-            Ok(_) => Ok(()),
+            Ok(_) => self.settle_cursor(),
+            Err(fault) => Err(TerminalFault::Send(fault)),
+        }
+    }
+
+    // Sends what makes the cursor as it is to be, but not into a text that a failed write has cut.
+    fn settle_cursor(&mut self) -> Result<(), TerminalFault> {
+        if !self.is_whole {
+            return Ok(());
+        }
+        let settled = self.cursor.settle(&mut self.out);
+        self.is_whole = settled.is_ok();
+        match settled {
+            Ok(()) => Ok(()),
             Err(fault) => Err(TerminalFault::Send(fault)),
         }
     }

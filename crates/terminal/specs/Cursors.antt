@@ -1,0 +1,71 @@
+-- The cursor of a terminal: what a program asks of it, what is known of it, and what is sent for that.
+use Rattle.std.specs.Prelude.{◌≡◌, ◌≢◌, ℕ, ⊤, ◌⊎◌, ◌||◌, not, Bool, true, false, List, [], length, take, Option, Some, None, if◌then◌else◌}
+use Rattle.std.specs.Io.KnownBytes.{Appends}
+use Rattle.curses.specs.Writers.{WriterView, counted}
+use Rattle.ti_caps.specs.Description.{Description, text_at}
+use Rattle.ti_param.specs.Padding.{Stripped}
+
+-- The texts that hide the cursor and show it, where the entry has both; whether it is shown, if that is known; whether
+-- the program asks that it is; and whether the screen is started, so that this counts.
+pub record CursorView : Type 0 where
+  pub texts : Option (List ℕ × List ℕ)
+  pub shown : Option Bool
+  pub asked : Bool
+  pub is_started : Bool
+
+-- The text of a capability without its padding, if that is not empty.
+abbrev pub IsText : Option (List ℕ) → Option (List ℕ) → Type 0
+IsText None None = ⊤
+IsText (Some raw) None = Stripped raw []
+IsText None (Some text) = ⊥
+IsText (Some raw) (Some text) = Stripped raw text × (text ≢ [])
+
+-- Both of two texts.
+abbrev pub both : Option (List ℕ) → Option (List ℕ) → Option (List ℕ × List ℕ)
+both (Some hide) (Some show) = Some (hide, show)
+both hide show = None
+
+-- The texts of an entry: those of `civis` and `cnorm`, the strings 13 and 16.
+pub record AreTextsOf (entry : Description) (texts : Option (List ℕ × List ℕ)) : Type 0 where
+  pub hide : Option (List ℕ)
+  pub show : Option (List ℕ)
+  pub is_hide : IsText (text_at entry 13) hide
+  pub is_show : IsText (text_at entry 16) show
+  pub are : texts ≡ both hide show
+
+-- Whether the cursor is to be shown: as asked while the screen is started, and else in any case.
+abbrev pub is_wanted : CursorView → Bool
+is_wanted cursor = cursor.asked || not cursor.is_started
+
+-- Whether a text has to be sent, so that the cursor is as wanted: not where it is known to be so.
+abbrev pub is_due : Option Bool → Bool → Bool
+is_due (Some true) true = false
+is_due (Some false) false = false
+is_due shown wanted = true
+
+-- The text that is sent now; nothing where the entry has none.
+abbrev pub text_due : Option (List ℕ × List ℕ) → Bool → Bool → List ℕ
+text_due None due wanted = []
+text_due (Some texts) false wanted = []
+text_due (Some texts) true true = texts.1
+text_due (Some texts) true false = texts.0
+
+abbrev pub due : CursorView → List ℕ
+due cursor = text_due cursor.texts (is_due cursor.shown (is_wanted cursor)) (is_wanted cursor)
+
+-- What is known then; where the entry has no texts, what was known.
+abbrev pub shown_after : Option (List ℕ × List ℕ) → Option Bool → Bool → Option Bool
+shown_after None shown wanted = shown
+shown_after (Some texts) shown wanted = Some wanted
+
+-- A writer took a text whole, and no failure was counted.
+pub record IsSent (old new : WriterView) (text : List ℕ) : Type 0 where
+  pub taken : Appends old.taken new.taken text
+  pub puts : new.failed_puts ≡ old.failed_puts
+  pub finishes : new.failed_finishes ≡ old.failed_finishes
+
+-- A writer took a beginning of a text, perhaps all, and a failure was counted.
+pub record IsFailed (old new : WriterView) (text : List ℕ) : Type 0 where
+  pub part : ℕ
+  pub taken : Appends old.taken new.taken (take part text)
+  pub failed : ((new.failed_puts ≡ counted true old.failed_puts) × (new.failed_finishes ≡ old.failed_finishes)) ⊎ ((new.failed_puts ≡ old.failed_puts) × (new.failed_finishes ≡ counted true old.failed_finishes))
