@@ -1,4 +1,5 @@
-//! A clock: it counts the seconds since it was started, until a key is pressed. Any argument selects the bundled entry.
+//! A clock in a window of its own, in the middle of the screen: it counts the seconds since it was started, until a key is
+//! pressed. Any argument selects the bundled entry.
 #![tactic(auto)]
 
 use anyhow::Result;
@@ -10,22 +11,46 @@ use terminal::{Event, Program, TerminalScreen};
 struct Clock<'a> {
     rt: &'a HostRuntime,
     start: Instant,
+    window: Option<Win>,
+}
+
+impl Clock<'_> {
+    // The window. A new screen has none yet, and one that is larger than the screen is refused, so it is clipped.
+    fn window(&mut self, screen: &mut Screen) -> Result<Win, WinFault> {
+        if let Some(window) = self.window {
+            return Ok(window);
+        }
+        let (rows, columns) = screen.size(Win(0))?;
+        let width = columns.min(20);
+        let (row, column) = (rows / 2, (columns - width) / 2);
+        let window = screen.new_window(self.rt.alloc(), 1, width, row, column)?;
+        self.window = Some(window);
+        Ok(window)
+    }
 }
 
 impl Program for Clock<'_> {
     fn draw(&mut self, screen: &mut Screen) -> Result<(), WinFault> {
+        let window = self.window(screen)?;
         let seconds = match self.start.elapsed(self.rt) {
             Ok(passed) => passed.as_secs(),
             Err(_) => 0,
         };
-        screen.move_cursor(Win(0), 0, 0)?;
-        let _ = screen.add_text(Win(0), itoa::Buffer::new().format(seconds).as_bytes())?;
-        let _ = screen.add_text(Win(0), b" seconds ")?;
-        screen.noutrefresh(Win(0))
+        screen.move_cursor(window, 0, 0)?;
+        let _ = screen.add_text(window, itoa::Buffer::new().format(seconds).as_bytes())?;
+        let _ = screen.add_text(window, b" seconds ")?;
+        screen.noutrefresh(window)
     }
 
     fn answer(&mut self, event: Event) -> bool {
+        if event == Event::Resized {
+            self.window = None;
+        }
         !matches!(event, Event::Key(_))
+    }
+
+    fn shows_cursor(&self) -> bool {
+        false
     }
 
     fn wait(&self) -> Option<u32> {
@@ -41,6 +66,7 @@ fn main(rt: HostRuntime) -> Result<()> {
     let mut clock = Clock {
         rt: &rt,
         start: Instant::now(&rt)?,
+        window: None,
     };
     Ok(terminal.run(&rt, &mut clock)?)
 }
