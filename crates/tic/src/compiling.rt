@@ -6,13 +6,15 @@
 
 use crate::failures::Failure;
 use crate::input::input_of;
+use crate::located::locate;
+use crate::messages::{error_message, note_message};
 use crate::output::{print, write_files};
-use crate::places::{index_of_many_uses, place_of};
-use crate::report::{add_entry, add_note, add_size, add_unknown};
-use std::alloc::AllocError;
+use crate::places::EntryLines;
+use crate::report::{add_message, add_note, add_size, add_unknown};
+use std::alloc::{AllocError, Global};
 use std::io::Write;
 use ti_compile::{CompiledEntry, EntryCompiler, TicFault};
-use ti_source::{Notes, Source, SourceFault, read_apart};
+use ti_source::{Notes, Source, read_apart};
 
 /// Lines are written once they have this many bytes.
 const PIECE: usize = 65_536;
@@ -30,14 +32,21 @@ pub(crate) enum Purpose<'a> {
     Files(&'a str),
 }
 
+// A text that is compiled, and the name of its file.
+#[derive(Clone, Copy)]
+struct Text<'a> {
+    file: &'a str,
+    bytes: &'a [u8],
+    verbose: bool,
+}
+
 // A source that is compiled.
 #[derive(Clone, Copy)]
 struct Job<'a> {
     rt: &'a HostRuntime,
-    text: &'a [u8],
+    text: Text<'a>,
     source: &'a Source,
     notes: &'a Notes,
-    verbose: bool,
 }
 
 /// Compiles a source. With `verbose`, more is said on standard error.
@@ -47,17 +56,21 @@ pub(crate) fn compile<'a>(
     file: &'a str,
     verbose: bool,
 ) -> Result<(), Failure<'a>> {
-    let text = input_of(rt, file)?;
-    compile_text(rt, purpose, text.as_slice(), verbose)
+    let bytes = input_of(rt, file, verbose)?;
+    let text = Text {
+        file,
+        bytes: bytes.as_slice(),
+        verbose,
+    };
+    compile_text(rt, purpose, text)
 }
 
 fn compile_text<'a>(
     rt: &HostRuntime,
     purpose: Purpose<'_>,
-    text: &[u8],
-    verbose: bool,
+    text: Text<'_>,
 ) -> Result<(), Failure<'a>> {
-    match read_apart(rt.alloc(), text) {
+    match read_apart(rt.alloc(), text.bytes) {
         Ok((source, notes)) => {
             let (source, notes) = (&source, &notes);
             compile_source(
@@ -66,33 +79,37 @@ fn compile_text<'a>(
                     text,
                     source,
                     notes,
-                    verbose,
                 },
                 purpose,
             )
         }
-        Err(fault) => Err(unread(rt, text, fault, verbose)),
+        Err(fault) => Err(failure_of(rt.alloc(), text, fault.into(), 0)),
     }
 }
 
-// Why a source was not read.
-fn unread<'a>(rt: &HostRuntime, text: &[u8], fault: SourceFault, verbose: bool) -> Failure<'a> {
-    if verbose
-        && fault == SourceFault::TooManyUses
-        && let Some(index) = index_of_many_uses(rt.alloc(), text)
+// The failure for the error of a text, or of its entry at an index.
+fn failure_of<'a>(alloc: Global, text: Text<'_>, fault: TicFault, index: usize) -> Failure<'a> {
+    if text.verbose
+        && let Ok(Some(message)) = located_message(alloc, text, fault, index)
     {
-        tell_entry(rt, text, index);
+        return Failure::Located(message);
     }
-    TicFault::from(fault).into()
+    fault.into()
 }
 
-// Prints on standard error which entry an error is in.
-fn tell_entry(rt: &HostRuntime, text: &[u8], index: usize) {
-    if let Some(place) = place_of(text, index) {
-        let mut line = Vec::new(rt.alloc());
-        if add_entry(rt.alloc(), place, &mut line).is_ok() {
-            tell(rt, &mut line);
+// The message for an error that is somewhere in a text.
+fn located_message(
+    alloc: Global,
+    text: Text<'_>,
+    fault: TicFault,
+    index: usize,
+) -> Result<Option<String>, AllocError> {
+    match locate(alloc, text.bytes, fault, index)? {
+        Some(place) => {
+            let message = error_message(alloc, text.file, text.bytes, place, fault)?;
+            Ok(Some(message))
         }
+        None => Ok(None),
     }
 }
 
@@ -118,16 +135,8 @@ fn next_entry<'a>(
 ) -> Result<Option<CompiledEntry>, Failure<'a>> {
     match compiler.next_entry(job.rt.alloc()) {
         Ok(entry) => Ok(entry),
-        Err(fault) => Err(uncompiled(job, index, fault)),
+        Err(fault) => Err(failure_of(job.rt.alloc(), job.text, fault, index)),
     }
-}
-
-// Why an entry was not compiled.
-fn uncompiled<'a>(job: &Job<'_>, index: usize, fault: TicFault) -> Failure<'a> {
-    if job.verbose && fault != TicFault::NoMemory {
-        tell_entry(job.rt, job.text, index);
-    }
-    fault.into()
 }
 
 // Prints the name of each entry of a source, and the size of its file.
@@ -306,16 +315,36 @@ fn tell_notes(job: &Job<'_>) -> Result<(), AllocError> {
 }
 
 fn tell_all(job: &Job<'_>, lines: &mut Vec<u8>) -> Result<(), AllocError> {
+    let mut entries = EntryLines::new(job.text.bytes);
     for i in 0..job.notes.len() {
-        add_note(job.rt.alloc(), job.notes.at(i), lines)?;
+        add_note_at(job, i, &mut entries, lines)?;
         if lines.len() >= PIECE {
             tell(job.rt, lines);
         }
     }
     tell(job.rt, lines);
-    if job.verbose {
+    if job.text.verbose {
         add_unknown(job.rt.alloc(), job.notes, lines)?;
         tell(job.rt, lines);
     }
     Ok(())
+}
+
+// Adds the line for the note at an index. Notes are in the order of their lines.
+fn add_note_at(
+    job: &Job<'_>,
+    i: usize,
+    entries: &mut EntryLines<'_>,
+    lines: &mut Vec<u8>,
+) -> Result<(), AllocError> {
+    if i >= job.notes.len() {
+        return Ok(());
+    }
+    let note = job.notes.at(i);
+    if !job.text.verbose {
+        return add_note(job.rt.alloc(), note, lines);
+    }
+    let names = entries.names_at(note.line);
+    let message = note_message(job.rt.alloc(), job.text.file, names, note)?;
+    add_message(message.as_str(), lines)
 }

@@ -11,12 +11,18 @@ pub(crate) enum Failure<'a> {
     Usage,
     #[error("tic: cannot read {0}")]
     Read(&'a str),
+    /// The same with `-v`: why the file cannot be read.
+    #[error("{0}: {1}")]
+    Unread(&'a str, &'static str),
     #[error("tic: cannot write -")]
     Output,
     #[error("tic: cannot write {0}")]
     Write(String),
     #[error("tic: {0}")]
     Fault(TicFault),
+    /// The same with `-v`: what is wrong in a file, and where.
+    #[error("{0}")]
+    Located(String),
     #[error("tic: out of memory")]
     NoMemory,
 }

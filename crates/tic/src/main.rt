@@ -5,18 +5,23 @@
 //! entry, and prints nothing. `tic -d COMPILED` prints a compiled file as source. If FILE or
 //! COMPILED is `-`, it is the standard input.
 //!
-//! Notes on doubtful fields, and what a listing leaves out, go to standard error; with `-v` also
-//! the entry of an error that has no line, and how often each unknown name occurs. An error is
-//! printed there as `tic: ` and its text. So is the usage text, which `--help` and `--version` ask
-//! for. The status is 0, 1 for an error and 2 for a usage error, as these two are.
+//! Notes on doubtful fields, and what a listing leaves out, go to standard error. An error is printed
+//! there as `tic: ` and its text; with `-v` errors and notes begin with the file, the line and the
+//! entry in its place, and it is told how often each unknown name occurs. The usage text goes there
+//! too, which `--help` and `--version` ask for. The status is 0, 1 for an error and 2 for a usage
+//! error, as these two are.
 #![tactic(auto)]
 
 mod compiling;
 mod failures;
+mod fields;
 mod input;
+mod located;
+mod messages;
 mod output;
 mod places;
 mod report;
+mod uses;
 mod words;
 
 use clap::ArgMatches;
@@ -29,7 +34,7 @@ use report::add_left_out;
 use std::io::Write;
 use std::process::ExitCode;
 use std::{env, io};
-use ti_compile::{Listing, list};
+use ti_compile::{Listing, TicFault, list};
 use words::Task;
 
 fn main(rt: HostRuntime) -> ExitCode {
@@ -86,16 +91,28 @@ fn run<'a>(rt: &HostRuntime, task: Task<'a>, verbose: bool) -> Result<(), Failur
     match task {
         Task::Sizes(file) => compile(rt, Purpose::Sizes, file, verbose),
         Task::Files(directory, file) => compile(rt, Purpose::Files(directory), file, verbose),
-        Task::Listing(file) => print_listing(rt, file),
+        Task::Listing(file) => print_listing(rt, file, verbose),
     }
 }
 
 // Prints a compiled file as source, and reports what is left out.
-fn print_listing<'a>(rt: &HostRuntime, file: &'a str) -> Result<(), Failure<'a>> {
-    let bytes = input_of(rt, file)?;
+fn print_listing<'a>(rt: &HostRuntime, file: &'a str, verbose: bool) -> Result<(), Failure<'a>> {
+    let bytes = input_of(rt, file, verbose)?;
     match list(rt.alloc(), bytes.as_slice()) {
         Ok(listing) => print_listed(rt, &listing),
+        Err(fault) if verbose => Err(unlisted(rt, file, fault)),
         Err(fault) => Err(fault.into()),
+    }
+}
+
+// Why a file is not listed, with the file.
+fn unlisted<'a>(rt: &HostRuntime, file: &str, fault: TicFault) -> Failure<'a> {
+    if fault == TicFault::NoMemory {
+        return Failure::NoMemory;
+    }
+    match format!(in rt.alloc(); "{file}: {fault}") {
+        Ok(message) => Failure::Located(message),
+        Err(_) => fault.into(),
     }
 }
 

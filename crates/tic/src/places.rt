@@ -1,79 +1,142 @@
-//! Where the entries of a source begin, to report errors that have no line.
+//! Where something is in a source: its line, its column and its entry.
+//!
+//! A place is found by its offset in the source, in bytes from 0.
 
 use bstr::ByteSlice;
-use std::alloc::Global;
-use ti_source::{SourceFault, read};
 
-/// The line on which an entry begins, counted from 1, and the entry's first reference name.
+/// Where a byte of a source is.
 #[derive(Clone, Copy)]
 pub(crate) struct Place<'a> {
-    pub(crate) name: &'a [u8],
+    /// The line, counted from 1.
     pub(crate) line: u32,
+    /// The column, in bytes, counted from 1.
+    pub(crate) column: usize,
+    /// The names of the entry, unless no entry has begun.
+    pub(crate) names: Option<&'a [u8]>,
 }
 
-/// The fewest bytes that an entry with more than 32 `use=` has.
-const LEAST_BYTES: usize = 165;
-
-/// Where the entry at an index of a source begins.
-pub(crate) fn place_of(text: &[u8], index: usize) -> Option<Place<'_>> {
-    let mut number = 0u32;
-    let mut left = index;
-    for line in text.lines_with_terminator() {
-        number = number.saturating_add(1);
-        if !begins_entry(line) {
-            continue;
+/// Where the byte at an offset is.
+pub(crate) fn place_at(source: &[u8], offset: usize) -> Place<'_> {
+    let mut place = Place {
+        line: 0,
+        column: 1,
+        names: None,
+    };
+    let mut start = 0usize;
+    for line in source.lines_with_terminator() {
+        if start > offset {
+            break;
         }
-        if left == 0 {
-            return Some(Place {
-                name: name_of(line),
-                line: number,
-            });
-        }
-        left -= 1;
-    }
-    None
-}
-
-/// The index of the first entry of a source that has more than 32 `use=`. The uses of an entry are
-/// on its own lines, which are read by themselves.
-pub(crate) fn index_of_many_uses(alloc: Global, text: &[u8]) -> Option<usize> {
-    let mut entries = 0usize;
-    let mut own = 0usize;
-    let mut end = 0usize;
-    for line in text.lines_with_terminator() {
+        place.line = place.line.saturating_add(1);
+        place.column = offset.saturating_sub(start).saturating_add(1);
         if begins_entry(line) {
-            if has_many_uses(alloc, text.get(own..end).unwrap_or(&[])) {
-                return entries.checked_sub(1);
-            }
-            own = end;
-            entries = entries.saturating_add(1);
+            place.names = Some(names_on(line));
         }
-        end = end.saturating_add(line.len());
+        start = start.saturating_add(line.len());
     }
-    if has_many_uses(alloc, text.get(own..).unwrap_or(&[])) {
-        return entries.checked_sub(1);
+    place
+}
+
+/// The offset of the line with this number, counted from 1.
+pub(crate) fn start_of_line(source: &[u8], number: u32) -> Option<usize> {
+    let mut here = 0u32;
+    let mut start = 0usize;
+    for line in source.lines_with_terminator() {
+        here = here.saturating_add(1);
+        if here == number {
+            return Some(start);
+        }
+        start = start.saturating_add(line.len());
     }
     None
 }
 
-fn has_many_uses(alloc: Global, entry: &[u8]) -> bool {
-    entry.len() >= LEAST_BYTES && matches!(read(alloc, entry), Err(SourceFault::TooManyUses))
+/// The offset of the entry at an index.
+pub(crate) fn start_of_entry(source: &[u8], index: usize) -> Option<usize> {
+    let mut left = index;
+    let mut start = 0usize;
+    for line in source.lines_with_terminator() {
+        if begins_entry(line) {
+            if left == 0 {
+                return Some(start);
+            }
+            left -= 1;
+        }
+        start = start.saturating_add(line.len());
+    }
+    None
 }
 
-// Whether a line, with or without its line end, begins an entry: it is not a comment, not empty,
-// and does not begin with a blank.
-fn begins_entry(line: &[u8]) -> bool {
-    match line {
-        [] | [b'\n'] | [b'\r', b'\n'] => false,
-        [first, ..] => *first != b'#' && *first != b' ' && *first != b'\t',
+/// The line that begins at an offset, without its end.
+pub(crate) fn line_at(source: &[u8], start: usize) -> &[u8] {
+    let rest = source.get(start..).unwrap_or(&[]);
+    let end = rest.iter().position(|b| *b == b'\n').unwrap_or(rest.len());
+    without_end(rest.get(..end).unwrap_or(rest))
+}
+
+/// Whether a line, with or without its end, begins an entry: it is not a comment, not empty, and
+/// does not begin with a blank.
+pub(crate) fn begins_entry(line: &[u8]) -> bool {
+    match without_end(line) {
+        [] => false,
+        [first, ..] => *first != b'#' && !is_blank(*first),
     }
 }
 
-// The first reference name on a line that begins an entry.
-fn name_of(line: &[u8]) -> &[u8] {
-    let end = line
-        .iter()
-        .position(|b| *b == b'|' || *b == b',' || *b == b'\r' || *b == b'\n')
-        .unwrap_or(line.len());
-    &line[..end]
+/// The names on a line that begins an entry.
+pub(crate) fn names_on(line: &[u8]) -> &[u8] {
+    let line = without_end(line);
+    let end = line.iter().position(|b| *b == b',').unwrap_or(line.len());
+    line.get(..end).unwrap_or(line)
+}
+
+/// A line without its line feed, and without the carriage return before that.
+pub(crate) fn without_end(line: &[u8]) -> &[u8] {
+    match line {
+        [text @ .., b'\r', b'\n'] | [text @ .., b'\n'] => text,
+        _ => line,
+    }
+}
+
+/// Whether a byte is a blank or a tab, which stand between fields.
+pub(crate) fn is_blank(byte: u8) -> bool {
+    byte == b' ' || byte == b'\t'
+}
+
+/// The entries on the lines of a source, which are asked for in order.
+#[derive(Drop)]
+pub(crate) struct EntryLines<'a> {
+    rest: &'a [u8],
+    passed: u32,
+    names: Option<&'a [u8]>,
+}
+
+impl<'a> EntryLines<'a> {
+    /// Before the first line.
+    pub(crate) fn new(source: &'a [u8]) -> EntryLines<'a> {
+        EntryLines {
+            rest: source,
+            passed: 0,
+            names: None,
+        }
+    }
+
+    /// The names of the entry on the line with this number, which is not before the last one that
+    /// was asked for.
+    pub(crate) fn names_at(&mut self, number: u32) -> Option<&'a [u8]> {
+        let rest = self.rest;
+        let mut length = 0usize;
+        for line in rest.lines_with_terminator() {
+            if self.passed >= number {
+                break;
+            }
+            self.passed = self.passed.saturating_add(1);
+            length = length.saturating_add(line.len());
+            if begins_entry(line) {
+                self.names = Some(names_on(line));
+            }
+        }
+        self.rest = rest.get(length..).unwrap_or(&[]);
+        self.names
+    }
 }

@@ -1,6 +1,5 @@
 //! The lines that `tic` prints.
 
-use crate::places::Place;
 use std::alloc::{AllocError, Global};
 use ti_source::{Cause, NoteView, Notes};
 
@@ -26,16 +25,9 @@ pub(crate) fn add_size(
     add_line(name, digits.as_bytes(), lines)
 }
 
-/// Adds the line that names the entry that an error is in.
-pub(crate) fn add_entry(
-    alloc: Global,
-    place: Place<'_>,
-    lines: &mut Vec<u8>,
-) -> Result<(), AllocError> {
-    let number = place.line;
-    lines.extend_from_slice(b"entry ")?;
-    let after = format!(in alloc; ", line {number}")?;
-    add_line(place.name, after.as_bytes(), lines)
+/// Adds a message as a line.
+pub(crate) fn add_message(message: &str, lines: &mut Vec<u8>) -> Result<(), AllocError> {
+    add_line(message.as_bytes(), b"", lines)
 }
 
 /// Adds the lines about unknown names: first the number of fields with unknown names and the number
@@ -161,7 +153,8 @@ fn add_line(first: &[u8], second: &[u8], lines: &mut Vec<u8>) -> Result<(), Allo
     lines.extend_from_slice(b"\n")
 }
 
-fn word_of(cause: Cause) -> &'static str {
+/// The word for what is doubtful in a field.
+pub(crate) fn word_of(cause: Cause) -> &'static str {
     match cause {
         Cause::Unknown => "unknown",
         Cause::WrongKind => "wrong kind",

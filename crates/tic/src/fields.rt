@@ -1,0 +1,203 @@
+//! The fields of a source: the parts between commas, where a comma after `\` or `^` ends no field
+//! (terminfo(5), "Preparing Descriptions").
+
+use crate::places::{begins_entry, is_blank, line_at, names_on, without_end};
+use std::alloc::{AllocError, Global};
+use ti_caps::find_name;
+use ti_source::{SourceFault, read};
+
+/// A field without the blanks around it.
+#[derive(Clone, Copy)]
+pub(crate) struct Field<'a> {
+    pub(crate) text: &'a [u8],
+    /// Its offset in the source.
+    pub(crate) start: usize,
+}
+
+/// The fields of a line that are not read yet.
+#[derive(Drop)]
+pub(crate) struct Fields<'a> {
+    rest: Option<&'a [u8]>,
+    start: usize,
+}
+
+impl<'a> Fields<'a> {
+    /// The fields of a line that begins at an offset. A line that begins an entry has fields behind
+    /// the first comma, a comment has none.
+    pub(crate) fn new(line: &'a [u8], start: usize) -> Fields<'a> {
+        let line = without_end(line);
+        if !begins_entry(line) {
+            return Fields {
+                rest: if is_comment(line) { None } else { Some(line) },
+                start,
+            };
+        }
+        let names = names_on(line).len().saturating_add(1);
+        Fields {
+            rest: line.get(names..),
+            start: start.saturating_add(names),
+        }
+    }
+
+    /// The next field, which may be empty. A line has at most one more fields than bytes.
+    pub(crate) fn next(&mut self) -> Option<Field<'a>> {
+        let (field, after) = cut_field(self.rest?);
+        let start = self.start;
+        self.rest = after;
+        self.start = start.saturating_add(field.len()).saturating_add(1);
+        let text = without_lead(field);
+        let lead = field.len().saturating_sub(text.len());
+        Some(Field {
+            text: without_trail(text),
+            start: start.saturating_add(lead),
+        })
+    }
+}
+
+/// The name that a field uses, if it is a `use=`.
+pub(crate) fn used_by(field: &[u8]) -> Option<&[u8]> {
+    match field {
+        [b'u', b's', b'e', b'=', name @ ..] => Some(name),
+        _ => None,
+    }
+}
+
+/// Adds the offsets of a line's uses. The line begins at an offset.
+pub(crate) fn add_uses(line: &[u8], start: usize, uses: &mut Vec<usize>) -> Result<(), AllocError> {
+    let mut fields = Fields::new(line, start);
+    for _ in 0..=line.len() {
+        let Some(field) = fields.next() else {
+            break;
+        };
+        if used_by(field.text).is_some() {
+            uses.push(field.start)?;
+        }
+    }
+    Ok(())
+}
+
+/// The field that begins at an offset, where there is no blank.
+pub(crate) fn field_at(source: &[u8], start: usize) -> Field<'_> {
+    let (field, _) = cut_field(line_at(source, start));
+    Field {
+        text: without_trail(field),
+        start,
+    }
+}
+
+/// The field that has the byte at an offset, on a line that begins at `start`. `None` for a blank
+/// around a field, and for a byte of names.
+pub(crate) fn field_with(line: &[u8], start: usize, offset: usize) -> Option<Field<'_>> {
+    let mut fields = Fields::new(line, start);
+    for _ in 0..=line.len() {
+        let field = fields.next()?;
+        if field.start.saturating_add(field.text.len()) > offset {
+            return if field.start <= offset {
+                Some(field)
+            } else {
+                None
+            };
+        }
+    }
+    None
+}
+
+/// The first field of a line that is not empty. The line begins at `start`.
+pub(crate) fn first_field(line: &[u8], start: usize) -> Option<Field<'_>> {
+    let mut fields = Fields::new(line, start);
+    for _ in 0..=line.len() {
+        let field = fields.next()?;
+        if !field.text.is_empty() {
+            return Some(field);
+        }
+    }
+    None
+}
+
+/// The first field of a line whose number is not one, as the reader of sources judges. The line
+/// begins at `start`.
+pub(crate) fn bad_number(
+    alloc: Global,
+    line: &[u8],
+    start: usize,
+) -> Result<Option<Field<'_>>, AllocError> {
+    let mut fields = Fields::new(line, start);
+    for _ in 0..=line.len() {
+        let Some(field) = fields.next() else {
+            break;
+        };
+        if field.text.contains(&b'#') && has_bad_number(alloc, field.text)? {
+            return Ok(Some(field));
+        }
+    }
+    Ok(None)
+}
+
+// Whether an entry of this field alone has a bad number.
+fn has_bad_number(alloc: Global, field: &[u8]) -> Result<bool, AllocError> {
+    let mut entry = Vec::from_slice(alloc, b"x,")?;
+    entry.extend_from_slice(field)?;
+    Ok(matches!(read(alloc, &entry), Err(SourceFault::BadNumber(_))))
+}
+
+/// The first two words of a field that are likely to be fields of their own, with a comma missing
+/// between them: all its words have the names of capabilities, or are uses.
+pub(crate) fn unseparated(field: &[u8]) -> Option<(&[u8], &[u8])> {
+    let mut first = None;
+    let mut second = None;
+    for word in field.split(|b| is_blank(*b)) {
+        if word.is_empty() {
+            continue;
+        }
+        if !is_known(word) {
+            return None;
+        }
+        if first.is_none() {
+            first = Some(word);
+        } else if second.is_none() {
+            second = Some(word);
+        }
+    }
+    Some((first?, second?))
+}
+
+fn is_known(word: &[u8]) -> bool {
+    let end = word
+        .iter()
+        .position(|b| *b == b'#' || *b == b'=' || *b == b'@')
+        .unwrap_or(word.len());
+    let name = word.get(..end).unwrap_or(word);
+    name == b"use".as_slice() || find_name(name).is_some()
+}
+
+// The first field of a text, and what follows its comma if there is one.
+fn cut_field(text: &[u8]) -> (&[u8], Option<&[u8]>) {
+    let mut is_escaped = false;
+    for (i, b) in text.iter().enumerate() {
+        if *b == b',' && !is_escaped {
+            return (&text[..i], Some(&text[i + 1..]));
+        }
+        is_escaped = !is_escaped && (*b == b'\\' || *b == b'^');
+    }
+    (text, None)
+}
+
+fn without_lead(text: &[u8]) -> &[u8] {
+    let start = text
+        .iter()
+        .position(|b| !is_blank(*b))
+        .unwrap_or(text.len());
+    text.get(start..).unwrap_or(&[])
+}
+
+fn without_trail(text: &[u8]) -> &[u8] {
+    let end = match text.iter().rposition(|b| !is_blank(*b)) {
+        Some(last) => last.saturating_add(1),
+        None => 0,
+    };
+    text.get(..end).unwrap_or(text)
+}
+
+fn is_comment(line: &[u8]) -> bool {
+    matches!(line, [b'#', ..])
+}
