@@ -1,6 +1,7 @@
 //! The command line.
 
 use clap::{Arg, ArgAction, ArgMatches, Command, Error};
+use program_input::VERSION;
 use std::alloc::{AllocError, Global};
 
 /// What the command line asks for.
@@ -44,7 +45,7 @@ pub(crate) fn matches<'a>(alloc: Global, words: &'a [String]) -> Result<ArgMatch
 
 fn command<'a>(alloc: Global) -> Result<Command<'a>, AllocError> {
     Command::new(alloc, "edit")
-        .version("0.1.0")
+        .version(VERSION)
         .about(
             "Edits a text file on the terminal; run it by run-on-terminal. +LINE before FILE: begins there",
         )

@@ -11,7 +11,7 @@
 
 use clap::error::ErrorKind;
 use clap::{Arg, ArgMatches, Command};
-use program_input::{InputFault, read_input};
+use program_input::{InputFault, VERSION, read_input};
 use scr_cells::Size;
 use scr_term::{Profile, ProfileFault};
 use std::alloc::{AllocError, Global};
@@ -159,7 +159,7 @@ fn command<'a>(alloc: Global) -> Result<Command<'a>, AllocError> {
         "The terminal's name; without it the entry is read on the standard input",
     );
     Command::new(alloc, "explain_terminal")
-        .version("0.1.0")
+        .version(VERSION)
         .about("Says whether a terminal can be served, by its compiled entry")
         .arg(name)
 }

@@ -2,9 +2,8 @@
 //! (terminfo(5), "Preparing Descriptions").
 
 use crate::places::{begins_entry, is_blank, line_at, names_on, without_end};
-use std::alloc::{AllocError, Global};
-use ti_caps::find_name;
-use ti_source::{SourceFault, read};
+use std::alloc::AllocError;
+use ti_caps::{Kind, find_name};
 
 /// A field without the blanks around it.
 #[derive(Clone, Copy)]
@@ -114,30 +113,39 @@ pub(crate) fn first_field(line: &[u8], start: usize) -> Option<Field<'_>> {
     None
 }
 
-/// The first field of a line whose number is not one, as the reader of sources judges. The line
-/// begins at `start`.
-pub(crate) fn bad_number(
-    alloc: Global,
-    line: &[u8],
-    start: usize,
-) -> Result<Option<Field<'_>>, AllocError> {
+/// The first field of a line that has a bad number. The line begins at `start`.
+pub(crate) fn bad_number(line: &[u8], start: usize) -> Option<Field<'_>> {
     let mut fields = Fields::new(line, start);
     for _ in 0..=line.len() {
-        let Some(field) = fields.next() else {
-            break;
-        };
-        if field.text.contains(&b'#') && has_bad_number(alloc, field.text)? {
-            return Ok(Some(field));
+        let field = fields.next()?;
+        if has_bad_number(field.text) {
+            return Some(field);
         }
     }
-    Ok(None)
+    None
 }
 
-// Whether an entry of this field alone has a bad number.
-fn has_bad_number(alloc: Global, field: &[u8]) -> Result<bool, AllocError> {
-    let mut entry = Vec::from_slice(alloc, b"x,")?;
-    entry.extend_from_slice(field)?;
-    Ok(matches!(read(alloc, &entry), Err(SourceFault::BadNumber(_))))
+// Whether a field gives a numeric capability what is no number.
+fn has_bad_number(field: &[u8]) -> bool {
+    let name = name_of(field);
+    match field.get(name.len()..) {
+        Some([b'#', value @ ..]) => {
+            matches!(find_name(name), Some((Kind::Number, _))) && !is_number(value)
+        }
+        _ => false,
+    }
+}
+
+// Whether a text is a number: decimal, octal after a 0, or hexadecimal after `0x`.
+fn is_number(text: &[u8]) -> bool {
+    match text {
+        [b'0'] => true,
+        [b'0', b'x' | b'X', digits @ ..] => {
+            !digits.is_empty() && digits.iter().all(|b| b.is_ascii_hexdigit())
+        }
+        [b'0', digits @ ..] => digits.iter().all(|b| (b'0'..=b'7').contains(b)),
+        digits => !digits.is_empty() && digits.iter().all(|b| b.is_ascii_digit()),
+    }
 }
 
 /// The first two words of a field that are likely to be fields of their own, with a comma missing
@@ -162,12 +170,17 @@ pub(crate) fn unseparated(field: &[u8]) -> Option<(&[u8], &[u8])> {
 }
 
 fn is_known(word: &[u8]) -> bool {
-    let end = word
+    let name = name_of(word);
+    name == b"use".as_slice() || find_name(name).is_some()
+}
+
+// The name of a field.
+fn name_of(field: &[u8]) -> &[u8] {
+    let end = field
         .iter()
         .position(|b| *b == b'#' || *b == b'=' || *b == b'@')
-        .unwrap_or(word.len());
-    let name = word.get(..end).unwrap_or(word);
-    name == b"use".as_slice() || find_name(name).is_some()
+        .unwrap_or(field.len());
+    field.get(..end).unwrap_or(field)
 }
 
 // The first field of a text, and what follows its comma if there is one.

@@ -46,7 +46,7 @@ fn in_source(
         SourceFault::NotAscii(line) => Ok(not_ascii(source, line)),
         SourceFault::FieldBeforeEntry(line) => Ok(early_field(source, line)),
         SourceFault::BadNames(line) => Ok(start_of_line(source, line).map(whole)),
-        SourceFault::BadNumber(line) => number_on(alloc, source, line),
+        SourceFault::BadNumber(line) => Ok(number_on(source, line)),
         SourceFault::DuplicateName(line) => duplicate_name(alloc, source, line),
         SourceFault::TooManyUses => Ok(use_at(source, one_use_too_many(alloc, source)?)),
         SourceFault::UnknownName | SourceFault::UseCycle => {
@@ -102,12 +102,9 @@ fn early_field(source: &[u8], number: u32) -> Option<Located<'_>> {
     }
 }
 
-fn number_on(alloc: Global, source: &[u8], number: u32) -> Result<Option<Located<'_>>, AllocError> {
-    let Some(start) = start_of_line(source, number) else {
-        return Ok(None);
-    };
-    let field = bad_number(alloc, line_at(source, start), start)?;
-    Ok(field.map(of_field))
+fn number_on(source: &[u8], number: u32) -> Option<Located<'_>> {
+    let start = start_of_line(source, number)?;
+    bad_number(line_at(source, start), start).map(of_field)
 }
 
 // The first name of an entry that cannot be a file name.

@@ -30,6 +30,7 @@ use compiling::{Purpose, compile};
 use failures::Failure;
 use input::input_of;
 use output::print;
+use program_input::VERSION;
 use report::add_left_out;
 use std::io::Write;
 use std::process::ExitCode;
@@ -61,7 +62,14 @@ fn words_given<'a>(rt: &HostRuntime) -> Result<Vec<String>, Failure<'a>> {
 
 // Does what the command line asks for, and returns the status.
 fn perform(rt: &HostRuntime, words: &[String]) -> u8 {
-    match words::matches(rt.alloc(), words) {
+    match format!(in rt.alloc(); "tic {VERSION}") {
+        Ok(version) => perform_words(rt, version.as_str(), words),
+        Err(_) => told(rt, &Failure::NoMemory),
+    }
+}
+
+fn perform_words(rt: &HostRuntime, version: &str, words: &[String]) -> u8 {
+    match words::matches(rt.alloc(), version, words) {
         Ok(matches) => perform_task(rt, &matches),
         Err(error) => refused(rt, &error),
     }

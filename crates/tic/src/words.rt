@@ -15,14 +15,18 @@ pub(crate) enum Task<'a> {
 }
 
 /// Parses the command line: exactly one of `-c FILE`, `-o DIR FILE` and `-d COMPILED`, and
-/// optionally `-v`.
-pub(crate) fn matches<'a>(alloc: Global, words: &'a [String]) -> Result<ArgMatches<'a>, Error> {
-    command(alloc)?.try_get_matches_from(words)
+/// optionally `-v`. The usage text begins with the program's name and version.
+pub(crate) fn matches<'a>(
+    alloc: Global,
+    version: &'a str,
+    words: &'a [String],
+) -> Result<ArgMatches<'a>, Error> {
+    command(alloc, version)?.try_get_matches_from(words)
 }
 
-fn command<'a>(alloc: Global) -> Result<Command<'a>, AllocError> {
+fn command<'a>(alloc: Global, version: &'a str) -> Result<Command<'a>, AllocError> {
     let command = Command::new(alloc, "tic")
-        .before_help("tic 0.1.0")
+        .before_help(version)
         .about(
             "Compiles terminfo sources, and lists compiled files; - stands for the standard input",
         )
@@ -68,7 +72,7 @@ fn verbose<'a>(alloc: Global) -> Arg<'a> {
     Arg::new(alloc, "verbose")
         .short('v')
         .action(ArgAction::SetTrue)
-        .help("Says which entry an error is in, and how often each unknown name occurs")
+        .help("Says where errors and warnings are, and how often each unknown name occurs")
 }
 
 // The usage text tells the version in its first line.
