@@ -105,5 +105,9 @@ pub(crate) fn task_of<'a>(matches: &ArgMatches<'a>, line: usize) -> Option<Task<
 // The column that a word names, if lines can be wrapped there.
 fn column_of(word: &str) -> Option<usize> {
     let column = word.parse::<usize>().ok()?;
-    if column < LEAST_WRAP { None } else { Some(column) }
+    if column < LEAST_WRAP {
+        None
+    } else {
+        Some(column)
+    }
 }

@@ -41,8 +41,4 @@ const LEAVING: [Hint; 3] = [
     ("^C", "Cancel"),
 ];
 
-const OVERWRITING: [Hint; 3] = [
-    ("^S", "Save over it"),
-    ("^O", "Save as"),
-    ("^C", "Cancel"),
-];
+const OVERWRITING: [Hint; 3] = [("^S", "Save over it"), ("^O", "Save as"), ("^C", "Cancel")];

@@ -245,10 +245,7 @@ fn show(
 ) -> Result<(), EditFailure> {
     shown.out.writer.clear();
     session.draw(screen)?;
-    if screen
-        .doupdate(session.rt.alloc(), &mut shown.out)
-        .is_err()
-    {
+    if screen.doupdate(session.rt.alloc(), &mut shown.out).is_err() {
         return Err(EditFailure::NoMemory);
     }
     if shown.terminal.feed(&shown.out.writer).is_err() {

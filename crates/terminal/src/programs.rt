@@ -36,8 +36,12 @@ const MOST_FAILURES: u32 = 20;
 
 impl TerminalScreen {
     /// Runs a program: it draws, the terminal is updated, and it answers an event, again and again until it ends. While
-    /// keys wait that were read, nothing is drawn. After an update that failed the next one sends what is owed; twenty
-    /// that fail one after another end the program. The terminal is given back however the program ends.
+    /// keys wait that were read, nothing is drawn. After an update that failed the next one sends what is owed and shows
+    /// all; it is made after the next event, or after a tenth of a second. The terminal is given back however the
+    /// program ends.
+    ///
+    /// Refused if a call that draws is, if twenty updates fail one after another, if the input ends after an update that
+    /// failed, or if the keyboard cannot be read.
     pub fn run<P: Program>(
         &mut self,
         rt: &HostRuntime,
@@ -55,34 +59,33 @@ impl TerminalScreen {
         rt: &HostRuntime,
         program: &mut P,
     ) -> Result<(), TerminalFault> {
+        let mut updated: Result<(), TerminalFault> = Ok(());
         let mut failures = 0u32;
         for _ in 0..u64::MAX {
             if !self.has_input() {
-                failures = self.show(rt, program, failures)?;
+                if let Err(fault) = program.draw(self.screen()) {
+                    return Err(TerminalFault::Draw(fault));
+                }
+                updated = self.update_both(rt, program.shows_cursor());
+                failures = failures_after(&updated, failures);
+                if failures == MOST_FAILURES {
+                    return updated;
+                }
             }
-            let event = self.awaited(rt, program)?;
-            if !program.answer(event) || event == Event::Ended {
-                break;
+            match self.awaited(rt, program, failures)? {
+                Event::Idle if failures > 0 => {}
+                Event::Ended => {
+                    let _ = program.answer(Event::Ended);
+                    return updated;
+                }
+                event => {
+                    if !program.answer(event) {
+                        return Ok(());
+                    }
+                }
             }
         }
         Ok(())
-    }
-
-    // Draws and updates. Gives how many updates have failed one after another.
-    fn show<P: Program>(
-        &mut self,
-        rt: &HostRuntime,
-        program: &mut P,
-        failures: u32,
-    ) -> Result<u32, TerminalFault> {
-        if let Err(fault) = program.draw(self.screen()) {
-            return Err(TerminalFault::Draw(fault));
-        }
-        match self.update_both(rt, program.shows_cursor()) {
-            Ok(()) => Ok(0),
-            Err(fault) if failures.saturating_add(1) >= MOST_FAILURES => Err(fault),
-            Err(_) => Ok(failures.saturating_add(1)),
-        }
     }
 
     // Updates the cursor and the screen.
@@ -92,17 +95,31 @@ impl TerminalScreen {
         Ok(())
     }
 
+    // Waits for an event; not for long after so many updates that failed.
     fn awaited<P: Program>(
         &mut self,
         rt: &HostRuntime,
         program: &P,
+        failures: u32,
     ) -> Result<Event, TerminalFault> {
         if program.reads_byte() {
             return self.byte_event(rt);
+        }
+        if failures > 0 {
+            return self.event_within(rt, 1);
         }
         match program.wait() {
             Some(tenths) => self.event_within(rt, tenths),
             None => self.event(rt),
         }
+    }
+}
+
+// How many updates have failed one after another.
+fn failures_after(updated: &Result<(), TerminalFault>, failures: u32) -> u32 {
+    if updated.is_ok() {
+        0
+    } else {
+        failures.saturating_add(1)
     }
 }

@@ -30,5 +30,5 @@ returns-in_err-only_use-clause-others c e own other passes =
     let finds : Some p.found ≡ Some (c.in_ok-i.i, entry) = sym p.finds ∙ found-at entries name c.in_ok-i.i entry (sym c.index_of.ensures ∙ c.in_ok-i.was) c.at-entry.ensures in
     let same : p.found ≡ (c.in_ok-i.i, entry) = cc in
     c.only_use.ensures.none c.in_err-only_use.was other
-      (subst (λ (f : ℕ × Described). f.1.statements ≡ []) same p.none)
-      (subst (λ (f : ℕ × Described). f.1.uses ≡ other ∷ []) same p.uses)
+    (subst (λ (f : ℕ × Described). f.1.statements ≡ []) same p.none)
+    (subst (λ (f : ℕ × Described). f.1.uses ≡ other ∷ []) same p.uses)
